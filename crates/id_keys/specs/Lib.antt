@@ -1,0 +1,1 @@
+-- The callers cite the words of the maps and of the ids.

@@ -1,0 +1,9 @@
+pub mod Same
+pub mod Cuts
+pub mod SiloLaws
+pub mod SiloCases
+pub mod GrainCases
+pub mod GrainPlaced
+pub mod StatedLaws
+pub mod ActivationLaws
+pub mod Order

@@ -1,0 +1,14 @@
+pub mod Marks
+pub mod Chain
+pub mod Silo
+pub mod SiloText
+pub mod SiloReading
+pub mod WordsView
+pub mod Grain
+pub mod GrainFields
+pub mod GrainLaws
+pub mod Activation
+pub mod ActivationText
+pub mod StatedHash
+pub mod GrainReading
+pub mod Numbers

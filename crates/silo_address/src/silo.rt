@@ -1,0 +1,180 @@
+ghost use Rattle.std.specs.Option.{SomeIff};
+ghost use Rattle.std.specs.Prelude.{◌≡◌, ◌↔◌, Some, IfOk, IsErrOf, IsTrue, string_bytes};
+ghost use Rattle.silo_address.specs.Numbers.{silo_error_number};
+ghost use Rattle.silo_address.specs.Silo.{IsSameEndpoint, IsSilo, Silo};
+ghost use Rattle.silo_address.specs.SiloReading.{read_silo, silo_by_words};
+ghost use Rattle.silo_address.specs.SiloText.{AreNumerals, HasSiloShape, HasWords, Words, silo_of, silo_text};
+ghost use Rattle.silo_address.specs.WordsView.{words_view};
+
+use crate::words::{SiloWords, words};
+use numerals::value_up_to;
+use std::alloc::{AllocError, Global};
+use std::fmt;
+use std::marker::Model;
+use thiserror::Error;
+
+/// Why a text names no silo: the first of these that holds (`docs/RULES.md#refusals-and-their-numbers`).
+#[derive(Clone, Copy, Debug, PartialEq, Eq, Error)]
+pub enum SiloError {
+    #[error("a silo is written a.b.c.d:port@generation")]
+    Shape,
+    #[error("the numbers of a silo are written in decimal digits, without a leading zero")]
+    NotANumber,
+    #[error("a silo has bytes up to 255, a port from 1 to 65535 and a generation from 1 to 2147483647")]
+    OutOfRange,
+}
+
+impl SiloError {
+    /// The number by which users know the refusal: 101, 102 or 103.
+    pub fn number(self) -> u16
+        ensures { result ≡ silo_error_number self }
+    {
+        match self {
+            SiloError::Shape => 101,
+            SiloError::NotANumber => 102,
+            SiloError::OutOfRange => 103,
+        }
+    }
+}
+
+/// A silo: a server process, told by the IPv4 address and port where it listens, and by its generation from the processes
+/// that ran there before it. Silos are ordered by address, then port, then generation. Kept in place, so it is copied.
+#[derive(Clone, Copy, Debug, PartialEq, Eq, PartialOrd, Ord, Hash)]
+pub struct SiloAddress {
+    ip: [u8; 4],
+    port: u16,
+    generation: u32,
+}
+
+impl Model for SiloAddress {
+    ghost use Rattle.silo_address.specs.Silo.{Silo, IsSilo};
+
+    ghost Value = { Silo };
+
+    ghost view = { λ s. record { ip = s.ip; port = s.port; generation = s.generation } };
+
+    ghost invariant = { λ s. IsSilo (record { ip = s.ip; port = s.port; generation = s.generation }) };
+
+    ghost inverse = { λ v. record { ip = v.ip; port = v.port; generation = v.generation } };
+}
+
+impl SiloAddress {
+    /// Reads the text `a.b.c.d:port@generation`, each number in decimal digits without a leading zero: bytes up to 255,
+    /// a port from 1 to 65535, a generation from 1 to 2147483647 (`docs/RULES.md#identities-and-their-texts`).
+    pub fn parse(text: &[u8]) -> Result<SiloAddress, SiloError>
+        ensures reads { result ≡ read_silo text.now }
+
+        // The one spelling of a silo reads as that silo, and nothing else reads as a silo.
+        ensures found { IfOk result (λ silo. text.now ≡ silo_text silo) }
+        ensures only { (silo : Silo) → IsSilo silo → text.now ≡ silo_text silo → result ≡ Ok silo }
+
+        // The first fault that holds: in the shape, then in a number, then in a range.
+        ensures shape { IsErrOf result SiloError.Shape ↔ ¬ (HasSiloShape text.now) }
+        ensures not_a_number { IsErrOf result SiloError.NotANumber ↔ ((words : Words) × HasWords text.now words × ¬ (AreNumerals words)) }
+        ensures out_of_range { IsErrOf result SiloError.OutOfRange ↔ ((words : Words) × HasWords text.now words × AreNumerals words × ¬ (IsSilo (silo_of words))) }
+    {
+        match words(text) {
+            Some(words) => SiloAddress::from_words(&words),
+            None => Err(SiloError::Shape),
+        }
+    }
+
+    fn from_words(words: &SiloWords<'_>) -> Result<SiloAddress, SiloError>
+        ensures { result ≡ silo_by_words (Some (words_view words.now)) }
+    {
+        if words.are_numerals() {
+            SiloAddress::from_numerals(words).ok_or(SiloError::OutOfRange)
+        } else {
+            Err(SiloError::NotANumber)
+        }
+    }
+
+    /// The silo whose numbers the words write, where they are in range.
+    fn from_numerals(words: &SiloWords<'_>) -> Option<SiloAddress>
+        requires { AreNumerals (words_view words.now) }
+        ensures { SomeIff result (IsSilo (silo_of (words_view words.now))) (silo_of (words_view words.now)) }
+    {
+        let first = value_up_to(words.first, 255)?;
+        let second = value_up_to(words.second, 255)?;
+        let third = value_up_to(words.third, 255)?;
+        let fourth = value_up_to(words.fourth, 255)?;
+        let port = value_up_to(words.port, 65_535)?;
+        let generation = value_up_to(words.generation, 2_147_483_647)?;
+        if port == 0 || generation == 0 {
+            return None;
+        }
+        let ip = [first as u8, second as u8, third as u8, fourth as u8];
+        Some(SiloAddress {
+            ip,
+            port: port as u16,
+            generation: generation as u32,
+        })
+    }
+
+    /// The silo's one spelling, `a.b.c.d:port@generation`.
+    pub fn text(&self, alloc: Global) -> Result<String, AllocError>
+        ensures { IfOk result (λ text. string_bytes text ≡ silo_text self.now) }
+    {
+        self.to_string(alloc)
+    }
+
+    /// The four bytes of the IP address.
+    pub fn ip(&self) -> [u8; 4]
+        ensures { result ≡ self.now.ip }
+    {
+        self.ip
+    }
+
+    /// The port, from 1 to 65535.
+    pub fn port(&self) -> u16
+        ensures { result ≡ self.now.port }
+    {
+        self.port
+    }
+
+    /// The generation, from 1 to 2147483647: a process that starts at an endpoint has a higher one than those before it.
+    pub fn generation(&self) -> u32
+        ensures { result ≡ self.now.generation }
+    {
+        self.generation
+    }
+
+    /// Whether the two silos are processes at one endpoint, be it at different times.
+    pub fn same_endpoint(&self, other: &SiloAddress) -> bool
+        ensures { IsTrue result ↔ IsSameEndpoint self.now other.now }
+    {
+        (self.ip, self.port) == (other.ip, other.port)
+    }
+
+    /// Whether the two are one silo.
+    pub fn same(&self, other: &SiloAddress) -> bool
+        ensures { IsTrue result ↔ (self.now ≡ other.now) }
+    {
+        self == other
+    }
+
+    /// The silo itself: ids are copied and not cloned.
+    pub fn copy(&self) -> SiloAddress
+        ensures { result ≡ self.now }
+    {
+        *self
+    }
+
+    /// Every silo is in range.
+    pub fn in_range(&self)
+        ensures { IsSilo self.now }
+    {
+        let _port = self.port;
+    }
+}
+
+impl fmt::Display for SiloAddress {
+    ghost output = { λ silo. Some (silo_text silo) };
+
+    fn fmt<W: fmt::Write>(&self, f: &mut fmt::Formatter<W>) -> fmt::Result {
+        let [first, second, third, fourth] = self.ip;
+        let port = self.port;
+        let generation = self.generation;
+        write!(f, "{first}.{second}.{third}.{fourth}:{port}@{generation}")
+    }
+}
