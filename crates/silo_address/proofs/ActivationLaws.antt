@@ -11,16 +11,16 @@ use Rattle.std.proofs.lemmas.List.Sums.{split_at_first, passes_at_first, fails_b
 use Rattle.silo_address.specs.declared.activation.ActivationId.{ActivationId}
 use Rattle.silo_address.specs.declared.activation.ActivationError.{ActivationError}
 use Rattle.silo_address.specs.declared.activation.ActivationError.TheVariants as fault
-use Rattle.numerals.specs.declared.NumberError.{NumberError}
+use Rattle.texts.specs.declared.NumberError.{NumberError}
 use Rattle.silo_address.specs.declared.silo.SiloError.{SiloError}
 use Rattle.silo_address.specs.Marks.{exclamation_mark, dot, colon, at_sign}
-use Rattle.numerals.specs.Numeral.{IsNumeral, read_number}
+use Rattle.texts.specs.Numeral.{IsNumeral, read_number}
 use Rattle.silo_address.specs.Silo.{Silo, IsSilo}
 use Rattle.silo_address.specs.SiloText.{Words, AreNumerals, words_text, words_of, silo_text}
 use Rattle.silo_address.specs.SiloReading.{read_silo}
 use Rattle.silo_address.specs.ActivationText.{activation_text, is_exclamation_mark, activation_of, read_activation}
-use Rattle.silo_address.proofs.Cuts.{IsCutAt, position-cut, before_first-cut, after_first-cut}
-use Rattle.numerals.proofs.NumeralLaws.{read_number-decimal, read_number_found}
+use Rattle.texts.proofs.Cuts.{IsCutAt, position-cut, before_first-cut, after_first-cut}
+use Rattle.texts.proofs.NumeralLaws.{read_number-decimal, read_number_found}
 use Rattle.silo_address.proofs.SiloCases.{silo_found, silo_only}
 use Rattle.silo_address.proofs.SiloLaws.{words_are_numerals}
 

@@ -10,7 +10,7 @@ use Rattle.silo_address.specs.Grain.{IsGrain, IsShortEnough, IsVisible}
 use Rattle.silo_address.specs.GrainFields.{HoldsGrain, grain_in, fields_of}
 use Rattle.silo_address.specs.GrainReading.{is_cut, is_slash, grain_at_slash, grain_within}
 use Rattle.silo_address.proofs.GrainCases.{is_cut_takes, within_grain}
-use Rattle.numerals.proofs.Decided.{both}
+use Rattle.texts.proofs.Decided.{both}
 
 abbrev pub placed : ℕ → List ℕ → List ℕ → Inside
 placed kind_len bytes array = record { kind_len = kind_len; text_len = length bytes; text = array }

@@ -1,5 +1,4 @@
 pub mod Same
-pub mod Cuts
 pub mod SiloLaws
 pub mod SiloCases
 pub mod GrainCases

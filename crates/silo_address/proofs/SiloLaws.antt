@@ -13,13 +13,13 @@ use Rattle.std.proofs.lemmas.List.Sums.{position_or_len_is, split_at_first, fail
 use Rattle.silo_address.specs.declared.silo.SiloError.TheVariants.{Shape, NotANumber, OutOfRange}
 use Rattle.silo_address.specs.Chain.{◌>>=◌}
 use Rattle.silo_address.specs.Marks.{dot, colon, at_sign}
-use Rattle.numerals.specs.Numeral.{IsNumeral}
+use Rattle.texts.specs.Numeral.{IsNumeral}
 use Rattle.silo_address.specs.Silo.{Silo, IsSilo}
 use Rattle.silo_address.specs.SiloText.{Words, EachWord, IsWord, HasWords, AreNumerals, is_mark, words_text, words_of, silo_of}
 use Rattle.silo_address.specs.SiloReading.{word_before, only_word, silo_words, are_numerals, is_silo, silo_by_words, read_silo}
-use Rattle.silo_address.proofs.Cuts.{IsCutAt, position-cut, before_first-cut, after_first-cut, front_fails}
-use Rattle.numerals.proofs.Decided.{both, false_from_not}
-use Rattle.numerals.proofs.NumeralLaws.{Decides-is_numeral, decimal-numeral_value, numeral_value-decimal, decimal_is_numeral}
+use Rattle.texts.proofs.Cuts.{IsCutAt, position-cut, before_first-cut, after_first-cut, front_fails}
+use Rattle.texts.proofs.Decided.{both, false_from_not}
+use Rattle.texts.proofs.NumeralLaws.{Decides-is_numeral, decimal-numeral_value, numeral_value-decimal, decimal_is_numeral}
 
 -- a chain that gives something gave something at each step
 pub chain_gave : {A B : Type 0} (first : Option A) (next : A → Option B) (b : B) → (first >>= next) ≡ Some b → (a : A) × (first ≡ Some a) × (next a ≡ Some b)

@@ -9,9 +9,10 @@ use Rattle.std.proofs.lemmas.List.{length-append, length-drop, get_or-drop, take
 use Rattle.std.proofs.lemmas.List.Folds.{list_any_at}
 use Rattle.std.proofs.lemmas.List.Sums.{suffix_len_is}
 use Rattle.silo_address.specs.Marks.{number_sign}
-use Rattle.numerals.specs.Numeral.{read_number}
-use Rattle.silo_address.specs.StatedHash.{IsBehindLast, is_number_sign, number_in, stated_hash}
-use Rattle.numerals.proofs.NumeralLaws.{decimal_is_numeral, read_number-decimal}
+use Rattle.texts.specs.Numeral.{read_number}
+use Rattle.texts.specs.Place.{IsBehindLast}
+use Rattle.silo_address.specs.StatedHash.{is_number_sign, number_in, stated_hash}
+use Rattle.texts.proofs.NumeralLaws.{decimal_is_numeral, read_number-decimal}
 
 none_any : (key : List ℕ) → All (λ byte. is_number_sign byte ≡ false) key → list_any is_number_sign key ≡ false
 none_any [] none = refl

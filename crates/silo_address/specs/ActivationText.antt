@@ -5,10 +5,10 @@ use Rattle.std.specs.List.{position_or_len, before_first, after_first}
 use Rattle.silo_address.specs.declared.activation.ActivationId.{ActivationId}
 use Rattle.silo_address.specs.declared.activation.ActivationError.{ActivationError}
 use Rattle.silo_address.specs.declared.activation.ActivationError.TheVariants as fault
-use Rattle.numerals.specs.declared.NumberError.{NumberError}
+use Rattle.texts.specs.declared.NumberError.{NumberError}
 use Rattle.silo_address.specs.declared.silo.SiloError.{SiloError}
 use Rattle.silo_address.specs.Marks.{exclamation_mark}
-use Rattle.numerals.specs.Numeral.{read_number}
+use Rattle.texts.specs.Numeral.{read_number}
 use Rattle.silo_address.specs.Silo.{Silo}
 use Rattle.silo_address.specs.SiloText.{silo_text}
 use Rattle.silo_address.specs.SiloReading.{read_silo}

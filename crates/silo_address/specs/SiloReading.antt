@@ -5,7 +5,7 @@ use Rattle.silo_address.specs.declared.silo.SiloError.{SiloError}
 use Rattle.silo_address.specs.declared.silo.SiloError.TheVariants.{Shape, NotANumber, OutOfRange}
 use Rattle.silo_address.specs.Chain.{◌>>=◌}
 use Rattle.silo_address.specs.Marks.{dot, colon, at_sign}
-use Rattle.numerals.specs.Numeral.{is_numeral}
+use Rattle.texts.specs.Numeral.{is_numeral}
 use Rattle.silo_address.specs.Silo.{Silo}
 use Rattle.silo_address.specs.SiloText.{Words, is_mark, silo_of}
 

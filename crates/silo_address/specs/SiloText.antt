@@ -2,7 +2,7 @@
 use Rattle.std.specs.Prelude.{◌≡◌, ℕ, ◌<◌, ◌==◌, ◌||◌, Bool, false, List, [], ◌∷◌, ◌++◌, All, length, slice_index}
 use Rattle.std.specs.Fmt.{decimal}
 use Rattle.silo_address.specs.Marks.{dot, colon, at_sign}
-use Rattle.numerals.specs.Numeral.{IsNumeral, numeral_value}
+use Rattle.texts.specs.Numeral.{IsNumeral, numeral_value}
 use Rattle.silo_address.specs.Silo.{Silo}
 
 -- the six words of a silo's text

@@ -1,19 +1,12 @@
 -- A grain's hash may be stated in its key: the number after the key's last `#`.
-use Rattle.std.specs.Prelude.{◌≡◌, ◌≢◌, ℕ, ◌<◌, ◌≤◌, ◌==◌, ◌-◌, All, drop, slice_index, Bool, Option, Some, None, Result, Ok, Err, List, length, if◌then◌else◌}
+use Rattle.std.specs.Prelude.{ℕ, ◌==◌, Bool, Option, Some, None, Result, Ok, Err, List, if◌then◌else◌}
 use Rattle.std.specs.List.{list_any, after_last}
-use Rattle.numerals.specs.declared.NumberError.{NumberError}
+use Rattle.texts.specs.declared.NumberError.{NumberError}
 use Rattle.silo_address.specs.Marks.{number_sign}
-use Rattle.numerals.specs.Numeral.{read_number}
+use Rattle.texts.specs.Numeral.{read_number}
 
 abbrev pub is_number_sign : ℕ → Bool
 is_number_sign byte = byte == number_sign
-
--- the place follows the last of a byte
-pub record IsBehindLast (wanted : ℕ) (bytes : List ℕ) (place : ℕ) : Type 0 where
-  pub above : 0 < place
-  pub within : place ≤ length bytes
-  pub last : slice_index bytes (place - 1) ≡ wanted
-  pub others : All (λ byte. byte ≢ wanted) (drop place bytes)
 
 abbrev pub number_in : Result ℕ NumberError → Option ℕ
 number_in (Ok number) = Some number

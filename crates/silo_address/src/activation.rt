@@ -1,15 +1,14 @@
 ghost use Rattle.std.specs.Prelude.{◌≡◌, ◌≢◌, ◌<◌, ◌^◌, ◌↔◌, All, Some, IfOk, IsErrOf, IsTrue, string_bytes};
 ghost use Rattle.silo_address.specs.ActivationText.{activation_of, activation_text, read_activation};
 ghost use Rattle.silo_address.specs.Marks.{exclamation_mark};
-ghost use Rattle.numerals.specs.Numeral.{read_number};
+ghost use Rattle.texts.specs.Numeral.{read_number};
 ghost use Rattle.silo_address.specs.Silo.{IsSilo};
 ghost use Rattle.silo_address.specs.SiloReading.{read_silo};
 
-use crate::places::first_place;
 use crate::{NumberError, SiloAddress, SiloError};
-use numerals::number_up_to;
 use std::alloc::{AllocError, Global};
 use std::fmt;
+use texts::{first_place, number_up_to};
 use thiserror::Error;
 
 /// Why a text names no activation: the first fault that holds, in this order.

@@ -13,13 +13,12 @@ ghost use Rattle.silo_address.specs.Numbers.{grain_error_number};
 ghost use Rattle.silo_address.specs.Grain.{Grain, HasGrainShape, IsCutInto, IsGrain, IsShortEnough, IsVisible, grain_cmp, grain_eq, grain_text};
 ghost use Rattle.silo_address.specs.GrainReading.{grain_within, is_cut, is_slash, read_grain};
 
-use crate::places::{after_last_place, first_place};
-use numerals::number_up_to;
 use std::alloc::{AllocError, Global};
 use std::cmp::Ordering;
 use std::fmt;
 use std::hash::{Hash, Hasher};
 use std::marker::Model;
+use texts::{after_last_place, first_place, number_up_to};
 use thiserror::Error;
 
 /// Why a text names no grain: the first of these that holds (`docs/RULES.md#refusals-and-their-numbers`).

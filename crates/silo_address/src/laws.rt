@@ -6,7 +6,7 @@ ghost use Rattle.silo_address.specs.ActivationText.{activation_text, read_activa
 ghost use Rattle.silo_address.specs.Grain.{Grain, IsGrain, grain_text};
 ghost use Rattle.silo_address.specs.GrainReading.{read_grain};
 ghost use Rattle.silo_address.specs.Marks.{number_sign};
-ghost use Rattle.numerals.specs.Numeral.{read_number};
+ghost use Rattle.texts.specs.Numeral.{read_number};
 ghost use Rattle.silo_address.specs.Silo.{IsSilo, Silo};
 ghost use Rattle.silo_address.specs.SiloReading.{read_silo};
 ghost use Rattle.silo_address.specs.SiloText.{silo_text};

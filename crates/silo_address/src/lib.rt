@@ -5,15 +5,14 @@ mod activation;
 mod entry;
 mod grain;
 pub mod laws;
-mod places;
 mod silo;
 mod words;
 
 pub use activation::{ActivationError, ActivationId};
 pub use entry::Entry;
 pub use grain::{GrainError, GrainId};
-pub use numerals::NumberError;
 pub use silo::{SiloAddress, SiloError};
+pub use texts::NumberError;
 
 #[cfg(test)]
 mod tests;

@@ -7,10 +7,10 @@ ghost use Rattle.silo_address.specs.SiloText.{AreNumerals, HasSiloShape, HasWord
 ghost use Rattle.silo_address.specs.WordsView.{words_view};
 
 use crate::words::{SiloWords, words};
-use numerals::value_up_to;
 use std::alloc::{AllocError, Global};
 use std::fmt;
 use std::marker::Model;
+use texts::value_up_to;
 use thiserror::Error;
 
 /// Why a text names no silo: the first of these that holds (`docs/RULES.md#refusals-and-their-numbers`).

@@ -3,12 +3,12 @@
 ghost use Rattle.std.specs.Option.{SomeIff};
 ghost use Rattle.std.specs.Prelude.{◌≡◌, ◌↔◌, ◌≤◌, IsTrue, length, option_map};
 ghost use Rattle.std.specs.List.{position_or_len};
-ghost use Rattle.numerals.specs.Numeral.{IsNumeral, numeral_value};
+ghost use Rattle.texts.specs.Numeral.{IsNumeral, numeral_value};
 ghost use Rattle.silo_address.specs.SiloText.{AreNumerals, is_mark};
 ghost use Rattle.silo_address.specs.SiloReading.{only_word, silo_words, word_before};
 ghost use Rattle.silo_address.specs.WordsView.{cut_view, slice_view, words_view};
 
-use numerals::{is_numeral, value_up_to};
+use texts::{is_numeral, value_up_to};
 
 #[derive(Clone, Copy)]
 pub(crate) struct SiloWords<'a> {

@@ -1,5 +1,5 @@
 use Rattle.std.proofs.Common.{sym}
-use Rattle.numerals.proofs.Decided.{false_from_not}
+use Rattle.texts.proofs.Decided.{false_from_not}
 use Rattle.silo_address.proofs.Same.{Decides-silo}
 use Rattle.id_keys.proofs.note_number.Goals as goal
 

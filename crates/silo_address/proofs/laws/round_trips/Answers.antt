@@ -1,7 +1,7 @@
 use Rattle.std.proofs.Common.{refl}
 use Rattle.silo_address.proofs.ActivationLaws.{activation_only}
 use Rattle.silo_address.proofs.GrainCases.{grain_only}
-use Rattle.numerals.proofs.NumeralLaws.{read_number-decimal}
+use Rattle.texts.proofs.NumeralLaws.{read_number-decimal}
 use Rattle.silo_address.proofs.SiloCases.{silo_only}
 use Rattle.silo_address.proofs.StatedLaws.{stated_hash-only}
 use Rattle.silo_address.proofs.laws.round_trips.Goals as goal

@@ -1,6 +1,6 @@
 use Rattle.std.proofs.Common.{ap, sym, ◌∙◌}
-use Rattle.numerals.specs.Numeral.{read_number}
-use Rattle.silo_address.proofs.Cuts.{rest_from}
+use Rattle.texts.specs.Numeral.{read_number}
+use Rattle.texts.proofs.Cuts.{rest_from}
 use Rattle.silo_address.specs.StatedHash.{number_in, stated_hash}
 use Rattle.silo_address.proofs.StatedLaws.{stated_hash-behind, stated_hash-none, stated_hash-only, stated_hash-spelled}
 use Rattle.silo_address.proofs.grain.GrainId.stated_hash.Goals as goal

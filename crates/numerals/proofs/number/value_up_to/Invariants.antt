@@ -1,6 +1,0 @@
-use Rattle.std.proofs.Common.{◌≡◌, take}
-use Rattle.numerals.specs.Numeral.{numeral_value}
-use Rattle.numerals.proofs.number.value_up_to.Given as goal
-
-abbrev pub invariant-loop-digit : goal.invariant-loop-digit
-invariant-loop-digit l = l.value ≡ numeral_value (take l.digit-index l.numeral)

@@ -1,0 +1,5 @@
+pub mod Range
+pub mod Meet
+pub mod Cut
+pub mod Text
+pub mod Error

@@ -1,0 +1,3 @@
+pub mod Decided
+pub mod NumeralLaws
+pub mod Cuts

@@ -1,0 +1,20 @@
+use Rattle.std.proofs.Common.{arith, rules}
+use Rattle.std.proofs.lemmas.Grind.{common_steps}
+use Rattle.texts.specs.Numeral.{IsNumeral}
+use Rattle.texts.proofs.NumeralLaws.{decimal-numeral_value, decimal_is_numeral_as, numeral_value-decimal_as}
+use Rattle.texts.proofs.number.number_up_to.Goals as goal
+
+pub returns-then-is_numeral-clause-found : goal.returns-then-is_numeral-clause-found
+returns-then-is_numeral-clause-found c =
+    let numeral : IsNumeral c.args.word.now = search rules in
+    grind (arith, common_steps, decimal-numeral_value c.args.word.now numeral)
+
+pub returns-then-is_numeral-clause-only : goal.returns-then-is_numeral-clause-only
+returns-then-is_numeral-clause-only c = λ number at_most spelled.
+    let value = numeral_value-decimal_as c.args.word.now number spelled (omega arith) in
+    grind (arith, common_steps)
+
+pub returns-else-is_numeral-clause-only : goal.returns-else-is_numeral-clause-only
+returns-else-is_numeral-clause-only c = λ number at_most spelled.
+    let numeral = decimal_is_numeral_as c.args.word.now number spelled (omega arith) in
+    grind (arith, common_steps)

@@ -1,0 +1,2 @@
+pub mod Numeral
+pub mod Place
