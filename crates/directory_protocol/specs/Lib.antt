@@ -1,0 +1,16 @@
+pub mod Change
+pub mod Setting
+pub mod Letters
+pub mod World
+pub mod Actions
+pub mod Effects
+pub mod Levels
+pub mod Requests
+pub mod Notices
+pub mod Authority
+pub mod Safety
+pub mod Invariant
+pub mod PlainMachine
+pub mod Reached
+pub mod Loosened
+pub mod WrongSteps

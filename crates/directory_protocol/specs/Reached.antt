@@ -1,0 +1,54 @@
+-- What can happen: worlds that some list of allowed actions reaches. So no guard asks what can never be met.
+use Rattle.std.specs.Prelude.{◌≡◌, ◌≢◌, ◌<◌, ◌≤◌, ℕ, suc, true, Some, List}
+use Rattle.silo_address.specs.Silo.{Silo}
+use Rattle.silo_address.specs.Grain.{Grain}
+use Rattle.silo_address.specs.declared.activation.ActivationId.{ActivationId}
+use Rattle.directory_protocol.specs.Setting.{Setting}
+use Rattle.directory_protocol.specs.Letters.{Register, Registered, Taken, Request, Reply, Snapshot, Report, Sent}
+use Rattle.directory_protocol.specs.World.{World, start, Held, outstanding, previous_of, surviving}
+use Rattle.directory_protocol.specs.Actions.{Action, Serve, Service, See, Confirm, Install, Recover, Sight, Settling, Allowed}
+use Rattle.directory_protocol.specs.Safety.{IsFirmOn}
+use Rattle.directory_protocol.specs.Effects.{run, AllAllowed}
+
+-- in some setting, some list of allowed actions ends in such a world
+abbrev pub CanBe : (Setting → World → Type 0) → Type 0
+CanBe Holds = (m : Setting) × (actions : List Action) × AllAllowed m actions start × Holds m (run m actions start)
+
+-- in some setting, after some list of allowed actions, such an action is allowed
+abbrev pub CanHappen : (Setting → World → Action → Type 0) → Type 0
+CanHappen Happens = CanBe (λ m w. (a : Action) × Allowed m w a × Happens m w a)
+
+-- a snapshot brings an entry to the next owner
+abbrev pub TransfersEntry : Setting → World → Action → Type 0
+TransfersEntry m w a =
+    (x : Settling) × (snapshot : Snapshot) × (g : Grain) × (e : ActivationId) × (a ≡ Install x snapshot) × (x.part (m.hash g) ≡ true) × (x.entries g ≡ Some e)
+
+-- a recovery ends with an entry
+abbrev pub RecoversEntry : Setting → World → Action → Type 0
+RecoversEntry m w a =
+    (x : Settling) × (told : Silo → Report) × (g : Grain) × (e : ActivationId) × (a ≡ Recover x told) × (x.part (m.hash g) ≡ true) × (x.entries g ≡ Some e)
+
+-- a silo skips a version, and keeps an entry that it still owns
+abbrev pub KeepsOverSkip : Setting → World → Action → Type 0
+KeepsOverSkip m w a =
+    (x : Sight) × (g : Grain) × (e : ActivationId) × (a ≡ See x) × (suc (w.seen x.silo) < x.version) × (x.kept (m.hash g) ≡ true) × (surviving m x.version (w.table x.silo g) ≡ Some e)
+
+-- an activation becomes firm in the place of one that another silo offered
+abbrev pub Migrates : Setting → World → Action → Type 0
+Migrates m w a =
+    (y : Reply) × (g : Grain) × (x : Held) × (p : ActivationId) × (a ≡ Confirm y g x) × (previous_of x ≡ Some p) × (p.silo ≢ y.receiver)
+
+-- a registration is answered by the entry of another silo's activation, which is firm
+abbrev pub FindsPlaceTaken : Setting → World → Action → Type 0
+FindsPlaceTaken m w a =
+    (x : Service) × (t : Silo) × (c : ℕ) × (a ≡ Serve x) × (x.answer ≡ Taken) × IsFirmOn m w x.request.grain t c × (t ≢ x.request.sender)
+
+-- a registration is refused for its number alone
+abbrev pub RefusesOldNumber : Setting → World → Type 0
+RefusesOldNumber m w =
+    (s : Silo) × (r : Request) × Sent r w.requests × (m.alive w.now s ≡ true) × (w.seen s ≡ r.version) × (w.settled s (m.hash r.grain) ≡ true) × (r.number ≤ w.served s r.sender)
+
+-- a reply to an asking activation's silo, of the version that it has seen, isn't accepted: its number is an older one
+abbrev pub IgnoresStaleReply : Setting → World → Type 0
+IgnoresStaleReply m w =
+    (y : Reply) × (g : Grain) × (x : Held) × (n : ℕ) × Sent y w.replies × (m.alive w.now y.receiver ≡ true) × (y.answer ≡ Registered) × (y.version ≡ w.seen y.receiver) × (w.held y.receiver g ≡ Some x) × (outstanding Register x ≡ Some n) × (y.number < n)
