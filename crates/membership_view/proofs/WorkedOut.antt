@@ -1,0 +1,22 @@
+-- The worked changes compute.
+use Rattle.std.proofs.Common.{refl}
+use Rattle.membership_view.specs.Worked.{WorkedChanges}
+
+pub worked : WorkedChanges
+worked = record {
+  joins = refl;
+  replaces = refl;
+  joins_again = refl;
+  old_generation = refl;
+  rows_full = refl;
+  unknown = refl;
+  leaves = refl;
+  not_active = refl;
+  dies = refl;
+  already_dead = refl;
+  first_view = refl;
+  second_view = refl;
+  active = refl;
+  leaving = refl;
+  not_made = refl;
+}

@@ -1,0 +1,81 @@
+-- What holds of all views, told by views and statuses alone.
+use Rattle.std.specs.Prelude.{◌≡◌, ◌≢◌, ◌↔◌, ◌⊎◌, ℕ, ◌+◌, ◌<◌, ◌≤◌, [], IsTrue, IsSome, Some, Ok, Err}
+use Rattle.silo_address.specs.Silo.{Silo, IsSameEndpoint}
+use Rattle.membership_view.specs.declared.status.Status.TheVariants.{Dead}
+use Rattle.membership_view.specs.View.{ViewValue, status_of}
+use Rattle.membership_view.specs.Views.{ViewsValue, first_views, view_at, status_at, joining_version}
+use Rattle.membership_view.specs.Changes.{Change, after, is_newest, standing}
+use Rattle.membership_view.specs.Whole.{IsViews}
+use Rattle.membership_view.specs.Step.{MembershipStep}
+
+-- an accepted change takes these views to the next ones
+pub record Accepts (views : ViewsValue) (change : Change) (next : ViewsValue) : Type 0 where
+  pub whole : IsViews views
+  pub is : after views change ≡ Ok next
+
+-- each accepted change makes one version, one higher
+abbrev pub VersionsRise : Type 0
+VersionsRise = (views : ViewsValue) (change : Change) (next : ViewsValue) → Accepts views change next → next.version ≡ views.version + 1
+
+-- each accepted change is one membership step from the current view to the next one
+abbrev pub ChangesAreSteps : Type 0
+ChangesAreSteps = (views : ViewsValue) (change : Change) (next : ViewsValue) → Accepts views change next
+    → MembershipStep (view_at views views.version) change (view_at next next.version)
+
+-- a view never changes
+abbrev pub ViewsStay : Type 0
+ViewsStay = (views : ViewsValue) (change : Change) (next : ViewsValue) → Accepts views change next
+    → (version : ℕ) → version ≤ views.version → view_at next version ≡ view_at views version
+
+-- what the views so far keep holds before any change
+abbrev pub ViewsStart : Type 0
+ViewsStart = (limit : ℕ) → 0 < limit → limit ≤ 256 → IsViews (first_views limit)
+
+-- what the views so far keep they keep for good
+abbrev pub ViewsAreKept : Type 0
+ViewsAreKept = (views : ViewsValue) (change : Change) (next : ViewsValue) → Accepts views change next → IsViews next
+
+-- nobody is in the first view
+abbrev pub FirstIsEmpty : Type 0
+FirstIsEmpty = (views : ViewsValue) → IsViews views → (view_at views 0).rows ≡ []
+
+-- Dead stays Dead
+abbrev pub DeadStaysDead : Type 0
+DeadStaysDead = (views : ViewsValue) → IsViews views → (silo : Silo) (earlier later : ℕ) → earlier ≤ later → later ≤ views.version
+    → status_at views earlier silo ≡ Some Dead → status_at views later silo ≡ Some Dead
+
+-- a row never goes
+abbrev pub RowsStay : Type 0
+RowsStay = (views : ViewsValue) → IsViews views → (silo : Silo) (earlier later : ℕ) → earlier ≤ later → later ≤ views.version
+    → IsSome (status_at views earlier silo) → IsSome (status_at views later silo)
+
+-- a silo is in the views from the version in which it joined on, and in no other
+abbrev pub JoinedFrom : Type 0
+JoinedFrom = (views : ViewsValue) → IsViews views → (silo : Silo) (joined : ℕ) → joining_version views silo ≡ Some joined
+    → (version : ℕ) → version ≤ views.version → IsSome (status_at views version silo) ↔ (joined ≤ version)
+
+-- a silo that is there and isn't Dead in a view
+abbrev pub IsStandingIn : ViewsValue → ℕ → Silo → Type 0
+IsStandingIn views version silo = IsSome (status_at views version silo) × (status_at views version silo ≢ Some Dead)
+
+-- in no view two silos of one endpoint are there that aren't Dead
+abbrev pub OneStands : Type 0
+OneStands = (views : ViewsValue) → IsViews views → (version : ℕ) (a b : Silo) → IsSameEndpoint a b
+    → IsStandingIn views version a → IsStandingIn views version b → a ≡ b
+
+-- a silo is the newest of its endpoint where every silo of it that ever joined has a lower generation
+abbrev pub NewestIs : Type 0
+NewestIs = (views : ViewsValue) → IsViews views → (silo : Silo)
+    → IsTrue (is_newest silo views.rows)
+    ↔ ((other : Silo) → IsSameEndpoint silo other → IsSome (joining_version views other) → other.generation < silo.generation)
+
+-- the silo that a join replaces is the one of its endpoint that is there in the current view and isn't Dead
+abbrev pub StandingIs : Type 0
+StandingIs = (views : ViewsValue) → IsViews views → (silo old : Silo)
+    → (standing silo views.rows ≡ Some old) ↔ (IsSameEndpoint silo old × IsStandingIn views views.version old)
+
+-- a membership step from the current view is accepted, and makes a view with these statuses; only a join may find no room
+abbrev pub StepsAreChanges : Type 0
+StepsAreChanges = (views : ViewsValue) → IsViews views → (change : Change) (view : ViewValue) → MembershipStep (view_at views views.version) change view
+    → (after views change ≡ Err 205)
+    ⊎ ((next : ViewsValue) × (after views change ≡ Ok next) × ((silo : Silo) → status_at next next.version silo ≡ status_of view silo))

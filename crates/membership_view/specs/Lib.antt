@@ -1,0 +1,9 @@
+pub mod Row
+pub mod View
+pub mod Views
+pub mod Changes
+pub mod Fault
+pub mod Whole
+pub mod Step
+pub mod Laws
+pub mod Worked

@@ -1,0 +1,37 @@
+-- What all views so far keep at every moment.
+use Rattle.std.specs.Prelude.{◌≡◌, ℕ, ◌+◌, ◌<◌, ◌≤◌, IsTrue, List, length, sum_by, Some, is_some, if◌then◌else◌}
+use Rattle.std.specs.List.Sorted.{IsStrictlySortedBy}
+use Rattle.std.specs.Map.{lookup, keys_of, values_of}
+use Rattle.std.specs.BTreeMap.{is_at}
+use Rattle.silo_address.specs.Silo.{Silo, silo_cmp, IsSameEndpoint}
+use Rattle.membership_view.specs.declared.row.Row.{Row}
+use Rattle.membership_view.specs.Row.{has_come}
+use Rattle.membership_view.specs.Views.{ViewsValue, row_of}
+
+-- a row whose changes were made in versions that have been, after the silo joined
+pub record IsInTime (version : ℕ) (row : Row) : Type 0 where
+  pub joined_above : 0 < row.joined
+  pub joined_by : row.joined ≤ version
+  pub left_after : (made : ℕ) → row.left ≡ Some made → (row.joined < made) × (made ≤ version)
+  pub dead_after : (made : ℕ) → row.dead ≡ Some made → (row.joined < made) × (made ≤ version)
+
+-- how many changes a row has seen: its silo's joining, leaving and death
+abbrev pub changes_of : Row → ℕ
+changes_of row = 1 + (if is_some row.left then 1 else 0) + (if is_some row.dead then 1 else 0)
+
+-- an older silo of an endpoint is Dead from the joining of a newer one on
+abbrev pub OlderAreDead : List (Silo × Row) → Type 0
+OlderAreDead rows = (older newer : Silo) (row next : Row) → lookup (is_at (silo_cmp older)) rows ≡ Some row → lookup (is_at (silo_cmp newer)) rows ≡ Some next
+    → IsSameEndpoint newer older → older.generation < newer.generation → IsTrue (has_come row.dead next.joined)
+
+-- what the views so far keep
+pub record IsViews (views : ViewsValue) : Type 0 where
+  pub limit_above : 0 < views.limit
+  pub limit_below : views.limit ≤ 256
+  pub within_limit : length views.rows ≤ views.limit
+  -- each silo has one row, and the rows stand by address
+  pub in_order : IsStrictlySortedBy silo_cmp (keys_of views.rows)
+  pub in_time : (silo : Silo) (row : Row) → row_of views silo ≡ Some row → IsInTime views.version row
+  pub older_dead : OlderAreDead views.rows
+  -- there are no more versions than changes that the rows tell of
+  pub counted : views.version ≤ sum_by changes_of (values_of views.rows)

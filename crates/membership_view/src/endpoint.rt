@@ -1,0 +1,33 @@
+ghost use Rattle.std.specs.Prelude.{◌≡◌, true};
+ghost use Rattle.membership_view.specs.Changes.{is_newest, standing};
+ghost use Rattle.membership_view.specs.Whole.{OlderAreDead};
+
+use crate::Row;
+use silo_address::SiloAddress;
+use std::collections::BTreeMap;
+
+// The silos of an endpoint stand together, by generation. So what matters of them stands next to the place where a silo of this
+// endpoint would be put in.
+
+/// Whether every silo of this one's endpoint that has a row has a lower generation.
+pub(crate) fn is_newest(rows: &BTreeMap<SiloAddress, Row>, silo: &SiloAddress) -> bool
+    ensures { result ≡ is_newest silo.now rows.now.entries }
+{
+    match rows.range(*silo..).next() {
+        Some((next, _)) => !silo.same_endpoint(next),
+        None => true,
+    }
+}
+
+/// The silo of this one's endpoint that is not Dead, if there is one.
+pub(crate) fn standing(rows: &BTreeMap<SiloAddress, Row>, silo: &SiloAddress) -> Option<SiloAddress>
+    requires newest { is_newest silo.now rows.now.entries ≡ true }
+    requires older_dead { OlderAreDead rows.now.entries }
+    ensures { result ≡ standing silo.now rows.now.entries }
+{
+    let (last, row) = rows.range(..*silo).next_back()?;
+    if silo.same_endpoint(last) && row.dead.is_none() {
+        return Some(*last);
+    }
+    None
+}

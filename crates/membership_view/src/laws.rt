@@ -1,0 +1,45 @@
+//! What holds of all views. Each function here does nothing: its contract is a law on what the other contracts speak of, for the
+//! proofs of crates above.
+ghost use Rattle.membership_view.specs.Laws.{ChangesAreSteps, VersionsRise, ViewsStart, ViewsStay, ViewsAreKept, FirstIsEmpty, DeadStaysDead, RowsStay, JoinedFrom, OneStands, NewestIs, StandingIs, StepsAreChanges};
+ghost use Rattle.membership_view.specs.Worked.{WorkedChanges};
+
+/// Each accepted change makes one version, one higher, and is one membership step from the current view to the next one. Every
+/// earlier view stays as it was. What all views keep holds before any change, and after each.
+pub fn changes_are_steps()
+    ensures rises { VersionsRise }
+    ensures steps { ChangesAreSteps }
+    ensures views_stay { ViewsStay }
+    ensures start { ViewsStart }
+    ensures kept { ViewsAreKept }
+{}
+
+/// From view to view a silo's row never goes, and a silo that is Dead stays Dead. It is in the views from the version in which it
+/// joined on. Nobody is in the first view.
+pub fn rows_stay()
+    ensures first { FirstIsEmpty }
+    ensures joined { JoinedFrom }
+    ensures rows { RowsStay }
+    ensures dead { DeadStaysDead }
+{}
+
+/// In no view two silos of one endpoint are there that aren't Dead.
+pub fn one_stands()
+    ensures { OneStands }
+{}
+
+/// What a join looks for, told by silos and statuses: whether every silo of its endpoint that ever joined has a lower generation,
+/// and which silo of its endpoint is there in the current view and isn't Dead.
+pub fn joins_look_for()
+    ensures newest { NewestIs }
+    ensures standing { StandingIs }
+{}
+
+/// Each membership step from the current view is an accepted change, unless it is a join for which there is no room.
+pub fn steps_are_changes()
+    ensures { StepsAreChanges }
+{}
+
+/// One run of changes, worked out.
+pub fn changes_compute()
+    ensures { WorkedChanges }
+{}

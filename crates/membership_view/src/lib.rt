@@ -1,0 +1,19 @@
+//! Membership of a cluster: which silos joined, in which version of the view, and what became of them.
+#![tactic(auto)]
+
+mod endpoint;
+mod fault;
+pub mod laws;
+mod row;
+mod status;
+mod view;
+mod views;
+
+pub use fault::ViewsError;
+pub use row::Row;
+pub use status::Status;
+pub use view::View;
+pub use views::{Joined, MAX_SILOS, Views};
+
+#[cfg(test)]
+mod tests;

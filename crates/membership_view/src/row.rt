@@ -1,0 +1,43 @@
+ghost use Rattle.std.specs.Prelude.{◌≡◌};
+ghost use Rattle.membership_view.specs.Row.{has_come, status_in};
+
+use crate::Status;
+
+/// What is kept of a silo for good: the versions in which it joined, began to leave and became dead.
+#[derive(Clone, Copy, Debug, PartialEq, Eq)]
+pub struct Row {
+    /// The version in which the silo joined, above 0.
+    pub joined: u64,
+    /// The version in which it became Leaving, if it did.
+    pub left: Option<u64>,
+    /// The version in which it became Dead, if it did.
+    pub dead: Option<u64>,
+}
+
+impl Row {
+    /// The silo's status in the view of this version; `None` where it had not joined by then.
+    pub fn status(&self, version: u64) -> Option<Status>
+        ensures { result ≡ status_in version self.now }
+    {
+        if has_come(self.dead, version) {
+            return Some(Status::Dead);
+        }
+        if has_come(self.left, version) {
+            return Some(Status::Leaving);
+        }
+        if self.joined <= version {
+            return Some(Status::Active);
+        }
+        None
+    }
+}
+
+// Whether a change that was made in a version, if it was made, had been made by another one.
+fn has_come(change: Option<u64>, version: u64) -> bool
+    ensures { result ≡ has_come change version }
+{
+    match change {
+        Some(made) => made <= version,
+        None => false,
+    }
+}

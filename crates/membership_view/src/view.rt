@@ -1,0 +1,116 @@
+ghost use Rattle.std.specs.Prelude.{◌≡◌, ◌↔◌, IsTrue, IfOk};
+ghost use Rattle.membership_view.specs.View.{IsByAddress, active_silos, status_of};
+ghost use Rattle.membership_view.specs.Views.{rows_in};
+
+use crate::{Row, Status};
+use silo_address::SiloAddress;
+use std::alloc::{AllocError, Global};
+use std::collections::BTreeMap;
+use std::marker::Model;
+
+/// A view: one version of membership, each silo that has joined by it with its status there (`docs/RULES.md#membership`).
+#[derive(Drop)]
+pub struct View {
+    version: u64,
+    rows: Vec<(SiloAddress, Status)>,
+}
+
+impl Model for View {
+    ghost use Rattle.membership_view.specs.View.{ViewValue};
+
+    ghost Value = { ViewValue };
+
+    ghost use Rattle.membership_view.specs.View.{IsByAddress};
+
+    ghost view = { λ v. record { version = v.version; rows = v.rows.items } };
+
+    ghost invariant = { λ v. IsByAddress (record { version = v.version; rows = v.rows.items }) };
+}
+
+impl View {
+    // What the rows say of one version.
+    pub(crate) fn read(
+        alloc: Global,
+        version: u64,
+        rows: &BTreeMap<SiloAddress, Row>,
+    ) -> Result<View, AllocError>
+        ensures { IfOk result (λ view. view ≡ record { version = version; rows = rows_in version rows.now.entries }) }
+    {
+        let mut shown = Vec::with_capacity(alloc, rows.len())?;
+        for (silo, row) in rows {
+            if let Some(status) = row.status(version) {
+                shown.push((*silo, status))?;
+            }
+        }
+        Ok(View {
+            version,
+            rows: shown,
+        })
+    }
+
+    /// The view's version.
+    pub fn version(&self) -> u64
+        ensures { result ≡ self.now.version }
+    {
+        self.version
+    }
+
+    /// Each silo that has joined by this version with its status, by address.
+    pub fn rows(&self) -> &[(SiloAddress, Status)]
+        ensures { result.now ≡ self.now.rows }
+    {
+        &self.rows
+    }
+
+    /// The status of a silo here; `None` where it has not joined by this version.
+    pub fn status(&self, silo: &SiloAddress) -> Option<Status>
+        ensures { result ≡ status_of self.now silo.now }
+    {
+        match self.rows.binary_search_by_key(silo, |row| row.0) {
+            Ok(place) => Some(self.rows[place].1),
+            Err(_) => None,
+        }
+    }
+
+    /// The silos that are Active here, by address. Fails only for want of memory.
+    pub fn active(&self, alloc: Global) -> Result<Vec<SiloAddress>, AllocError>
+        ensures { IfOk result (λ silos. silos.items ≡ active_silos self.now) }
+    {
+        self.rows
+            .iter()
+            .filter(|row| row.1.is_active())
+            .map(|row| row.0)
+            .collect(alloc)
+    }
+
+    /// Each silo stands once, by address.
+    pub fn in_order(&self)
+        ensures { IsByAddress self.now }
+    {
+        let _version = self.version;
+    }
+
+    /// An equal view. Fails only for want of memory.
+    pub fn copy(&self) -> Result<View, AllocError>
+        ensures { IfOk result (λ view. view ≡ self.now) }
+    {
+        let rows = self.rows.clone()?;
+        Ok(View {
+            version: self.version,
+            rows,
+        })
+    }
+
+    /// Whether both have the same version and rows.
+    pub fn same(&self, other: &View) -> bool
+        ensures { IsTrue result ↔ (self.now ≡ other.now) }
+    {
+        self.version == other.version && same_rows(&self.rows, &other.rows)
+    }
+}
+
+fn same_rows(one: &[(SiloAddress, Status)], other: &[(SiloAddress, Status)]) -> bool
+    ensures { IsTrue result ↔ (one.now ≡ other.now) }
+{
+    *one == *other
+}

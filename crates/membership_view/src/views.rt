@@ -1,0 +1,322 @@
+ghost use Rattle.std.specs.Map.Iter.{ShowsInOrder, deref_pair};
+ghost use Rattle.std.specs.Prelude.{◌≡◌, ◌≢◌, ◌<◌, ◌≤◌, ◌↔◌, length, IsTrue, IfOk, IfErr, OnOk, OnErr, IfSome, IsSome, true};
+ghost use Rattle.silo_address.specs.Silo.{Silo};
+ghost use Rattle.membership_view.specs.Changes.{Join, Leave, Die, after, changed, is_newest, joined_rows, standing, with_death, with_join, with_leave};
+ghost use Rattle.membership_view.specs.Fault.{Refuses, RefusesOrLacksMemory};
+ghost use Rattle.membership_view.specs.Row.{leaving, dying};
+ghost use Rattle.membership_view.specs.Views.{first_views, row_of, view_at, status_at, joining_version, leaving_version, dying_version};
+ghost use Rattle.membership_view.specs.Whole.{IsViews, OlderAreDead};
+ghost use Rattle.membership_view.specs.declared.row.Row.{Row as RowSeen};
+ghost use Rattle.membership_view.specs.declared.status.Status.TheVariants.{Active, Dead};
+
+use crate::{Row, Status, View, ViewsError, endpoint};
+use silo_address::SiloAddress;
+use std::alloc::{AllocError, Global};
+use std::collections::BTreeMap;
+use std::collections::btree_map::Iter;
+use std::marker::Model;
+
+/// The greatest number of silos that may ever join.
+pub const MAX_SILOS: usize = 256;
+
+/// All views so far. Version 0 is the empty view; each accepted change makes the next version (`docs/RULES.md#membership`).
+#[derive(Drop)]
+pub struct Views {
+    limit: usize,
+    version: u64,
+    rows: BTreeMap<SiloAddress, Row>,
+}
+
+impl Model for Views {
+    ghost use Rattle.membership_view.specs.Views.{ViewsValue};
+
+    ghost Value = { ViewsValue };
+
+    ghost use Rattle.membership_view.specs.Whole.{IsViews};
+
+    ghost view = { λ v. record { limit = v.limit; version = v.version; rows = v.rows.entries } };
+
+    ghost invariant = { λ v. IsViews (record { limit = v.limit; version = v.version; rows = v.rows.entries }) };
+}
+
+/// What a join has done.
+#[derive(Clone, Copy, Debug, PartialEq, Eq)]
+pub struct Joined {
+    /// The version that the join made.
+    pub version: u64,
+    /// The older silo of the same endpoint that became Dead in that version, if one had not been Dead.
+    pub replaced: Option<SiloAddress>,
+}
+
+impl Views {
+    /// Only version 0, the empty view, for at most `limit` silos ever (1 to 256).
+    pub fn new(alloc: Global, limit: usize) -> Views
+        requires limit_above { 0 < limit }
+        requires limit_below { limit ≤ MAX_SILOS }
+        ensures { result ≡ first_views limit }
+    {
+        Views {
+            limit,
+            version: 0,
+            rows: BTreeMap::new(alloc),
+        }
+    }
+
+    /// The current version.
+    pub fn current(&self) -> u64
+        ensures { result ≡ self.now.version }
+    {
+        self.version
+    }
+
+    /// How many silos may ever join.
+    pub fn limit(&self) -> usize
+        ensures { result ≡ self.now.limit }
+    {
+        self.limit
+    }
+
+    /// How many silos have ever joined.
+    pub fn row_count(&self) -> usize
+        ensures { result ≡ length self.now.rows }
+    {
+        self.rows.len()
+    }
+
+    /// The row of each silo that has ever joined, by address.
+    pub fn rows(&self) -> Iter<'_, SiloAddress, Row>
+        ensures rest { result ≡ self.now.rows }
+        ensures runs { ShowsInOrder (deref_pair {K = Silo} {X = RowSeen}) }
+    {
+        self.rows.iter()
+    }
+
+    /// The row of a silo; `None` where it never joined.
+    pub fn row(&self, silo: &SiloAddress) -> Option<Row>
+        ensures { result ≡ row_of self.now silo.now }
+    {
+        self.rows.get(silo).copied()
+    }
+
+    /// The version in which a silo joined; `None` where it never did.
+    pub fn joined_at(&self, silo: &SiloAddress) -> Option<u64>
+        ensures { result ≡ joining_version self.now silo.now }
+    {
+        Some(self.row(silo)?.joined)
+    }
+
+    /// The version in which a silo became Leaving; `None` where it never did.
+    pub fn left_at(&self, silo: &SiloAddress) -> Option<u64>
+        ensures { result ≡ leaving_version self.now silo.now }
+    {
+        self.row(silo)?.left
+    }
+
+    /// The version in which a silo became Dead; `None` where it never did.
+    pub fn dead_at(&self, silo: &SiloAddress) -> Option<u64>
+        ensures { result ≡ dying_version self.now silo.now }
+    {
+        self.row(silo)?.dead
+    }
+
+    /// The status of a silo in the view of a version; `None` where it has not joined by it, or that version has not been made.
+    pub fn status(&self, version: u64, silo: &SiloAddress) -> Option<Status>
+        ensures { result ≡ status_at self.now version silo.now }
+    {
+        if version > self.version {
+            return None;
+        }
+        self.row(silo)?.status(version)
+    }
+
+    /// Whether a silo is Dead in the view of a version.
+    pub fn is_dead(&self, version: u64, silo: &SiloAddress) -> bool
+        ensures { IsTrue result ↔ (status_at self.now version silo.now ≡ Some Dead) }
+    {
+        self.status(version, silo) == Some(Status::Dead)
+    }
+
+    /// The view of a version; `None` where that version has not been made. Fails only for want of memory.
+    pub fn view(&self, alloc: Global, version: u64) -> Result<Option<View>, AllocError>
+        ensures made { IfOk result (λ view. IsSome view ↔ (version ≤ self.now.version)) }
+        ensures exact { IfOk result (λ view. IfSome view (λ view. view ≡ view_at self.now version)) }
+    {
+        if version > self.version {
+            return Ok(None);
+        }
+        let view = View::read(alloc, version, &self.rows)?;
+        Ok(Some(view))
+    }
+
+    /// A silo joins, and an older one of its endpoint that isn't Dead becomes Dead in the same version. Refused by 201 where a
+    /// silo of its endpoint with this generation or a higher one has ever joined, then by 205 where as many silos have joined
+    /// as ever may (`docs/RULES.md#membership`).
+    pub fn join(&mut self, silo: SiloAddress) -> Result<Joined, ViewsError>
+        ensures joined { OnOk result (after self.old (Join silo) ≡ Ok self.new) }
+        ensures version { IfOk result (λ joined. joined.version ≡ self.new.version) }
+        ensures replaced { IfOk result (λ joined. joined.replaced ≡ standing silo self.old.rows) }
+
+        // Memory is wanted last, by a join that nothing refuses.
+        ensures refused { IfErr result (RefusesOrLacksMemory self.old (Join silo)) }
+        ensures unchanged { OnErr result (self.new ≡ self.old) }
+    {
+        if !endpoint::is_newest(&self.rows, &silo) {
+            return Err(ViewsError::OldGeneration);
+        }
+        if self.rows.len() >= self.limit {
+            return Err(ViewsError::RowsFull);
+        }
+        match self.admit(silo) {
+            Ok(joined) => Ok(joined),
+            Err(_) => Err(ViewsError::OutOfMemory),
+        }
+    }
+
+    /// An Active silo becomes Leaving; answers the version that this makes. Refused by 202 where the silo has never joined, by
+    /// 203 where it is Leaving or Dead (`docs/RULES.md#membership`).
+    pub fn leave(&mut self, silo: &SiloAddress) -> Result<u64, ViewsError>
+        ensures left { OnOk result (after self.old (Leave silo.now) ≡ Ok self.new) }
+        ensures version { IfOk result (λ version. version ≡ self.new.version) }
+        ensures refused { IfErr result (Refuses self.old (Leave silo.now)) }
+        ensures unchanged { OnErr result (self.new ≡ self.old) }
+    {
+        match self.status(self.version, silo) {
+            Some(Status::Active) => Ok(self.begin_to_leave(silo)),
+            Some(Status::Leaving | Status::Dead) => Err(ViewsError::NotActive),
+            None => Err(ViewsError::UnknownSilo),
+        }
+    }
+
+    /// An Active or Leaving silo becomes Dead; answers the version that this makes. Refused by 202 where the silo has never
+    /// joined, by 204 where it is Dead (`docs/RULES.md#membership`).
+    pub fn declare_dead(&mut self, silo: &SiloAddress) -> Result<u64, ViewsError>
+        ensures dead { OnOk result (after self.old (Die silo.now) ≡ Ok self.new) }
+        ensures version { IfOk result (λ version. version ≡ self.new.version) }
+        ensures refused { IfErr result (Refuses self.old (Die silo.now)) }
+        ensures unchanged { OnErr result (self.new ≡ self.old) }
+    {
+        match self.status(self.version, silo) {
+            Some(Status::Dead) => Err(ViewsError::AlreadyDead),
+            Some(_) => Ok(self.die(silo)),
+            None => Err(ViewsError::UnknownSilo),
+        }
+    }
+
+    // A silo that may join joins.
+    fn admit(&mut self, silo: SiloAddress) -> Result<Joined, AllocError>
+        requires newest { is_newest silo self.old.rows ≡ true }
+        requires room { length self.old.rows < self.old.limit }
+        ensures ok { OnOk result (self.new ≡ with_join self.old silo) }
+        ensures version { IfOk result (λ joined. joined.version ≡ self.new.version) }
+        ensures replaced { IfOk result (λ joined. joined.replaced ≡ standing silo self.old.rows) }
+        ensures err { OnErr result (self.new ≡ self.old) }
+    {
+        let version = self.version + 1;
+        let joined = put_in(&mut self.rows, silo, version)?;
+        self.version = version;
+        Ok(joined)
+    }
+
+    // An Active silo begins to leave.
+    fn begin_to_leave(&mut self, silo: &SiloAddress) -> u64
+        requires { status_at self.old self.old.version silo.now ≡ Some Active }
+        ensures views { self.new ≡ with_leave self.old silo.now }
+        ensures version { result ≡ self.new.version }
+    {
+        let version = self.version + 1;
+        set_left(&mut self.rows, silo, version);
+        self.version = version;
+        version
+    }
+
+    // A silo that is there and isn't Dead dies.
+    fn die(&mut self, silo: &SiloAddress) -> u64
+        requires there { IsSome (status_at self.old self.old.version silo.now) }
+        requires not_dead { status_at self.old self.old.version silo.now ≢ Some Dead }
+        ensures views { self.new ≡ with_death self.old silo.now }
+        ensures version { result ≡ self.new.version }
+    {
+        let version = self.version + 1;
+        set_dead(&mut self.rows, silo, version);
+        self.version = version;
+        version
+    }
+
+    /// What all views keep holds of these.
+    pub fn whole(&self)
+        ensures { IsViews self.now }
+    {
+        let _version = self.version;
+    }
+
+    /// Equal views. Fails only for want of memory.
+    pub fn copy(&self) -> Result<Views, AllocError>
+        ensures { IfOk result (λ views. views ≡ self.now) }
+    {
+        let rows = self.rows.clone()?;
+        Ok(Views {
+            limit: self.limit,
+            version: self.version,
+            rows,
+        })
+    }
+
+    /// Whether both have the same limit, version and rows.
+    pub fn same(&self, other: &Views) -> bool
+        ensures { IsTrue result ↔ (self.now ≡ other.now) }
+    {
+        self.limit == other.limit
+            && self.version == other.version
+            && same_rows(&self.rows, &other.rows)
+    }
+}
+
+// The row of a silo that joins is put in, and that of the silo that it replaces, if there is one, is dead from then on.
+fn put_in(
+    rows: &mut BTreeMap<SiloAddress, Row>,
+    silo: SiloAddress,
+    version: u64,
+) -> Result<Joined, AllocError>
+    requires newest { is_newest silo rows.old.entries ≡ true }
+    requires older_dead { OlderAreDead rows.old.entries }
+    ensures ok { OnOk result (rows.new.entries ≡ joined_rows silo version rows.old.entries) }
+    ensures version { IfOk result (λ joined. joined.version ≡ version) }
+    ensures replaced { IfOk result (λ joined. joined.replaced ≡ standing silo rows.old.entries) }
+    ensures err { OnErr result (rows.new.entries ≡ rows.old.entries) }
+{
+    let replaced = endpoint::standing(rows, &silo);
+    let row = Row {
+        joined: version,
+        left: None,
+        dead: None,
+    };
+    rows.insert(silo, row)?;
+    if let Some(old) = replaced {
+        set_dead(rows, &old, version);
+    }
+    Ok(Joined { version, replaced })
+}
+
+// The silo's row, if it has one, is left in this version.
+fn set_left(rows: &mut BTreeMap<SiloAddress, Row>, silo: &SiloAddress, version: u64)
+    ensures { rows.new.entries ≡ changed (leaving version) silo.now rows.old.entries }
+{
+    if let Some(row) = rows.get_mut(silo) {
+        row.left = Some(version);
+    }
+}
+
+// The silo's row, if it has one, is dead from this version on.
+fn set_dead(rows: &mut BTreeMap<SiloAddress, Row>, silo: &SiloAddress, version: u64)
+    ensures { rows.new.entries ≡ changed (dying version) silo.now rows.old.entries }
+{
+    if let Some(row) = rows.get_mut(silo) {
+        row.dead = Some(version);
+    }
+}
+
+fn same_rows(one: &BTreeMap<SiloAddress, Row>, other: &BTreeMap<SiloAddress, Row>) -> bool
+    ensures { IsTrue result ↔ (one.now.entries ≡ other.now.entries) }
+{
+    *one == *other
+}
