@@ -1,0 +1,17 @@
+pub mod Order
+pub mod Members
+pub mod Rising
+pub mod Sorting
+pub mod PointsOfViews
+pub mod HashedPlaces
+pub mod PlacesKept
+pub mod Nearness
+pub mod Ownership
+pub mod OwnerSearch
+pub mod PutIn
+pub mod WholeSilos
+pub mod NewPoints
+pub mod Advanced
+pub mod Rooms
+pub mod Lawful
+pub mod Covering

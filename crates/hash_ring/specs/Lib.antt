@@ -1,0 +1,10 @@
+pub mod Hash
+pub mod Point
+pub mod Places
+pub mod PlacesView
+pub mod Owner
+pub mod Ring
+pub mod Ranges
+pub mod Search
+pub mod Numbers
+pub mod Laws

@@ -1,0 +1,22 @@
+//! The ring of a cluster: where silos stand on the circle of hashes, and which of them owns a hash.
+#![tactic(auto)]
+
+mod advance;
+mod error;
+mod hashing;
+pub mod laws;
+mod places;
+mod point;
+mod points;
+mod ranges;
+mod ring;
+mod silo_places;
+
+pub use error::RingError;
+pub use hashing::{Hashing, hash_text};
+pub use places::{MOST_POINTS, Places};
+pub use point::Point;
+pub use ring::Ring;
+
+#[cfg(test)]
+mod tests;

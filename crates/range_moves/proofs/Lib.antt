@@ -1,0 +1,11 @@
+pub mod Lists
+pub mod Owners
+pub mod OnePlace
+pub mod Lowest
+pub mod Cuts
+pub mod Between
+pub mod Moving
+pub mod Sides
+pub mod Nearest
+pub mod Underway
+pub mod Going

@@ -1,0 +1,4 @@
+pub mod Arcs
+pub mod Moves
+pub mod Walk
+pub mod Worked

@@ -1,0 +1,74 @@
+ghost use Rattle.std.specs.Prelude.{◌≡◌, ◌↔◌, IsTrue};
+ghost use Rattle.range_moves.specs.Moves.{move_of};
+
+use ring_range::RingRange;
+use silo_address::SiloAddress;
+
+/// Hashes that one silo owned before and one owns after, of two rings; `None` where a ring has no point.
+#[derive(Clone, Copy, Debug, PartialEq, Eq)]
+pub struct Arc {
+    /// From one place of the rings to the next.
+    pub range: RingRange,
+    /// Who owned them before.
+    pub from: Option<SiloAddress>,
+    /// Who owns them after.
+    pub to: Option<SiloAddress>,
+}
+
+/// An arc that goes to another silo than it was owned by.
+#[derive(Clone, Copy, Debug, PartialEq, Eq)]
+pub struct Move {
+    /// The hashes that move.
+    pub range: RingRange,
+    /// Who owned them before; `None` where the old ring has no point.
+    pub from: Option<SiloAddress>,
+    /// Who owns them after.
+    pub to: SiloAddress,
+}
+
+impl Arc {
+    /// Whether the two are one arc.
+    pub fn same(&self, other: &Arc) -> bool
+        ensures { IsTrue result ↔ (self.now ≡ other.now) }
+    {
+        self == other
+    }
+
+    /// The move of the arc: where it has an owner after, of another silo than before.
+    pub fn moved(&self) -> Option<Move>
+        ensures { result ≡ move_of self.now }
+    {
+        let to = self.to?;
+        if self.from == Some(to) {
+            return None;
+        }
+        Some(Move {
+            range: self.range,
+            from: self.from,
+            to,
+        })
+    }
+
+    /// The same arc.
+    pub fn copy(&self) -> Arc
+        ensures { result ≡ self.now }
+    {
+        *self
+    }
+}
+
+impl Move {
+    /// Whether the two are one move.
+    pub fn same(&self, other: &Move) -> bool
+        ensures { IsTrue result ↔ (self.now ≡ other.now) }
+    {
+        self == other
+    }
+
+    /// The same move.
+    pub fn copy(&self) -> Move
+        ensures { result ≡ self.now }
+    {
+        *self
+    }
+}
