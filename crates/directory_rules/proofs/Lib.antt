@@ -1,0 +1,19 @@
+pub mod Cases
+pub mod Runs
+pub mod Sealing
+pub mod Tables
+pub mod Kept
+pub mod Mails
+pub mod Lost
+pub mod Pieces
+pub mod Removed
+pub mod People
+pub mod Peopled
+pub mod Retried
+pub mod Nodes
+pub mod Versions
+pub mod Throughout
+pub mod Worked
+mod TurningHashes
+mod Settling
+mod RightDumps

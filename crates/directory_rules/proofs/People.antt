@@ -1,0 +1,144 @@
+-- The views and the nodes: a silo has a node just where it is in the current view and isn't Dead there.
+use Rattle.std.proofs.Common.{inl, inr, IsSome, ◌≡◌, ◌≢◌, refl, sym, ap, subst, ◌∙◌, List}
+use Rattle.std.specs.Prelude.{true, false, cond, is_some, Option, Some, None, Ok}
+use Rattle.std.specs.Option.{option_map}
+use Rattle.std.specs.List.Sorted.{IsStrictlySortedBy}
+use Rattle.std.specs.Map.{lookup, keys_of, remove_entry}
+use Rattle.std.specs.BTreeMap.{is_at, insert_entry}
+use Rattle.std.specs.Ordering.{is_eq}
+use Rattle.std.specs.declared.cmp.Ordering.{Ordering}
+use Rattle.std.proofs.lemmas.Cmp.{tied_itself}
+use Rattle.texts.proofs.Decided.{decided}
+use Rattle.silo_address.specs.Silo.{Silo, silo_cmp, silo_eq}
+use Rattle.silo_address.proofs.Same.{Decides-silo}
+use Rattle.silo_address.proofs.Order.{silo_cmp_total, silo_cmp_exact, apart_in_order}
+use Rattle.membership_view.specs.declared.status.Status.{Status}
+use Rattle.membership_view.specs.declared.status.Status.TheVariants.{Active, Leaving, Dead}
+use Rattle.membership_view.specs.Views.{ViewsValue, view_at, status_at}
+use Rattle.membership_view.specs.Changes.{Join, Leave, Die, after, after_join, leave_from, die_from, shares_endpoint, with_leave, with_death, standing}
+use Rattle.membership_view.specs.Step.{Joins, Leaves, Dies}
+use Rattle.membership_view.proofs.Entries.{lookup-insert_entry, sorted-insert_entry, Equal-from}
+use Rattle.membership_view.proofs.Kept.{whole-after}
+use Rattle.membership_view.proofs.Stepping.{changes_are_steps}
+use Rattle.membership_view.proofs.Order.{Decides-shares}
+use Rattle.membership_view.proofs.Looking.{standing_law}
+use Rattle.directory_rules.specs.Node.{Node}
+use Rattle.directory_rules.specs.Laws.{is_live, ArePeopled}
+use Rattle.directory_rules.proofs.Cases.{on_bool}
+use Rattle.directory_rules.proofs.Tables.{lookup-remove_other}
+use Rattle.directory_rules.proofs.Removed.{sorted_removed, lookup_removed}
+
+-- the node of a silo
+abbrev at : Silo → List (Silo × Node) → Option Node
+at silo nodes = lookup (is_at (silo_cmp silo)) nodes
+
+abbrev now : ViewsValue → Silo → Option Status
+now views silo = status_at views views.version silo
+
+-- another silo's node is found as before
+at_other : (taken other : Silo) (nodes : List (Silo × Node)) → other ≢ taken → at other (remove_entry (is_at (silo_cmp taken)) nodes) ≡ at other nodes
+at_other taken other nodes differ =
+    lookup-remove_other (is_at (silo_cmp taken)) (is_at (silo_cmp other)) (λ k same. apart_in_order silo_cmp silo_cmp_exact other k (λ is. differ (is ∙ sym (silo_cmp_exact taken k (Equal-from (silo_cmp taken k) same))))) nodes
+
+at_put : (silo other : Silo) (node : Node) (nodes : List (Silo × Node)) → other ≢ silo → at other (insert_entry silo_cmp nodes silo node) ≡ at other nodes
+at_put silo other node nodes differ =
+    lookup-insert_entry silo_cmp_total silo node other nodes ∙ ap (λ b. cond b (Some node) (at other nodes)) (apart_in_order silo_cmp silo_cmp_exact other silo differ)
+
+there_put : (silo other : Silo) (node : Node) (nodes : List (Silo × Node)) → other ≡ silo → is_some (at other (insert_entry silo_cmp nodes silo node)) ≡ true
+there_put silo other node nodes same = subst (λ q. is_some (at q (insert_entry silo_cmp nodes silo node)) ≡ true) (sym same)
+    (ap is_some (lookup-insert_entry silo_cmp_total silo node silo nodes ∙ ap (λ (r : Ordering). cond (is_eq r) (Some node) (at silo nodes)) (tied_itself silo_cmp_total silo)))
+
+by_silo : (P : Type 0) (a b : Silo) → (a ≡ b → P) → (a ≢ b → P) → P
+by_silo P a b same differ = elim (decided (silo_eq a b) (Decides-silo a b)) [ inl is ↦ same is | inr not ↦ differ not ]
+
+-- a live silo's node is replaced
+pub peopled_put : (views : ViewsValue) (nodes : List (Silo × Node)) (silo : Silo) (old node : Node) → ArePeopled views nodes → at silo nodes ≡ Some old → ArePeopled views (insert_entry silo_cmp nodes silo node)
+peopled_put views nodes silo old node are there = record {
+  whole = are.whole;
+  by_address = sorted-insert_entry silo_cmp_total silo node nodes are.by_address;
+  live = λ q. by_silo (is_some (at q (insert_entry silo_cmp nodes silo node)) ≡ is_live (now views q)) q silo
+      (λ same. there_put silo q node nodes same ∙ subst (λ s. true ≡ is_live (now views s)) (sym same) (sym (ap is_some there) ∙ are.live silo))
+      (λ differ. ap is_some (at_put silo q node nodes differ) ∙ are.live q);
+}
+
+-- a silo begins to leave
+pub peopled_leave : (views : ViewsValue) (nodes : List (Silo × Node)) (silo : Silo) → ArePeopled views nodes → now views silo ≡ Some Active → ArePeopled (with_leave views silo) nodes
+peopled_leave views nodes silo are active =
+    let is : after views (Leave silo) ≡ Ok (with_leave views silo) = ap (λ o. leave_from o views silo) active in
+    let step : Leaves silo (view_at views views.version) (view_at (with_leave views silo) (with_leave views silo).version) = changes_are_steps views (Leave silo) (with_leave views silo) (record { whole = are.whole; is = is }) in
+    record {
+      whole = whole-after views are.whole (Leave silo) (with_leave views silo) is;
+      by_address = are.by_address;
+      live = λ q. are.live q ∙ by_silo (is_live (now views q) ≡ is_live (now (with_leave views silo) q)) q silo
+          (λ same. subst (λ s. is_live (now views s) ≡ is_live (now (with_leave views silo) s)) (sym same) (ap is_live active ∙ sym (ap is_live step.left)))
+          (λ differ. sym (ap is_live (step.others q differ)));
+    }
+
+-- a silo dies
+pub peopled_death : (views : ViewsValue) (nodes : List (Silo × Node)) (silo : Silo) → ArePeopled views nodes → die_from (now views silo) views silo ≡ Ok (with_death views silo) → ArePeopled (with_death views silo) (remove_entry (is_at (silo_cmp silo)) nodes)
+peopled_death views nodes silo are is =
+    let step : Dies silo (view_at views views.version) (view_at (with_death views silo) (with_death views silo).version) = changes_are_steps views (Die silo) (with_death views silo) (record { whole = are.whole; is = is }) in
+    record {
+      whole = whole-after views are.whole (Die silo) (with_death views silo) is;
+      by_address = sorted_removed silo_cmp (is_at (silo_cmp silo)) nodes are.by_address;
+      live = λ q. by_silo (is_some (at q (remove_entry (is_at (silo_cmp silo)) nodes)) ≡ is_live (now (with_death views silo) q)) q silo
+          (λ same. subst (λ s. is_some (at s (remove_entry (is_at (silo_cmp silo)) nodes)) ≡ is_live (now (with_death views silo) s)) (sym same)
+          (ap is_some (lookup_removed silo_cmp silo_cmp_total silo nodes are.by_address) ∙ sym (ap is_live step.dead)))
+          (λ differ. ap is_some (at_other silo q nodes differ) ∙ are.live q ∙ sym (ap is_live (step.others q differ)));
+    }
+
+-- the status of an older silo of the endpoint after a join: it isn't live
+not_live : (status : Option Status) → is_live (option_map (λ s. Dead) status) ≡ false
+not_live None = refl
+not_live (Some status) = refl
+
+live_stands : (status : Option Status) → is_live status ≡ true → IsSome status × (status ≢ Some Dead)
+live_stands None live = absurd (cc (live))
+live_stands (Some Active) live = (refl, λ e. cc (e))
+live_stands (Some Leaving) live = (refl, λ e. cc (e))
+live_stands (Some Dead) live = absurd (cc (live))
+
+-- the nodes without that of the silo that is replaced, if there is one
+abbrev pub without : Option Silo → List (Silo × Node) → List (Silo × Node)
+without None nodes = nodes
+without (Some old) nodes = remove_entry (is_at (silo_cmp old)) nodes
+
+without_sorted : (old : Option Silo) (nodes : List (Silo × Node)) → IsStrictlySortedBy silo_cmp (keys_of nodes) → IsStrictlySortedBy silo_cmp (keys_of (without old nodes))
+without_sorted None nodes sorted = sorted
+without_sorted (Some old) nodes sorted = sorted_removed silo_cmp (is_at (silo_cmp old)) nodes sorted
+
+-- of the endpoint's silos only the one that is replaced has a node
+replaced_gone : (old : Option Silo) (nodes : List (Silo × Node)) (q : Silo) → IsStrictlySortedBy silo_cmp (keys_of nodes) → (is_some (at q nodes) ≡ true → old ≡ Some q) → is_some (at q (without old nodes)) ≡ false
+replaced_gone None nodes q sorted only = on_bool (λ b. is_some (at q nodes) ≡ b → b ≡ false) (is_some (at q nodes)) (λ t is. absurd (cc (only is))) (λ f is. refl) refl
+replaced_gone (Some old) nodes q sorted only = by_silo (is_some (at q (remove_entry (is_at (silo_cmp old)) nodes)) ≡ false) q old
+    (λ same. subst (λ s. is_some (at s (remove_entry (is_at (silo_cmp old)) nodes)) ≡ false) (sym same) (ap is_some (lookup_removed silo_cmp silo_cmp_total old nodes sorted)))
+    (λ differ. ap is_some (at_other old q nodes differ) ∙ on_bool (λ b. is_some (at q nodes) ≡ b → b ≡ false) (is_some (at q nodes)) (λ t is. absurd (differ (same_silo_of (only is)))) (λ f is. refl) refl) where
+      same_silo_of : Some old ≡ Some q → q ≡ old
+      same_silo_of e = cc (e)
+
+others_stay : (old : Option Silo) (nodes : List (Silo × Node)) (q : Silo) → old ≢ Some q → at q (without old nodes) ≡ at q nodes
+others_stay None nodes q not = refl
+others_stay (Some old) nodes q not = at_other old q nodes (λ same. not (ap Some (sym same)))
+
+-- a silo joins, and the older one of its endpoint, if there is one, goes
+pub peopled_join : (views next : ViewsValue) (nodes : List (Silo × Node)) (silo : Silo) (node : Node) → ArePeopled views nodes → after_join views silo ≡ Ok next
+    → ArePeopled next (insert_entry silo_cmp (without (standing silo views.rows) nodes) silo node)
+peopled_join views next nodes silo node are is =
+    let step : Joins silo (view_at views views.version) (view_at next next.version) = changes_are_steps views (Join silo) next (record { whole = are.whole; is = is }) in
+    record {
+      whole = whole-after views are.whole (Join silo) next is;
+      by_address = sorted-insert_entry silo_cmp_total silo node (without (standing silo views.rows) nodes) (without_sorted (standing silo views.rows) nodes are.by_address);
+      live = λ q. by_silo (is_some (at q (insert_entry silo_cmp (without (standing silo views.rows) nodes) silo node)) ≡ is_live (now next q)) q silo
+          (λ same. there_put silo q node (without (standing silo views.rows) nodes) same ∙ subst (λ s. true ≡ is_live (now next s)) (sym same) (sym (ap is_live step.joined)))
+          (λ differ. ap is_some (at_put silo q node (without (standing silo views.rows) nodes) differ) ∙ elsewhere views next nodes silo q are step differ);
+    } where
+      elsewhere : (views next : ViewsValue) (nodes : List (Silo × Node)) (silo q : Silo) → ArePeopled views nodes → Joins silo (view_at views views.version) (view_at next next.version) → q ≢ silo
+          → is_some (at q (without (standing silo views.rows) nodes)) ≡ is_live (now next q)
+      elsewhere views next nodes silo q are step differ =
+          elim (decided (shares_endpoint silo q) (Decides-shares silo q)) [
+            | inl same ↦ replaced_gone (standing silo views.rows) nodes q are.by_address
+                (λ there. (standing_law views are.whole silo q).1 (same, live_stands (now views q) (sym (are.live q) ∙ there)))
+                ∙ sym (ap is_live (step.older q same differ) ∙ not_live (now views q))
+            | inr apart ↦ ap is_some (others_stay (standing silo views.rows) nodes q (λ stands. apart ((standing_law views are.whole silo q).0 stands).0))
+                ∙ are.live q ∙ sym (ap is_live (step.others q apart))
+          ]

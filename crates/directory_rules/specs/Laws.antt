@@ -1,0 +1,131 @@
+-- What holds of the rule, whatever happens.
+use Rattle.std.specs.Prelude.{◌&&◌, ◌≡◌, ◌≢◌, if◌then◌else◌, Bool, count_by, ℕ, ◌<◌, ◌≤◌, true, false, is_some, List, [], ◌∷◌, All, length, Option, Some, None, Ok, Err}
+use Rattle.std.specs.List.{list_any}
+use Rattle.std.specs.List.Sorted.{IsStrictlySortedBy}
+use Rattle.std.specs.Map.{keys_of, values_of, lookup}
+use Rattle.std.specs.BTreeMap.{is_at}
+use Rattle.silo_address.specs.Silo.{Silo, silo_cmp}
+use Rattle.membership_view.specs.declared.status.Status.{Status}
+use Rattle.membership_view.specs.declared.status.Status.TheVariants.{Active, Leaving, Dead}
+use Rattle.membership_view.specs.Views.{ViewsValue, status_at}
+use Rattle.membership_view.specs.Whole.{IsViews}
+use Rattle.silo_address.specs.Grain.{Grain}
+use Rattle.membership_view.specs.View.{ViewValue}
+use Rattle.hash_ring.specs.declared.Hashing.{Hashing}
+use Rattle.ring_range.specs.Range.{circle, Range, IsRange, EachHash, holds}
+use Rattle.hash_ring.specs.declared.Point.{Point}
+use Rattle.hash_ring.specs.Hash.{hash_grain}
+use Rattle.range_moves.specs.declared.Arc.{Arc}
+use Rattle.range_moves.specs.Arcs.{owner_silo, AreArcs}
+use Rattle.directory_rules.specs.declared.act.Act.{Act}
+use Rattle.directory_rules.specs.declared.act.Request.{Request}
+use Rattle.directory_rules.specs.declared.reply.Why.{Why}
+use Rattle.directory_rules.specs.declared.reply.Reply.TheVariants.{Retry}
+use Rattle.directory_rules.specs.declared.piece_state.PieceState.TheVariants.{Settled}
+use Rattle.directory_rules.specs.Settings.{Settings, AreSettings}
+use Rattle.directory_rules.specs.Table.{Table, entry_at}
+use Rattle.directory_rules.specs.Piece.{Piece, Holding}
+use Rattle.directory_rules.specs.Snapshot.{Snapshot}
+use Rattle.directory_rules.specs.Sight.{is_settled, was_settled, is_owner, pieces_after, sealed}
+use Rattle.directory_rules.specs.Answer.{turned, piece_with, answered}
+use Rattle.directory_rules.specs.Sending.{grain_of}
+use Rattle.directory_rules.specs.Node.{Node}
+use Rattle.directory_rules.specs.Event.{Event, Lose}
+use Rattle.directory_rules.specs.World.{Posted, World, Accepted}
+use Rattle.directory_rules.specs.Mail.{letter_of}
+use Rattle.directory_rules.specs.Happens.{happens}
+use Rattle.directory_rules.specs.Run.{run, run_from_start}
+
+-- a refused event leaves the world as it was
+abbrev pub RefusalsChangeNothing : Type 0
+RefusalsChangeNothing = (world : World) (event : Event) (number : ℕ) → happens world event ≡ Err number → (run world (event ∷ [])).world ≡ world
+
+-- an accepted event leaves the world that it made
+abbrev pub AcceptedChange : Type 0
+AcceptedChange = (world : World) (event : Event) (accepted : Accepted) → happens world event ≡ Ok accepted → (run world (event ∷ [])).world ≡ accepted.world
+
+-- the snapshot is of the view's version and of the silo, which had all of its range settled, and it is for another silo
+pub record IsHandedOver (view : ViewValue) (silo : Silo) (pieces : List (ℕ × Piece)) (snapshot : Snapshot) : Type 0 where
+  pub version : snapshot.version ≡ view.version
+  pub from : snapshot.from ≡ silo
+  pub to : snapshot.to ≢ silo
+  pub settled : was_settled pieces snapshot.range ≡ true
+
+-- what a sight seals was wholly settled, and its new owner is another silo
+abbrev pub SealedWasSettled : Type 0
+SealedWasSettled = (hashing : Hashing) (view : ViewValue) (silo : Silo) (pieces : List (ℕ × Piece)) (arcs : List Arc) → All (IsHandedOver view silo pieces) (sealed hashing view silo pieces arcs)
+
+-- the pieces hold each hash that the silo owns by the ring's points once, and no other; each entry lies in its piece
+pub record HoldOwned (hashing : Hashing) (points : List Point) (silo : Silo) (pieces : List (ℕ × Piece)) : Type 0 where
+  pub once : EachHash (λ hash. count_by (λ e. holds e.1.range hash) pieces ≡ (if is_owner silo (owner_silo points hash) then 1 else 0))
+  pub placed : All (λ e. All (λ x. holds e.1.range (hash_grain hashing x.1.grain) ≡ true) e.1.entries) pieces
+
+-- so do the pieces after a sight, which are made of the arcs between two rings
+abbrev pub PiecesAreOwned : Type 0
+PiecesAreOwned = (next : Bool) (hashing : Hashing) (view : ViewValue) (silo : Silo) (pieces : List (ℕ × Piece)) (old new : List Point) (arcs : List Arc) → AreArcs old new arcs
+    → HoldOwned hashing new silo (pieces_after next hashing view silo pieces arcs)
+
+-- a served request leaves every other grain's entry as it was
+abbrev pub ServedLeavesOthers : Type 0
+ServedLeavesOthers = (act : Act) (table : Table) (grain : Grain) → grain ≢ grain_of act → entry_at grain (turned act table).table ≡ entry_at grain table
+
+-- letters whose numbers rise, from above one number to another at most
+abbrev pub RiseBetween : (low high : ℕ) → List (ℕ × Posted) → Type 0
+RiseBetween low high [] = low ≤ high
+RiseBetween low high (e ∷ es) = (low < e.0) × RiseBetween e.0 high es
+
+-- the mail's numbers rise, from 1 at least to the number of letters ever sent, and the limit bounds that
+pub record IsMail (settings : Settings) (mail : List (ℕ × Posted)) (sent : ℕ) : Type 0 where
+  pub rising : RiseBetween 0 sent mail
+  pub many : length mail ≤ sent
+  pub limited : sent ≤ settings.letters
+
+-- so it is after each list of events
+abbrev pub MailIsNumbered : Type 0
+MailIsNumbered = (settings : Settings) (events : List Event) → IsMail settings (run_from_start settings events).world.mail (run_from_start settings events).world.sent
+
+-- a letter that was lost is in no mail again
+abbrev pub LostIsLost : Type 0
+LostIsLost = (settings : Settings) (before after : List Event) (number : ℕ) (accepted : Accepted) → happens (run_from_start settings before).world (Lose number) ≡ Ok accepted
+    → letter_of (run accepted.world after).world number ≡ None
+
+-- whether a status is that of a silo which is there and isn't Dead
+abbrev pub is_live : Option Status → Bool
+is_live None = false
+is_live (Some Active) = true
+is_live (Some Leaving) = true
+is_live (Some Dead) = false
+
+-- the views keep what all views keep; nodes stand by address, and a silo has one just where it is in the current view and
+-- isn't Dead there
+pub record ArePeopled (views : ViewsValue) (nodes : List (Silo × Node)) : Type 0 where
+  pub whole : IsViews views
+  pub by_address : IsStrictlySortedBy silo_cmp (keys_of nodes)
+  pub live : (silo : Silo) → is_some (lookup (is_at (silo_cmp silo)) nodes) ≡ is_live (status_at views views.version silo)
+
+-- so it is after each list of events
+abbrev pub LiveHaveNodes : Type 0
+LiveHaveNodes = (settings : Settings) (events : List Event) → AreSettings settings → ArePeopled (run_from_start settings events).world.views (run_from_start settings events).world.nodes
+
+-- the node's ring and holding are of the version that it has seen
+pub record IsOfOneVersion (node : Node) : Type 0 where
+  pub ring : node.ring.version ≡ node.view.version
+  pub holding : node.holding.seen ≡ node.view.version
+
+-- so is each node after each list of events
+abbrev pub NodesAreOfOneVersion : Type 0
+NodesAreOfOneVersion = (settings : Settings) (events : List Event) → All IsOfOneVersion (values_of (run_from_start settings events).world.nodes)
+
+-- a piece that isn't settled serves no request
+abbrev pub UnsettledPiecesRetry : Type 0
+UnsettledPiecesRetry = (holding : Holding) (request : Request) (piece : Piece) → piece_with request.hash holding.pieces ≡ Some piece → ¬ (piece.state ≡ Settled)
+    → (why : Why) × ((answered holding request).reply ≡ Retry why)
+
+-- whether the hash lies in a settled piece
+abbrev pub lies_settled : ℕ → List (ℕ × Piece) → Bool
+lies_settled hash pieces = list_any (λ e. is_settled e.1.state && holds e.1.range hash) pieces
+
+-- a range that was settled has each of its hashes in a settled piece
+abbrev pub WasSettledThroughout : Type 0
+WasSettledThroughout = (pieces : List (ℕ × Piece)) (range : Range) → IsRange range → All (λ e. IsRange e.1.range) pieces → All (λ start. start < circle) (keys_of pieces) → was_settled pieces range ≡ true
+    → EachHash (λ hash. holds range hash ≡ true → lies_settled hash pieces ≡ true)

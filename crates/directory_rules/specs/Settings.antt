@@ -1,0 +1,62 @@
+-- The settings of a directory: how hashes are made, and the limits. A directory's own limits are the greatest; smaller
+-- ones serve examples.
+use Rattle.std.specs.Prelude.{ℕ, ◌≤◌}
+use Rattle.hash_ring.specs.declared.Hashing.{Hashing}
+
+-- what a directory is set up with
+pub record Settings : Type 0 where
+  pub hashing : Hashing
+  -- how many points each silo has on the ring, where points are hashed
+  pub points : ℕ
+  -- how many entries a cache keeps
+  pub cache : ℕ
+  -- how many silos may ever join, and how many places a join may name
+  pub silos : ℕ
+  pub places : ℕ
+  -- how many events may ever be accepted, and how many letters sent
+  pub events : ℕ
+  pub letters : ℕ
+  -- how many activations a silo may hold, and how many finds it may have outstanding
+  pub activations : ℕ
+  pub finds : ℕ
+  -- the last request number and the last count of a silo
+  pub last_number : ℕ
+
+-- a directory's own settings: three are chosen, and the limits are the greatest
+abbrev pub directory_settings : Hashing → (points cache : ℕ) → Settings
+directory_settings hashing points cache = record {
+  hashing = hashing;
+  points = points;
+  cache = cache;
+  silos = 256;
+  places = 128;
+  events = 1000000;
+  letters = 1000000;
+  activations = 65536;
+  finds = 65536;
+  last_number = 1152921504606846976;
+}
+
+-- the ranges of the settings
+pub record AreSettings (settings : Settings) : Type 0 where
+  pub points_above : 1 ≤ settings.points
+  pub points_within : settings.points ≤ 128
+  pub cache_within : settings.cache ≤ 65536
+  pub silos_above : 1 ≤ settings.silos
+  pub silos_within : settings.silos ≤ 256
+  pub places_above : 1 ≤ settings.places
+  pub places_within : settings.places ≤ 128
+  pub events_above : 1 ≤ settings.events
+  pub events_within : settings.events ≤ 1000000
+  pub letters_above : 1 ≤ settings.letters
+  pub letters_within : settings.letters ≤ 1000000
+  pub activations_above : 1 ≤ settings.activations
+  pub activations_within : settings.activations ≤ 65536
+  pub finds_above : 1 ≤ settings.finds
+  pub finds_within : settings.finds ≤ 65536
+  pub last_above : 1 ≤ settings.last_number
+  pub last_within : settings.last_number ≤ 1152921504606846976
+
+-- how many entries a page has, unless it is the last one of its snapshot
+abbrev pub page_size : ℕ
+page_size = 64

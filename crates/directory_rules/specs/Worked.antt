@@ -1,0 +1,66 @@
+-- Worked runs: one that meets every refusal, and one in which an activation moves from silo to silo.
+use Rattle.std.specs.Prelude.{◌≡◌, ℕ, List, [], ◌∷◌, map, codes, Option, Some, None, Result, Ok, Err}
+use Rattle.silo_address.specs.Silo.{Silo}
+use Rattle.silo_address.specs.Grain.{Grain}
+use Rattle.hash_ring.specs.declared.Hashing.TheVariants.{Stated}
+use Rattle.directory_rules.specs.Settings.{Settings, directory_settings}
+use Rattle.directory_rules.specs.Event.{Event, Join, Leave, Kill, See, Wake, Close, Find, Forget, Deliver, Lose, Nudge, Offer, Outcome}
+use Rattle.directory_rules.specs.Run.{run_from_start}
+
+-- the silos 10.0.0.1:1000@1, 10.0.0.2:1000@1 and 10.0.0.3:1000@1, and the grains user/a#7 and user/b#8
+abbrev pub silo_a : Silo
+silo_a = record { ip = 10 ∷ 0 ∷ 0 ∷ 1 ∷ []; port = 1000; generation = 1 }
+
+-- the second silo
+abbrev pub silo_b : Silo
+silo_b = record { ip = 10 ∷ 0 ∷ 0 ∷ 2 ∷ []; port = 1000; generation = 1 }
+
+-- the third silo
+abbrev pub silo_c : Silo
+silo_c = record { ip = 10 ∷ 0 ∷ 0 ∷ 3 ∷ []; port = 1000; generation = 1 }
+
+-- the first grain
+abbrev pub grain_a : Grain
+grain_a = record { kind = codes "user"; key = codes "a#7" }
+
+-- the second grain
+abbrev pub grain_b : Grain
+grain_b = record { kind = codes "user"; key = codes "b#8" }
+
+-- a small directory: two silos ever, two places a join, 13 events, 6 letters, one activation and one find a silo, numbers
+-- up to 3, no cache
+abbrev pub small_settings : Settings
+small_settings = record (directory_settings Stated 30 0) {
+  silos = 2;
+  places = 2;
+  events = 13;
+  letters = 6;
+  activations = 1;
+  finds = 1;
+  last_number = 3;
+}
+
+-- each event with the number by which it is refused, or none
+abbrev pub refused_events : List (Event × Option ℕ)
+refused_events =
+    (See silo_a 1, Some 901) ∷ (Join silo_a [], Some 403) ∷ (Join silo_a (0 ∷ 1 ∷ 2 ∷ []), Some 402)
+    ∷ (Join silo_a (0 ∷ []), None) ∷ (Join silo_a (0 ∷ []), Some 201) ∷ (Join silo_b (5 ∷ []), None) ∷ (Join silo_c (9 ∷ []), Some 205)
+    ∷ (Wake silo_a grain_a, Some 804) ∷ (See silo_a 0, Some 903) ∷ (See silo_a 3, Some 904) ∷ (See silo_b 1, Some 904)
+    ∷ (See silo_a 1, None) ∷ (Deliver 2, Some 905) ∷ (Wake silo_a grain_a, None) ∷ (Wake silo_a grain_a, Some 801) ∷ (Wake silo_a grain_b, Some 806)
+    ∷ (Close silo_a grain_b, Some 802) ∷ (Close silo_a grain_a, Some 803) ∷ (Find silo_a grain_b, None) ∷ (Find silo_a grain_b, Some 806)
+    ∷ (Deliver 1, None) ∷ (Deliver 4, None) ∷ (Deliver 2, None) ∷ (Deliver 5, None)
+    ∷ (Offer silo_a grain_a silo_a, Some 807) ∷ (Offer silo_a grain_a silo_b, Some 807) ∷ (Offer silo_a grain_b silo_a, Some 802)
+    ∷ (Nudge silo_a, None) ∷ (Nudge silo_a, Some 805) ∷ (Close silo_a grain_a, Some 805) ∷ (Deliver 3, Some 909)
+    ∷ (Lose 1, None) ∷ (Deliver 1, Some 905) ∷ (Lose 1, Some 905)
+    ∷ (Kill silo_b, None) ∷ (Kill silo_b, Some 902) ∷ (Leave silo_b, Some 902) ∷ (Leave silo_c, Some 202) ∷ (See silo_b 2, Some 902)
+    ∷ (Leave silo_a, None) ∷ (Leave silo_a, Some 908) ∷ (Forget silo_c grain_a, Some 908) ∷ []
+
+-- the number by which an event was refused, if it was
+abbrev pub refusal_of : Result Outcome ℕ → Option ℕ
+refusal_of (Ok outcome) = None
+refusal_of (Err number) = Some number
+
+-- every refusal comes where it is said to come
+abbrev pub RefusalsCompute : Type 0
+RefusalsCompute =
+    map refusal_of (run_from_start small_settings (map (λ e. e.0) refused_events)).told ≡ map (λ e. e.1) refused_events

@@ -1,0 +1,46 @@
+-- The flat world: all that there is.
+use Rattle.std.specs.Prelude.{ℕ, Bool, List, []}
+use Rattle.silo_address.specs.Silo.{Silo}
+use Rattle.membership_view.specs.Views.{ViewsValue}
+use Rattle.hash_ring.specs.Places.{PlacesValue}
+use Rattle.directory_rules.specs.Settings.{Settings}
+use Rattle.directory_rules.specs.Letter.{Letter}
+use Rattle.directory_rules.specs.Node.{Node}
+use Rattle.directory_rules.specs.Event.{Outcome}
+
+-- a letter in the mail; it is fresh until it was delivered
+pub record Posted : Type 0 where
+  pub letter : Letter
+  pub fresh : Bool
+
+-- the world
+pub record World : Type 0 where
+  pub settings : Settings
+  -- how many events were accepted
+  pub accepted : ℕ
+  pub views : ViewsValue
+  -- each silo's places on the ring, as it joined
+  pub places : PlacesValue
+  -- the silos that aren't Dead in the current view, by address
+  pub nodes : List (Silo × Node)
+  -- the letters that were sent and not lost, under their numbers, in order
+  pub mail : List (ℕ × Posted)
+  -- how many letters were ever sent; they are numbered from 1
+  pub sent : ℕ
+
+-- before the first event
+abbrev pub first_world : Settings → World
+first_world settings = record {
+  settings = settings;
+  accepted = 0;
+  views = record { limit = settings.silos; version = 0; rows = [] };
+  places = record { hashing = settings.hashing; points = settings.points; entries = [] };
+  nodes = [];
+  mail = [];
+  sent = 0;
+}
+
+-- an accepted event: what it told, and the world after it
+pub record Accepted : Type 0 where
+  pub outcome : Outcome
+  pub world : World

@@ -1,0 +1,60 @@
+//! What holds of the rule. Each function here does nothing: its contract is a law on the definitions, for the proofs of
+//! crates above.
+ghost use Rattle.directory_rules.specs.Laws.{RefusalsChangeNothing, AcceptedChange, PiecesAreOwned, SealedWasSettled, ServedLeavesOthers, MailIsNumbered, LostIsLost, LiveHaveNodes, NodesAreOfOneVersion, UnsettledPiecesRetry, WasSettledThroughout};
+ghost use Rattle.directory_rules.specs.Worked.{RefusalsCompute};
+
+/// A refused event leaves the world as it was, and an accepted one leaves the world that it made.
+pub fn runs_go_on()
+    ensures refused { RefusalsChangeNothing }
+    ensures accepted { AcceptedChange }
+{}
+
+/// After a sight the pieces hold each hash that the silo owns in the view seen, once, and no other.
+pub fn pieces_are_owned()
+    ensures { PiecesAreOwned }
+{}
+
+/// What a sight seals was wholly settled, and its new owner is another silo.
+pub fn sealed_was_settled()
+    ensures { SealedWasSettled }
+{}
+
+/// A request that is served leaves every other grain's entry as it was.
+pub fn served_leaves_others()
+    ensures { ServedLeavesOthers }
+{}
+
+/// The mail's numbers rise, and the limit bounds how many there are.
+pub fn mail_is_numbered()
+    ensures { MailIsNumbered }
+{}
+
+/// A letter that was lost is in no mail again.
+pub fn lost_is_lost()
+    ensures { LostIsLost }
+{}
+
+/// Every refusal of an event, worked out in one run of a small directory.
+pub fn refusals_compute()
+    ensures { RefusalsCompute }
+{}
+
+/// A silo has a node just where it is in the current view and isn't Dead there; and the views keep what all views keep.
+pub fn live_have_nodes()
+    ensures { LiveHaveNodes }
+{}
+
+/// A node's ring and holding are of the version that it has seen.
+pub fn nodes_are_of_one_version()
+    ensures { NodesAreOfOneVersion }
+{}
+
+/// A piece that isn't settled serves no request, of any version.
+pub fn unsettled_pieces_retry()
+    ensures { UnsettledPiecesRetry }
+{}
+
+/// A range that was settled has each of its hashes in a settled piece.
+pub fn was_settled_throughout()
+    ensures { WasSettledThroughout }
+{}

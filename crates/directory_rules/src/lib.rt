@@ -1,0 +1,21 @@
+//! The event rule of the directory: what every event does, as definitions in `specs/`, and the plain data that rule and
+//! code share. There is no behaviour here.
+#![tactic(auto)]
+
+mod act;
+mod effect;
+mod held;
+pub mod laws;
+mod letter_kind;
+mod piece_state;
+mod policy;
+mod reply;
+pub mod texts;
+
+pub use act::{Act, Request};
+pub use effect::Effect;
+pub use held::{Held, Phase};
+pub use letter_kind::LetterKind;
+pub use piece_state::PieceState;
+pub use policy::Policy;
+pub use reply::{Reply, Why};

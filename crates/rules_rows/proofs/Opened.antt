@@ -1,0 +1,19 @@
+-- All words that have to be opened for a script to compute.
+use Rattle.std.specs.Fmt.{digits}
+use Rattle.sha2.specs.Sha256.{sha256, hash_after, compress, rounds, schedule, first_words, digest_bytes}
+use Rattle.silo_address.specs.SiloReading.{silo_words, read_silo}
+use Rattle.silo_address.specs.GrainReading.{read_grain}
+use Rattle.silo_address.specs.StatedHash.{stated_hash}
+use Rattle.ring_range.specs.Meet.{meet_of}
+use Rattle.ring_range.specs.Cut.{cut_parts}
+use Rattle.directory_rules.specs.Happens.{happens}
+use Rattle.directory_rules.specs.Script.{read_line}
+use Rattle.directory_rules.specs.Lines.{outcome_line}
+use Rattle.directory_rules.specs.Show.{show_lines, mail_lines, owner_line, place_line}
+use Rattle.directory_rules.specs.Dump.{dump_of, dump_text}
+use Rattle.directory_rules.specs.Verdict.{verdict}
+use Rattle.directory_rules.specs.Output.{performed, played}
+
+unfoldable pub all_opened : Type 0
+unfolding digits sha256 hash_after compress rounds schedule first_words digest_bytes silo_words read_silo read_grain stated_hash meet_of cut_parts happens read_line outcome_line show_lines mail_lines owner_line place_line dump_of dump_text verdict performed played
+all_opened = Unit {0}

@@ -1,0 +1,12 @@
+pub mod Row
+pub mod FirstScripts
+pub mod Rings
+pub mod Transfers
+pub mod Pages
+pub mod Requests
+pub mod Recoveries
+pub mod Offers
+pub mod WholeDumps
+pub mod Faults
+pub mod HashedPoints
+pub mod Dumps

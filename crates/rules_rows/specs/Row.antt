@@ -1,0 +1,47 @@
+-- What a worked row says: what a script prints, and what is said of a dump. Hashing is stated unless said, and the
+-- settings else are those that a program takes by itself.
+use Rattle.std.specs.Prelude.{◌≡◌, ℕ, List}
+use Rattle.hash_ring.specs.declared.hashing.Hashing.TheVariants.{Sha256, Stated}
+use Rattle.directory_rules.specs.Settings.{Settings, directory_settings}
+use Rattle.directory_rules.specs.Script.{commands}
+use Rattle.directory_rules.specs.Dump.{DumpValue, dump_text}
+use Rattle.directory_rules.specs.Output.{output_of, judgement_of}
+
+-- a script, what it prints, and the status with which it ends
+pub record Row : Type 0 where
+  pub script : List ℕ
+  pub text : List ℕ
+  pub status : ℕ
+
+abbrev pub settings : Settings
+settings = directory_settings Stated 30 1024
+
+abbrev pub PrintsUnder : Settings → Row → Type 0
+PrintsUnder settings row = output_of commands settings row.script ≡ record { text = row.text; status = row.status }
+
+-- the whole script prints this text, and ends with this status
+abbrev pub Prints : Row → Type 0
+Prints = PrintsUnder settings
+
+-- so it does in a directory with room for one silo with one place
+abbrev pub PrintsWithOneSilo : Row → Type 0
+PrintsWithOneSilo = PrintsUnder (record settings { silos = 1; places = 1 })
+
+-- so it does where points and grains are hashed, with two points a silo
+abbrev pub PrintsHashed : Row → Type 0
+PrintsHashed = PrintsUnder (directory_settings Sha256 2 1024)
+
+-- a dump, its bytes, what is printed of it, and the status
+pub record JudgedDump : Type 0 where
+  pub dump : DumpValue
+  pub bytes : List ℕ
+  pub text : List ℕ
+  pub status : ℕ
+
+-- these are the dump's bytes
+abbrev pub IsWritten : JudgedDump → Type 0
+IsWritten row = dump_text row.dump ≡ row.bytes
+
+-- this is said of the dump
+abbrev pub IsJudged : JudgedDump → Type 0
+IsJudged row = judgement_of row.dump ≡ record { text = row.text; status = row.status }
