@@ -12,6 +12,9 @@ pub mod Peopled
 pub mod Retried
 pub mod Nodes
 pub mod Versions
+pub mod Numbering
+pub mod Renewal
+pub mod Numbered
 pub mod Throughout
 pub mod Worked
 mod TurningHashes

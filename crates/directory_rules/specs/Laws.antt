@@ -1,5 +1,5 @@
 -- What holds of the rule, whatever happens.
-use Rattle.std.specs.Prelude.{◌&&◌, ◌≡◌, ◌≢◌, if◌then◌else◌, Bool, count_by, ℕ, ◌<◌, ◌≤◌, true, false, is_some, List, [], ◌∷◌, All, length, Option, Some, None, Ok, Err}
+use Rattle.std.specs.Prelude.{◌&&◌, ◌≡◌, ◌≢◌, if◌then◌else◌, Bool, count_by, ℕ, ◌<◌, ◌≤◌, true, false, is_some, List, [], ◌∷◌, All, AllPairs, ◌++◌, length, Option, Some, None, Ok, Err}
 use Rattle.std.specs.List.{list_any}
 use Rattle.std.specs.List.Sorted.{IsStrictlySortedBy}
 use Rattle.std.specs.Map.{keys_of, values_of, lookup}
@@ -29,11 +29,12 @@ use Rattle.directory_rules.specs.Snapshot.{Snapshot}
 use Rattle.directory_rules.specs.Sight.{is_settled, was_settled, is_owner, pieces_after, sealed}
 use Rattle.directory_rules.specs.Answer.{turned, piece_with, answered}
 use Rattle.directory_rules.specs.Sending.{grain_of}
+use Rattle.directory_rules.specs.Host.{Host, held_acts, find_acts, outstanding}
 use Rattle.directory_rules.specs.Node.{Node}
 use Rattle.directory_rules.specs.Event.{Event, Lose}
 use Rattle.directory_rules.specs.World.{Posted, World, Accepted}
 use Rattle.directory_rules.specs.Mail.{letter_of}
-use Rattle.directory_rules.specs.Happens.{happens}
+use Rattle.directory_rules.specs.Happens.{happens, node_of}
 use Rattle.directory_rules.specs.Run.{run, run_from_start}
 
 -- a refused event leaves the world as it was
@@ -115,6 +116,21 @@ pub record IsOfOneVersion (node : Node) : Type 0 where
 -- so is each node after each list of events
 abbrev pub NodesAreOfOneVersion : Type 0
 NodesAreOfOneVersion = (settings : Settings) (events : List Event) → All IsOfOneVersion (values_of (run_from_start settings events).world.nodes)
+
+-- the requests of a host: those of its activations, and its finds
+abbrev pub requests_of : Host → List (ℕ × Act)
+requests_of host = held_acts host ++ find_acts host
+
+-- no two requests of the host have one number, so that as many entries are outstanding as there are requests; and its next
+-- number is above them all
+pub record AreNumbered (host : Host) : Type 0 where
+  pub distinct : AllPairs (λ e later. e.0 ≢ later.0) (requests_of host)
+  pub many : length (outstanding host) ≡ length (requests_of host)
+  pub below : All (λ e. e.0 < host.next_number) (requests_of host)
+
+-- so is each node's host after each list of events
+abbrev pub NumbersAreDistinct : Type 0
+NumbersAreDistinct = (settings : Settings) (events : List Event) (silo : Silo) (node : Node) → node_of (run_from_start settings events).world silo ≡ Some node → AreNumbered node.host
 
 -- a piece that isn't settled serves no request
 abbrev pub UnsettledPiecesRetry : Type 0

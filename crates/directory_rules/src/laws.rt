@@ -1,6 +1,6 @@
 //! What holds of the rule. Each function here does nothing: its contract is a law on the definitions, for the proofs of
 //! crates above.
-ghost use Rattle.directory_rules.specs.Laws.{RefusalsChangeNothing, AcceptedChange, PiecesAreOwned, SealedWasSettled, ServedLeavesOthers, MailIsNumbered, LostIsLost, LiveHaveNodes, NodesAreOfOneVersion, UnsettledPiecesRetry, WasSettledThroughout};
+ghost use Rattle.directory_rules.specs.Laws.{RefusalsChangeNothing, AcceptedChange, PiecesAreOwned, SealedWasSettled, ServedLeavesOthers, MailIsNumbered, LostIsLost, LiveHaveNodes, NodesAreOfOneVersion, NumbersAreDistinct, UnsettledPiecesRetry, WasSettledThroughout};
 ghost use Rattle.directory_rules.specs.Worked.{RefusalsCompute};
 
 /// A refused event leaves the world as it was, and an accepted one leaves the world that it made.
@@ -47,6 +47,11 @@ pub fn live_have_nodes()
 /// A node's ring and holding are of the version that it has seen.
 pub fn nodes_are_of_one_version()
     ensures { NodesAreOfOneVersion }
+{}
+
+/// No two requests of a silo's host have one number, and its next number is above them all.
+pub fn numbers_are_distinct()
+    ensures { NumbersAreDistinct }
 {}
 
 /// A piece that isn't settled serves no request, of any version.

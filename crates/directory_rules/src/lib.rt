@@ -10,7 +10,7 @@ mod letter_kind;
 mod piece_state;
 mod policy;
 mod reply;
-pub mod texts;
+pub mod script_laws;
 
 pub use act::{Act, Request};
 pub use effect::Effect;

@@ -8,6 +8,7 @@ pub mod PlacesKept
 pub mod Nearness
 pub mod Ownership
 pub mod OwnerSearch
+pub mod Thirds
 pub mod PutIn
 pub mod WholeSilos
 pub mod NewPoints

@@ -1,5 +1,5 @@
 -- What the search for an owner finds, in a list of points in order.
-use Rattle.std.specs.Prelude.{◌≡◌, ℕ, ◌<◌, ◌≤◌, List, length, Contains, slice_index_or}
+use Rattle.std.specs.Prelude.{◌≡◌, ℕ, ◌+◌, ◌*◌, ◌<◌, ◌≤◌, ◌⊎◌, List, length, Contains, slice_index_or}
 use Rattle.std.specs.List.Sorted.{IsNonDecreasingBy, IsStrictlySortedBy}
 use Rattle.hash_ring.specs.declared.point.Point.{Point}
 use Rattle.hash_ring.specs.Point.{back, point_cmp}
@@ -25,3 +25,9 @@ pub record HasWholeSilos (places : PlacesValue) (points : List Point) : Type 0 w
   pub in_order : IsStrictlySortedBy point_cmp points
   pub their : (p : Point) → Contains points p → Contains (silo_points places p.silo) p
   pub whole : (p q : Point) → Contains points p → Contains (silo_points places p.silo) q → Contains points q
+
+-- a step from a start over two thirds, or over less and then all points from the end of the next third on stand after the place
+pub record IsStepByThirds (points : List Point) (start third place step : ℕ) : Type 0 where
+  pub bound : step ≤ 2 * third
+  pub below : (k : ℕ) (d : Point) → start ≤ k → k < start + step → (slice_index_or points k d).place ≤ place
+  pub above : (step ≡ 2 * third) ⊎ ((k : ℕ) (d : Point) → start + step + third ≤ k + 1 → k < length points → place < (slice_index_or points k d).place)

@@ -10,6 +10,7 @@ ghost use Rattle.hash_ring.specs.Ring.{IsRingBy, are_added, is_active_in, is_on_
 ghost use Rattle.hash_ring.specs.Search.{HasWholeSilos};
 
 use crate::points::push_points;
+use crate::ring::up_to;
 use crate::{Places, Point, Ring, RingError};
 use membership_view::{Status, View};
 use silo_address::SiloAddress;
@@ -109,11 +110,15 @@ fn has_silo(points: &[Point], silo: &SiloAddress, places: &Places) -> bool
     }
 }
 
-// Whether the point is here.
+// Whether the point is here. Mostly it is, and alone at its place.
 fn has_point(points: &[Point], point: &Point) -> bool
     requires { IsStrictlySortedBy point_cmp points.now }
     ensures { IsTrue result ↔ Contains points.now point.now }
 {
+    let past = up_to(points, point.place);
+    if past > 0 && points[past - 1].same(point) {
+        return true;
+    }
     points.binary_search(point).is_ok()
 }
 

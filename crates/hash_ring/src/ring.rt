@@ -1,8 +1,8 @@
-ghost use Rattle.std.specs.Prelude.{◌≡◌, ◌↔◌, ◌⊎◌, ◌<◌, ◌≤◌, [], length, None, All, IsTrue, IfOk, IfErr, IfSome, IfNone, IsErrOf, false};
+ghost use Rattle.std.specs.Prelude.{◌≡◌, ◌↔◌, ◌⊎◌, ◌+◌, ◌*◌, ◌<◌, ◌≤◌, [], length, None, All, IsTrue, IfOk, IfErr, IfSome, IfNone, IsErrOf, false};
 ghost use Rattle.std.specs.List.Sorted.{IsPartitionPoint, IsStrictlySortedBy};
 ghost use Rattle.hash_ring.specs.Point.{IsOnCircle, point_cmp};
 ghost use Rattle.hash_ring.specs.Owner.{IsOwner, owner_of};
-ghost use Rattle.hash_ring.specs.Search.{IsFirstThere, IsLastMet, PlacesRise};
+ghost use Rattle.hash_ring.specs.Search.{IsFirstThere, IsLastMet, IsStepByThirds, PlacesRise};
 ghost use Rattle.hash_ring.specs.Ring.{IsRing, are_added, ring_of, sorted_ring};
 
 use crate::points::points_of;
@@ -126,13 +126,35 @@ fn last_met(points: &[Point], hash: u32) -> Option<usize>
     points.len().checked_sub(1)
 }
 
-// How many points stand up to a place.
+// How many points stand up to a place. Hashes lie anywhere, so a branch on a comparison would be guessed wrong every other time;
+// a step by thirds adds up two comparisons, and branches on neither.
 pub(crate) fn up_to(points: &[Point], place: u32) -> usize
     requires { PlacesRise points.now }
     ensures bound { result ≤ length points.now }
     ensures split { IsPartitionPoint (λ p. p.place ≤ place) (λ p. place < p.place) points.now result }
 {
-    points.partition_point(|point| point.place <= place)
+    let (mut start, mut size) = (0, points.len());
+    while size > 1 {
+        let third = (size + 1) / 3;
+        start += step_by_thirds(points, start, third, place);
+        size -= 2 * third;
+    }
+    if size == 0 {
+        return start;
+    }
+    start + usize::from(points[start].place <= place)
+}
+
+// Over none, one or two thirds: those that end at a point up to the place.
+fn step_by_thirds(points: &[Point], start: usize, third: usize, place: u32) -> usize
+    requires rise { PlacesRise points.now }
+    requires some { 0 < third }
+    requires within { start + 2 * third ≤ length points.now }
+    ensures step { IsStepByThirds points.now start third place result }
+{
+    let near = points[start + third - 1].place <= place;
+    let far = points[start + 2 * third - 1].place <= place;
+    third * (usize::from(near) + usize::from(far))
 }
 
 // How many points stand before a place.

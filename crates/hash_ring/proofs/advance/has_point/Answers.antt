@@ -2,8 +2,12 @@ use Rattle.std.proofs.Common.{sym, subst}
 use Rattle.std.specs.Bool.{Decides}
 use Rattle.std.specs.List.{Contains}
 use Rattle.hash_ring.proofs.Order.{point_cmp_total, point_cmp_exact}
+use Rattle.hash_ring.proofs.OwnerSearch.{places_rise}
 use Rattle.hash_ring.proofs.PutIn.{Decides-found}
 use Rattle.hash_ring.proofs.advance.has_point.Goals as goal
+
+pub up_to-past-requires : goal.up_to-past-requires
+up_to-past-requires c = places_rise c.args.points.now c.requires
 
 pub returns : goal.returns
 returns c =

@@ -1,5 +1,5 @@
 use Rattle.std.proofs.Common.{refl}
-use Rattle.directory_rules.proofs.texts.scripts_without_events.Goals as goal
+use Rattle.directory_rules.proofs.script_laws.scripts_without_events.Goals as goal
 use Rattle.directory_rules.specs.Output as output
 use Rattle.directory_rules.specs.Script as script
 use Rattle.directory_rules.specs.Show as show

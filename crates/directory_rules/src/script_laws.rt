@@ -1,4 +1,4 @@
-//! Laws of the texts: each function has a law as its contract, and does nothing.
+//! Laws of scripts, dumps and verdicts: each function has a law as its contract, and does nothing.
 
 ghost use Rattle.std.specs.Prelude.{◌≡◌, ℕ, ◌+◌, [], codes, All, None, ◌↔◌};
 ghost use Rattle.hash_ring.specs.declared.hashing.Hashing.TheVariants.{Stated};
