@@ -1,4 +1,5 @@
 pub mod Settings
+pub mod SettingsFields
 pub mod Membership
 pub mod Table
 pub mod Piece

@@ -11,6 +11,7 @@ mod piece_state;
 mod policy;
 mod reply;
 pub mod script_laws;
+mod settings;
 
 pub use act::{Act, Request};
 pub use effect::Effect;
@@ -19,3 +20,4 @@ pub use letter_kind::LetterKind;
 pub use piece_state::PieceState;
 pub use policy::Policy;
 pub use reply::{Reply, Why};
+pub use settings::Settings;

@@ -1,0 +1,164 @@
+ghost use Rattle.std.specs.Prelude.{◌≡◌, ◌↔◌, ◌≤◌, IsTrue, IsSome, IfSome};
+ghost use Rattle.directory_rules.specs.Settings.{AreSettings, directory_settings};
+
+use hash_ring::Hashing;
+use std::marker::Model;
+
+/// The greatest number of entries in a cache.
+const MOST_CACHED: usize = 65_536;
+
+/// What a directory is set up with: how it hashes, and its limits (`docs/RULES.md#settings`).
+#[derive(Clone, Copy, Debug, PartialEq, Eq)]
+pub struct Settings {
+    hashing: Hashing,
+    points: usize,
+    cache: usize,
+    silos: usize,
+    places: usize,
+    events: u64,
+    letters: u64,
+    activations: usize,
+    finds: usize,
+    last_number: u64,
+}
+
+impl Model for Settings {
+    ghost use Rattle.directory_rules.specs.Settings.{Settings, AreSettings};
+
+    ghost Value = { Settings };
+
+    ghost use Rattle.directory_rules.specs.SettingsFields.{settings_of, fields_of};
+
+    ghost view = { settings_of };
+
+    ghost invariant = { λ s. AreSettings (settings_of s) };
+
+    ghost inverse = { fields_of };
+}
+
+impl Settings {
+    /// A directory's own settings: how it hashes, how many points a silo has where they are hashed (1 to 128), and how many
+    /// entries a cache keeps (0 to 65536; 0 keeps none). The limits are the greatest. `None` where a number is out of its range.
+    pub fn of_directory(hashing: Hashing, points: usize, cache: usize) -> Option<Settings>
+        ensures exact { IfSome result (λ settings. settings ≡ directory_settings hashing points cache) }
+        ensures in_range { IsSome result ↔ ((1 ≤ points) × (points ≤ 128) × (cache ≤ 65536)) }
+    {
+        if points == 0 || points > 128 || cache > MOST_CACHED {
+            return None;
+        }
+        Some(Settings {
+            hashing,
+            points,
+            cache,
+            silos: 256,
+            places: 128,
+            events: 1_000_000,
+            letters: 1_000_000,
+            activations: 65_536,
+            finds: 65_536,
+            last_number: 1 << 60,
+        })
+    }
+
+    /// The same settings, but for at most so many silos ever, 1 to 256. `None` where the number is out of its range.
+    pub fn with_silos(self, silos: usize) -> Option<Settings>
+        ensures exact { IfSome result (λ settings. settings ≡ record self { silos = silos }) }
+        ensures in_range { IsSome result ↔ ((1 ≤ silos) × (silos ≤ 256)) }
+    {
+        if silos == 0 || silos > 256 {
+            return None;
+        }
+        Some(Settings { silos, ..self })
+    }
+
+    /// How hashes are made.
+    pub fn hashing(&self) -> Hashing
+        ensures { result ≡ self.now.hashing }
+    {
+        self.hashing
+    }
+
+    /// How many points each silo has on the ring where points are hashed, 1 to 128.
+    pub fn points(&self) -> usize
+        ensures { result ≡ self.now.points }
+    {
+        self.points
+    }
+
+    /// How many entries a cache keeps, 0 to 65536.
+    pub fn cache(&self) -> usize
+        ensures { result ≡ self.now.cache }
+    {
+        self.cache
+    }
+
+    /// How many silos may ever join, 1 to 256.
+    pub fn silos(&self) -> usize
+        ensures { result ≡ self.now.silos }
+    {
+        self.silos
+    }
+
+    /// How many places a join may name, 1 to 128.
+    pub fn places(&self) -> usize
+        ensures { result ≡ self.now.places }
+    {
+        self.places
+    }
+
+    /// How many events may ever be accepted, 1 to 1000000.
+    pub fn events(&self) -> u64
+        ensures { result ≡ self.now.events }
+    {
+        self.events
+    }
+
+    /// How many letters may ever be sent, 1 to 1000000.
+    pub fn letters(&self) -> u64
+        ensures { result ≡ self.now.letters }
+    {
+        self.letters
+    }
+
+    /// How many activations a silo may hold, 1 to 65536.
+    pub fn activations(&self) -> usize
+        ensures { result ≡ self.now.activations }
+    {
+        self.activations
+    }
+
+    /// How many finds a silo may have outstanding, 1 to 65536.
+    pub fn finds(&self) -> usize
+        ensures { result ≡ self.now.finds }
+    {
+        self.finds
+    }
+
+    /// The last request number and the last count of a silo, 1 to 2^60.
+    pub fn last_number(&self) -> u64
+        ensures { result ≡ self.now.last_number }
+    {
+        self.last_number
+    }
+
+    /// A law: the ranges of the settings.
+    pub fn in_range(&self)
+        ensures { AreSettings self.now }
+    {
+        let _points = self.points;
+    }
+
+    /// Whether the two are the same settings.
+    pub fn same(&self, other: &Settings) -> bool
+        ensures { IsTrue result ↔ (self.now ≡ other.now) }
+    {
+        *self == *other
+    }
+
+    /// The settings themselves: they are copied and not cloned.
+    pub fn copy(&self) -> Settings
+        ensures { result ≡ self.now }
+    {
+        *self
+    }
+}
