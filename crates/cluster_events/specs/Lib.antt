@@ -1,0 +1,2 @@
+pub mod EventView
+pub mod OutcomeView
