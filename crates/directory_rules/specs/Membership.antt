@@ -1,10 +1,9 @@
--- What a view says of a silo.
+-- What a view says of a silo. Whether it is Active there is said with the ring: `is_active_in`.
 use Rattle.std.specs.Prelude.{Bool, true, false, not, List, filter, Option, Some, None}
 use Rattle.std.specs.Map.{keys_of}
 use Rattle.silo_address.specs.Silo.{Silo}
 use Rattle.membership_view.specs.declared.status.Status.{Status}
 use Rattle.membership_view.specs.declared.status.Status.TheVariants.{Active, Leaving, Dead}
-use Rattle.membership_view.specs.Row.{is_active}
 use Rattle.membership_view.specs.View.{ViewValue, status_of}
 
 -- whether a status is Dead
@@ -21,15 +20,6 @@ is_known_dead (Some status) = is_dead_status status
 -- whether the silo is Dead in the view; one that the view doesn't know isn't
 abbrev pub is_dead_in : ViewValue → Silo → Bool
 is_dead_in view silo = is_known_dead (status_of view silo)
-
--- whether there is a status and it is Active
-abbrev pub is_known_active : Option Status → Bool
-is_known_active None = false
-is_known_active (Some status) = is_active status
-
--- whether the silo is Active in the view
-abbrev pub is_active_in : ViewValue → Silo → Bool
-is_active_in view silo = is_known_active (status_of view silo)
 
 -- the silos of the view that aren't Dead there, by address
 abbrev pub members_of : ViewValue → List Silo

@@ -6,9 +6,9 @@ use Rattle.std.specs.Map.{lookup}
 use Rattle.std.specs.BTreeMap.{is_at}
 use Rattle.silo_address.specs.Silo.{Silo, silo_cmp}
 use Rattle.membership_view.specs.View.{ViewValue, active_silos}
+use Rattle.hash_ring.specs.Ring.{is_active_in}
 use Rattle.directory_rules.specs.declared.policy.Policy.{Policy}
 use Rattle.directory_rules.specs.declared.policy.Policy.TheVariants.{PreferLocal, HashBased, LeastHeld}
-use Rattle.directory_rules.specs.Membership.{is_active_in}
 
 -- of the Active silos, by address, the one at the hash modulo their number
 abbrev pub by_hash : ViewValue → (hash : ℕ) → Option Silo

@@ -2,12 +2,12 @@
 use Rattle.std.specs.Prelude.{◌==◌, ◌&&◌, nat_le, not, is_none, Bool, if◌then◌else◌, [], ◌∷◌, Some}
 use Rattle.silo_address.specs.Silo.{silo_eq}
 use Rattle.silo_address.specs.declared.Entry.{Entry}
+use Rattle.hash_ring.specs.Ring.{is_active_in}
 use Rattle.directory_rules.specs.declared.act.Request.{Request}
 use Rattle.directory_rules.specs.declared.reply.Reply.{Reply}
 use Rattle.directory_rules.specs.declared.reply.Reply.TheVariants as reply
 use Rattle.directory_rules.specs.declared.effect.Effect.{Effect}
 use Rattle.directory_rules.specs.declared.effect.Effect.TheVariants as effect
-use Rattle.directory_rules.specs.Membership.{is_active_in}
 use Rattle.directory_rules.specs.Answer.{Answered, answered}
 use Rattle.directory_rules.specs.Host.{held_of, has_numbers, has_count, is_full_of_activations}
 use Rattle.directory_rules.specs.Letter.{Body, Request_letter, Reply_letter, Ask_letter, Page_letter, Missing_letter, Done_letter, Query_letter, Report_letter, Behind_letter, Ahead_letter, Offer_letter, Letter}

@@ -6,7 +6,7 @@ use Rattle.silo_address.specs.declared.ActivationId.{ActivationId}
 use Rattle.membership_view.specs.View.{ViewValue}
 use Rattle.hash_ring.specs.declared.Point.{Point}
 use Rattle.hash_ring.specs.Places.{PlacesValue}
-use Rattle.hash_ring.specs.Ring.{ring_of, sorted_ring}
+use Rattle.hash_ring.specs.Ring.{ring_of, sorted_ring, is_active_in}
 use Rattle.range_moves.specs.declared.Arc.{Arc}
 use Rattle.range_moves.specs.Arcs.{arcs_of}
 use Rattle.directory_rules.specs.declared.act.Act.TheVariants as act
@@ -15,7 +15,6 @@ use Rattle.directory_rules.specs.declared.effect.Effect.{Effect}
 use Rattle.directory_rules.specs.declared.effect.Effect.TheVariants.{Next, Skip, Started, Closing, Offered, Cached, Finding, Forgot, NothingCached, Nudged}
 use Rattle.directory_rules.specs.declared.piece_state.PieceState.{PieceState}
 use Rattle.directory_rules.specs.declared.piece_state.PieceState.TheVariants as state
-use Rattle.directory_rules.specs.Membership.{is_active_in}
 use Rattle.directory_rules.specs.Piece.{Piece}
 use Rattle.directory_rules.specs.Gathering.{Gathering, new_gathering}
 use Rattle.directory_rules.specs.Recovery.{Recovery, new_recovery}
