@@ -20,3 +20,4 @@ pub mod Worked
 mod TurningHashes
 mod Settling
 mod RightDumps
+mod Shapes

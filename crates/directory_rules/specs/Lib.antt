@@ -36,4 +36,5 @@ pub mod Show
 pub mod Dump
 pub mod Verdict
 pub mod RightDump
+pub mod DumpShape
 pub mod Output

@@ -1,8 +1,9 @@
 -- A script played: what each command prints and makes of the world, the text that all of it prints, and the status with
 -- which it ends.
-use Rattle.std.specs.Prelude.{ℕ, zero, suc, ◌+◌, ◌-◌, ◌&&◌, ◌||◌, max, is_some, Bool, false, List, [], ◌∷◌, ◌++◌, map, flat_map, find, if◌then◌else◌, Option, Some, None, Result, Ok, Err}
+use Rattle.std.specs.Prelude.{ℕ, zero, suc, ◌+◌, ◌-◌, ◌&&◌, ◌||◌, max, is_some, Bool, false, List, [], ◌∷◌, ◌++◌, map, flat_map, find, codes, if◌then◌else◌, Option, Some, None, Result, Ok, Err}
 use Rattle.std.specs.Option.{option_map, unwrap_or}
 use Rattle.std.specs.List.{range_with_len}
+use Rattle.std.specs.Fmt.{decimal}
 use Rattle.silo_address.specs.Silo.{Silo}
 use Rattle.membership_view.specs.Views.{joining_version}
 use Rattle.directory_rules.specs.Settings.{Settings}
@@ -10,11 +11,12 @@ use Rattle.directory_rules.specs.Event.{Event, See, Deliver}
 use Rattle.directory_rules.specs.Node.{Node}
 use Rattle.directory_rules.specs.World.{World, Posted, Accepted, first_world}
 use Rattle.directory_rules.specs.Happens.{happens, node_of}
-use Rattle.directory_rules.specs.Words.{line_feed}
+use Rattle.directory_rules.specs.Words.{line_feed, sentence}
 use Rattle.directory_rules.specs.Script.{Command, Happen, Sync, Settle, Owner, Place, Show, Mail, Dump, Check, Grammar, lines_of, read_line}
 use Rattle.directory_rules.specs.Lines.{outcome_line, refusal_line, fault_line}
 use Rattle.directory_rules.specs.Show.{show_lines, mail_lines, owner_line, place_line}
 use Rattle.directory_rules.specs.Dump.{DumpValue, dump_of, dump_text}
+use Rattle.directory_rules.specs.DumpShape.{is_dump}
 use Rattle.directory_rules.specs.Verdict.{DumpFault, verdict, verdict_line}
 
 -- a script on its way: the world so far, and whether a check has printed a fault
@@ -147,3 +149,18 @@ output_of known settings script = played known 1 (first_session settings) (lines
 -- ---- A dump judged: the verdict's line, and the status 1 where it is a fault.
 abbrev pub judgement_of : DumpValue → Output
 judgement_of dump = record { text = text_of_lines (verdict_line (verdict dump) ∷ []); status = if is_some (verdict dump) then 1 else 0 }
+
+-- what is said of what is no dump: a number and nothing else, with status 1
+abbrev pub refused_by : ℕ → Output
+refused_by number = record { text = text_of_lines (sentence (codes "check" ∷ decimal number ∷ []) ∷ []); status = 1 }
+
+-- no value could be read; or it is no dump
+abbrev pub no_value : Output
+no_value = refused_by 971
+
+abbrev pub no_dump : Output
+no_dump = refused_by 972
+
+-- lists judged: 972 where they aren't a dump, else by the verdict
+abbrev pub judged : DumpValue → Output
+judged dump = if is_dump dump then judgement_of dump else no_dump

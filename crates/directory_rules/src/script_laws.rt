@@ -1,14 +1,15 @@
 //! Laws of scripts, dumps and verdicts: each function has a law as its contract, and does nothing.
 
-ghost use Rattle.std.specs.Prelude.{◌≡◌, ℕ, ◌+◌, [], codes, All, None, ◌↔◌};
+ghost use Rattle.std.specs.Prelude.{◌≡◌, ℕ, ◌+◌, true, false, [], codes, All, None, ◌↔◌};
 ghost use Rattle.hash_ring.specs.declared.hashing.Hashing.TheVariants.{Stated};
 ghost use Rattle.directory_rules.specs.Settings.{directory_settings};
 ghost use Rattle.directory_rules.specs.Script.{commands};
 ghost use Rattle.directory_rules.specs.Laws.{IsMail};
-ghost use Rattle.directory_rules.specs.Output.{Session, output_of, settled_within, settled};
+ghost use Rattle.directory_rules.specs.Output.{Session, output_of, settled_within, settled, judgement_of, judged};
 ghost use Rattle.std.specs.Bool.{Decides};
 ghost use Rattle.directory_rules.specs.Dump.{DumpNode, DumpValue};
 ghost use Rattle.directory_rules.specs.Verdict.{HasHashes, HasItsRanges, has_its_ranges, standing_nodes, verdict};
+ghost use Rattle.directory_rules.specs.DumpShape.{is_dump};
 ghost use Rattle.directory_rules.specs.RightDump.{IsRightDump, IsVerdict};
 
 /// Scripts without an event.
@@ -44,4 +45,12 @@ pub fn settle_suffices()
 pub fn verdicts_are_right()
     ensures answers { (dump : DumpValue) → All HasHashes (standing_nodes dump) → IsVerdict dump (verdict dump) }
     ensures none { (dump : DumpValue) → All HasHashes (standing_nodes dump) → (verdict dump ≡ None) ↔ IsRightDump dump }
+{}
+
+/// A dump is judged only where its lists have the shape of one, and the verdict then says all that it has to.
+pub fn shapes_come_first()
+    ensures no_dump { (dump : DumpValue) → is_dump dump ≡ false → judged dump ≡ record { text = codes "check 972\n"; status = 1 } }
+    ensures dump { (dump : DumpValue) → is_dump dump ≡ true → judged dump ≡ judgement_of dump }
+    ensures verdict { (dump : DumpValue) → is_dump dump ≡ true → IsVerdict dump (verdict dump) }
+    ensures right { (dump : DumpValue) → is_dump dump ≡ true → (verdict dump ≡ None) ↔ IsRightDump dump }
 {}

@@ -162,3 +162,12 @@ check_stranger = record {
   text = text_of_lines (codes "check 975 user/z#1" ∷ []);
   status = 1;
 }
+
+-- a silo has seen a version that isn't made
+abbrev pub check_seen_above_current : JudgedDump
+check_seen_above_current = record {
+  dump = dump_a (node_a [] (settled_piece circle []) ring_a 2);
+  bytes = codes "{\"current\":1,\"hashing\":\"stated\",\"nodes\":[{\"held\":[],\"pieces\":[{\"entries\":[],\"from\":\"\",\"range\":\"0+4294967296\",\"state\":\"settled\"}],\"ring\":[[0,\"10.0.0.1:1000@1\",0]],\"seen\":2,\"silo\":\"10.0.0.1:1000@1\"}],\"points\":30,\"rows\":[{\"dead\":0,\"joined\":1,\"left\":0,\"places\":[0],\"silo\":\"10.0.0.1:1000@1\"}]}";
+  text = text_of_lines (codes "check 972" ∷ []);
+  status = 1;
+}

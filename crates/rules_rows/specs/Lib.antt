@@ -10,3 +10,4 @@ pub mod WholeDumps
 pub mod Faults
 pub mod HashedPoints
 pub mod Dumps
+pub mod Shapes

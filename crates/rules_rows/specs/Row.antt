@@ -1,11 +1,12 @@
 -- What a worked row says: what a script prints, and what is said of a dump. Hashing is stated unless said, and the
 -- settings else are those that a program takes by itself.
-use Rattle.std.specs.Prelude.{◌≡◌, ℕ, List}
+use Rattle.std.specs.Prelude.{◌≡◌, ℕ, true, List, [], ◌∷◌, codes}
 use Rattle.hash_ring.specs.declared.hashing.Hashing.TheVariants.{Sha256, Stated}
 use Rattle.directory_rules.specs.Settings.{Settings, directory_settings}
 use Rattle.directory_rules.specs.Script.{commands}
 use Rattle.directory_rules.specs.Dump.{DumpValue, dump_text}
-use Rattle.directory_rules.specs.Output.{output_of, judgement_of}
+use Rattle.directory_rules.specs.DumpShape.{is_dump}
+use Rattle.directory_rules.specs.Output.{output_of, text_of_lines, judgement_of, judged}
 
 -- a script, what it prints, and the status with which it ends
 pub record Row : Type 0 where
@@ -45,3 +46,15 @@ IsWritten row = dump_text row.dump ≡ row.bytes
 -- this is said of the dump
 abbrev pub IsJudged : JudgedDump → Type 0
 IsJudged row = judgement_of row.dump ≡ record { text = row.text; status = row.status }
+
+-- this is answered, whether the lists are a dump or not
+abbrev pub IsAnswered : JudgedDump → Type 0
+IsAnswered row = judged row.dump ≡ record { text = row.text; status = row.status }
+
+-- the lists are no dump: 972
+abbrev pub IsNoDump : DumpValue → Type 0
+IsNoDump dump = judged dump ≡ record { text = text_of_lines (codes "check 972" ∷ []); status = 1 }
+
+-- the lists are a dump, right or wrong
+abbrev pub IsADump : DumpValue → Type 0
+IsADump dump = is_dump dump ≡ true

@@ -2,7 +2,7 @@
 //! does nothing.
 #![tactic(auto)]
 
-ghost use Rattle.rules_rows.specs.Row.{Prints, PrintsWithOneSilo, PrintsHashed, IsWritten, IsJudged};
+ghost use Rattle.rules_rows.specs.Row.{Prints, PrintsWithOneSilo, PrintsHashed, IsWritten, IsJudged, IsAnswered, IsNoDump, IsADump};
 ghost use Rattle.rules_rows.specs.FirstScripts as first_scripts;
 ghost use Rattle.rules_rows.specs.Rings as rings;
 ghost use Rattle.rules_rows.specs.Transfers as transfers;
@@ -14,6 +14,7 @@ ghost use Rattle.rules_rows.specs.WholeDumps as whole_dumps;
 ghost use Rattle.rules_rows.specs.Faults as faults;
 ghost use Rattle.rules_rows.specs.HashedPoints as hashed;
 ghost use Rattle.rules_rows.specs.Dumps as dumps;
+ghost use Rattle.rules_rows.specs.Shapes as shapes;
 
 /// One silo joins, settles, enters an activation and finds it.
 #[tactic(auto, using(crate::proofs::Computed::one_silo))]
@@ -315,4 +316,81 @@ pub fn check_asking()
 pub fn check_stranger()
     ensures bytes { IsWritten dumps.check_stranger }
     ensures verdict { IsJudged dumps.check_stranger }
+{}
+
+/// A silo has seen a version that isn't made: the lists are no dump.
+pub fn check_seen_above_current()
+    ensures bytes { IsWritten dumps.check_seen_above_current }
+    ensures answer { IsAnswered dumps.check_seen_above_current }
+{}
+
+/// Of dumps the verdict is answered.
+pub fn dumps_are_answered()
+    ensures two_firm { IsAnswered dumps.check_two_firm }
+    ensures passes_over_the_dead { IsAnswered dumps.check_passes_over_the_dead }
+    ensures ok { IsAnswered dumps.check_ok }
+    ensures ring { IsAnswered dumps.check_ring }
+    ensures range { IsAnswered dumps.check_range }
+    ensures missing_firm { IsAnswered dumps.check_missing_firm }
+    ensures asking { IsAnswered dumps.check_asking }
+    ensures stranger { IsAnswered dumps.check_stranger }
+{}
+
+/// Numbers out of their ranges make no dump.
+pub fn numbers_out_of_range()
+    ensures current { IsNoDump shapes.current_too_high }
+    ensures dead { IsNoDump shapes.dead_too_high }
+    ensures left { IsNoDump shapes.left_too_high }
+    ensures place { IsNoDump shapes.place_too_high }
+    ensures point { IsNoDump shapes.point_too_high }
+    ensures index { IsNoDump shapes.index_too_high }
+    ensures no_points { IsNoDump shapes.no_points }
+    ensures too_many_points { IsNoDump shapes.too_many_points }
+    ensures start { IsNoDump shapes.start_too_high }
+    ensures size { IsNoDump shapes.size_too_high }
+{}
+
+/// Nor does a silo that occurs twice or has no row, or an activation that is another silo's or is held twice.
+pub fn silos_and_activations_amiss()
+    ensures row_twice { IsNoDump shapes.row_twice }
+    ensures node_twice { IsNoDump shapes.node_twice }
+    ensures node_without_row { IsNoDump shapes.node_without_row }
+    ensures activation_without_row { IsNoDump shapes.activation_without_row }
+    ensures holds_of_another { IsNoDump shapes.holds_of_another }
+    ensures activation_twice { IsNoDump shapes.activation_twice }
+    ensures grain_twice { IsNoDump shapes.grain_twice }
+{}
+
+/// Nor do versions that aren't made, or places that no join may name.
+pub fn versions_and_places_amiss()
+    ensures seen { IsNoDump shapes.seen_above_current }
+    ensures never_joined { IsNoDump shapes.never_joined }
+    ensures joined { IsNoDump shapes.joined_above_current }
+    ensures no_places { IsNoDump shapes.no_places }
+    ensures too_many_places { IsNoDump shapes.too_many_places }
+    ensures under_sha256 { IsNoDump shapes.places_under_sha256 }
+{}
+
+/// Nor do pieces that have what their state doesn't allow, or lists that are out of order.
+pub fn pieces_and_orders_amiss()
+    ensures awaiting_with_entries { IsNoDump shapes.awaiting_with_entries }
+    ensures recovering_with_entries { IsNoDump shapes.recovering_with_entries }
+    ensures awaiting_from_nobody { IsNoDump shapes.awaiting_from_nobody }
+    ensures settled_from_somebody { IsNoDump shapes.settled_from_somebody }
+    ensures recovering_from_somebody { IsNoDump shapes.recovering_from_somebody }
+    ensures rows { IsNoDump shapes.rows_out_of_order }
+    ensures nodes { IsNoDump shapes.nodes_out_of_order }
+    ensures pieces { IsNoDump shapes.pieces_out_of_order }
+    ensures entries { IsNoDump shapes.entries_out_of_order }
+{}
+
+/// What is a dump at the edge of a rule.
+pub fn dumps_at_the_edge()
+    ensures right { IsADump shapes.right }
+    ensures node_missing { IsADump shapes.node_missing }
+    ensures versions_to_come { IsADump shapes.versions_to_come }
+    ensures most_points_and_places { IsADump shapes.most_points_and_places }
+    ensures from_unknown { IsADump shapes.from_unknown }
+    ensures equal_neighbours { IsADump shapes.equal_neighbours }
+    ensures any_ring { IsADump shapes.any_ring }
 {}
