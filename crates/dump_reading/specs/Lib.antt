@@ -1,0 +1,4 @@
+pub mod Values
+pub mod DumpIn
+pub mod Judged
+pub mod Texts
