@@ -6,6 +6,7 @@ pub mod Kept
 pub mod Mails
 pub mod Lost
 pub mod Pieces
+pub mod Sights
 pub mod Removed
 pub mod People
 pub mod Peopled

@@ -15,6 +15,8 @@ use Rattle.hash_ring.specs.declared.Hashing.{Hashing}
 use Rattle.ring_range.specs.Range.{circle, Range, IsRange, EachHash, holds}
 use Rattle.hash_ring.specs.declared.Point.{Point}
 use Rattle.hash_ring.specs.Hash.{hash_grain}
+use Rattle.hash_ring.specs.Point.{IsOnCircle}
+use Rattle.hash_ring.specs.Places.{PlacesValue, IsPlaces}
 use Rattle.range_moves.specs.declared.Arc.{Arc}
 use Rattle.range_moves.specs.Arcs.{owner_silo, AreArcs}
 use Rattle.directory_rules.specs.declared.act.Act.{Act}
@@ -31,6 +33,7 @@ use Rattle.directory_rules.specs.Answer.{turned, piece_with, answered}
 use Rattle.directory_rules.specs.Sending.{grain_of}
 use Rattle.directory_rules.specs.Host.{Host, held_acts, find_acts, outstanding}
 use Rattle.directory_rules.specs.Node.{Node}
+use Rattle.directory_rules.specs.Step.{Stepped, see}
 use Rattle.directory_rules.specs.Event.{Event, Lose}
 use Rattle.directory_rules.specs.World.{Posted, World, Accepted}
 use Rattle.directory_rules.specs.Mail.{letter_of}
@@ -65,6 +68,12 @@ pub record HoldOwned (hashing : Hashing) (points : List Point) (silo : Silo) (pi
 abbrev pub PiecesAreOwned : Type 0
 PiecesAreOwned = (next : Bool) (hashing : Hashing) (view : ViewValue) (silo : Silo) (pieces : List (ℕ × Piece)) (old new : List Point) (arcs : List Arc) → AreArcs old new arcs
     → HoldOwned hashing new silo (pieces_after next hashing view silo pieces arcs)
+
+-- so they do after every sight: the pieces are what the silo owns in the view that it has seen
+abbrev pub PiecesOfSightsAreOwned : Type 0
+PiecesOfSightsAreOwned = (node : Node) (before view : ViewValue) (places : PlacesValue) (stepped : Stepped) → All IsOnCircle node.ring.points → IsPlaces places
+    → see node before view places ≡ Ok stepped
+    → HoldOwned node.settings.hashing stepped.node.ring.points node.host.silo stepped.node.holding.pieces
 
 -- a served request leaves every other grain's entry as it was
 abbrev pub ServedLeavesOthers : Type 0

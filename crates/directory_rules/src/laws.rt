@@ -1,6 +1,6 @@
 //! What holds of the rule. Each function here does nothing: its contract is a law on the definitions, for the proofs of
 //! crates above.
-ghost use Rattle.directory_rules.specs.Laws.{RefusalsChangeNothing, AcceptedChange, PiecesAreOwned, SealedWasSettled, ServedLeavesOthers, MailIsNumbered, LostIsLost, LiveHaveNodes, NodesAreOfOneVersion, NumbersAreDistinct, UnsettledPiecesRetry, WasSettledThroughout};
+ghost use Rattle.directory_rules.specs.Laws.{RefusalsChangeNothing, AcceptedChange, PiecesAreOwned, PiecesOfSightsAreOwned, SealedWasSettled, ServedLeavesOthers, MailIsNumbered, LostIsLost, LiveHaveNodes, NodesAreOfOneVersion, NumbersAreDistinct, UnsettledPiecesRetry, WasSettledThroughout};
 ghost use Rattle.directory_rules.specs.Worked.{RefusalsCompute};
 
 /// A refused event leaves the world as it was, and an accepted one leaves the world that it made.
@@ -9,9 +9,11 @@ pub fn runs_go_on()
     ensures accepted { AcceptedChange }
 {}
 
-/// After a sight the pieces hold each hash that the silo owns in the view seen, once, and no other.
+/// Pieces that are made of the arcs between two rings hold each hash that the silo owns in the new one, once, and no other;
+/// so do the pieces after every sight.
 pub fn pieces_are_owned()
-    ensures { PiecesAreOwned }
+    ensures of_arcs { PiecesAreOwned }
+    ensures of_sights { PiecesOfSightsAreOwned }
 {}
 
 /// What a sight seals was wholly settled, and its new owner is another silo.
