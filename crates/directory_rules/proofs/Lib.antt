@@ -7,6 +7,10 @@ pub mod Mails
 pub mod Lost
 pub mod Pieces
 pub mod Sights
+pub mod PlacesRun
+pub mod Ranges
+pub mod Owned
+pub mod Reached
 pub mod Removed
 pub mod People
 pub mod Peopled

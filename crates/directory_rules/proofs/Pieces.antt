@@ -27,7 +27,7 @@ abbrev Tells : ℕ → Option Silo → Arc → Type 0
 Tells hash owner arc = holds arc.range hash ≡ true → arc.to ≡ owner
 
 -- a piece has its arc's range, settled or not
-piece_range : (next : Bool) (hashing : Hashing) (view : ViewValue) (silo : Silo) (pieces : List (ℕ × Piece)) (arc : Arc) → (piece_of next hashing view silo pieces arc).range ≡ arc.range
+pub piece_range : (next : Bool) (hashing : Hashing) (view : ViewValue) (silo : Silo) (pieces : List (ℕ × Piece)) (arc : Arc) → (piece_of next hashing view silo pieces arc).range ≡ arc.range
 piece_range next hashing view silo pieces arc =
     on_bool (λ b. (cond {A = Piece} b (record { range = arc.range; state = Settled; entries = kept_entries hashing view pieces arc.range }) (record { range = arc.range; state = missing_state next view silo arc.from; entries = [] })).range ≡ arc.range) (was_settled pieces arc.range) (λ t. refl) (λ f. refl)
 
@@ -43,7 +43,7 @@ counted_out true false count is = refl
 counted_out false true count is = omega arith
 counted_out false false count is = refl
 
-abbrev under : (next : Bool) → Hashing → ViewValue → Silo → List (ℕ × Piece) → Arc → (ℕ × Piece)
+abbrev pub under : (next : Bool) → Hashing → ViewValue → Silo → List (ℕ × Piece) → Arc → (ℕ × Piece)
 under next hashing view silo pieces arc = (arc.range.start, piece_of next hashing view silo pieces arc)
 
 -- how many of the pieces hold the hash

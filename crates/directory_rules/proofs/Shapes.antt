@@ -4,7 +4,7 @@ use Rattle.std.specs.Prelude.{Bool, true, false, ◌&&◌, ◌↔◌, cond, code
 use Rattle.std.specs.List.{list_all}
 use Rattle.std.specs.Fmt.{digits}
 use Rattle.std.proofs.lemmas.Bool.{ltb-true, leb-true}
-use Rattle.std.proofs.lemmas.List.Elements.{All-nil, All-cons, All-head, All-tail}
+use Rattle.std.proofs.lemmas.List.Elements.{All-nil, All-cons, All-filter}
 use Rattle.texts.proofs.Decided.{both}
 use Rattle.ring_range.specs.Range.{circle, IsRange}
 use Rattle.hash_ring.specs.declared.point.Point.{Point}
@@ -15,7 +15,6 @@ use Rattle.directory_rules.specs.DumpShape.{has_point_numbers, has_piece_numbers
 use Rattle.directory_rules.specs.Output.{judgement_of, judged, no_dump}
 use Rattle.directory_rules.specs.Verdict.{HasHashes, dump_view, standing_nodes, verdict}
 use Rattle.directory_rules.specs.RightDump.{IsVerdict, IsRightDump}
-use Rattle.directory_rules.proofs.Cases.{on_bool}
 use Rattle.directory_rules.proofs.RightDumps.{verdict_is, none_is_right}
 
 -- what a test that all items pass tells of each
@@ -24,12 +23,6 @@ all_told p P tells [] passed = All-nil P
 all_told p P tells (x ∷ xs) passed =
     let parts = both (p x) (list_all p xs) passed in
     All-cons P x xs (tells x parts.0) (all_told p P tells xs parts.1)
-
-kept_all : {X : Type 0} (P : X → Type 0) (p : X → Bool) (xs : List X) → All P xs → All P (filter p xs)
-kept_all P p [] all = All-nil P
-kept_all {X} P p (x ∷ xs) all = on_bool (λ b. All P (cond b (x ∷ filter p xs) (filter p xs))) (p x)
-    (λ t. All-cons P x (filter p xs) (All-head P x xs all) (kept_all P p xs (All-tail P x xs all)))
-    (λ f. kept_all P p xs (All-tail P x xs all))
 
 on_circle : (point : Point) → has_point_numbers point ≡ true → IsOnCircle point
 on_circle point numbers = ltb-true _ _ (both (is_hash point.place) (is_index point.index) numbers).0
@@ -57,7 +50,7 @@ dump_hashes dump is =
     all_told has_node_numbers HasHashes has_hashes dump.nodes nodes
 
 standing_hashes : (dump : DumpValue) → is_dump dump ≡ true → All HasHashes (standing_nodes dump)
-standing_hashes dump is = kept_all HasHashes (λ node. not (is_dead_in (dump_view dump dump.current) node.silo)) dump.nodes (dump_hashes dump is)
+standing_hashes dump is = All-filter (λ node. not (is_dead_in (dump_view dump dump.current) node.silo)) HasHashes dump.nodes (dump_hashes dump is)
 
 -- the verdict over a dump says all that it has to
 pub dump_verdict : (dump : DumpValue) → is_dump dump ≡ true → IsVerdict dump (verdict dump)

@@ -1,18 +1,17 @@
 -- The pieces after every sight are what the silo owns.
-use Rattle.std.proofs.Common.{◌≡◌, refl, subst, ℕ, List}
-use Rattle.std.specs.Prelude.{Bool, true, false, cond, not, ◌&&◌, ◌==◌, nat_lt, length, All, Result, Ok, Err, IfOk}
+use Rattle.std.proofs.Common.{refl, subst, ℕ}
+use Rattle.std.specs.Prelude.{Bool, true, false, cond, not, ◌&&◌, ◌==◌, nat_lt, length, All, Ok, Err, IfOk}
 use Rattle.membership_view.specs.View.{ViewValue}
-use Rattle.hash_ring.specs.declared.Point.{Point}
 use Rattle.hash_ring.specs.Point.{IsOnCircle}
 use Rattle.hash_ring.specs.Places.{PlacesValue, IsPlaces}
-use Rattle.hash_ring.specs.Ring.{sorted_ring, ring_of}
+use Rattle.hash_ring.specs.Ring.{sorted_ring}
 use Rattle.hash_ring.proofs.PlacesKept.{IsRing-anew}
 use Rattle.range_moves.specs.Arcs.{arcs_of}
 use Rattle.range_moves.proofs.Between.{arcs_whole}
 use Rattle.directory_rules.specs.Sight.{is_next}
 use Rattle.directory_rules.specs.Host.{has_numbers, outstanding}
 use Rattle.directory_rules.specs.Node.{Node}
-use Rattle.directory_rules.specs.Step.{Stepped, compared_points, sight, see}
+use Rattle.directory_rules.specs.Step.{Stepped, compared_points, sight}
 use Rattle.directory_rules.specs.Laws.{HoldOwned, PiecesOfSightsAreOwned}
 use Rattle.directory_rules.proofs.Cases.{on_bool}
 use Rattle.directory_rules.proofs.Pieces.{pieces_are_owned}
@@ -22,7 +21,7 @@ pub on_circle : (view : ViewValue) (places : PlacesValue) → IsPlaces places �
 on_circle view places kept = (IsRing-anew view places kept view.version (sorted_ring view places) refl).on_circle
 
 -- so are the points to which it is compared
-compared : (next : Bool) (node : Node) (before : ViewValue) (places : PlacesValue) → All IsOnCircle node.ring.points → IsPlaces places → All IsOnCircle (compared_points next node before places)
+pub compared : (next : Bool) (node : Node) (before : ViewValue) (places : PlacesValue) → All IsOnCircle node.ring.points → IsPlaces places → All IsOnCircle (compared_points next node before places)
 compared next node before places ring kept =
     on_bool (λ b. All IsOnCircle (cond b (sorted_ring before places) node.ring.points)) (next && (node.view.version == 0)) (λ t. on_circle before places kept) (λ f. ring)
 

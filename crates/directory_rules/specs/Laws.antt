@@ -1,5 +1,5 @@
 -- What holds of the rule, whatever happens.
-use Rattle.std.specs.Prelude.{◌&&◌, ◌≡◌, ◌≢◌, if◌then◌else◌, Bool, count_by, ℕ, ◌<◌, ◌≤◌, true, false, is_some, List, [], ◌∷◌, All, AllPairs, ◌++◌, length, Option, Some, None, Ok, Err}
+use Rattle.std.specs.Prelude.{⊤, ◌&&◌, ◌≡◌, ◌≢◌, if◌then◌else◌, Bool, count_by, ℕ, ◌<◌, ◌≤◌, true, false, is_some, List, [], ◌∷◌, All, AllPairs, ◌++◌, length, Option, Some, None, Ok, Err}
 use Rattle.std.specs.List.{list_any}
 use Rattle.std.specs.List.Sorted.{IsStrictlySortedBy}
 use Rattle.std.specs.Map.{keys_of, values_of, lookup}
@@ -34,7 +34,7 @@ use Rattle.directory_rules.specs.Sending.{grain_of}
 use Rattle.directory_rules.specs.Host.{Host, held_acts, find_acts, outstanding}
 use Rattle.directory_rules.specs.Node.{Node}
 use Rattle.directory_rules.specs.Step.{Stepped, see}
-use Rattle.directory_rules.specs.Event.{Event, Lose}
+use Rattle.directory_rules.specs.Event.{Event, Join, Leave, Kill, See, Wake, Close, Find, Forget, Deliver, Lose, Nudge, Offer}
 use Rattle.directory_rules.specs.World.{Posted, World, Accepted}
 use Rattle.directory_rules.specs.Mail.{letter_of}
 use Rattle.directory_rules.specs.Happens.{happens, node_of}
@@ -59,9 +59,13 @@ pub record IsHandedOver (view : ViewValue) (silo : Silo) (pieces : List (ℕ × 
 abbrev pub SealedWasSettled : Type 0
 SealedWasSettled = (hashing : Hashing) (view : ViewValue) (silo : Silo) (pieces : List (ℕ × Piece)) (arcs : List Arc) → All (IsHandedOver view silo pieces) (sealed hashing view silo pieces arcs)
 
--- the pieces hold each hash that the silo owns by the ring's points once, and no other; each entry lies in its piece
+-- each hash that the silo owns by the ring's points is in one of the pieces, and any other in none
+abbrev pub HoldOnce : List Point → Silo → List (ℕ × Piece) → Type 0
+HoldOnce points silo pieces = EachHash (λ hash. count_by (λ e. holds e.1.range hash) pieces ≡ (if is_owner silo (owner_silo points hash) then 1 else 0))
+
+-- so it is, and each entry lies in its piece
 pub record HoldOwned (hashing : Hashing) (points : List Point) (silo : Silo) (pieces : List (ℕ × Piece)) : Type 0 where
-  pub once : EachHash (λ hash. count_by (λ e. holds e.1.range hash) pieces ≡ (if is_owner silo (owner_silo points hash) then 1 else 0))
+  pub once : HoldOnce points silo pieces
   pub placed : All (λ e. All (λ x. holds e.1.range (hash_grain hashing x.1.grain) ≡ true) e.1.entries) pieces
 
 -- so do the pieces after a sight, which are made of the arcs between two rings
@@ -73,6 +77,37 @@ PiecesAreOwned = (next : Bool) (hashing : Hashing) (view : ViewValue) (silo : Si
 abbrev pub PiecesOfSightsAreOwned : Type 0
 PiecesOfSightsAreOwned = (node : Node) (before view : ViewValue) (places : PlacesValue) (stepped : Stepped) → All IsOnCircle node.ring.points → IsPlaces places
     → see node before view places ≡ Ok stepped
+    → HoldOwned node.settings.hashing stepped.node.ring.points node.host.silo stepped.node.holding.pieces
+
+-- the places that a join names are hashes; other events name none
+abbrev pub NamesHashes : Event → Type 0
+NamesHashes (Join silo places) = All (λ place. place < circle) places
+NamesHashes (Leave silo) = ⊤
+NamesHashes (Kill silo) = ⊤
+NamesHashes (See silo version) = ⊤
+NamesHashes (Wake silo grain) = ⊤
+NamesHashes (Close silo grain) = ⊤
+NamesHashes (Find silo grain) = ⊤
+NamesHashes (Forget silo grain) = ⊤
+NamesHashes (Deliver number) = ⊤
+NamesHashes (Lose number) = ⊤
+NamesHashes (Nudge silo) = ⊤
+NamesHashes (Offer silo grain to) = ⊤
+
+-- the silo has this node after such events
+pub record IsReached (settings : Settings) (events : List Event) (silo : Silo) (node : Node) : Type 0 where
+  pub in_range : AreSettings settings
+  pub hashes : All NamesHashes events
+  pub found : node_of (run_from_start settings events).world silo ≡ Some node
+
+-- the pieces of each node that is reached hold each hash that it owns by its ring once, and no other
+abbrev pub NodesHoldOnce : Type 0
+NodesHoldOnce = (settings : Settings) (events : List Event) (silo : Silo) (node : Node) → IsReached settings events silo node → HoldOnce node.ring.points node.host.silo node.holding.pieces
+
+-- and every sight of one leaves pieces that are what the silo owns, each entry in its piece
+abbrev pub SightsOfRunsAreOwned : Type 0
+SightsOfRunsAreOwned = (settings : Settings) (events : List Event) (silo : Silo) (node : Node) (before view : ViewValue) (stepped : Stepped) → IsReached settings events silo node
+    → see node before view (run_from_start settings events).world.places ≡ Ok stepped
     → HoldOwned node.settings.hashing stepped.node.ring.points node.host.silo stepped.node.holding.pieces
 
 -- a served request leaves every other grain's entry as it was

@@ -1,6 +1,6 @@
 //! What holds of the rule. Each function here does nothing: its contract is a law on the definitions, for the proofs of
 //! crates above.
-ghost use Rattle.directory_rules.specs.Laws.{RefusalsChangeNothing, AcceptedChange, PiecesAreOwned, PiecesOfSightsAreOwned, SealedWasSettled, ServedLeavesOthers, MailIsNumbered, LostIsLost, LiveHaveNodes, NodesAreOfOneVersion, NumbersAreDistinct, UnsettledPiecesRetry, WasSettledThroughout};
+ghost use Rattle.directory_rules.specs.Laws.{RefusalsChangeNothing, AcceptedChange, PiecesAreOwned, PiecesOfSightsAreOwned, NodesHoldOnce, SightsOfRunsAreOwned, SealedWasSettled, ServedLeavesOthers, MailIsNumbered, LostIsLost, LiveHaveNodes, NodesAreOfOneVersion, NumbersAreDistinct, UnsettledPiecesRetry, WasSettledThroughout};
 ghost use Rattle.directory_rules.specs.Worked.{RefusalsCompute};
 
 /// A refused event leaves the world as it was, and an accepted one leaves the world that it made.
@@ -14,6 +14,13 @@ pub fn runs_go_on()
 pub fn pieces_are_owned()
     ensures of_arcs { PiecesAreOwned }
     ensures of_sights { PiecesOfSightsAreOwned }
+{}
+
+/// After any run whose joins name hashes the pieces of every node hold each hash that its silo owns, once, and no other; and
+/// every sight of one leaves each entry in its piece.
+pub fn nodes_hold_what_they_own()
+    ensures always { NodesHoldOnce }
+    ensures of_sights { SightsOfRunsAreOwned }
 {}
 
 /// What a sight seals was wholly settled, and its new owner is another silo.
