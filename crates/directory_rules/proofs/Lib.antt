@@ -24,5 +24,7 @@ pub mod Throughout
 pub mod Worked
 mod TurningHashes
 mod Settling
+mod Contained
 mod RightDumps
 mod Shapes
+mod RightShapes

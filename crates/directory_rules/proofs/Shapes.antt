@@ -1,6 +1,6 @@
 -- What the shape of a dump says of its nodes: places are hashes, and ranges are ranges.
 use Rattle.std.proofs.Common.{◌≡◌, ap, ltb, leb, List, [], ◌∷◌}
-use Rattle.std.specs.Prelude.{Bool, true, false, ◌&&◌, ◌↔◌, cond, codes, not, None, filter, All}
+use Rattle.std.specs.Prelude.{Bool, true, false, ◌&&◌, ◌↔◌, cond, codes, not, None, All}
 use Rattle.std.specs.List.{list_all}
 use Rattle.std.specs.Fmt.{digits}
 use Rattle.std.proofs.lemmas.Bool.{ltb-true, leb-true}

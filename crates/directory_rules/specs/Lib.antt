@@ -37,4 +37,5 @@ pub mod Dump
 pub mod Verdict
 pub mod RightDump
 pub mod DumpShape
+pub mod RightShape
 pub mod Output

@@ -10,6 +10,7 @@ ghost use Rattle.std.specs.Bool.{Decides};
 ghost use Rattle.directory_rules.specs.Dump.{DumpNode, DumpValue};
 ghost use Rattle.directory_rules.specs.Verdict.{HasHashes, HasItsRanges, has_its_ranges, standing_nodes, verdict};
 ghost use Rattle.directory_rules.specs.DumpShape.{is_dump};
+ghost use Rattle.directory_rules.specs.RightShape.{IsDump};
 ghost use Rattle.directory_rules.specs.RightDump.{IsRightDump, IsVerdict};
 
 /// Scripts without an event.
@@ -45,6 +46,11 @@ pub fn settle_suffices()
 pub fn verdicts_are_right()
     ensures answers { (dump : DumpValue) → All HasHashes (standing_nodes dump) → IsVerdict dump (verdict dump) }
     ensures none { (dump : DumpValue) → All HasHashes (standing_nodes dump) → (verdict dump ≡ None) ↔ IsRightDump dump }
+{}
+
+/// What the test for a dump says, in the directory's own words.
+pub fn dumps_have_their_shape()
+    ensures { (dump : DumpValue) → Decides (is_dump dump) (IsDump dump) }
 {}
 
 /// A dump is judged only where its lists have the shape of one, and the verdict then says all that it has to.
