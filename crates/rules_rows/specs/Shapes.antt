@@ -1,13 +1,11 @@
 -- Lists that are no dump, each for one reason, and lists that are one at the edge of a rule. All are made of one right dump
 -- of two silos by one change.
-use Rattle.std.specs.Prelude.{ℕ, List, [], ◌∷◌, ◌^◌, codes, Option, Some, None}
+use Rattle.std.specs.Prelude.{List, [], ◌∷◌, ◌^◌, codes, Option, Some, None}
 use Rattle.std.specs.List.{range_with_len}
 use Rattle.silo_address.specs.Silo.{Silo}
 use Rattle.silo_address.specs.Grain.{Grain}
 use Rattle.silo_address.specs.declared.Entry.{Entry}
-use Rattle.ring_range.specs.Range.{Range}
 use Rattle.hash_ring.specs.declared.hashing.Hashing.TheVariants.{Sha256, Stated}
-use Rattle.hash_ring.specs.declared.point.Point.{Point}
 use Rattle.directory_rules.specs.Dump.{Firm, DumpHeld, DumpState, Settled, Awaiting, Recovering, DumpPiece, DumpNode, DumpRow, DumpValue}
 use Rattle.rules_rows.specs.Dumps.{silo_a, silo_b, grain_z, entry_z, held_z, lower_half, upper_half, settled_piece, point_at, row_a, row_b, ring_ab, node_a}
 
