@@ -1,0 +1,14 @@
+use Rattle.std.proofs.Common.{subst}
+use Rattle.directory_rules.specs.Recovery.{Recovery}
+use Rattle.range_recovery.specs.Kept.{IsRecovery}
+use Rattle.range_recovery.proofs.recovery.Recovery.whole.Goals as goal
+
+pub returns : goal.returns
+returns c =
+    subst (λ (v : Recovery). IsRecovery v) c.self.view_is
+    (record {
+      awaiting_in_order = c.whole.ensures.awaiting_in_order;
+      reported_in_order = c.whole.ensures.reported_in_order;
+      apart = c.whole.ensures.apart;
+      gathered_in_order = c.len-len.ensures.ordered;
+    })

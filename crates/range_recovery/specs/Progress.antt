@@ -1,0 +1,31 @@
+-- What comes of a report, as its taker is told.
+use Rattle.std.specs.Prelude.{◌≡◌, ◌==◌, ℕ, length, if◌then◌else◌, Result, Ok, Err, IsSomeAnd, IsOk, MatchOption}
+use Rattle.directory_rules.specs.Recovery.{Recovery, Report, Recovered, Awaits_more, Has_union, Rejects, recovered}
+use Rattle.range_recovery.specs.declared.error.RecoveryError.{RecoveryError}
+use Rattle.range_recovery.specs.declared.progress.Progress.{Progress}
+use Rattle.range_recovery.specs.declared.progress.Progress.TheVariants.{More, Complete}
+use Rattle.range_recovery.specs.Numbers.{recovery_error_number}
+
+-- how far the recovery is, or the number by which the report is refused
+abbrev pub progress_of : Recovered → Result Progress ℕ
+progress_of (Awaits_more recovery) = Ok More
+progress_of (Has_union table) = Ok Complete
+progress_of (Rejects number) = Err number
+
+-- what the rule makes of a report is this progress, to this recovery
+abbrev pub Reaches : Progress → Recovery → Recovered → Type 0
+Reaches More recovery outcome = outcome ≡ Awaits_more recovery
+Reaches Complete recovery outcome = outcome ≡ Has_union recovery.gathered
+
+-- a fault that refuses a report by its number
+abbrev pub Refuses : Recovery → Report → RecoveryError → Type 0
+Refuses recovery report fault = IsSomeAnd (recovery_error_number fault) (λ number. recovered recovery report ≡ Rejects number)
+
+-- the same, or want of memory for a report that nothing refuses
+abbrev pub RefusesOrLacksMemory : Recovery → Report → RecoveryError → Type 0
+RefusesOrLacksMemory recovery report fault =
+    MatchOption (recovery_error_number fault) (IsOk (progress_of (recovered recovery report))) (λ number. recovered recovery report ≡ Rejects number)
+
+-- how far the recovery is when one more of the silos that it awaits has reported
+abbrev pub after_one_more : Recovery → Progress
+after_one_more recovery = if length recovery.awaiting == 1 then Complete else More

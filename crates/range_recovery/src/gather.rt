@@ -1,0 +1,71 @@
+ghost use Rattle.std.specs.Prelude.{◌≡◌, ◌+◌, ◌<◌, ◌≤◌, fold, length, vec_len, vec_capacity, OnOk, OnErr};
+ghost use Rattle.directory_rules.specs.Recovery.{with_reported};
+ghost use Rattle.range_recovery.specs.Gathered.{without_grains};
+
+use silo_address::{Entry, GrainId};
+use std::alloc::{AllocError, Global};
+use std::collections::BTreeMap;
+
+/// Puts in the entries of a report, each whose grain has none yet. What was put in is taken out again where memory is wanting.
+pub(crate) fn gather(
+    alloc: Global,
+    gathered: &mut BTreeMap<GrainId, Entry>,
+    entries: &[Entry],
+) -> Result<(), AllocError>
+    ensures gathered { OnOk result (gathered.new.entries ≡ fold with_reported gathered.old.entries entries.now) }
+    ensures unchanged { OnErr result (gathered.new.entries ≡ gathered.old.entries) }
+{
+    let mut new = Vec::with_capacity(alloc, entries.len())?;
+    match gather_each(gathered, entries, &mut new) {
+        Ok(()) => Ok(()),
+        Err(fault) => {
+            take_out(gathered, new);
+            Err(fault)
+        }
+    }
+}
+
+// Puts in each entry whose grain has none yet, and notes the grains that are new.
+fn gather_each(
+    gathered: &mut BTreeMap<GrainId, Entry>,
+    entries: &[Entry],
+    new: &mut Vec<GrainId>,
+) -> Result<(), AllocError>
+    requires room { vec_len new.old + length entries.now ≤ vec_capacity new.old }
+    ensures gathered { OnOk result (gathered.new.entries ≡ fold with_reported gathered.old.entries entries.now) }
+    ensures noted { without_grains new.new.items gathered.new.entries ≡ without_grains new.old.items gathered.old.entries }
+{
+    for entry in entries {
+        gather_one(gathered, entry, new)?;
+    }
+    Ok(())
+}
+
+// Puts in the entry where its grain has none yet, and notes the grain then.
+fn gather_one(
+    gathered: &mut BTreeMap<GrainId, Entry>,
+    entry: &Entry,
+    new: &mut Vec<GrainId>,
+) -> Result<(), AllocError>
+    requires { vec_len new.old < vec_capacity new.old }
+    ensures gathered { OnOk result (gathered.new.entries ≡ with_reported gathered.old.entries entry.now) }
+    ensures noted { without_grains new.new.items gathered.new.entries ≡ without_grains new.old.items gathered.old.entries }
+    ensures len { vec_len new.new ≤ vec_len new.old + 1 }
+    ensures room { vec_capacity new.old ≤ vec_capacity new.new }
+{
+    if gathered.contains_key(&entry.grain) {
+        return Ok(());
+    }
+    gathered.insert(entry.grain, *entry)?;
+    new.push(entry.grain).unwrap();
+    Ok(())
+}
+
+// Takes out grains, from the last one to the first.
+fn take_out(gathered: &mut BTreeMap<GrainId, Entry>, mut grains: Vec<GrainId>)
+    ensures { gathered.new.entries ≡ without_grains grains.items gathered.old.entries }
+{
+    while let Some(grain) = grains.pop() {
+        gathered.remove(&grain);
+    }
+}

@@ -1,0 +1,8 @@
+/// What comes of a report that is taken (`docs/RULES.md#recovery`).
+#[derive(Clone, Copy, Debug, PartialEq, Eq)]
+pub enum Progress {
+    /// More silos are awaited.
+    More,
+    /// All silos have reported, and what was gathered is the union of their reports.
+    Complete,
+}
