@@ -165,7 +165,7 @@ impl Recovery {
     pub fn same(&self, other: &Recovery) -> bool
         ensures { IsTrue result ↔ (self.now ≡ other.now) }
     {
-        self.version == other.version
+        other.version == self.version
             && self.range.same(&other.range)
             && self.silos.same(&other.silos)
             && same_entries(&self.gathered, &other.gathered)

@@ -81,7 +81,7 @@ impl Report {
     pub fn same(&self, other: &Report) -> bool
         ensures { IsTrue result ↔ (self.now ≡ other.now) }
     {
-        self.version == other.version
+        other.version == self.version
             && self.range.same(&other.range)
             && self.silo.same(&other.silo)
             && same_entries(&self.entries, &other.entries)
