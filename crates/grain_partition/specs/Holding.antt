@@ -1,0 +1,22 @@
+-- What a silo keeps for others at every moment.
+use Rattle.std.specs.Prelude.{◌≡◌, ℕ, ◌<◌, ◌≤◌, List, All, count_by}
+use Rattle.std.specs.Ordering.{nat_cmp}
+use Rattle.std.specs.List.Sorted.{IsStrictlySortedBy}
+use Rattle.std.specs.Map.{keys_of}
+use Rattle.ring_range.specs.Range.{IsRange, EachHash, holds}
+use Rattle.directory_rules.specs.Piece.{Piece, Holding}
+
+-- pieces by start, in which every hash is once at most
+pub record ArePieces (pieces : List (ℕ × Piece)) : Type 0 where
+  pub in_order : IsStrictlySortedBy nat_cmp (keys_of pieces)
+  -- each piece stands under its range's start
+  pub under_start : All (λ e. e.1.range.start ≡ e.0) pieces
+  -- every range has a hash, and none twice
+  pub ranges : All (λ e. IsRange e.1.range) pieces
+  pub present : All (λ e. 0 < e.1.range.size) pieces
+  -- no hash is in two pieces
+  pub once : EachHash (λ hash. count_by (λ e. holds e.1.range hash) pieces ≤ 1)
+
+-- what every holding keeps
+abbrev pub IsHolding : Holding → Type 0
+IsHolding holding = ArePieces holding.pieces

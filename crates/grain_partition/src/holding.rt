@@ -1,0 +1,123 @@
+ghost use Rattle.std.specs.Map.Iter.{ShowsInOrder, deref_pair};
+ghost use Rattle.std.specs.Prelude.{◌≡◌, ◌↔◌, ℕ, [], IsTrue, IfOk, OnOk, OnErr, option_copied};
+ghost use Rattle.std.specs.Map.{lookup};
+ghost use Rattle.std.specs.Ordering.{nat_cmp};
+ghost use Rattle.std.specs.BTreeMap.{is_at};
+ghost use Rattle.directory_rules.specs.Piece.{Piece as PieceValue};
+ghost use Rattle.grain_partition.specs.Holding.{IsHolding};
+
+use crate::Piece;
+use silo_address::SiloAddress;
+use std::alloc::{AllocError, Global};
+use std::collections::BTreeMap;
+use std::collections::btree_map::Iter;
+use std::marker::Model;
+
+/// What a silo keeps for others: the version that it has seen, the last number that it served each silo at that version,
+/// and its pieces (`docs/RULES.md#pieces`).
+#[derive(Drop)]
+pub struct Holding {
+    seen: u64,
+    served: BTreeMap<SiloAddress, u64>,
+    pieces: BTreeMap<u32, Piece>,
+}
+
+impl Model for Holding {
+    ghost use Rattle.directory_rules.specs.Piece.{Holding as HoldingValue};
+
+    ghost Value = { HoldingValue };
+
+    ghost use Rattle.grain_partition.specs.Holding.{IsHolding};
+
+    ghost view = { λ h. record { seen = h.seen; served = h.served.entries; pieces = h.pieces.entries } };
+
+    ghost invariant = { λ h. IsHolding (record { seen = h.seen; served = h.served.entries; pieces = h.pieces.entries }) };
+}
+
+impl Holding {
+    /// What a silo keeps before it has seen any view: nothing.
+    pub fn new(alloc: Global) -> Holding
+        ensures { result ≡ record { seen = 0; served = []; pieces = [] } }
+    {
+        Holding {
+            seen: 0,
+            served: BTreeMap::new(alloc),
+            pieces: BTreeMap::new(alloc),
+        }
+    }
+
+    /// The version that the silo has seen.
+    pub fn seen(&self) -> u64
+        ensures { result ≡ self.now.seen }
+    {
+        self.seen
+    }
+
+    /// The pieces under their starts, by start.
+    pub fn pieces(&self) -> Iter<'_, u32, Piece>
+        ensures rest { result ≡ self.now.pieces }
+        ensures runs { ShowsInOrder (deref_pair {K = ℕ} {X = PieceValue}) }
+    {
+        self.pieces.iter()
+    }
+
+    /// The piece that begins at this hash; `None` where none does.
+    pub fn piece_at(&self, start: u32) -> Option<&Piece>
+        ensures { option_copied result ≡ lookup (is_at (nat_cmp start)) self.now.pieces }
+    {
+        self.pieces.get(&start)
+    }
+
+    /// A law: what all holdings keep.
+    pub fn whole(&self)
+        ensures { IsHolding self.now }
+    {
+        let _seen = self.seen;
+    }
+
+    /// An equal holding. Fails only for want of memory.
+    pub fn copy(&self) -> Result<Holding, AllocError>
+        ensures { IfOk result (λ holding. holding ≡ self.now) }
+    {
+        let served = self.served.clone()?;
+        let pieces = self.pieces.clone()?;
+        Ok(Holding {
+            seen: self.seen,
+            served,
+            pieces,
+        })
+    }
+
+    /// Whether both have seen the same version, served the same numbers and have the same pieces.
+    pub fn same(&self, other: &Holding) -> bool
+        ensures { IsTrue result ↔ (self.now ≡ other.now) }
+    {
+        self.seen == other.seen
+            && same_served(&self.served, &other.served)
+            && same_pieces(&self.pieces, &other.pieces)
+    }
+}
+
+fn same_served(one: &BTreeMap<SiloAddress, u64>, other: &BTreeMap<SiloAddress, u64>) -> bool
+    ensures { IsTrue result ↔ (one.now.entries ≡ other.now.entries) }
+{
+    *one == *other
+}
+
+fn same_pieces(one: &BTreeMap<u32, Piece>, other: &BTreeMap<u32, Piece>) -> bool
+    ensures { IsTrue result ↔ (one.now.entries ≡ other.now.entries) }
+{
+    let (mut rest, mut its) = (one.iter(), other.iter());
+    'rest: while let Some((start, piece)) = rest.next() {
+        let Some((its_start, its_piece)) = its.next() else {
+            return false;
+        };
+        if *start != *its_start {
+            return false;
+        }
+        if !piece.same(its_piece) {
+            return false;
+        }
+    }
+    its.next().is_none()
+}

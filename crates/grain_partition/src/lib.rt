@@ -1,0 +1,9 @@
+//! What one silo keeps for others: its pieces of the directory, each a range of hashes with its state and its entries, and
+//! how requests are answered from them.
+#![tactic(auto)]
+
+mod holding;
+mod piece;
+
+pub use holding::Holding;
+pub use piece::Piece;

@@ -1,0 +1,78 @@
+ghost use Rattle.std.specs.Prelude.{◌≡◌, ◌↔◌, IsTrue, IfOk};
+ghost use Rattle.directory_rules.specs.Table.{entry_at};
+
+use directory_rules::PieceState;
+use ring_range::RingRange;
+use silo_address::{Entry, GrainId};
+use std::alloc::AllocError;
+use std::collections::BTreeMap;
+use std::marker::Model;
+
+/// A piece of what a silo owns: a range of hashes, its state, and the entries of its grains, which it has where it is
+/// settled (`docs/RULES.md#pieces`).
+#[derive(Clone, Drop)]
+pub struct Piece {
+    range: RingRange,
+    state: PieceState,
+    entries: BTreeMap<GrainId, Entry>,
+}
+
+impl Model for Piece {
+    ghost use Rattle.directory_rules.specs.Piece.{Piece as PieceValue};
+
+    ghost Value = { PieceValue };
+
+    ghost view = { λ p. record { range = p.range; state = p.state; entries = p.entries.entries } };
+}
+
+impl Piece {
+    /// The hashes of the piece.
+    pub fn range(&self) -> RingRange
+        ensures { result ≡ self.now.range }
+    {
+        self.range
+    }
+
+    /// What the silo has of it.
+    pub fn state(&self) -> PieceState
+        ensures { result ≡ self.now.state }
+    {
+        self.state
+    }
+
+    /// The entries under their grains, in the order of the grains.
+    pub fn entries(&self) -> &BTreeMap<GrainId, Entry>
+        ensures { result.now.entries ≡ self.now.entries }
+    {
+        &self.entries
+    }
+
+    /// The grain's entry; `None` where it has none here.
+    pub fn find(&self, grain: &GrainId) -> Option<Entry>
+        ensures { result ≡ entry_at grain.now self.now.entries }
+    {
+        self.entries.get(grain).copied()
+    }
+
+    /// An equal piece. Fails only for want of memory.
+    pub fn copy(&self) -> Result<Piece, AllocError>
+        ensures { IfOk result (λ piece. piece ≡ self.now) }
+    {
+        self.clone()
+    }
+
+    /// Whether both have the same range, state and entries.
+    pub fn same(&self, other: &Piece) -> bool
+        ensures { IsTrue result ↔ (self.now ≡ other.now) }
+    {
+        self.range.same(&other.range)
+            && self.state.same(&other.state)
+            && same_entries(&self.entries, &other.entries)
+    }
+}
+
+fn same_entries(one: &BTreeMap<GrainId, Entry>, other: &BTreeMap<GrainId, Entry>) -> bool
+    ensures { IsTrue result ↔ (one.now.entries ≡ other.now.entries) }
+{
+    *one == *other
+}
