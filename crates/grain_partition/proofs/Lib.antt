@@ -1,0 +1,2 @@
+pub mod OnePiece
+pub mod PieceSearch

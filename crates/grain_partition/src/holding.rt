@@ -1,10 +1,12 @@
 ghost use Rattle.std.specs.Map.Iter.{ShowsInOrder, deref_pair};
-ghost use Rattle.std.specs.Prelude.{◌≡◌, ◌↔◌, ℕ, [], IsTrue, IfOk, OnOk, OnErr, option_copied};
+ghost use Rattle.std.specs.Prelude.{◌≡◌, ◌↔◌, ℕ, [], IsTrue, IfOk, OnOk, OnErr, MatchOption, option_copied};
 ghost use Rattle.std.specs.Map.{lookup};
 ghost use Rattle.std.specs.Ordering.{nat_cmp};
 ghost use Rattle.std.specs.BTreeMap.{is_at};
 ghost use Rattle.directory_rules.specs.Piece.{Piece as PieceValue};
-ghost use Rattle.grain_partition.specs.Holding.{IsHolding};
+ghost use Rattle.directory_rules.specs.Answer.{piece_with};
+ghost use Rattle.grain_partition.specs.Holding.{ArePieces, IsHolding};
+ghost use Rattle.grain_partition.specs.Search.{BeginsNearest};
 
 use crate::Piece;
 use silo_address::SiloAddress;
@@ -68,6 +70,13 @@ impl Holding {
         self.pieces.get(&start)
     }
 
+    /// The piece that has the hash; `None` where none has it.
+    pub fn piece_with(&self, hash: u32) -> Option<&Piece>
+        ensures { option_copied result ≡ piece_with hash self.now.pieces }
+    {
+        piece_with(&self.pieces, hash)
+    }
+
     /// A law: what all holdings keep.
     pub fn whole(&self)
         ensures { IsHolding self.now }
@@ -120,4 +129,29 @@ fn same_pieces(one: &BTreeMap<u32, Piece>, other: &BTreeMap<u32, Piece>) -> bool
         }
     }
     its.next().is_none()
+}
+
+// The piece that has the hash. Ranges go forward from their starts, so only the piece that begins nearest, going back from the
+// hash, can have it.
+fn piece_with(pieces: &BTreeMap<u32, Piece>, hash: u32) -> Option<&Piece>
+    requires { ArePieces pieces.now.entries }
+    ensures { option_copied result ≡ piece_with hash pieces.now.entries }
+{
+    let piece = nearest(pieces, hash)?;
+    if !piece.range().contains(hash) {
+        return None;
+    }
+    Some(piece)
+}
+
+// The piece that begins nearest, going back from the hash and on over 0 from the highest.
+fn nearest(pieces: &BTreeMap<u32, Piece>, hash: u32) -> Option<&Piece>
+    requires { ArePieces pieces.now.entries }
+    ensures { MatchOption result (pieces.now.entries ≡ []) (λ piece. BeginsNearest pieces.now.entries hash piece.now) }
+{
+    if let Some((_, piece)) = pieces.range(..=hash).next_back() {
+        return Some(piece);
+    }
+    let (_, piece) = pieces.last_key_value()?;
+    Some(piece)
 }

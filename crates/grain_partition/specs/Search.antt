@@ -1,0 +1,13 @@
+-- Where the piece of a hash is looked for.
+use Rattle.std.specs.Prelude.{◌≡◌, ℕ, ◌≤◌, List, Some, IsSome}
+use Rattle.std.specs.Ordering.{nat_cmp}
+use Rattle.std.specs.Map.{lookup}
+use Rattle.std.specs.BTreeMap.{is_at}
+use Rattle.ring_range.specs.Range.{distance}
+use Rattle.directory_rules.specs.Piece.{Piece}
+
+-- of the pieces the one whose start is met first, going back from the hash
+pub record BeginsNearest (pieces : List (ℕ × Piece)) (hash : ℕ) (piece : Piece) : Type 0 where
+  pub there : lookup (is_at (nat_cmp piece.range.start)) pieces ≡ Some piece
+  -- going forward from the start of any piece, this one's start comes no later than the hash
+  pub nearest : (start : ℕ) → IsSome (lookup (is_at (nat_cmp start)) pieces) → distance start piece.range.start ≤ distance start hash
