@@ -1,2 +1,3 @@
 pub mod OnePiece
 pub mod PieceSearch
+pub mod Turning

@@ -1,14 +1,15 @@
 ghost use Rattle.std.specs.Map.Iter.{ShowsInOrder, deref_pair};
-ghost use Rattle.std.specs.Prelude.{◌≡◌, ◌↔◌, ℕ, [], IsTrue, IfOk, OnOk, OnErr, MatchOption, option_copied};
+ghost use Rattle.std.specs.Prelude.{◌≡◌, ◌↔◌, ℕ, [], IsTrue, IfOk, OnOk, OnErr, MatchOption, MatchResult, option_copied};
 ghost use Rattle.std.specs.Map.{lookup};
 ghost use Rattle.std.specs.Ordering.{nat_cmp};
 ghost use Rattle.std.specs.BTreeMap.{is_at};
 ghost use Rattle.directory_rules.specs.Piece.{Piece as PieceValue};
-ghost use Rattle.directory_rules.specs.Answer.{piece_with};
+ghost use Rattle.directory_rules.specs.Answer.{answered, is_numbered, last_served, piece_with, serving_piece};
 ghost use Rattle.grain_partition.specs.Holding.{ArePieces, IsHolding};
 ghost use Rattle.grain_partition.specs.Search.{BeginsNearest};
 
 use crate::Piece;
+use directory_rules::{Act, Reply, Request, Why};
 use silo_address::SiloAddress;
 use std::alloc::{AllocError, Global};
 use std::collections::BTreeMap;
@@ -75,6 +76,43 @@ impl Holding {
         ensures { option_copied result ≡ piece_with hash self.now.pieces }
     {
         piece_with(&self.pieces, hash)
+    }
+
+    /// What a request is answered, whether or not it is then served (`docs/RULES.md#requests`).
+    pub fn answer(&self, request: &Request) -> Reply
+        ensures { result ≡ (answered self.now request.now).reply }
+    {
+        match self.serving_piece(request) {
+            Ok(piece) => piece.reply_to(&request.act),
+            Err(why) => Reply::Retry(why),
+        }
+    }
+
+    // The piece from which a request is served, or why it isn't: the first reason that holds.
+    fn serving_piece(&self, request: &Request) -> Result<&Piece, Why>
+        ensures { MatchResult result (λ piece. serving_piece self.now request.now ≡ Ok piece.now) (λ why. serving_piece self.now request.now ≡ Err why) }
+    {
+        if request.version != self.seen {
+            return Err(Why::View { seen: self.seen });
+        }
+        let Some(piece) = self.piece_with(request.hash) else {
+            return Err(Why::NotOwner);
+        };
+        if !piece.is_settled() {
+            return Err(Why::Unsettled);
+        }
+        let last = self.last_served(&request.sender);
+        if is_numbered(&request.act) && request.number <= last {
+            return Err(Why::OldNumber { last });
+        }
+        Ok(piece)
+    }
+
+    // The last number that the silo was served at this version, and 0 before the first.
+    fn last_served(&self, silo: &SiloAddress) -> u64
+        ensures { result ≡ last_served silo.now self.now.served }
+    {
+        self.served.get(silo).copied().unwrap_or(0)
     }
 
     /// A law: what all holdings keep.
@@ -154,4 +192,14 @@ fn nearest(pieces: &BTreeMap<u32, Piece>, hash: u32) -> Option<&Piece>
     }
     let (_, piece) = pieces.last_key_value()?;
     Some(piece)
+}
+
+// Whether requests of this kind are served only by rising numbers.
+fn is_numbered(act: &Act) -> bool
+    ensures { result ≡ is_numbered act.now }
+{
+    match act {
+        Act::Register { .. } | Act::Deregister { .. } => true,
+        Act::Find { .. } => false,
+    }
 }

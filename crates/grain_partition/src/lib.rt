@@ -4,6 +4,7 @@
 
 mod holding;
 mod piece;
+mod table;
 
 pub use holding::Holding;
 pub use piece::Piece;

@@ -1,7 +1,10 @@
-ghost use Rattle.std.specs.Prelude.{◌≡◌, ◌↔◌, IsTrue, IfOk};
+ghost use Rattle.std.specs.Prelude.{◌≡◌, ◌↔◌, IsTrue, IfOk, OnOk, OnErr};
+ghost use Rattle.directory_rules.specs.Answer.{turned};
+ghost use Rattle.directory_rules.specs.Sight.{is_settled};
 ghost use Rattle.directory_rules.specs.Table.{entry_at};
 
-use directory_rules::PieceState;
+use crate::table;
+use directory_rules::{Act, PieceState, Reply};
 use ring_range::RingRange;
 use silo_address::{Entry, GrainId};
 use std::alloc::AllocError;
@@ -52,6 +55,32 @@ impl Piece {
         ensures { result ≡ entry_at grain.now self.now.entries }
     {
         self.entries.get(grain).copied()
+    }
+
+    // Whether the piece is settled.
+    pub(crate) fn is_settled(&self) -> bool
+        ensures { result ≡ is_settled self.now.state }
+    {
+        match self.state {
+            PieceState::Settled => true,
+            PieceState::Awaiting(_) | PieceState::Recovering => false,
+        }
+    }
+
+    // What the piece answers to an act.
+    pub(crate) fn reply_to(&self, act: &Act) -> Reply
+        ensures { result ≡ (turned act.now self.now.entries).reply }
+    {
+        table::reply_to(&self.entries, act)
+    }
+
+    // Answers an act, and makes its change. Fails only for want of memory, and then changes nothing.
+    pub(crate) fn turn(&mut self, act: &Act) -> Result<Reply, AllocError>
+        ensures reply { IfOk result (λ reply. reply ≡ (turned act.now self.old.entries).reply) }
+        ensures table { OnOk result (self.new ≡ record self.old { entries = (turned act.now self.old.entries).table }) }
+        ensures unchanged { OnErr result (self.new ≡ self.old) }
+    {
+        table::turn(&mut self.entries, act)
     }
 
     /// An equal piece. Fails only for want of memory.
