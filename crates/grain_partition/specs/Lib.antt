@@ -1,3 +1,4 @@
 pub mod Holding
 pub mod Search
 pub mod Turn
+pub mod Serving

@@ -1,14 +1,17 @@
 ghost use Rattle.std.specs.Map.Iter.{ShowsInOrder, deref_pair};
-ghost use Rattle.std.specs.Prelude.{◌≡◌, ◌↔◌, ℕ, [], IsTrue, IfOk, OnOk, OnErr, MatchOption, MatchResult, option_copied};
+ghost use Rattle.std.specs.Prelude.{◌≡◌, ◌↔◌, ℕ, [], IsTrue, IsSome, IfOk, OnOk, OnErr, MatchOption, MatchResult, option_copied};
 ghost use Rattle.std.specs.Map.{lookup};
 ghost use Rattle.std.specs.Ordering.{nat_cmp};
-ghost use Rattle.std.specs.BTreeMap.{is_at};
+ghost use Rattle.std.specs.BTreeMap.{insert_entry, is_at};
+ghost use Rattle.silo_address.specs.Silo.{silo_cmp};
 ghost use Rattle.directory_rules.specs.Piece.{Piece as PieceValue};
 ghost use Rattle.directory_rules.specs.Answer.{answered, is_numbered, last_served, piece_with, serving_piece};
 ghost use Rattle.grain_partition.specs.Holding.{ArePieces, IsHolding};
 ghost use Rattle.grain_partition.specs.Search.{BeginsNearest};
+ghost use Rattle.grain_partition.specs.Serving.{IsTurnOf};
 
 use crate::Piece;
+use crate::served::serve_numbered;
 use directory_rules::{Act, Reply, Request, Why};
 use silo_address::SiloAddress;
 use std::alloc::{AllocError, Global};
@@ -86,6 +89,34 @@ impl Holding {
             Ok(piece) => piece.reply_to(&request.act),
             Err(why) => Reply::Retry(why),
         }
+    }
+
+    /// Serves a request: answers it, and makes its change. A sender's Registers and Deregisters are served by rising numbers,
+    /// so that a late copy of one changes nothing. Fails only for want of memory, and then changes nothing
+    /// (`docs/RULES.md#requests`).
+    pub fn serve(&mut self, request: &Request) -> Result<Reply, AllocError>
+        ensures served { IfOk result (λ reply. answered self.old request.now ≡ record { reply = reply; holding = self.new }) }
+        ensures unchanged { OnErr result (self.new ≡ self.old) }
+    {
+        self.whole();
+        let start = match self.serving_piece(request) {
+            Ok(piece) => piece.range().start(),
+            Err(why) => return Ok(Reply::Retry(why)),
+        };
+        if !is_numbered(&request.act) {
+            return Ok(self.answer(request));
+        }
+        self.serve_from(start, request)
+    }
+
+    // Serves a numbered request from the piece that begins at the start.
+    fn serve_from(&mut self, start: u32, request: &Request) -> Result<Reply, AllocError>
+        requires { IsSome (lookup (is_at (nat_cmp start)) self.old.pieces) }
+        ensures turned { IfOk result (IsTurnOf request.now.act start self.old.pieces self.new.pieces) }
+        ensures noted { OnOk result (self.new ≡ record self.old { served = insert_entry silo_cmp self.old.served request.now.sender request.now.number; pieces = self.new.pieces }) }
+        ensures unchanged { OnErr result (self.new ≡ self.old) }
+    {
+        serve_numbered(&mut self.pieces, &mut self.served, start, request)
     }
 
     // The piece from which a request is served, or why it isn't: the first reason that holds.

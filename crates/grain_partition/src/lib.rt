@@ -4,6 +4,7 @@
 
 mod holding;
 mod piece;
+mod served;
 mod table;
 
 pub use holding::Holding;

@@ -1,0 +1,131 @@
+-- A request that is served from a piece.
+use Rattle.std.proofs.Common.{◌≡◌, refl, sym, ap, ◌∙◌, subst, ℕ, ◌==◌, List, find}
+use Rattle.std.specs.Prelude.{◌&&◌, not, nat_lt, Bool, true, false, cond, Option, Some, None, Result, Ok, Err, IfOk, OnOk, OnErr}
+use Rattle.std.specs.Option.{option_map}
+use Rattle.std.specs.Map.{lookup, set_value}
+use Rattle.std.specs.BTreeMap.{is_at, insert_entry}
+use Rattle.std.specs.Ordering.{nat_cmp}
+use Rattle.std.proofs.lemmas.Cmp.{nat_cmp_total}
+use Rattle.std.proofs.lemmas.Option.{same_Some}
+use Rattle.silo_address.specs.Silo.{silo_cmp}
+use Rattle.membership_view.proofs.Found.{find_found}
+use Rattle.ring_range.specs.Range.{holds}
+use Rattle.directory_rules.specs.declared.Act.{Act}
+use Rattle.directory_rules.specs.declared.Act.TheVariants.{Register, Deregister, Find}
+use Rattle.directory_rules.specs.declared.Request.{Request}
+use Rattle.directory_rules.specs.declared.Reply.{Reply}
+use Rattle.directory_rules.specs.declared.Why.{Why}
+use Rattle.directory_rules.specs.declared.Why.TheVariants.{View, OldNumber}
+use Rattle.directory_rules.specs.declared.PieceState.{PieceState}
+use Rattle.directory_rules.specs.declared.PieceState.TheVariants.{Settled, Awaiting, Recovering}
+use Rattle.directory_rules.specs.Piece.{Piece, Holding}
+use Rattle.directory_rules.specs.Answer.{Answered, answered, answered_from, after_numbered, is_numbered, last_served, piece_with, served_by, serving_by_number, serving_by_piece, serving_by_state, serving_piece, turned, with_piece}
+use Rattle.grain_partition.specs.Holding.{ArePieces}
+use Rattle.grain_partition.specs.Serving.{IsTurnOf}
+use Rattle.grain_partition.proofs.OnePiece.{at_lookup}
+use Rattle.grain_partition.proofs.Kept.{pieces-set}
+
+-- the piece that has a hash stands under its start
+pub found_with : (hash : ℕ) (pieces : List (ℕ × Piece)) → ArePieces pieces → (piece : Piece) → piece_with hash pieces ≡ Some piece
+    → lookup (is_at (nat_cmp piece.range.start)) pieces ≡ Some piece
+found_with hash pieces are piece with = by (find (λ e. holds e.1.range hash) pieces) refl with
+  where
+    by : (o : Option (ℕ × Piece)) → find (λ e. holds e.1.range hash) pieces ≡ o → option_map (λ e. e.1) o ≡ Some piece
+        → lookup (is_at (nat_cmp piece.range.start)) pieces ≡ Some piece
+    by None is with = cc
+    by (Some f) is with =
+        let got = find_found nat_cmp_total (λ k p. holds p.range hash) pieces are.in_order f is in
+        let same : f.1 ≡ piece = same_Some f.1 piece with in
+        let under : f.1.range.start ≡ f.0 = at_lookup (λ e. e.1.range.start ≡ e.0) pieces are.under_start f.0 f.1 got.0 in
+        ap (λ (p : Piece). lookup (is_at (nat_cmp p.range.start)) pieces) (sym same) ∙ ap (λ k. lookup (is_at (nat_cmp k)) pieces) under ∙ got.0 ∙ ap (λ p. Some p) same
+
+abbrev Serves : Result Piece Why → Piece → Type 0
+Serves served piece = served ≡ Ok piece
+
+same_Ok : (one other : Piece) → Serves (Ok one) other → one ≡ other
+same_Ok one other is = cc
+
+-- a request is served from the piece that has its hash
+pub serving_with : (holding : Holding) (request : Request) (piece : Piece) → serving_piece holding request ≡ Ok piece → piece_with request.hash holding.pieces ≡ Some piece
+serving_with holding request piece serves = by_version (request.version == holding.seen) serves
+  where
+    by_number : (one : Piece) (b : Bool) → Serves (cond b (Err (OldNumber (last_served request.sender holding.served))) (Ok one)) piece → one ≡ piece
+    by_number one true serves = cc
+    by_number one false serves = same_Ok one piece serves
+
+    by_state : (one : Piece) (state : PieceState) → Serves (serving_by_state state one holding request) piece → one ≡ piece
+    by_state one Settled serves = by_number one (is_numbered request.act && not (nat_lt (last_served request.sender holding.served) request.number)) serves
+    by_state one (Awaiting from) serves = cc
+    by_state one Recovering serves = cc
+
+    by_piece : (o : Option Piece) → Serves (serving_by_piece o holding request) piece → o ≡ Some piece
+    by_piece None serves = cc
+    by_piece (Some one) serves = ap (λ p. Some p) (by_state one one.state serves)
+
+    by_version : (b : Bool) → Serves (cond b (serving_by_piece (piece_with request.hash holding.pieces) holding request) (Err (View holding.seen))) piece
+        → piece_with request.hash holding.pieces ≡ Some piece
+    by_version true serves = by_piece (piece_with request.hash holding.pieces) serves
+    by_version false serves = cc
+
+pub serving_found : (holding : Holding) → ArePieces holding.pieces → (request : Request) (piece : Piece) → serving_piece holding request ≡ Ok piece
+    → lookup (is_at (nat_cmp piece.range.start)) holding.pieces ≡ Some piece
+serving_found holding are request piece serves = found_with request.hash holding.pieces are piece (serving_with holding request piece serves)
+
+-- what comes of a Register or a Deregister that is served
+served_numbered : (act : Act) → is_numbered act ≡ true → (piece : Piece) (holding : Holding) (request : Request) → served_by act piece holding request ≡ after_numbered (turned act piece.entries) piece holding request
+served_numbered (Register entry previous) numbered piece holding request = refl
+served_numbered (Deregister entry) numbered piece holding request = refl
+served_numbered (Find grain) numbered piece holding request = cc
+
+abbrev answer : Holding → Request → Reply → List (ℕ × Piece) → Answered
+answer holding request reply pieces = record {
+  reply = reply;
+  holding = record holding { served = insert_entry silo_cmp holding.served request.sender request.number; pieces = pieces };
+}
+
+pub numbered_answer : (holding : Holding) → ArePieces holding.pieces → (request : Request) (piece : Piece) → serving_piece holding request ≡ Ok piece → is_numbered request.act ≡ true
+    → (reply : Reply) (pieces : List (ℕ × Piece)) → IsTurnOf request.act piece.range.start holding.pieces pieces reply → answered holding request ≡ answer holding request reply pieces
+numbered_answer holding are request piece serves numbered reply pieces turn =
+    let same : turn.piece ≡ piece = same_Some turn.piece piece (sym turn.there ∙ serving_found holding are request piece serves) in
+    ap (λ s. answered_from s holding request) serves ∙ served_numbered request.act numbered piece holding request
+    ∙ (λ i. answer holding request (replied same i) (placed same i))
+  where
+    replied : turn.piece ≡ piece → (turned request.act piece.entries).reply ≡ reply
+    replied same = ap (λ (p : Piece). (turned request.act p.entries).reply) (sym same) ∙ sym turn.reply_is
+
+    placed : turn.piece ≡ piece → with_piece (record piece { entries = (turned request.act piece.entries).table }) holding.pieces ≡ pieces
+    placed same =
+        ap (λ (p : Piece). set_value (is_at (nat_cmp piece.range.start)) holding.pieces (record p { entries = (turned request.act p.entries).table })) (sym same) ∙ sym turn.table_is
+
+-- a Find that is served changes nothing
+pub find_answer : (holding : Holding) (request : Request) (piece : Piece) → serving_piece holding request ≡ Ok piece → is_numbered request.act ≡ false
+    → answered holding request ≡ record { reply = (answered holding request).reply; holding = holding }
+find_answer holding request piece serves find =
+    ap (λ s. answered_from s holding request) serves ∙ by request.act find ∙ ap (λ r. record { reply = r; holding = holding }) (ap (λ s. (answered_from s holding request).reply) (sym serves))
+  where
+    by : (act : Act) → is_numbered act ≡ false → served_by act piece holding request ≡ record { reply = (served_by act piece holding request).reply; holding = holding }
+    by (Register entry previous) find = cc
+    by (Deregister entry) find = cc
+    by (Find grain) find = refl
+
+abbrev replied : Reply → Holding → Answered
+replied reply holding = record { reply = reply; holding = holding }
+
+-- the same by what serving it answers
+pub answer_after : {E : Type 0} (holding new : Holding) → ArePieces holding.pieces → (request : Request) (piece : Piece) → serving_piece holding request ≡ Ok piece
+    → is_numbered request.act ≡ true → (start : ℕ) → start ≡ piece.range.start → (result : Result Reply E)
+    → IfOk result (IsTurnOf request.act start holding.pieces new.pieces)
+    → OnOk result (new ≡ record holding { served = insert_entry silo_cmp holding.served request.sender request.number; pieces = new.pieces })
+    → IfOk result (λ reply. answered holding request ≡ record { reply = reply; holding = new })
+answer_after holding new are request piece serves numbered start at (Ok reply) turn noted =
+    numbered_answer holding are request piece serves numbered reply new.pieces (subst (λ k. IsTurnOf request.act k holding.pieces new.pieces reply) at turn)
+    ∙ ap (λ h. replied reply h) (sym noted)
+answer_after holding new are request piece serves numbered start at (Err fault) turn noted = tt
+
+-- the pieces after a turn, or want of memory
+pub pieces_after_turn : {E : Type 0} (act : Act) (start : ℕ) (old new : List (ℕ × Piece)) → ArePieces old → (result : Result Reply E)
+    → IfOk result (IsTurnOf act start old new) → OnErr result (new ≡ old) → ArePieces new
+pieces_after_turn act start old new are (Ok reply) turn stay =
+    subst (λ pieces. ArePieces pieces) (sym turn.table_is)
+    (pieces-set start turn.piece (record turn.piece { entries = (turned act turn.piece.entries).table }) refl old are turn.there)
+pieces_after_turn act start old new are (Err fault) turn stay = subst (λ pieces. ArePieces pieces) (sym stay) are
