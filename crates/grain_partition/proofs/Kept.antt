@@ -1,6 +1,6 @@
 -- A piece in the place of another of the same range: the pieces keep what they keep.
 use Rattle.std.proofs.Common.{◌≡◌, refl, sym, ap, ◌∙◌, subst, ℕ, ◌+◌, ◌<◌, ◌≤◌, List, [], ◌∷◌}
-use Rattle.std.specs.Prelude.{Bool, true, false, cond, All, count_by, Option, Some, None}
+use Rattle.std.specs.Prelude.{Bool, true, false, cond, All, count_by, Option, Some, None, IsSomeAnd}
 use Rattle.std.specs.List.Sorted.{IsStrictlySortedBy}
 use Rattle.std.specs.Map.{lookup, keys_of, set_value}
 use Rattle.std.specs.BTreeMap.{is_at}
@@ -13,7 +13,8 @@ use Rattle.std.proofs.lemmas.List.Sums.{sum_by-cons}
 use Rattle.std.proofs.lemmas.Map.{keys-set_value}
 use Rattle.ring_range.specs.Range.{Range, IsRange, holds}
 use Rattle.directory_rules.specs.Piece.{Piece}
-use Rattle.grain_partition.specs.Holding.{ArePieces}
+use Rattle.directory_rules.specs.Answer.{with_piece}
+use Rattle.grain_partition.specs.Holding.{ArePieces, HasPiece}
 
 module _ (start : ℕ) (old new : Piece) (same : old.range ≡ new.range) where
   abbrev set : List (ℕ × Piece) → List (ℕ × Piece)
@@ -52,3 +53,11 @@ module _ (start : ℕ) (old new : Piece) (same : old.range ≡ new.range) where
     present = all-set (λ k r. 0 < r.size) pieces found are.present;
     once = λ hash below. subst (λ n. n ≤ 1) (sym (count-set (λ r. holds r hash) pieces found)) (are.once hash below);
   }
+
+-- a piece in the place of the one of just its range
+pub pieces-with : (pieces : List (ℕ × Piece)) → ArePieces pieces → (piece : Piece) → HasPiece piece.range pieces → ArePieces (with_piece piece pieces)
+pieces-with pieces are piece has = by (lookup (is_at (nat_cmp piece.range.start)) pieces) refl has
+  where
+    by : (o : Option Piece) → lookup (is_at (nat_cmp piece.range.start)) pieces ≡ o → IsSomeAnd o (λ p. p.range ≡ piece.range) → ArePieces (with_piece piece pieces)
+    by None found there = absurd there
+    by (Some old) found there = pieces-set piece.range.start old piece there pieces are found

@@ -1,9 +1,10 @@
 -- What a silo keeps for others at every moment.
-use Rattle.std.specs.Prelude.{◌≡◌, ℕ, ◌<◌, ◌≤◌, List, All, count_by}
+use Rattle.std.specs.Prelude.{◌≡◌, ℕ, ◌<◌, ◌≤◌, List, All, count_by, IsSomeAnd}
 use Rattle.std.specs.Ordering.{nat_cmp}
 use Rattle.std.specs.List.Sorted.{IsStrictlySortedBy}
-use Rattle.std.specs.Map.{keys_of}
-use Rattle.ring_range.specs.Range.{IsRange, EachHash, holds}
+use Rattle.std.specs.Map.{keys_of, lookup}
+use Rattle.std.specs.BTreeMap.{is_at}
+use Rattle.ring_range.specs.Range.{Range, IsRange, EachHash, holds}
 use Rattle.directory_rules.specs.Piece.{Piece, Holding}
 
 -- pieces by start, in which every hash is once at most
@@ -20,3 +21,7 @@ pub record ArePieces (pieces : List (ℕ × Piece)) : Type 0 where
 -- what every holding keeps
 abbrev pub IsHolding : Holding → Type 0
 IsHolding holding = ArePieces holding.pieces
+
+-- there is a piece of just that range
+abbrev pub HasPiece : Range → List (ℕ × Piece) → Type 0
+HasPiece range pieces = IsSomeAnd (lookup (is_at (nat_cmp range.start)) pieces) (λ piece. piece.range ≡ range)

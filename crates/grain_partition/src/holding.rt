@@ -5,15 +5,17 @@ ghost use Rattle.std.specs.Ordering.{nat_cmp};
 ghost use Rattle.std.specs.BTreeMap.{insert_entry, is_at};
 ghost use Rattle.silo_address.specs.Silo.{silo_cmp};
 ghost use Rattle.directory_rules.specs.Piece.{Piece as PieceValue};
-ghost use Rattle.directory_rules.specs.Answer.{answered, is_numbered, last_served, piece_with, serving_piece};
-ghost use Rattle.grain_partition.specs.Holding.{ArePieces, IsHolding};
+ghost use Rattle.directory_rules.specs.Answer.{answered, is_numbered, last_served, piece_with, serving_piece, with_piece};
+ghost use Rattle.directory_rules.specs.declared.PieceState.TheVariants.{Settled};
+ghost use Rattle.grain_partition.specs.Holding.{ArePieces, HasPiece, IsHolding};
 ghost use Rattle.grain_partition.specs.Search.{BeginsNearest};
 ghost use Rattle.grain_partition.specs.Serving.{IsTurnOf};
 
 use crate::Piece;
 use crate::served::serve_numbered;
 use directory_rules::{Act, Reply, Request, Why};
-use silo_address::SiloAddress;
+use ring_range::RingRange;
+use silo_address::{Entry, GrainId, SiloAddress};
 use std::alloc::{AllocError, Global};
 use std::collections::BTreeMap;
 use std::collections::btree_map::Iter;
@@ -117,6 +119,14 @@ impl Holding {
         ensures unchanged { OnErr result (self.new ≡ self.old) }
     {
         serve_numbered(&mut self.pieces, &mut self.served, start, request)
+    }
+
+    /// The piece of just this range has its entries now: it is settled. Asks of its caller that there is such a piece.
+    pub fn install(&mut self, range: RingRange, entries: BTreeMap<GrainId, Entry>)
+        requires { HasPiece range self.old.pieces }
+        ensures { self.new ≡ record self.old { pieces = with_piece (record { range = range; state = Settled; entries = entries.entries }) self.old.pieces } }
+    {
+        replace(&mut self.pieces, Piece::settled(range, entries));
     }
 
     // The piece from which a request is served, or why it isn't: the first reason that holds.
@@ -233,4 +243,14 @@ fn is_numbered(act: &Act) -> bool
         Act::Register { .. } | Act::Deregister { .. } => true,
         Act::Find { .. } => false,
     }
+}
+
+// The piece takes the place of the one that begins where it does.
+fn replace(pieces: &mut BTreeMap<u32, Piece>, piece: Piece)
+    requires { IsSome (lookup (is_at (nat_cmp piece.range.start)) pieces.old.entries) }
+    ensures { pieces.new.entries ≡ with_piece piece pieces.old.entries }
+{
+    let start = piece.range().start();
+    let place = pieces.get_mut(&start).unwrap();
+    *place = piece;
 }

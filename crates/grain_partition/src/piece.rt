@@ -1,5 +1,6 @@
 ghost use Rattle.std.specs.Prelude.{◌≡◌, ◌↔◌, IsTrue, IfOk, OnOk, OnErr};
 ghost use Rattle.directory_rules.specs.Answer.{turned};
+ghost use Rattle.directory_rules.specs.declared.PieceState.TheVariants.{Settled};
 ghost use Rattle.directory_rules.specs.Sight.{is_settled};
 ghost use Rattle.directory_rules.specs.Table.{entry_at};
 
@@ -29,6 +30,17 @@ impl Model for Piece {
 }
 
 impl Piece {
+    // A settled piece.
+    pub(crate) fn settled(range: RingRange, entries: BTreeMap<GrainId, Entry>) -> Piece
+        ensures { result ≡ record { range = range; state = Settled; entries = entries.entries } }
+    {
+        Piece {
+            range,
+            state: PieceState::Settled,
+            entries,
+        }
+    }
+
     /// The hashes of the piece.
     pub fn range(&self) -> RingRange
         ensures { result ≡ self.now.range }
