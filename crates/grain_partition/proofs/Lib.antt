@@ -4,3 +4,7 @@ pub mod Turning
 pub mod Undone
 pub mod Kept
 pub mod ServedFrom
+pub mod Around
+pub mod SettledHashes
+pub mod SettledParts
+pub mod Walking

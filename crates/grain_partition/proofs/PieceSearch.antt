@@ -17,17 +17,12 @@ use Rattle.directory_rules.specs.Piece.{Piece}
 use Rattle.directory_rules.specs.Answer.{piece_with}
 use Rattle.grain_partition.specs.Holding.{ArePieces}
 use Rattle.grain_partition.specs.Search.{BeginsNearest}
+use Rattle.grain_partition.proofs.Around.{holds-below, below-holds}
 use Rattle.grain_partition.proofs.OnePiece.{at_lookup, only_one}
 
 -- whether a piece has the hash
 abbrev has : ℕ → Piece → Bool
 has hash piece = holds piece.range hash
-
-holds-below : (range : Range) (hash : ℕ) → distance range.start hash < range.size → holds range hash ≡ true
-holds-below range hash below = grind (arith, nat_tests)
-
-below-holds : (range : Range) (hash : ℕ) → holds range hash ≡ true → distance range.start hash < range.size
-below-holds range hash held = grind (arith, nat_tests)
 
 -- where nothing at or before the hash is found, what is found is past it
 pub past_where : (hash other : ℕ) (o : Option Piece) → (other ≤ hash → o ≡ None) → IsSome o → hash < other

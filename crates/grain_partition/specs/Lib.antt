@@ -2,3 +2,4 @@ pub mod Holding
 pub mod Search
 pub mod Turn
 pub mod Serving
+pub mod Settled

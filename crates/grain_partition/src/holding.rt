@@ -1,5 +1,5 @@
 ghost use Rattle.std.specs.Map.Iter.{ShowsInOrder, deref_pair};
-ghost use Rattle.std.specs.Prelude.{◌≡◌, ◌↔◌, ℕ, [], IsTrue, IsSome, IfOk, OnOk, OnErr, MatchOption, MatchResult, option_copied};
+ghost use Rattle.std.specs.Prelude.{◌≡◌, ◌↔◌, ℕ, [], IsTrue, IsSome, IfOk, OnOk, OnErr, MatchResult, option_copied};
 ghost use Rattle.std.specs.Map.{lookup};
 ghost use Rattle.std.specs.Ordering.{nat_cmp};
 ghost use Rattle.std.specs.BTreeMap.{insert_entry, is_at};
@@ -7,12 +7,14 @@ ghost use Rattle.silo_address.specs.Silo.{silo_cmp};
 ghost use Rattle.directory_rules.specs.Piece.{Piece as PieceValue};
 ghost use Rattle.directory_rules.specs.Answer.{answered, is_numbered, last_served, piece_with, serving_piece, with_piece};
 ghost use Rattle.directory_rules.specs.declared.PieceState.TheVariants.{Settled};
-ghost use Rattle.grain_partition.specs.Holding.{ArePieces, HasPiece, IsHolding};
-ghost use Rattle.grain_partition.specs.Search.{BeginsNearest};
+ghost use Rattle.directory_rules.specs.Sight.{was_settled};
+ghost use Rattle.grain_partition.specs.Holding.{HasPiece, IsHolding};
 ghost use Rattle.grain_partition.specs.Serving.{IsTurnOf};
 
 use crate::Piece;
+use crate::search::piece_with;
 use crate::served::serve_numbered;
+use crate::settled::are_settled;
 use directory_rules::{Act, Reply, Request, Why};
 use ring_range::RingRange;
 use silo_address::{Entry, GrainId, SiloAddress};
@@ -156,6 +158,13 @@ impl Holding {
         self.served.get(silo).copied().unwrap_or(0)
     }
 
+    /// Whether every hash of the range is in a settled piece.
+    pub fn is_settled_throughout(&self, range: &RingRange) -> bool
+        ensures { result ≡ was_settled self.now.pieces range.now }
+    {
+        are_settled(&self.pieces, range)
+    }
+
     /// A law: what all holdings keep.
     pub fn whole(&self)
         ensures { IsHolding self.now }
@@ -208,31 +217,6 @@ fn same_pieces(one: &BTreeMap<u32, Piece>, other: &BTreeMap<u32, Piece>) -> bool
         }
     }
     its.next().is_none()
-}
-
-// The piece that has the hash. Ranges go forward from their starts, so only the piece that begins nearest, going back from the
-// hash, can have it.
-fn piece_with(pieces: &BTreeMap<u32, Piece>, hash: u32) -> Option<&Piece>
-    requires { ArePieces pieces.now.entries }
-    ensures { option_copied result ≡ piece_with hash pieces.now.entries }
-{
-    let piece = nearest(pieces, hash)?;
-    if !piece.range().contains(hash) {
-        return None;
-    }
-    Some(piece)
-}
-
-// The piece that begins nearest, going back from the hash and on over 0 from the highest.
-fn nearest(pieces: &BTreeMap<u32, Piece>, hash: u32) -> Option<&Piece>
-    requires { ArePieces pieces.now.entries }
-    ensures { MatchOption result (pieces.now.entries ≡ []) (λ piece. BeginsNearest pieces.now.entries hash piece.now) }
-{
-    if let Some((_, piece)) = pieces.range(..=hash).next_back() {
-        return Some(piece);
-    }
-    let (_, piece) = pieces.last_key_value()?;
-    Some(piece)
 }
 
 // Whether requests of this kind are served only by rising numbers.

@@ -4,7 +4,9 @@
 
 mod holding;
 mod piece;
+mod search;
 mod served;
+mod settled;
 mod table;
 
 pub use holding::Holding;

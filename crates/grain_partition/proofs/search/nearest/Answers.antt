@@ -5,7 +5,7 @@ use Rattle.std.specs.BTreeMap.{is_at}
 use Rattle.std.proofs.lemmas.Map.Keys.{le_from_not_gt, ge_from_not_lt}
 use Rattle.directory_rules.specs.Piece.{Piece}
 use Rattle.grain_partition.proofs.PieceSearch.{nearest_before, nearest_round, not_gt_from_le, past_where}
-use Rattle.grain_partition.proofs.holding.nearest.Goals as goal
+use Rattle.grain_partition.proofs.search.nearest.Goals as goal
 
 pub returns-in-Some : goal.returns-in-Some
 returns-in-Some c =

@@ -2,7 +2,7 @@ use Rattle.std.proofs.Common.{◌≡◌, ◌<◌, Bool, true, false, sym, ◌∙
 use Rattle.ring_range.specs.Range.{circle, Range, holds}
 use Rattle.directory_rules.specs.Piece.{Piece}
 use Rattle.grain_partition.proofs.PieceSearch.{piece_with_nearest}
-use Rattle.grain_partition.proofs.holding.piece_with.Goals as goal
+use Rattle.grain_partition.proofs.search.piece_with.Goals as goal
 
 pub returns-then-not-contains : goal.returns-then-not-contains
 returns-then-not-contains c =

@@ -1,0 +1,76 @@
+-- One step of a walk from piece to piece: behind a settled piece a range is settled where it was.
+use Rattle.std.proofs.Common.{arith, ◌≡◌, refl, sym, ap, ◌∙◌, subst, ℕ, List, ◌+◌, ◌-◌, ◌<◌, ◌≤◌, ◌⊎◌, inl, inr, nat_le, nat_lt}
+use Rattle.std.specs.Prelude.{Bool, true, false, ◌&&◌}
+use Rattle.std.specs.Bool.{Decides}
+use Rattle.std.proofs.lemmas.Bool.{cases_lt}
+use Rattle.std.proofs.lemmas.Bool.Decides.{nat_tests, same_from_decides}
+use Rattle.texts.proofs.Decided.{false_from_not, both}
+use Rattle.ring_range.specs.Range.{circle, Range, IsRange, distance, holds, part_of}
+use Rattle.ring_range.specs.Cut as cut
+use Rattle.ring_range.proofs.Circle.{distance-itself, distance-lt}
+use Rattle.ring_range.proofs.Parts.{holds-part, IsRange-part}
+use Rattle.directory_rules.specs.Piece.{Piece}
+use Rattle.directory_rules.specs.Sight.{was_settled}
+use Rattle.directory_rules.specs.Laws.{lies_settled}
+use Rattle.grain_partition.specs.Holding.{ArePieces}
+use Rattle.grain_partition.specs.Settled.{LiesSettled, SettlesAt, part_behind}
+use Rattle.grain_partition.proofs.Around.{distance-over, holds-below, below-holds}
+use Rattle.grain_partition.proofs.OnePiece.{at_lookup}
+use Rattle.grain_partition.proofs.SettledHashes.{lies_by}
+use Rattle.grain_partition.proofs.SettledParts.{Decides-was_settled}
+
+-- a range without a hash is settled
+pub settled-nothing : (pieces : List (ℕ × Piece)) (range : Range) → range.size ≡ 0 → was_settled pieces range ≡ true
+unfolding cut.cut_parts
+settled-nothing pieces range none = rw none refl
+
+-- a range whose first hash lies in no settled piece isn't
+pub unsettled-first : (pieces : List (ℕ × Piece)) → ArePieces pieces → (range : Range) → IsRange range → 0 < range.size → lies_settled range.start pieces ≡ false
+    → was_settled pieces range ≡ false
+unsettled-first pieces are range ok some lies =
+    false_from_not (was_settled pieces range) (Decides-was_settled pieces are range ok)
+    (λ all. let no : false ≡ true = sym lies ∙ all range.start ok.start_below (holds-below range range.start (omega (arith, distance-itself range.start))) in cc)
+
+module _ (pieces : List (ℕ × Piece)) (are : ArePieces pieces) (range : Range) (ok : IsRange range) (first : Range) (at : SettlesAt pieces range.start first) where
+  first_ok : IsRange first
+  first_ok = subst (λ r. IsRange r) at.range_is (at_lookup (λ e. IsRange e.1.range) pieces are.ranges at.piece.range.start at.piece at.there)
+
+  abbrev covered : ℕ
+  covered = first.size - distance first.start range.start
+
+  begins : distance first.start range.start < first.size
+  begins = below-holds first range.start at.has
+
+  behind_is : (hash : ℕ) → hash < circle → holds (part_behind range first) hash ≡ (nat_le covered (distance range.start hash) && nat_lt (distance range.start hash) range.size)
+  behind_is hash below = holds-part range covered range.size hash ok (omega arith) below
+
+  -- a hash behind is the range's
+  behind_in : LiesSettled pieces range → LiesSettled pieces (part_behind range first)
+  behind_in lies hash below held =
+      lies hash below (both (nat_le covered (distance range.start hash)) (nat_lt (distance range.start hash) range.size) (sym (behind_is hash below) ∙ held)).1
+
+  -- a hash of the range is behind or the first piece's
+  in_behind : LiesSettled pieces (part_behind range first) → LiesSettled pieces range
+  in_behind lies hash below held = by (cases_lt (distance range.start hash) covered)
+    where
+      by : (distance range.start hash < covered) ⊎ (covered ≤ distance range.start hash) → lies_settled hash pieces ≡ true
+      by (inl near) =
+          let over = distance-over first.start range.start hash first_ok.start_below ok.start_below below (omega (arith, begins, first_ok.size_within)) in
+          lies_by pieces hash first (record {
+            piece = at.piece;
+            there = at.there;
+            settled = at.settled;
+            range_is = at.range_is;
+            has = holds-below first hash (omega (arith, over, begins));
+          })
+      by (inr far) = lies hash below (behind_is hash below ∙ tests far (below-holds range hash held))
+        where
+          tests : covered ≤ distance range.start hash → distance range.start hash < range.size → (nat_le covered (distance range.start hash) && nat_lt (distance range.start hash) range.size) ≡ true
+          tests le lt = grind (arith, nat_tests)
+
+  pub settled-behind : was_settled pieces range ≡ was_settled pieces (part_behind range first)
+  settled-behind =
+      let here = Decides-was_settled pieces are range ok in
+      let there = Decides-was_settled pieces are (part_behind range first) (IsRange-part range covered range.size ok (omega arith)) in
+      same_from_decides {P = LiesSettled pieces range} (was_settled pieces range) (was_settled pieces (part_behind range first)) here
+      (λ t. in_behind (there.0 t), λ lies. there.1 (behind_in lies))
