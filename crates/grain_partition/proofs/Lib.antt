@@ -8,3 +8,6 @@ pub mod Around
 pub mod SettledHashes
 pub mod SettledParts
 pub mod Walking
+pub mod FromArcs
+pub mod AtTheEnd
+pub mod BareSteps

@@ -30,7 +30,8 @@ module _ {X : Type 0} where
       (at_lookup P es (All-tail P e es all) k v)
 
   module _ (p : X → Bool) where
-    abbrev passing : List (ℕ × X) → ℕ
+    -- how many pass
+    abbrev pub passing : List (ℕ × X) → ℕ
     passing es = count_by (λ e. p e.1) es
 
     counted : (e : ℕ × X) (es : List (ℕ × X)) → passing (e ∷ es) ≡ cond (p e.1) 1 0 + passing es

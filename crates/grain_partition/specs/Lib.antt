@@ -3,3 +3,4 @@ pub mod Search
 pub mod Turn
 pub mod Serving
 pub mod Settled
+pub mod Sight

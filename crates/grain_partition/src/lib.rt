@@ -7,6 +7,7 @@ mod piece;
 mod search;
 mod served;
 mod settled;
+mod sight;
 mod table;
 
 pub use holding::Holding;

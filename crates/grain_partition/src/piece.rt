@@ -1,4 +1,4 @@
-ghost use Rattle.std.specs.Prelude.{◌≡◌, ◌↔◌, IsTrue, IfOk, OnOk, OnErr};
+ghost use Rattle.std.specs.Prelude.{◌≡◌, ◌↔◌, [], IsTrue, IfOk, OnOk, OnErr};
 ghost use Rattle.directory_rules.specs.Answer.{turned};
 ghost use Rattle.directory_rules.specs.declared.PieceState.TheVariants.{Settled};
 ghost use Rattle.directory_rules.specs.Sight.{is_settled};
@@ -8,7 +8,7 @@ use crate::table;
 use directory_rules::{Act, PieceState, Reply};
 use ring_range::RingRange;
 use silo_address::{Entry, GrainId};
-use std::alloc::AllocError;
+use std::alloc::{AllocError, Global};
 use std::collections::BTreeMap;
 use std::marker::Model;
 
@@ -38,6 +38,17 @@ impl Piece {
             range,
             state: PieceState::Settled,
             entries,
+        }
+    }
+
+    // A piece without entries.
+    pub(crate) fn bare(alloc: Global, range: RingRange, state: PieceState) -> Piece
+        ensures { result ≡ record { range = range; state = state; entries = [] } }
+    {
+        Piece {
+            range,
+            state,
+            entries: BTreeMap::new(alloc),
         }
     }
 

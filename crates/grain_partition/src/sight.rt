@@ -1,0 +1,112 @@
+//! A sight: the pieces of the arcs that the silo owns in a newer view, and the entries that they keep.
+ghost use Rattle.std.specs.Prelude.{◌≡◌, IfOk, OnOk};
+ghost use Rattle.std.specs.BTreeMap.{insert_entry};
+ghost use Rattle.std.specs.Ordering.{nat_cmp};
+ghost use Rattle.directory_rules.specs.Membership.{is_dead_in};
+ghost use Rattle.directory_rules.specs.Sight.{is_owner, missing_state};
+ghost use Rattle.grain_partition.specs.Holding.{ArePieces};
+ghost use Rattle.grain_partition.specs.Sight.{AreOfRings, bare_pieces, state_of};
+
+use crate::Piece;
+use crate::settled::are_settled;
+use directory_rules::PieceState;
+use membership_view::{Status, View};
+use range_moves::Arc;
+use silo_address::SiloAddress;
+use std::alloc::{AllocError, Global};
+use std::collections::BTreeMap;
+
+/// The pieces of the arcs that the silo owns in the view, each with its state and still without entries. Fails only for
+/// want of memory.
+pub(crate) fn bare_pieces(
+    alloc: Global,
+    pieces: &BTreeMap<u32, Piece>,
+    next: bool,
+    view: &View,
+    silo: &SiloAddress,
+    arcs: &[Arc],
+) -> Result<BTreeMap<u32, Piece>, AllocError>
+    requires pieces { ArePieces pieces.now.entries }
+    requires arcs { AreOfRings arcs.now }
+    ensures { IfOk result (λ bare. bare.entries ≡ bare_pieces next view.now silo.now pieces.now.entries arcs.now) }
+{
+    let mut bare = BTreeMap::new(alloc);
+    'arcs: for arc in arcs {
+        if !is_owner(silo, arc.to) {
+            continue;
+        }
+        let state = state_of(pieces, next, view, silo, arc);
+        put(&mut bare, Piece::bare(alloc, arc.range, state))?;
+    }
+    Ok(bare)
+}
+
+// The piece stands under its start.
+fn put(pieces: &mut BTreeMap<u32, Piece>, piece: Piece) -> Result<(), AllocError>
+    ensures { OnOk result (pieces.new.entries ≡ insert_entry nat_cmp pieces.old.entries piece.range.start piece) }
+{
+    let start = piece.range().start();
+    pieces.insert(start, piece)?;
+    Ok(())
+}
+
+// Whether the arc's owner is the silo.
+fn is_owner(silo: &SiloAddress, owner: Option<SiloAddress>) -> bool
+    ensures { result ≡ is_owner silo.now owner }
+{
+    match owner {
+        Some(owner) => owner == *silo,
+        None => false,
+    }
+}
+
+// The state of an arc's piece: it stays settled where it was.
+fn state_of(
+    pieces: &BTreeMap<u32, Piece>,
+    next: bool,
+    view: &View,
+    silo: &SiloAddress,
+    arc: &Arc,
+) -> PieceState
+    requires { ArePieces pieces.now.entries }
+    ensures { result ≡ state_of next view.now silo.now pieces.now.entries arc.now }
+{
+    if are_settled(pieces, &arc.range) {
+        return PieceState::Settled;
+    }
+    missing_state(next, view, silo, arc.from)
+}
+
+// The state of a piece that wasn't settled before: a skipped version has no snapshots.
+fn missing_state(
+    next: bool,
+    view: &View,
+    silo: &SiloAddress,
+    from: Option<SiloAddress>,
+) -> PieceState
+    ensures { result ≡ missing_state next view.now silo.now from }
+{
+    if !next {
+        return PieceState::Recovering;
+    }
+    let Some(owner) = from else {
+        return PieceState::Recovering;
+    };
+    if owner == *silo {
+        return PieceState::Recovering;
+    }
+    if is_dead_in(view, &owner) {
+        return PieceState::Recovering;
+    }
+    PieceState::Awaiting(owner)
+}
+
+// Whether the silo is Dead in the view.
+fn is_dead_in(view: &View, silo: &SiloAddress) -> bool
+    ensures { result ≡ is_dead_in view.now silo.now }
+{
+    match view.status(silo) {
+        Some(Status::Dead) => true,
+        Some(Status::Active | Status::Leaving) | None => false,
+    }
+}
