@@ -11,3 +11,4 @@ pub mod Walking
 pub mod FromArcs
 pub mod AtTheEnd
 pub mod BareSteps
+pub mod Handing

@@ -4,3 +4,4 @@ pub mod Turn
 pub mod Serving
 pub mod Settled
 pub mod Sight
+pub mod Entering

@@ -7,15 +7,18 @@ ghost use Rattle.silo_address.specs.Silo.{silo_cmp};
 ghost use Rattle.directory_rules.specs.Piece.{Piece as PieceValue};
 ghost use Rattle.directory_rules.specs.Answer.{answered, is_numbered, last_served, piece_with, serving_piece, with_piece};
 ghost use Rattle.directory_rules.specs.declared.PieceState.TheVariants.{Settled};
+ghost use Rattle.directory_rules.specs.Show.{entries_within};
 ghost use Rattle.directory_rules.specs.Sight.{was_settled};
 ghost use Rattle.grain_partition.specs.Holding.{HasPiece, IsHolding};
 ghost use Rattle.grain_partition.specs.Serving.{IsTurnOf};
 
 use crate::Piece;
+use crate::entries::{count_within, settled_entries};
 use crate::search::piece_with;
 use crate::served::serve_numbered;
 use crate::settled::are_settled;
 use directory_rules::{Act, Reply, Request, Why};
+use hash_ring::Hashing;
 use ring_range::RingRange;
 use silo_address::{Entry, GrainId, SiloAddress};
 use std::alloc::{AllocError, Global};
@@ -163,6 +166,19 @@ impl Holding {
         ensures { result ≡ was_settled self.now.pieces range.now }
     {
         are_settled(&self.pieces, range)
+    }
+
+    /// How many entries of settled pieces have grains that are hashed into the range. Fails only for want of memory.
+    pub fn count_within(
+        &self,
+        alloc: Global,
+        hashing: Hashing,
+        range: &RingRange,
+    ) -> Result<usize, AllocError>
+        ensures { IfOk result (λ count. count ≡ entries_within hashing self.now.pieces range.now) }
+    {
+        let settled = settled_entries(alloc, &self.pieces)?;
+        Ok(count_within(&settled, hashing, range))
     }
 
     /// A law: what all holdings keep.

@@ -2,6 +2,7 @@
 //! how requests are answered from them.
 #![tactic(auto)]
 
+mod entries;
 mod holding;
 mod piece;
 mod search;

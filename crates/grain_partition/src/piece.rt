@@ -3,6 +3,7 @@ ghost use Rattle.directory_rules.specs.Answer.{turned};
 ghost use Rattle.directory_rules.specs.declared.PieceState.TheVariants.{Settled};
 ghost use Rattle.directory_rules.specs.Sight.{is_settled};
 ghost use Rattle.directory_rules.specs.Table.{entry_at};
+ghost use Rattle.grain_partition.specs.Entering.{entered};
 
 use crate::table;
 use directory_rules::{Act, PieceState, Reply};
@@ -95,6 +96,14 @@ impl Piece {
         ensures { result ≡ (turned act.now self.now.entries).reply }
     {
         table::reply_to(&self.entries, act)
+    }
+
+    // Puts the entry in under the grain. Fails only for want of memory.
+    pub(crate) fn enter(&mut self, grain: &GrainId, entry: &Entry) -> Result<(), AllocError>
+        ensures { OnOk result (self.new ≡ entered grain.now entry.now self.old) }
+    {
+        self.entries.insert(*grain, *entry)?;
+        Ok(())
     }
 
     // Answers an act, and makes its change. Fails only for want of memory, and then changes nothing.

@@ -27,8 +27,8 @@ pub(crate) fn are_settled(pieces: &BTreeMap<u32, Piece>, range: &RingRange) -> b
     true
 }
 
-// The range of the settled piece that has the hash, if there is one.
-fn settled_at(pieces: &BTreeMap<u32, Piece>, hash: u32) -> Option<RingRange>
+/// The range of the settled piece that has the hash, if there is one.
+pub(crate) fn settled_at(pieces: &BTreeMap<u32, Piece>, hash: u32) -> Option<RingRange>
     requires { ArePieces pieces.now.entries }
     ensures { MatchOption result (lies_settled hash pieces.now.entries ≡ false) (SettlesAt pieces.now.entries hash) }
 {

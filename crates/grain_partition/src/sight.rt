@@ -1,18 +1,21 @@
 //! A sight: the pieces of the arcs that the silo owns in a newer view, and the entries that they keep.
-ghost use Rattle.std.specs.Prelude.{◌≡◌, IfOk, OnOk};
-ghost use Rattle.std.specs.BTreeMap.{insert_entry};
+ghost use Rattle.std.specs.Prelude.{◌≡◌, [], ◌∷◌, IfOk, OnOk, IsSome};
+ghost use Rattle.std.specs.Map.{lookup};
+ghost use Rattle.std.specs.BTreeMap.{insert_entry, is_at};
 ghost use Rattle.std.specs.Ordering.{nat_cmp};
 ghost use Rattle.directory_rules.specs.Membership.{is_dead_in};
 ghost use Rattle.directory_rules.specs.Sight.{is_owner, missing_state};
 ghost use Rattle.grain_partition.specs.Holding.{ArePieces};
-ghost use Rattle.grain_partition.specs.Sight.{AreOfRings, bare_pieces, state_of};
+ghost use Rattle.grain_partition.specs.Entering.{Enters};
+ghost use Rattle.grain_partition.specs.Sight.{AreOfRings, bare_pieces, handed_out, state_of};
 
 use crate::Piece;
-use crate::settled::are_settled;
+use crate::settled::{are_settled, settled_at};
 use directory_rules::PieceState;
+use hash_ring::Hashing;
 use membership_view::{Status, View};
 use range_moves::Arc;
-use silo_address::SiloAddress;
+use silo_address::{Entry, GrainId, SiloAddress};
 use std::alloc::{AllocError, Global};
 use std::collections::BTreeMap;
 
@@ -48,6 +51,58 @@ fn put(pieces: &mut BTreeMap<u32, Piece>, piece: Piece) -> Result<(), AllocError
     let start = piece.range().start();
     pieces.insert(start, piece)?;
     Ok(())
+}
+
+/// Hands each entry of the table to the settled piece that has its hash, if there is one, and leaves out those on silos that
+/// are Dead in the view. Fails only for want of memory.
+pub(crate) fn hand_out(
+    pieces: &mut BTreeMap<u32, Piece>,
+    hashing: Hashing,
+    view: &View,
+    table: &BTreeMap<GrainId, Entry>,
+) -> Result<(), AllocError>
+    requires { ArePieces pieces.old.entries }
+    ensures { OnOk result (pieces.new.entries ≡ handed_out hashing view.now table.now.entries pieces.old.entries) }
+{
+    'entries: for (grain, entry) in table {
+        hand(pieces, hashing, view, grain, entry)?;
+    }
+    Ok(())
+}
+
+// Hands one entry.
+fn hand(
+    pieces: &mut BTreeMap<u32, Piece>,
+    hashing: Hashing,
+    view: &View,
+    grain: &GrainId,
+    entry: &Entry,
+) -> Result<(), AllocError>
+    requires { ArePieces pieces.old.entries }
+    ensures { OnOk result (pieces.new.entries ≡ handed_out hashing view.now ((grain.now, entry.now) ∷ []) pieces.old.entries) }
+{
+    if is_dead_in(view, &entry.activation.silo) {
+        return Ok(());
+    }
+    let hash = hashing.hash_grain(&entry.grain);
+    let Some(range) = settled_at(pieces, hash) else {
+        return Ok(());
+    };
+    enter_at(pieces, range.start(), grain, entry)
+}
+
+// Puts the entry into the piece that begins at the start.
+fn enter_at(
+    pieces: &mut BTreeMap<u32, Piece>,
+    start: u32,
+    grain: &GrainId,
+    entry: &Entry,
+) -> Result<(), AllocError>
+    requires { IsSome (lookup (is_at (nat_cmp start)) pieces.old.entries) }
+    ensures { OnOk result (Enters start grain.now entry.now pieces.old.entries pieces.new.entries) }
+{
+    let piece = pieces.get_mut(&start).unwrap();
+    piece.enter(grain, entry)
 }
 
 // Whether the arc's owner is the silo.

@@ -1,0 +1,9 @@
+use Rattle.std.proofs.Common.{◌≡◌}
+use Rattle.std.specs.Prelude.{fold, flat_map}
+use Rattle.directory_rules.specs.Sight.{all_entries}
+use Rattle.directory_rules.specs.Table.{entries_of, with_entry}
+use Rattle.grain_partition.proofs.entries.all_entries.Given as goal
+
+-- the rest put in gives the whole
+abbrev pub invariant-pieces : goal.invariant-pieces
+invariant-pieces l = fold with_entry l.all.entries (flat_map (λ e. entries_of e.1.entries) l.piece-iterator) ≡ all_entries l.pieces.entries
