@@ -12,3 +12,4 @@ pub mod FromArcs
 pub mod AtTheEnd
 pub mod BareSteps
 pub mod Handing
+pub mod Sighted

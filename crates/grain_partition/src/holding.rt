@@ -8,17 +8,21 @@ ghost use Rattle.directory_rules.specs.Piece.{Piece as PieceValue};
 ghost use Rattle.directory_rules.specs.Answer.{answered, is_numbered, last_served, piece_with, serving_piece, with_piece};
 ghost use Rattle.directory_rules.specs.declared.PieceState.TheVariants.{Settled};
 ghost use Rattle.directory_rules.specs.Show.{entries_within};
-ghost use Rattle.directory_rules.specs.Sight.{was_settled};
+ghost use Rattle.directory_rules.specs.Sight.{pieces_after, was_settled};
 ghost use Rattle.grain_partition.specs.Holding.{HasPiece, IsHolding};
 ghost use Rattle.grain_partition.specs.Serving.{IsTurnOf};
+ghost use Rattle.grain_partition.specs.Sight.{AreOfRings};
 
 use crate::Piece;
 use crate::entries::{count_within, settled_entries};
 use crate::search::piece_with;
 use crate::served::serve_numbered;
 use crate::settled::are_settled;
+use crate::sight::pieces_after;
 use directory_rules::{Act, Reply, Request, Why};
 use hash_ring::Hashing;
+use membership_view::View;
+use range_moves::Arc;
 use ring_range::RingRange;
 use silo_address::{Entry, GrainId, SiloAddress};
 use std::alloc::{AllocError, Global};
@@ -159,6 +163,30 @@ impl Holding {
         ensures { result ≡ last_served silo.now self.now.served }
     {
         self.served.get(silo).copied().unwrap_or(0)
+    }
+
+    /// What the silo keeps once it sees the view: one piece for each of the arcs that it owns there, which is settled where it
+    /// was, and else awaits its entries where this view is the `next` one after that seen before. The arcs are those from the
+    /// ring of the version seen before to the ring of the view, under the cluster's hashing. Costs what the holding has,
+    /// times a logarithm. Fails only for want of memory (`docs/RULES.md#pieces`).
+    pub fn sight(
+        &self,
+        alloc: Global,
+        next: bool,
+        hashing: Hashing,
+        view: &View,
+        silo: &SiloAddress,
+        arcs: &[Arc],
+    ) -> Result<Holding, AllocError>
+        requires { AreOfRings arcs.now }
+        ensures { IfOk result (λ holding. holding ≡ record { seen = view.now.version; served = []; pieces = pieces_after next hashing view.now silo.now self.now.pieces arcs.now }) }
+    {
+        let pieces = pieces_after(alloc, &self.pieces, next, hashing, view, silo, arcs)?;
+        Ok(Holding {
+            seen: view.version(),
+            served: BTreeMap::new(alloc),
+            pieces,
+        })
     }
 
     /// Whether every hash of the range is in a settled piece.

@@ -4,12 +4,13 @@ ghost use Rattle.std.specs.Map.{lookup};
 ghost use Rattle.std.specs.BTreeMap.{insert_entry, is_at};
 ghost use Rattle.std.specs.Ordering.{nat_cmp};
 ghost use Rattle.directory_rules.specs.Membership.{is_dead_in};
-ghost use Rattle.directory_rules.specs.Sight.{is_owner, missing_state};
+ghost use Rattle.directory_rules.specs.Sight.{is_owner, missing_state, pieces_after};
 ghost use Rattle.grain_partition.specs.Holding.{ArePieces};
 ghost use Rattle.grain_partition.specs.Entering.{Enters};
 ghost use Rattle.grain_partition.specs.Sight.{AreOfRings, bare_pieces, handed_out, state_of};
 
 use crate::Piece;
+use crate::entries::all_entries;
 use crate::settled::{are_settled, settled_at};
 use directory_rules::PieceState;
 use hash_ring::Hashing;
@@ -19,9 +20,28 @@ use silo_address::{Entry, GrainId, SiloAddress};
 use std::alloc::{AllocError, Global};
 use std::collections::BTreeMap;
 
-/// The pieces of the arcs that the silo owns in the view, each with its state and still without entries. Fails only for
-/// want of memory.
-pub(crate) fn bare_pieces(
+/// The pieces after the sight of the view. Costs what the pieces before have, times a logarithm. Fails only for want of memory.
+pub(crate) fn pieces_after(
+    alloc: Global,
+    pieces: &BTreeMap<u32, Piece>,
+    next: bool,
+    hashing: Hashing,
+    view: &View,
+    silo: &SiloAddress,
+    arcs: &[Arc],
+) -> Result<BTreeMap<u32, Piece>, AllocError>
+    requires pieces { ArePieces pieces.now.entries }
+    requires arcs { AreOfRings arcs.now }
+    ensures { IfOk result (λ after. after.entries ≡ pieces_after next hashing view.now silo.now pieces.now.entries arcs.now) }
+{
+    let mut after = bare_pieces(alloc, pieces, next, view, silo, arcs)?;
+    let all = all_entries(alloc, pieces)?;
+    hand_out(&mut after, hashing, view, &all)?;
+    Ok(after)
+}
+
+// The pieces of the arcs that the silo owns in the view, each with its state and still without entries.
+fn bare_pieces(
     alloc: Global,
     pieces: &BTreeMap<u32, Piece>,
     next: bool,
@@ -53,9 +73,9 @@ fn put(pieces: &mut BTreeMap<u32, Piece>, piece: Piece) -> Result<(), AllocError
     Ok(())
 }
 
-/// Hands each entry of the table to the settled piece that has its hash, if there is one, and leaves out those on silos that
-/// are Dead in the view. Fails only for want of memory.
-pub(crate) fn hand_out(
+// Hands each entry of the table to the settled piece that has its hash, if there is one, and leaves out those on silos that
+// are Dead in the view.
+fn hand_out(
     pieces: &mut BTreeMap<u32, Piece>,
     hashing: Hashing,
     view: &View,
