@@ -11,6 +11,7 @@ ghost use Rattle.directory_rules.specs.Show.{entries_within};
 ghost use Rattle.directory_rules.specs.Sight.{pieces_after, was_settled};
 ghost use Rattle.grain_partition.specs.Holding.{HasPiece, IsHolding};
 ghost use Rattle.grain_partition.specs.Serving.{IsTurnOf};
+ghost use Rattle.grain_partition.specs.Settled.{LiesSettled};
 ghost use Rattle.grain_partition.specs.Sight.{AreOfRings};
 
 use crate::Piece;
@@ -130,6 +131,16 @@ impl Holding {
         serve_numbered(&mut self.pieces, &mut self.served, start, request)
     }
 
+    /// Whether there is a piece of just this range.
+    pub fn has_piece(&self, range: &RingRange) -> bool
+        ensures { IsTrue result ↔ HasPiece range.now self.now.pieces }
+    {
+        match self.piece_at(range.start()) {
+            Some(piece) => piece.range().same(range),
+            None => false,
+        }
+    }
+
     /// The piece of just this range has its entries now: it is settled. Asks of its caller that there is such a piece.
     pub fn install(&mut self, range: RingRange, entries: BTreeMap<GrainId, Entry>)
         requires { HasPiece range self.old.pieces }
@@ -191,8 +202,10 @@ impl Holding {
 
     /// Whether every hash of the range is in a settled piece.
     pub fn is_settled_throughout(&self, range: &RingRange) -> bool
-        ensures { result ≡ was_settled self.now.pieces range.now }
+        ensures exact { result ≡ was_settled self.now.pieces range.now }
+        ensures each_hash { IsTrue result ↔ LiesSettled self.now.pieces range.now }
     {
+        range.in_range();
         are_settled(&self.pieces, range)
     }
 

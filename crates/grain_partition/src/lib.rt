@@ -13,3 +13,6 @@ mod table;
 
 pub use holding::Holding;
 pub use piece::Piece;
+
+#[cfg(test)]
+mod tests;
