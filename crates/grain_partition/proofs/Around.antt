@@ -1,7 +1,7 @@
 -- Steps round the circle, from one place over a second to a third.
-use Rattle.std.proofs.Common.{arith, ◌≡◌, ℕ, ◌+◌, ◌-◌, ◌<◌, ◌≤◌, true, false}
+use Rattle.std.proofs.Common.{arith, ◌≡◌, ℕ, ◌+◌, ◌-◌, ◌<◌, ◌≤◌, true}
 use Rattle.std.proofs.lemmas.Bool.Decides.{nat_tests}
-use Rattle.ring_range.specs.Range.{circle, Range, IsRange, distance, ahead, holds, within}
+use Rattle.ring_range.specs.Range.{circle, Range, distance, ahead, holds, within}
 
 pub distance-over : (first second third : ℕ) → first < circle → second < circle → third < circle → distance first second + distance second third < circle
     → distance first third ≡ distance first second + distance second third

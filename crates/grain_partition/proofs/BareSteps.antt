@@ -1,5 +1,5 @@
 -- One more piece of the arcs that a silo owns.
-use Rattle.std.proofs.Common.{arith, ◌≡◌, refl, sym, ap, ◌∙◌, subst, ℕ, suc, List, [], ◌∷◌, ◌++◌, length, ◌+◌, ◌<◌, drop, get_or, append_assoc, add-one, drop-cons}
+use Rattle.std.proofs.Common.{◌≡◌, sym, ap, ◌∙◌, subst, ℕ, List, [], ◌∷◌, ◌++◌, length, ◌+◌, ◌<◌, drop, get_or, append_assoc, add-one, drop-cons}
 use Rattle.std.specs.Prelude.{Bool, true, cond, map, filter}
 use Rattle.std.specs.List.Sorted.{IsStrictlySortedBy}
 use Rattle.std.specs.Map.{keys_of}
@@ -32,7 +32,7 @@ module _ (next : Bool) (view : ViewValue) (silo : Silo) (pieces : List (ℕ × P
   owned_first arc rest owned = ap (λ b. map entry_of (cond b (arc ∷ filter (λ a. is_owner silo a.to) rest) (filter (λ a. is_owner silo a.to) rest))) owned
 
   module _ (arcs : List Arc) (of : AreOfRings arcs) (i : ℕ) (arc : Arc) (below : i < length arcs) (item : arc ≡ get_or arcs i arc) (owned : is_owner silo arc.to ≡ true)
-    (bare : List (ℕ × Piece)) (so_far : bare ++ bare_of (drop i arcs) ≡ bare_of arcs) where
+      (bare : List (ℕ × Piece)) (so_far : bare ++ bare_of (drop i arcs) ≡ bare_of arcs) where
     whole : bare ++ entry_of arc ∷ bare_of (drop (i + 1) arcs) ≡ bare_of arcs
     whole =
         ap (λ l. bare ++ l) (sym (ap bare_of next_arc ∙ owned_first arc (drop (i + 1) arcs) owned)) ∙ so_far

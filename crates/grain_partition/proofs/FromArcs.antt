@@ -1,5 +1,5 @@
 -- Pieces made of the arcs between two rings, each with its arc's range, of those arcs that pass a test.
-use Rattle.std.proofs.Common.{arith, ◌≡◌, refl, sym, ap, ◌∙◌, subst, ℕ, suc, List, [], ◌∷◌, length, ◌+◌, ◌<◌, ◌≤◌}
+use Rattle.std.proofs.Common.{arith, ◌≡◌, refl, sym, ap, ◌∙◌, subst, ℕ, suc, List, [], ◌∷◌, ◌+◌, ◌<◌, ◌≤◌}
 use Rattle.std.specs.Prelude.{Bool, true, false, cond, All, AllPairs, count_by, map, filter}
 use Rattle.std.specs.Cmp.{nat_cmp_is}
 use Rattle.std.specs.List.{AllByRecursion, slice_index_or}

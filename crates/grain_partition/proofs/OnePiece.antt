@@ -1,6 +1,6 @@
 -- Pieces under their starts: what a look-up finds, and that no hash is in two.
 use Rattle.std.proofs.Common.{arith, ◌≡◌, refl, sym, ap, ◌∙◌, subst, ℕ, List, [], ◌∷◌, ◌+◌, ◌<◌, ◌≤◌}
-use Rattle.std.specs.Prelude.{Bool, true, false, cond, All, count_by, Option, Some, None}
+use Rattle.std.specs.Prelude.{Bool, true, cond, All, count_by, Some, None}
 use Rattle.std.specs.Map.{lookup}
 use Rattle.std.specs.BTreeMap.{is_at}
 use Rattle.std.specs.Ordering.{is_eq, nat_cmp}

@@ -1,6 +1,6 @@
 -- The piece of a hash: only the piece that begins nearest before it can have it.
-use Rattle.std.proofs.Common.{arith, ◌≡◌, refl, sym, ap, ◌∙◌, subst, ℕ, List, [], ◌∷◌, ◌+◌, ◌-◌, ◌<◌, ◌≤◌, find, nat_lt, ◌⊎◌, inl, inr}
-use Rattle.std.specs.Prelude.{Bool, true, false, cond, if◌then◌else◌, Option, Some, None, IsSome, is_some}
+use Rattle.std.proofs.Common.{arith, ◌≡◌, refl, sym, ap, ◌∙◌, subst, ℕ, List, [], ◌<◌, ◌≤◌, find, ◌⊎◌, inl, inr}
+use Rattle.std.specs.Prelude.{Bool, true, false, if◌then◌else◌, Option, Some, None, IsSome, is_some}
 use Rattle.std.specs.Option.{option_map}
 use Rattle.std.specs.Ordering.{nat_cmp, is_gt}
 use Rattle.std.specs.Map.{lookup}
@@ -11,7 +11,7 @@ use Rattle.std.proofs.lemmas.Cmp.{nat_cmp_total}
 use Rattle.std.proofs.lemmas.Option.{same_Some}
 use Rattle.std.proofs.lemmas.Map.Lookups.{exact_unsigned}
 use Rattle.membership_view.proofs.Found.{find_found, find_none}
-use Rattle.ring_range.specs.Range.{circle, Range, IsRange, distance, holds}
+use Rattle.ring_range.specs.Range.{circle, IsRange, distance, holds}
 use Rattle.ring_range.proofs.Circle.{distance-up, distance-round, distance-itself}
 use Rattle.directory_rules.specs.Piece.{Piece}
 use Rattle.directory_rules.specs.Answer.{piece_with}
@@ -99,8 +99,8 @@ module _ (pieces : List (ℕ × Piece)) (are : ArePieces pieces) (hash start : �
   -- and where none begins at or before the hash, it is the last of all
   pub nearest_round : ((other : ℕ) → IsSome (lookup (is_at (nat_cmp other)) pieces) → (hash < other) × (other ≤ start)) → BeginsNearest pieces hash piece
   nearest_round last = begins (λ other there.
-    let both = last other there in
-    let below : start < circle = subst (λ k. k < circle) (at_lookup (λ e. e.1.range.start ≡ e.0) pieces are.under_start start piece found)
-    (at_lookup (λ e. IsRange e.1.range) pieces are.ranges start piece found).start_below in
-    let up = distance-up other start both.1 in
-    let on = distance-round other hash both.0 in omega arith)
+      let both = last other there in
+      let below : start < circle = subst (λ k. k < circle) (at_lookup (λ e. e.1.range.start ≡ e.0) pieces are.under_start start piece found)
+      (at_lookup (λ e. IsRange e.1.range) pieces are.ranges start piece found).start_below in
+      let up = distance-up other start both.1 in
+      let on = distance-round other hash both.0 in omega arith)

@@ -1,6 +1,6 @@
 -- Whether a hash lies in a settled piece is told by the piece that has the hash.
-use Rattle.std.proofs.Common.{arith, ◌≡◌, refl, sym, ap, ◌∙◌, subst, ℕ, List, [], ◌∷◌, find, ◌<◌, ◌≤◌, inl, inr}
-use Rattle.std.specs.Prelude.{Bool, true, false, cond, ◌&&◌, ◌||◌, All, Option, Some, None, is_some}
+use Rattle.std.proofs.Common.{◌≡◌, refl, sym, ap, ◌∙◌, ℕ, List, [], ◌∷◌, find, ◌<◌}
+use Rattle.std.specs.Prelude.{Bool, true, false, cond, ◌&&◌, ◌||◌, Option, Some, None, is_some}
 use Rattle.std.specs.Option.{option_map}
 use Rattle.std.specs.List.{list_any}
 use Rattle.std.specs.Ordering.{nat_cmp}
@@ -86,6 +86,7 @@ module _ (pieces : List (ℕ × Piece)) (are : ArePieces pieces) (hash : ℕ) (b
       let same_key = only_one (λ p. holds p.range hash) pieces (are.once hash below) one.key piece.range.start one.value piece one.there there parts.1 (with_has hash pieces are piece with) in
       let same : one.value ≡ piece = same_Some one.value piece (sym one.there ∙ ap (λ k. lookup (is_at (nat_cmp k)) pieces) same_key ∙ there) in
       ap (λ (p : Piece). is_settled p.state) (sym same) ∙ parts.0
+
   -- without a piece that has it, it lies in none
   pub none_settles : piece_with hash pieces ≡ None → lies_settled hash pieces ≡ false
   none_settles without = on_bool (λ b. lies_settled hash pieces ≡ b → b ≡ false) (lies_settled hash pieces) (λ t lies. absurd (never (passes_of_any (settles hash) pieces are.in_order lies))) (λ f lies. refl) refl

@@ -1,6 +1,6 @@
 -- A range whose hashes all lie in settled pieces: cut where pieces begin, each part of it lies in one.
 use Rattle.std.proofs.Common.{arith, ◌≡◌, refl, sym, ap, ◌∙◌, subst, ℕ, zero, suc, List, length, [], ◌∷◌, ◌+◌, ◌-◌, ◌<◌, ◌≤◌, ◌⊎◌, inl, inr}
-use Rattle.std.specs.Prelude.{Bool, true, false, cond, if◌then◌else◌, ◌&&◌, All, count_by, Option, Some, None, Contains, is_some}
+use Rattle.std.specs.Prelude.{Bool, true, false, cond, if◌then◌else◌, ◌&&◌, All, count_by, Contains, is_some}
 use Rattle.std.specs.Bool.{Decides}
 use Rattle.std.specs.List.{list_all, slice_index_or}
 use Rattle.std.specs.Ordering.{nat_cmp}
@@ -8,7 +8,7 @@ use Rattle.std.specs.Map.{lookup, keys_of}
 use Rattle.std.specs.BTreeMap.{is_at}
 use Rattle.std.proofs.lemmas.Bool.{cases_lt}
 use Rattle.std.proofs.lemmas.Option.{same_Some}
-use Rattle.std.proofs.lemmas.List.Elements.{All-head, All-tail, All-map, All-contains}
+use Rattle.std.proofs.lemmas.List.Elements.{All-map, All-contains}
 use Rattle.std.proofs.lemmas.List.Sums.{sum_by-cons}
 use Rattle.std.proofs.lemmas.Map.Lookups.{exact_unsigned}
 use Rattle.std.proofs.lemmas.Map.Views.{Contains-keys_from_lookup, tells_apart}
@@ -19,7 +19,6 @@ use Rattle.ring_range.proofs.Circle.{distance-ahead, distance-itself, distance-z
 use Rattle.ring_range.proofs.Cutting.{is_cut, ranges}
 use Rattle.directory_rules.specs.Piece.{Piece}
 use Rattle.directory_rules.specs.Sight.{is_settled, is_in_settled, was_settled}
-use Rattle.directory_rules.specs.Laws.{lies_settled}
 use Rattle.directory_rules.proofs.Cases.{on_bool}
 use Rattle.directory_rules.proofs.Throughout.{settled_throughout}
 use Rattle.grain_partition.specs.Holding.{ArePieces}
@@ -42,7 +41,7 @@ starts_below pieces are =
     (λ k d lt. subst (λ n. n < circle) (are.under_start k d lt) (are.ranges k d lt).start_below)
 
 module _ (pieces : List (ℕ × Piece)) (are : ArePieces pieces) (part : Range) (ok : IsRange part) (some : 0 < part.size)
-  (uncut : All (λ place. ¬ (IsInside part place)) (keys_of pieces)) (lies : LiesSettled pieces part) where
+    (uncut : All (λ place. ¬ (IsInside part place)) (keys_of pieces)) (lies : LiesSettled pieces part) where
   -- the piece of the part's first hash
   first_has : holds part part.start ≡ true
   first_has = holds-below part part.start (subst (λ n. n < part.size) (sym (distance-itself part.start)) some)
@@ -178,14 +177,15 @@ part_lies range part parts hash there count held = on_bool (λ b. holds range ha
 
 -- whether a range was settled is whether each of its hashes lies in a settled piece
 pub Decides-was_settled : (pieces : List (ℕ × Piece)) → ArePieces pieces → (range : Range) → IsRange range → Decides (was_settled pieces range) (LiesSettled pieces range)
-Decides-was_settled pieces are range ok =
-    (settled_throughout pieces range ok are.ranges (starts_below pieces are),
-    λ lies. all_in_settled pieces (cut_parts range (keys_of pieces)) (λ part there.
-    part_in_settled pieces are part
-    (All-contains IsRange (cut_parts range (keys_of pieces)) part (ranges range (keys_of pieces) ok) there)
-    (All-contains (λ part. 0 < part.size) (cut_parts range (keys_of pieces)) part cut.present there)
-    (All-contains (λ part. All (λ place. ¬ (IsInside part place)) (keys_of pieces)) (cut_parts range (keys_of pieces)) part cut.uncut there)
-    (λ hash below held. lies hash below (part_lies range part (cut_parts range (keys_of pieces)) hash there (cut.once hash below) held))))
+Decides-was_settled pieces are range ok = (
+  settled_throughout pieces range ok are.ranges (starts_below pieces are),
+  λ lies. all_in_settled pieces (cut_parts range (keys_of pieces)) (λ part there.
+      part_in_settled pieces are part
+      (All-contains IsRange (cut_parts range (keys_of pieces)) part (ranges range (keys_of pieces) ok) there)
+      (All-contains (λ part. 0 < part.size) (cut_parts range (keys_of pieces)) part cut.present there)
+      (All-contains (λ part. All (λ place. ¬ (IsInside part place)) (keys_of pieces)) (cut_parts range (keys_of pieces)) part cut.uncut there)
+      (λ hash below held. lies hash below (part_lies range part (cut_parts range (keys_of pieces)) hash there (cut.once hash below) held))),
+)
   where
     cut : IsCut range (keys_of pieces) (cut_parts range (keys_of pieces))
     cut = is_cut range (keys_of pieces) ok (starts_below pieces are)

@@ -1,5 +1,5 @@
 -- An entry that is put in a map in order, and then undone.
-use Rattle.std.proofs.Common.{◌≡◌, ℕ, refl, sym, ap, ◌∙◌, List, [], ◌∷◌, cond, false, true, Option, Some, None}
+use Rattle.std.proofs.Common.{◌≡◌, ℕ, refl, sym, ap, ◌∙◌, List, [], ◌∷◌, cond, Option, Some, None}
 use Rattle.std.specs.Cmp.{IsTotalOrder}
 use Rattle.std.specs.List.Sorted.{IsStrictlySortedBy}
 use Rattle.std.specs.Map.{lookup, keys_of, remove_entry, set_value}

@@ -1,13 +1,12 @@
 -- One step of a walk from piece to piece: behind a settled piece a range is settled where it was.
-use Rattle.std.proofs.Common.{arith, ◌≡◌, refl, sym, ap, ◌∙◌, subst, ℕ, List, ◌+◌, ◌-◌, ◌<◌, ◌≤◌, ◌⊎◌, inl, inr, nat_le, nat_lt}
-use Rattle.std.specs.Prelude.{Bool, true, false, ◌&&◌}
-use Rattle.std.specs.Bool.{Decides}
+use Rattle.std.proofs.Common.{arith, ◌≡◌, refl, sym, ◌∙◌, subst, ℕ, List, ◌-◌, ◌<◌, ◌≤◌, ◌⊎◌, inl, inr, nat_le, nat_lt}
+use Rattle.std.specs.Prelude.{true, false, ◌&&◌}
 use Rattle.std.proofs.lemmas.Bool.{cases_lt}
 use Rattle.std.proofs.lemmas.Bool.Decides.{nat_tests, same_from_decides}
 use Rattle.texts.proofs.Decided.{false_from_not, both}
-use Rattle.ring_range.specs.Range.{circle, Range, IsRange, distance, holds, part_of}
+use Rattle.ring_range.specs.Range.{circle, Range, IsRange, distance, holds}
 use Rattle.ring_range.specs.Cut as cut
-use Rattle.ring_range.proofs.Circle.{distance-itself, distance-lt}
+use Rattle.ring_range.proofs.Circle.{distance-itself}
 use Rattle.ring_range.proofs.Parts.{holds-part, IsRange-part}
 use Rattle.directory_rules.specs.Piece.{Piece}
 use Rattle.directory_rules.specs.Sight.{was_settled}

@@ -246,7 +246,7 @@ impl Holding {
     pub fn same(&self, other: &Holding) -> bool
         ensures { IsTrue result ↔ (self.now ≡ other.now) }
     {
-        self.seen == other.seen
+        other.seen == self.seen
             && same_served(&self.served, &other.served)
             && same_pieces(&self.pieces, &other.pieces)
     }

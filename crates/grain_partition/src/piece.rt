@@ -126,7 +126,7 @@ impl Piece {
     pub fn same(&self, other: &Piece) -> bool
         ensures { IsTrue result ↔ (self.now ≡ other.now) }
     {
-        self.range.same(&other.range)
+        other.range.same(&self.range)
             && self.state.same(&other.state)
             && same_entries(&self.entries, &other.entries)
     }

@@ -41,11 +41,7 @@ pub(crate) fn serve_numbered(
 
 // The turn of the piece that begins at the start.
 #[tactic(auto, using(std::proofs::lemmas::Map::Steps::set_value_same))]
-fn turn_at(
-    pieces: &mut BTreeMap<u32, Piece>,
-    start: u32,
-    act: &Act,
-) -> Result<Reply, AllocError>
+fn turn_at(pieces: &mut BTreeMap<u32, Piece>, start: u32, act: &Act) -> Result<Reply, AllocError>
     requires { IsSome (lookup (is_at (nat_cmp start)) pieces.old.entries) }
     ensures turned { IfOk result (IsTurnOf act.now start pieces.old.entries pieces.new.entries) }
     ensures unchanged { OnErr result (pieces.new.entries ≡ pieces.old.entries) }

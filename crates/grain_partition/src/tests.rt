@@ -70,30 +70,21 @@ fn cluster(alloc: Global) -> Result<(Views, Places), Fail> {
 }
 
 // What a silo keeps at one version, and then sees of a later one.
-fn sees(
-    alloc: Global,
-    holding: &Holding,
-    who: &str,
-    from: u64,
-    to: u64,
-) -> Result<Holding, Fail> {
+fn sees(alloc: Global, holding: &Holding, who: &str, from: u64, to: u64) -> Result<Holding, Fail> {
     let (views, places) = cluster(alloc)?;
     let old = Ring::anew(alloc, &view(alloc, &views, from)?, &places)?;
     let seen = view(alloc, &views, to)?;
     let new = Ring::anew(alloc, &seen, &places)?;
     let between = arcs(alloc, &old, &new)?;
     let next = to == from + 1;
-    Ok(holding.sight(
-        alloc,
-        next,
-        Hashing::Stated,
-        &seen,
-        &silo(who)?,
-        &between,
-    )?)
+    Ok(holding.sight(alloc, next, Hashing::Stated, &seen, &silo(who)?, &between)?)
 }
 
-fn install(holding: &mut Holding, text: &str, entries: BTreeMap<GrainId, Entry>) -> Result<(), Fail> {
+fn install(
+    holding: &mut Holding,
+    text: &str,
+    entries: BTreeMap<GrainId, Entry>,
+) -> Result<(), Fail> {
     let range = range(text)?;
     if !holding.has_piece(&range) {
         return Err(Fail::new("there is no piece of this range"));
@@ -184,7 +175,12 @@ fn requests_and_replies(rt: HostRuntime) -> Result<(), Fail> {
     let table: [(u64, u32, Act, Reply); 13] = [
         (9, 50, find, Reply::Nothing),
         (1, 50, register(ANN, B, "")?, Reply::Registered(on_b)),
-        (1, 50, register(ANN, C, "")?, Reply::Retry(Why::OldNumber { last: 1 })),
+        (
+            1,
+            50,
+            register(ANN, C, "")?,
+            Reply::Retry(Why::OldNumber { last: 1 }),
+        ),
         (2, 50, register(ANN, C, "")?, Reply::Taken(on_b)),
         (3, 50, register(ANN, B, C)?, Reply::Registered(on_b)),
         (4, 50, register(ANN, C, B)?, Reply::Registered(on_c)),

@@ -1,4 +1,4 @@
-use Rattle.std.proofs.Common.{◌≡◌, ◌≤◌, ℕ, sym, ◌∙◌, ap, Some, None}
+use Rattle.std.proofs.Common.{ℕ}
 use Rattle.std.specs.Ordering.{nat_cmp}
 use Rattle.std.specs.Map.{lookup}
 use Rattle.std.specs.BTreeMap.{is_at}
@@ -24,6 +24,6 @@ returns c =
     nearest_round c.args.pieces.now.entries c.requires c.args.hash start piece c.in_ok-piece.ensures.value
     (λ other there. (
       past_where c.args.hash other (lookup (is_at (nat_cmp other)) c.args.pieces.now.entries)
-      (λ le. place.5 c.in_default.ensures.steps.0 other (tt, not_gt_from_le other c.args.hash le)) there,
+          (λ le. place.5 c.in_default.ensures.steps.0 other (tt, not_gt_from_le other c.args.hash le)) there,
       ge_from_not_lt start other (c.in_ok-piece.ensures.greatest other there),
     ))

@@ -1,4 +1,4 @@
-use Rattle.std.proofs.Common.{◌≡◌, ◌<◌, Bool, true, false, sym, ◌∙◌, ap, if◌then◌else◌, Some, None, arith}
+use Rattle.std.proofs.Common.{◌≡◌, ◌<◌, true, false, sym, ◌∙◌, ap, if◌then◌else◌, Some, None, arith}
 use Rattle.ring_range.specs.Range.{circle, Range, holds}
 use Rattle.directory_rules.specs.Piece.{Piece}
 use Rattle.grain_partition.proofs.PieceSearch.{piece_with_nearest}

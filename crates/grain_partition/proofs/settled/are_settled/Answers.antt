@@ -1,4 +1,4 @@
-use Rattle.std.proofs.Common.{◌≡◌, sym, ◌∙◌, ap, subst, ◌<◌, arith, false}
+use Rattle.std.proofs.Common.{◌≡◌, sym, ◌∙◌, ap, subst, arith, false}
 use Rattle.ring_range.specs.Range.{Range}
 use Rattle.directory_rules.specs.Laws.{lies_settled}
 use Rattle.directory_rules.specs.Sight.{was_settled}

@@ -1,4 +1,4 @@
-use Rattle.std.proofs.Common.{◌≡◌, ◌<◌, Bool, true, false, None, MatchOption, refl, sym, ◌∙◌, ap, subst, arith}
+use Rattle.std.proofs.Common.{◌≡◌, ◌<◌, true, false, MatchOption, refl, sym, ◌∙◌, ap, subst, arith}
 use Rattle.ring_range.specs.Range.{circle, holds}
 use Rattle.directory_rules.specs.Laws.{lies_settled}
 use Rattle.directory_rules.specs.Piece.{Piece}

@@ -1,4 +1,4 @@
-use Rattle.std.proofs.Common.{◌≡◌, sym, ap, ◌∙◌, subst}
+use Rattle.std.proofs.Common.{sym, ap, ◌∙◌, subst}
 use Rattle.grain_partition.specs.Holding.{ArePieces}
 use Rattle.directory_rules.specs.Sight.{all_entries}
 use Rattle.grain_partition.specs.Sight.{handed_out}

@@ -1,6 +1,5 @@
-use Rattle.std.proofs.Common.{sym, ap, ◌∙◌, subst, ◌≡◌}
+use Rattle.std.proofs.Common.{sym, ap, subst}
 use Rattle.directory_rules.specs.Piece.{Piece, Holding}
-use Rattle.directory_rules.specs.Answer.{with_piece}
 use Rattle.grain_partition.specs.Holding.{ArePieces, HasPiece}
 use Rattle.grain_partition.proofs.Kept.{pieces-with}
 use Rattle.grain_partition.proofs.holding.Holding.install.Goals as goal
