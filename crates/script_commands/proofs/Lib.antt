@@ -1,0 +1,4 @@
+pub mod Pieces
+pub mod WordLaws
+pub mod Placed
+pub mod LineLaws

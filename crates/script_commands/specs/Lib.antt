@@ -1,0 +1,5 @@
+pub mod CommandView
+pub mod Numbers
+pub mod Known
+pub mod Reading
+pub mod WordCounts

@@ -1,0 +1,28 @@
+-- How what the code read stands to what the rule reads.
+use Rattle.std.specs.Prelude.{◌≡◌, ℕ, ⊤, Option, Some, Result, Ok, Err, IsOk}
+use Rattle.directory_rules.specs.Event as event
+use Rattle.directory_rules.specs.Script as script
+use Rattle.script_commands.specs.declared.error.ScriptFault.{ScriptFault}
+use Rattle.script_commands.specs.declared.error.ReadError.{ReadError}
+use Rattle.script_commands.specs.declared.error.ReadError.TheVariants.{Fault, OutOfMemory}
+use Rattle.script_commands.specs.Numbers.{script_fault_number}
+
+-- what a reading says in the rule's terms: the value as the rule has it, or the number of the fault
+abbrev pub told : {A B : Type 0} → (A → B) → Result A ScriptFault → Result B ℕ
+told view (Ok value) = Ok (view value)
+told view (Err fault) = Err (script_fault_number fault)
+
+-- a fault is the rule's, by its number; memory is wanting only where the rule finds no fault
+abbrev pub Fails : {B : Type 0} → ReadError → Result B ℕ → Type 0
+Fails (Fault fault) rule = rule ≡ Err (script_fault_number fault)
+Fails OutOfMemory rule = IsOk rule
+
+-- what was read is what the rule reads, or the reading fails as the rule says
+abbrev pub Reads : {A B : Type 0} → (A → B) → Result A ReadError → Result B ℕ → Type 0
+Reads view (Ok value) rule = rule ≡ Ok (view value)
+Reads view (Err error) rule = Fails error rule
+
+-- the line asks for a join, the only command that takes memory
+abbrev pub IsJoin : Result (Option script.Command) ℕ → Type 0
+IsJoin (Ok (Some (script.Happen (event.Join silo places)))) = ⊤
+IsJoin line = ⊥

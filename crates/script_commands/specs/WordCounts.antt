@@ -1,0 +1,21 @@
+-- Lines of one word and of two.
+use Rattle.std.specs.Prelude.{ℕ, List, [], ◌∷◌, Option, Some, None}
+use Rattle.std.specs.Borrow.{Bor}
+
+-- the word, where there is one
+abbrev pub only_word : List (List ℕ) → Option (List ℕ)
+only_word [] = None
+only_word (word ∷ []) = Some word
+only_word (word ∷ other ∷ words) = None
+
+-- the words, where there are two
+abbrev pub only_two_words : List (List ℕ) → Option (List ℕ × List ℕ)
+only_two_words [] = None
+only_two_words (first ∷ []) = None
+only_two_words (first ∷ second ∷ []) = Some (first, second)
+only_two_words (first ∷ second ∷ third ∷ words) = None
+
+-- what two slices point to
+abbrev pub two_copied : Option (Bor (List ℕ) × Bor (List ℕ)) → Option (List ℕ × List ℕ)
+two_copied None = None
+two_copied (Some slices) = Some (slices.0.now, slices.1.now)

@@ -1,0 +1,18 @@
+//! Lines of a script, read as commands. The rules are in `docs/RULES.md#scripts`.
+#![tactic(auto)]
+
+mod command;
+mod error;
+mod grammar;
+mod lines;
+mod places;
+mod reading;
+mod words;
+
+pub use command::Command;
+pub use error::{ReadError, ScriptFault};
+pub use lines::{first_line, without_return};
+pub use reading::read_command;
+
+#[cfg(test)]
+mod tests;
