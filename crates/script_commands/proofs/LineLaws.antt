@@ -1,12 +1,14 @@
 -- The first line of a script.
-use Rattle.std.proofs.Common.{◌≡◌, ◌≢◌, ap, ◌∙◌, sym, ℕ, ◌<◌, ◌+◌, ◌-◌, Some, None, List, [], ◌∷◌, ◌++◌, length, get_or, take, drop, arith, map, add-one}
-use Rattle.std.specs.Io.BufRead.{strip_last}
-use Rattle.std.proofs.lemmas.Bool.{eq-eqb, eqb-true}
-use Rattle.std.proofs.lemmas.List.{append-nil, take_rest}
+use Rattle.std.proofs.Common.{◌≡◌, ◌≢◌, ap, ◌∙◌, sym, ℕ, ◌<◌, ◌+◌, ◌-◌, Some, None, List, [], ◌∷◌, ◌++◌, length, get_or, take, drop, arith, map, add-one, suc, ◌≤◌, refl, Bool, true, false, Err, if◌then◌else◌}
+use Rattle.std.specs.Io.BufRead.{ends_with_byte, strip_last}
+use Rattle.std.proofs.lemmas.Bool.{eq-eqb, eqb-true, lt-ltb}
+use Rattle.std.proofs.lemmas.List.{append-nil, get_or_default, length-append, length-take-le, take_rest}
 use Rattle.memchr.specs.Find.{IsFirstByte, is_byte}
 use Rattle.directory_rules.specs.Words.{carriage_return, line_feed}
-use Rattle.directory_rules.specs.Script.{lines_of}
-use Rattle.script_commands.proofs.Pieces.{pieces_at-whole, pieces_at-cut}
+use Rattle.std.specs.Prelude.{Contains}
+use Rattle.directory_rules.specs.Script.{Grammar, lines_of, longest_line, read_line}
+use Rattle.script_commands.specs.Laws.{BeginsWithFault}
+use Rattle.script_commands.proofs.Pieces.{pieces_at-cut, pieces_at-front, pieces_at-whole}
 
 -- without a line feed there is one line
 pub lines_of-one : (bytes : List ℕ) → IsFirstByte (is_byte line_feed) bytes None → lines_of bytes ≡ strip_last carriage_return bytes ∷ []
@@ -26,3 +28,29 @@ pub lines_of-first : (bytes : List ℕ) (end : ℕ) (line : List ℕ) → IsFirs
 lines_of-first bytes end line found stripped =
     ap lines_of (sym (append-nil bytes)) ∙ lines_of-more bytes end line found stripped []
     ∙ ap (λ (rest : List ℕ). line ∷ lines_of rest) (append-nil (take (length bytes - (end + 1)) (drop (end + 1) bytes)))
+
+-- a carriage return at the end is one byte
+length-strip_last : (byte : ℕ) (bytes : List ℕ) → length bytes ≤ suc (length (strip_last byte bytes))
+length-strip_last byte bytes =
+    elim (ends_with_byte byte bytes) as (λ (b : Bool). length bytes ≤ suc (length (if b then take (length bytes - 1) bytes else bytes))) [
+      | true ↦ let long = length-take-le (length bytes - 1) bytes (omega arith) in omega arith
+      | false ↦ omega arith
+    ]
+
+read_line-long : (known : List (List ℕ × Grammar)) (line : List ℕ) → longest_line < length line → read_line known line ≡ Err 924
+unfolding read_line
+read_line-long known line long = rw (lt-ltb longest_line (length line) long) refl
+
+-- so many bytes without a line feed begin a line that is too long
+pub begins_too_long : (known : List (List ℕ × Grammar)) (bytes more : List ℕ) → ¬ (Contains bytes line_feed) → longest_line + 1 < length bytes
+    → BeginsWithFault known (lines_of (bytes ++ more)) 924
+begins_too_long known bytes more none long =
+    let front = pieces_at-front line_feed bytes more (λ k below is. none (k, below, get_or_default bytes k line_feed 0 below ∙ is)) in
+    let line = bytes ++ front.0 in
+    let whole : length line ≡ length bytes + length front.0 = length-append bytes front.0 in
+    let stripped = length-strip_last carriage_return line in (
+      strip_last carriage_return line,
+      map (strip_last carriage_return) front.1,
+      ap (map (strip_last carriage_return)) front.2,
+      read_line-long known (strip_last carriage_return line) (omega arith),
+    )

@@ -15,9 +15,6 @@ use Rattle.script_commands.proofs.Pieces.{pieces_at-mark, pieces_at-whole, piece
 kept_first : (word : List ℕ) (pieces : List (List ℕ)) → 0 < length word → filter is_some_bytes (word ∷ pieces) ≡ word ∷ filter is_some_bytes pieces
 kept_first word pieces some = rw (lt-ltb 0 (length word) some) refl
 
-kept : (word : List ℕ) → 0 < length word → filter is_some_bytes (word ∷ []) ≡ word ∷ []
-kept word some = kept_first word [] some
-
 -- a space in front adds no word
 words_in-space : (byte : ℕ) (line : List ℕ) → byte ≡ space → words_in (byte ∷ line) ≡ words_in line
 words_in-space byte line is = ap (filter is_some_bytes) (pieces_at-mark space byte line is)
@@ -31,7 +28,7 @@ words_in-spaces (suc n) (byte ∷ line) within spaces =
 
 -- bytes without a space are one word
 words_in-word : (word : List ℕ) → 0 < length word → ((k : ℕ) → k < length word → get_or word k 0 ≢ space) → words_in word ≡ word ∷ []
-words_in-word word some others = ap (filter is_some_bytes) (pieces_at-whole space word others) ∙ kept word some
+words_in-word word some others = ap (filter is_some_bytes) (pieces_at-whole space word others) ∙ kept_first word [] some
 
 -- up to the first space stands a word
 words_in-front : (n : ℕ) (line : List ℕ) → 0 < n → n < length line → ((k : ℕ) → k < n → get_or line k 0 ≢ space) → get_or line n 0 ≡ space

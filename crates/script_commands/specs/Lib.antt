@@ -1,4 +1,5 @@
 pub mod CommandView
+pub mod Laws
 pub mod Numbers
 pub mod Known
 pub mod Reading

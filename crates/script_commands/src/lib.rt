@@ -4,6 +4,8 @@
 mod command;
 mod error;
 mod grammar;
+mod known;
+pub mod laws;
 mod lines;
 mod places;
 mod reading;
