@@ -1,0 +1,25 @@
+-- A line that clap refuses.
+use Rattle.std.proofs.Common.{◌≡◌, List, Err, sym, subst, inl, inr}
+use Rattle.clap.specs.Walk.{Text, texts}
+use Rattle.clap.specs.Faults.{fault_of}
+use Rattle.clap.specs.Kinds.{HasKind, IsAmong}
+use Rattle.clap.specs.Values.{kind_of}
+use Rattle.clap.specs.declared.error.Error.{Error}
+use Rattle.command_line.specs.Command.{NameList, app, hashing_names}
+use Rattle.command_line.specs.Line.{Reads}
+use Rattle.command_line.specs.Refusal.{Refuses}
+use Rattle.command_line.specs.declared.error.LineError.{LineError}
+use Rattle.command_line.specs.declared.error.LineError.TheVariants as error
+
+-- what clap refuses is refused, unless memory ran out by one of the faults
+pub refused : (words : List Text) (names : NameList) → texts names.now ≡ hashing_names → (e : Error) (refusal : LineError)
+    → HasKind (fault_of (app names) words) e → Refuses e refusal → Reads words (Err refusal)
+refused words names named e (error.Usage told) kinds refuses = (
+  names,
+  named,
+  elim kinds [
+    | inl memory ↦ absurd (refuses.1 memory)
+    | inr among ↦ subst (λ (x : Error). IsAmong (kind_of x) (fault_of (app names) words)) (sym refuses.0) among
+  ],
+)
+refused words names named e error.OutOfMemory kinds refuses = tt

@@ -1,0 +1,52 @@
+-- The command of the program, as clap reads it: its subcommands and their options.
+use Rattle.std.specs.Prelude.{◌≡◌, List, [], ◌∷◌, Some, pos, true, codes}
+use Rattle.clap.specs.Walk.{Rule, Text, texts}
+use Rattle.clap.specs.Simple.{App, new_app, new_rule, with_rule, with_subcommand}
+use Rattle.clap.specs.declared.builder.action.ArgAction.TheVariants.{Set}
+use Rattle.clap.specs.declared.builder.value_parser.ValueParser.{ValueParser}
+use Rattle.clap.specs.declared.builder.value_parser.ValueParser.TheVariants as parser
+use Rattle.std.specs.Borrow.{Bor}
+
+-- a list of names, as code refers to it
+abbrev pub NameList : Type 0
+NameList = Bor (List (Bor Text))
+
+-- the names of the ways of hashing
+abbrev pub hashing_names : List Text
+hashing_names = codes "sha256" ∷ codes "stated" ∷ []
+
+-- an option `--NAME VALUE` with a default
+abbrev pub option_rule : Text → ValueParser → Text → Rule
+option_rule name values default = record (new_rule name) {
+  long = Some name;
+  action = Some Set;
+  parser = Some values;
+  defaults = default ∷ [];
+}
+
+-- `--hashing`: one of the names, `sha256` if it is left out
+abbrev pub hashing_rule : NameList → Rule
+hashing_rule names = option_rule (codes "hashing") (parser.Names names) (codes "sha256")
+
+-- `--points`: a number from 1 to 128, 30 if it is left out
+abbrev pub points_rule : Rule
+points_rule = option_rule (codes "points") (parser.Signed (pos 1) (pos 128)) (codes "30")
+
+-- `play [--hashing NAME] [--points N]`
+abbrev pub play_app : NameList → App
+play_app names =
+    with_rule (with_rule (new_app (codes "play")) (hashing_rule names)) points_rule
+
+-- the program's name; a subcommand has to follow
+abbrev pub bare_app : App
+bare_app =
+    let named = new_app (codes "grain-directory") in
+    record named { top = record named.top { subcommand_required = true } }
+
+-- the whole command: one more `with_subcommand` for each subcommand
+abbrev pub app : NameList → App
+app names = with_subcommand bare_app (play_app names).top
+
+-- what holds of the command, whose names stand where some reference of the code points
+abbrev pub OfCommand : (App → Type 0) → Type 0
+OfCommand P = (names : NameList) × (texts names.now ≡ hashing_names) × P (app names)

@@ -1,0 +1,3 @@
+pub mod Command
+pub mod Line
+pub mod Refusal

@@ -1,0 +1,51 @@
+-- What an accepted command line asks for, as a function of what clap read.
+use Rattle.std.specs.Prelude.{◌≡◌, ◌≤◌, ◌&&◌, ℕ, List, [], Option, Some, Result, Ok, Err, option_map, codes, ⊤, nat_le, if◌then◌else◌}
+use Rattle.std.specs.Option.{option_map_or}
+use Rattle.std.specs.Str.{bytes_eq}
+use Rattle.clap.specs.Walk.{Row, Text, byte_or_zero, first_of, one_of}
+use Rattle.clap.specs.Simple.{App, subcommand_of}
+use Rattle.clap.specs.Faults.{fault_of}
+use Rattle.clap.specs.Kinds.{IsAmong}
+use Rattle.clap.specs.Values.{kind_of}
+use Rattle.hash_ring.specs.declared.hashing.Hashing.{Hashing}
+use Rattle.hash_ring.specs.declared.hashing.Hashing.TheVariants.{Sha256, Stated}
+use Rattle.command_line.specs.declared.line.Line.{Line}
+use Rattle.command_line.specs.declared.line.Line.TheVariants.{Play}
+use Rattle.command_line.specs.declared.error.LineError.{LineError}
+use Rattle.command_line.specs.declared.error.LineError.TheVariants as error
+use Rattle.command_line.specs.Command.{OfCommand}
+
+-- the way of hashing of a name
+abbrev pub hashing_named : Text → Hashing
+hashing_named name = if bytes_eq name (codes "stated") then Stated else Sha256
+
+-- the way of hashing that the matches of a subcommand give
+abbrev pub hashing_of : List Row → Hashing
+hashing_of rows = option_map_or hashing_named (first_of (codes "hashing") rows) Sha256
+
+-- a number of points from 1 to 128; of any other, which clap refuses, the default
+abbrev pub points_in : ℕ → ℕ
+points_in n = if nat_le 1 n && nat_le n 128 then n else 30
+
+-- the points of a silo that the matches of a subcommand give
+abbrev pub points_of : List Row → ℕ
+points_of rows = points_in (option_map_or byte_or_zero (one_of (codes "points") rows) 0)
+
+-- a subcommand with its matches, as a line; `play` is the only one
+abbrev pub line_in : Text × List Row → Line
+line_in (name, rows) = Play (hashing_of rows) (points_of rows)
+
+-- what clap reads from the words, where they name a subcommand
+abbrev pub line_of : App → List Text → Option Line
+line_of command words = option_map line_in (subcommand_of command words)
+
+-- an accepted line is what clap reads from words in which it finds no fault; a refusal has one of the faults that it finds, or
+-- memory ran out; the words begin with the program's name
+abbrev pub Reads : List Text → Result Line LineError → Type 0
+Reads words (Ok line) = OfCommand (λ command. (line_of command words ≡ Some line) × (fault_of command words ≡ []))
+Reads words (Err (error.Usage e)) = OfCommand (λ command. IsAmong (kind_of e) (fault_of command words))
+Reads words (Err error.OutOfMemory) = ⊤
+
+-- a number of points that a silo may have
+abbrev pub HasPoints : Line → Type 0
+HasPoints (Play hashing points) = (1 ≤ points) × (points ≤ 128)

@@ -1,0 +1,64 @@
+ghost use Rattle.std.specs.Prelude.{◌≡◌, IfOk, codes, false};
+ghost use Rattle.clap.specs.Walk.{rule_of, texts};
+ghost use Rattle.clap.specs.Simple.{app_of};
+ghost use Rattle.clap.specs.declared.builder.command.Command.TheViews.{out-Command};
+ghost use Rattle.command_line.specs.Command.{OfCommand, option_rule, play_app, points_rule, hashing_rule, hashing_names, NameList};
+
+use clap::builder::ValueParser;
+use clap::{Arg, ArgAction, Command, value_parser};
+use std::alloc::{AllocError, Global};
+
+static HASHINGS: [&str; 2] = ["sha256", "stated"];
+
+/// The whole command: a call of `subcommand` for each subcommand.
+pub(crate) fn grain_directory<'a>(alloc: Global) -> Result<Command<'a>, AllocError>
+    ensures { IfOk result (λ c. OfCommand (λ command. app_of c ≡ command)) }
+{
+    Command::new(alloc, "grain-directory")
+        .about("A directory of grains on a cluster of silos, played from a script")
+        .subcommand_required(true)
+        .subcommand(play(alloc)?)
+}
+
+// `play [--hashing NAME] [--points N]`.
+fn play<'a>(alloc: Global) -> Result<Command<'a>, AllocError>
+    ensures app { IfOk result (λ c. (names : NameList) × (texts names.now ≡ hashing_names) × (app_of c ≡ play_app names)) }
+    ensures local { IfOk result (λ c. (out-Command c).has_globals ≡ false) }
+{
+    Command::new(alloc, "play")
+        .about("Play a cluster's script, read from standard input")
+        .arg(hashing(alloc))?
+        .arg(points(alloc))
+}
+
+fn hashing<'a>(alloc: Global) -> Arg<'a>
+    ensures rule { (names : NameList) × (texts names.now ≡ hashing_names) × (rule_of result ≡ hashing_rule names) }
+    ensures local { result.global ≡ false }
+{
+    let names = ValueParser::Names(HASHINGS.as_slice());
+    option(alloc, "hashing", names, "sha256").help(
+        "How points and grains are hashed: by their texts, or as the script states",
+    )
+}
+
+fn points<'a>(alloc: Global) -> Arg<'a>
+    ensures rule { rule_of result ≡ points_rule }
+    ensures local { result.global ≡ false }
+{
+    let numbers = value_parser!(u8).range(1..=128);
+    option(alloc, "points", numbers, "30").help(
+        "How many points a silo has under sha256, from 1 to 128",
+    )
+}
+
+// An option `--NAME VALUE` with a default.
+fn option<'a>(alloc: Global, name: &'a str, values: ValueParser<'a>, default: &'a str) -> Arg<'a>
+    ensures rule { rule_of result ≡ option_rule name.entry.now values.entry default.entry.now }
+    ensures local { result.global ≡ false }
+{
+    Arg::new(alloc, name)
+        .long(name)
+        .action(ArgAction::Set)
+        .value_parser(values)
+        .default_value(default)
+}
