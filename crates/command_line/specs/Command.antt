@@ -21,6 +21,7 @@ option_rule name values default = record (new_rule name) {
   long = Some name;
   action = Some Set;
   parser = Some values;
+  value_names = 1;
   defaults = default ∷ [];
 }
 

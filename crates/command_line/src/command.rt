@@ -16,6 +16,7 @@ pub(crate) fn grain_directory<'a>(alloc: Global) -> Result<Command<'a>, AllocErr
 {
     Command::new(alloc, "grain-directory")
         .about("A directory of grains on a cluster of silos, played from a script")
+        .bin_name("grain-directory")?
         .subcommand_required(true)
         .subcommand(play(alloc)?)
 }
@@ -36,7 +37,7 @@ fn hashing<'a>(alloc: Global) -> Arg<'a>
     ensures local { result.global ≡ false }
 {
     let names = ValueParser::Names(HASHINGS.as_slice());
-    option(alloc, "hashing", names, "sha256").help(
+    option(alloc, "hashing", "HASHING", names, "sha256").help(
         "How points and grains are hashed: by their texts, or as the script states",
     )
 }
@@ -46,18 +47,25 @@ fn points<'a>(alloc: Global) -> Arg<'a>
     ensures local { result.global ≡ false }
 {
     let numbers = value_parser!(u8).range(1..=128);
-    option(alloc, "points", numbers, "30").help(
+    option(alloc, "points", "POINTS", numbers, "30").help(
         "How many points a silo has under sha256, from 1 to 128",
     )
 }
 
-// An option `--NAME VALUE` with a default.
-fn option<'a>(alloc: Global, name: &'a str, values: ValueParser<'a>, default: &'a str) -> Arg<'a>
+// An option `--NAME VALUE` with a default; help shows the value as `shown`.
+fn option<'a>(
+    alloc: Global,
+    name: &'a str,
+    shown: &'a str,
+    values: ValueParser<'a>,
+    default: &'a str,
+) -> Arg<'a>
     ensures rule { rule_of result ≡ option_rule name.entry.now values.entry default.entry.now }
     ensures local { result.global ≡ false }
 {
     Arg::new(alloc, name)
         .long(name)
+        .value_name(shown)
         .action(ArgAction::Set)
         .value_parser(values)
         .default_value(default)

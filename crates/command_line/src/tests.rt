@@ -1,0 +1,163 @@
+use crate::{Line, LineError, read_line};
+use clap::error::ErrorKind;
+use hash_ring::Hashing;
+use std::alloc::Global;
+use std::test::Fail;
+
+const fn play(hashing: Hashing, points: usize) -> Result<Line, ErrorKind> {
+    Ok(Line::Play { hashing, points })
+}
+
+// What a line reads as, or of which kind its refusal is.
+fn answer(alloc: Global, words: &'static [&'static str]) -> Result<Line, ErrorKind> {
+    match read_line(alloc, words) {
+        Ok(line) => Ok(line),
+        Err(LineError::Usage(error)) => Err(error.kind()),
+        Err(LineError::OutOfMemory) => Err(ErrorKind::OutOfMemory),
+    }
+}
+
+#[test]
+fn lines_that_are_accepted(rt: HostRuntime) {
+    let rows: [(&'static [&'static str], Hashing, usize); 10] = [
+        (&["grain-directory", "play"], Hashing::Sha256, 30),
+        (&["", "play"], Hashing::Sha256, 30),
+        (&["g", "play", "--hashing", "stated"], Hashing::Stated, 30),
+        (&["g", "play", "--hashing=sha256"], Hashing::Sha256, 30),
+        (&["g", "play", "--points", "1"], Hashing::Sha256, 1),
+        (&["g", "play", "--points=128"], Hashing::Sha256, 128),
+        (&["g", "play", "--points", "+007"], Hashing::Sha256, 7),
+        (
+            &["g", "play", "--points", "5", "--hashing", "stated"],
+            Hashing::Stated,
+            5,
+        ),
+        (
+            &["g", "play", "--hashing", "stated", "--points", "5"],
+            Hashing::Stated,
+            5,
+        ),
+        (&["g", "play", "--"], Hashing::Sha256, 30),
+    ];
+    for (words, hashing, points) in rows {
+        assert_eq!(rt;
+            answer(rt.alloc(), words),
+            play(hashing, points),
+            "{words:?}"
+        );
+    }
+}
+
+#[test]
+fn lines_that_are_refused(rt: HostRuntime) {
+    let rows: [(&'static [&'static str], ErrorKind); 24] = [
+        (&[], ErrorKind::MissingSubcommand),
+        (&["g"], ErrorKind::MissingSubcommand),
+        (&["g", "run"], ErrorKind::InvalidSubcommand),
+        (&["g", "Play"], ErrorKind::InvalidSubcommand),
+        (&["g", "--points", "5", "play"], ErrorKind::UnknownArgument),
+        (&["g", "--version"], ErrorKind::UnknownArgument),
+        (&["g", "play", "--version"], ErrorKind::UnknownArgument),
+        (&["g", "play", "script"], ErrorKind::UnknownArgument),
+        (&["g", "play", "-p", "5"], ErrorKind::UnknownArgument),
+        (&["g", "play", "--point", "5"], ErrorKind::UnknownArgument),
+        (&["g", "play", "--points"], ErrorKind::InvalidValue),
+        (&["g", "play", "--points", "0"], ErrorKind::ValueValidation),
+        (
+            &["g", "play", "--points", "129"],
+            ErrorKind::ValueValidation,
+        ),
+        (&["g", "play", "--points", "x"], ErrorKind::ValueValidation),
+        (&["g", "play", "--points="], ErrorKind::ValueValidation),
+        (
+            &["g", "play", "--points", "5", "--points", "5"],
+            ErrorKind::ArgumentConflict,
+        ),
+        (&["g", "play", "--hashing", "md5"], ErrorKind::InvalidValue),
+        (
+            &["g", "play", "--hashing", "Stated"],
+            ErrorKind::InvalidValue,
+        ),
+        (&["g", "help", "run"], ErrorKind::InvalidSubcommand),
+        (&["g", "help"], ErrorKind::DisplayHelp),
+        (&["g", "help", "play"], ErrorKind::DisplayHelp),
+        (&["g", "--help"], ErrorKind::DisplayHelp),
+        (&["g", "-h"], ErrorKind::DisplayHelp),
+        (
+            &["g", "play", "--points", "5", "--help"],
+            ErrorKind::DisplayHelp,
+        ),
+    ];
+    for (words, kind) in rows {
+        assert_eq!(rt; answer(rt.alloc(), words), Err(kind), "{words:?}");
+    }
+}
+
+// The text that a refusal shows, and whether it is help.
+fn told(alloc: Global, words: &'static [&'static str]) -> Result<(String, bool), Fail> {
+    match read_line(alloc, words) {
+        Ok(_) => Err(Fail::new("the line was accepted")),
+        Err(refusal) => Ok((format!(in alloc; "{refusal}")?, refusal.is_help())),
+    }
+}
+
+#[test]
+fn help_of_the_program(rt: HostRuntime) -> Result<(), Fail> {
+    let (text, is_help) = told(rt.alloc(), &["g", "help"])?;
+    assert!(rt; is_help);
+    let wanted = "A directory of grains on a cluster of silos, played from a script
+
+Usage: grain-directory <COMMAND>
+
+Commands:
+  play  Play a cluster's script, read from standard input
+  help  Print this message or the help of the given subcommand(s)
+
+Options:
+  -h, --help  Print help
+";
+    assert!(rt; text.as_str() == wanted, "{text}");
+    Ok(())
+}
+
+#[test]
+fn help_of_play(rt: HostRuntime) -> Result<(), Fail> {
+    let (text, is_help) = told(rt.alloc(), &["g", "play", "--help"])?;
+    assert!(rt; is_help);
+    let wanted = "Play a cluster's script, read from standard input
+
+Usage: grain-directory play [OPTIONS]
+
+Options:
+      --hashing <HASHING>  How points and grains are hashed: by their texts, or as the script states [default: sha256] [possible values: sha256, stated]
+      --points <POINTS>    How many points a silo has under sha256, from 1 to 128 [default: 30]
+  -h, --help               Print help
+";
+    assert!(rt; text.as_str() == wanted, "{text}");
+    Ok(())
+}
+
+#[test]
+fn a_mistake_is_told_with_the_way_out(rt: HostRuntime) -> Result<(), Fail> {
+    let (text, is_help) = told(rt.alloc(), &["g", "play", "--points", "0"])?;
+    assert!(rt; !is_help);
+    let wanted = "error: invalid value '0' for '--points <POINTS>': 0 is not in 1..=128
+
+For more information, try '--help'.
+";
+    assert!(rt; text.as_str() == wanted, "{text}");
+    Ok(())
+}
+
+#[test]
+fn refusals_are_printed(rt: HostRuntime) -> Result<(), Fail> {
+    let rows: [&'static [&'static str]; 2] = [&["g", "--help"], &["g", "play", "--points", "0"]];
+    for words in rows {
+        match read_line(rt.alloc(), words) {
+            Ok(_) => return Err(Fail::new("the line was accepted")),
+            Err(refusal) => refusal.print(&rt)?,
+        }
+    }
+    LineError::OutOfMemory.print(&rt)?;
+    Ok(())
+}
