@@ -1,2 +1,6 @@
+mod Accepted
 mod Bytes
+mod NumberRows
 mod Refused
+mod Stops
+mod Walks

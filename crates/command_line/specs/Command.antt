@@ -1,7 +1,7 @@
 -- The command of the program, as clap reads it: its subcommands and their options.
-use Rattle.std.specs.Prelude.{◌≡◌, List, [], ◌∷◌, Some, pos, true, codes}
+use Rattle.std.specs.Prelude.{◌≡◌, List, [], ◌∷◌, Some, codes, pos, true}
 use Rattle.clap.specs.Walk.{Rule, Text, texts}
-use Rattle.clap.specs.Simple.{App, new_app, new_rule, with_rule, with_subcommand}
+use Rattle.clap.specs.Simple.{App, new_app, new_rule, on_top, with_rule, with_subcommand}
 use Rattle.clap.specs.declared.builder.action.ArgAction.TheVariants.{Set}
 use Rattle.clap.specs.declared.builder.value_parser.ValueParser.{ValueParser}
 use Rattle.clap.specs.declared.builder.value_parser.ValueParser.TheVariants as parser
@@ -40,9 +40,7 @@ play_app names =
 
 -- the program's name; a subcommand has to follow
 abbrev pub bare_app : App
-bare_app =
-    let named = new_app (codes "grain-directory") in
-    record named { top = record named.top { subcommand_required = true } }
+bare_app = on_top (λ shape. record shape { subcommand_required = true }) (new_app (codes "grain-directory"))
 
 -- the whole command: one more `with_subcommand` for each subcommand
 abbrev pub app : NameList → App

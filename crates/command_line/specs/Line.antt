@@ -1,5 +1,5 @@
 -- What an accepted command line asks for, as a function of what clap read.
-use Rattle.std.specs.Prelude.{◌≡◌, ◌≤◌, ◌&&◌, ℕ, List, [], Option, Some, Result, Ok, Err, option_map, codes, ⊤, nat_le, if◌then◌else◌}
+use Rattle.std.specs.Prelude.{◌≡◌, ◌≤◌, ℕ, List, [], Option, Some, None, Result, Ok, Err, option_and_then, codes, ⊤, if◌then◌else◌}
 use Rattle.std.specs.Option.{option_map_or}
 use Rattle.std.specs.Str.{bytes_eq}
 use Rattle.clap.specs.Walk.{Row, Text, byte_or_zero, first_of, one_of}
@@ -23,21 +23,18 @@ hashing_named name = if bytes_eq name (codes "stated") then Stated else Sha256
 abbrev pub hashing_of : List Row → Hashing
 hashing_of rows = option_map_or hashing_named (first_of (codes "hashing") rows) Sha256
 
--- a number of points from 1 to 128; of any other, which clap refuses, the default
-abbrev pub points_in : ℕ → ℕ
-points_in n = if nat_le 1 n && nat_le n 128 then n else 30
-
--- the points of a silo that the matches of a subcommand give
+-- the points of a silo that the matches of a subcommand give; clap puts the default where the option is left out
 abbrev pub points_of : List Row → ℕ
-points_of rows = points_in (option_map_or byte_or_zero (one_of (codes "points") rows) 0)
+points_of rows = option_map_or byte_or_zero (one_of (codes "points") rows) 0
 
--- a subcommand with its matches, as a line; `play` is the only one
-abbrev pub line_in : Text × List Row → Line
-line_in (name, rows) = Play (hashing_of rows) (points_of rows)
+-- the line that a subcommand with its matches asks for: a row for each subcommand
+abbrev pub line_in : Text × List Row → Option Line
+line_in (name, rows) =
+    if bytes_eq name (codes "play") then Some (Play (hashing_of rows) (points_of rows)) else None
 
--- what clap reads from the words, where they name a subcommand
+-- the line that clap reads from the words
 abbrev pub line_of : App → List Text → Option Line
-line_of command words = option_map line_in (subcommand_of command words)
+line_of command words = option_and_then line_in (subcommand_of command words)
 
 -- an accepted line is what clap reads from words in which it finds no fault; a refusal has one of the faults that it finds, or
 -- memory ran out; the words begin with the program's name
@@ -46,6 +43,6 @@ Reads words (Ok line) = OfCommand (λ command. (line_of command words ≡ Some l
 Reads words (Err (error.Usage e)) = OfCommand (λ command. IsAmong (kind_of e) (fault_of command words))
 Reads words (Err error.OutOfMemory) = ⊤
 
--- a number of points that a silo may have
+-- the points of the line are as many as a silo may have
 abbrev pub HasPoints : Line → Type 0
 HasPoints (Play hashing points) = (1 ≤ points) × (points ≤ 128)

@@ -1,8 +1,8 @@
-ghost use Rattle.std.specs.Prelude.{◌≡◌, ◌≤◌, IfOk, Some, true, option_map};
-ghost use Rattle.clap.specs.Matches.{found_of, has_subcommand};
+ghost use Rattle.std.specs.Prelude.{◌≡◌, IfOk, option_and_then};
+ghost use Rattle.clap.specs.Matches.{found_of};
 ghost use Rattle.clap.specs.Walk.{rows_of, texts};
 ghost use Rattle.clap.specs.Simple.{subcommand_rows_of};
-ghost use Rattle.command_line.specs.Line.{HasPoints, Reads, hashing_named, hashing_of, line_in, points_in, points_of};
+ghost use Rattle.command_line.specs.Line.{HasPoints, Reads, hashing_named, hashing_of, line_in, points_of};
 ghost use Rattle.command_line.specs.Refusal.{Refuses};
 
 use crate::LineError;
@@ -25,13 +25,18 @@ pub enum Line {
 }
 
 /// Reads a command line: its words as the system gives them, the program's name first.
+///
+/// The error is what clap says of the words, be it a mistake or the help that they ask for, or want of memory.
 pub fn read_line<'a>(alloc: Global, words: &'a [&'a str]) -> Result<Line, LineError>
     ensures reads { Reads (texts words.entry.now) result }
     ensures points { IfOk result HasPoints }
 {
     let command = grain_directory(alloc)?;
     match command.try_get_matches_from(words) {
-        Ok(matches) => Ok(line_in(&matches)),
+        Ok(matches) => match line_in(&matches) {
+            Some(line) => Ok(line),
+            None => unreachable!(),
+        },
         Err(error) => Err(refusal(error)),
     }
 }
@@ -46,18 +51,17 @@ fn refusal(error: clap::Error) -> LineError
     }
 }
 
-// The line of matches that have a subcommand.
-fn line_in(matches: &ArgMatches<'_>) -> Line
-    requires { has_subcommand matches.now ≡ true }
-    ensures value { option_map line_in (subcommand_rows_of matches.now) ≡ Some result }
-    ensures points { HasPoints result }
+// The line that the matches ask for: a row for each subcommand.
+fn line_in(matches: &ArgMatches<'_>) -> Option<Line>
+    ensures { result ≡ option_and_then line_in (subcommand_rows_of matches.now) }
 {
-    match matches.subcommand() {
-        Some((_play, settings)) => Line::Play {
+    let (name, settings) = matches.subcommand()?;
+    match name {
+        "play" => Some(Line::Play {
             hashing: hashing_of(settings),
             points: points_of(settings),
-        },
-        None => unreachable!(),
+        }),
+        _ => None,
     }
 }
 
@@ -81,20 +85,7 @@ fn hashing_named(name: &str) -> Hashing
 }
 
 fn points_of(settings: &ArgMatches<'_>) -> usize
-    ensures value { result ≡ points_of (rows_of (found_of settings.now)) }
-    ensures range { (1 ≤ result) × (result ≤ 128) }
+    ensures { result ≡ points_of (rows_of (found_of settings.now)) }
 {
-    points_in(settings.get_one::<u8>("points").unwrap_or(0))
-}
-
-// clap lets no other number through.
-fn points_in(number: u8) -> usize
-    ensures value { result ≡ points_in number }
-    ensures range { (1 ≤ result) × (result ≤ 128) }
-{
-    if 1 <= number && number <= 128 {
-        usize::from(number)
-    } else {
-        30
-    }
+    usize::from(settings.get_one::<u8>("points").unwrap_or(0))
 }

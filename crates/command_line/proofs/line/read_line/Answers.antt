@@ -1,14 +1,25 @@
-use Rattle.std.proofs.Common.{ap, option_map, subst, sym, ◌∙◌}
+use Rattle.std.proofs.Common.{ap, option_and_then, subst, sym, ◌∙◌}
 use Rattle.clap.specs.Walk.{texts}
 use Rattle.clap.specs.Simple.{App, is_simple, subcommand_of}
 use Rattle.clap.specs.Faults.{fault_of, is_simple_and_free}
 use Rattle.clap.specs.Kinds.{HasKind}
-use Rattle.command_line.specs.Line.{line_in}
+use Rattle.command_line.specs.Command.{app}
+use Rattle.command_line.specs.Line.{line_in, line_of}
+use Rattle.command_line.proofs.Accepted.{accepted, never_none, points_of_line}
 use Rattle.command_line.proofs.Refused.{refused}
 use Rattle.command_line.proofs.line.read_line.Goals as goal
 
-pub returns-in-Ok-clause-reads : goal.returns-in-Ok-clause-reads
-returns-in-Ok-clause-reads c =
+pub unreachable-requires : goal.unreachable-requires
+unreachable-requires c =
+    let words = texts c.args.words.now in
+    let command = c.in_ok-command.ensures in
+    let rows = (c.in-Ok.ensures.matches (ap is_simple command.2)).1 in
+    let faults = ap (λ (a : App). fault_of a words) (sym command.2) ∙ c.in-Ok.ensures.kinds (ap is_simple_and_free command.2) in
+    let read = ap (option_and_then line_in) (ap (λ (a : App). subcommand_of a words) (sym command.2) ∙ sym rows) ∙ sym c.line_in.ensures ∙ c.in-None.is in
+    never_none (line_of (app command.0) words) read (accepted command.0 words faults)
+
+pub returns-in-Some-clause-reads : goal.returns-in-Some-clause-reads
+returns-in-Some-clause-reads c =
     let words = texts c.args.words.now in
     let command = c.in_ok-command.ensures in
     let rows = (c.in-Ok.ensures.matches (ap is_simple command.2)).1 in
@@ -16,10 +27,16 @@ returns-in-Ok-clause-reads c =
       command.0,
       command.1,
       (
-        ap (option_map line_in) (ap (λ (a : App). subcommand_of a words) (sym command.2) ∙ sym rows) ∙ c.line_in.ensures.value,
+        ap (option_and_then line_in) (ap (λ (a : App). subcommand_of a words) (sym command.2) ∙ sym rows) ∙ sym c.line_in.ensures ∙ c.in-Some.is,
         ap (λ (a : App). fault_of a words) (sym command.2) ∙ faults,
       ),
     )
+
+pub returns-in-Some-clause-points : goal.returns-in-Some-clause-points
+returns-in-Some-clause-points c =
+    let read = returns-in-Some-clause-reads c in
+    let words = texts c.args.words.now in
+    points_of_line (line_of (app read.0) words) c.in-Some.line read.2.0 (accepted read.0 words read.2.1)
 
 pub returns-in-Err-clause-reads : goal.returns-in-Err-clause-reads
 returns-in-Err-clause-reads c =
