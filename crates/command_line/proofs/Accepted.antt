@@ -37,6 +37,7 @@ passed : (b : Bool) → cond b [] (kind.ValueValidation ∷ []) ≡ [] → b ≡
 passed true e = refl
 passed false e = absurd (true≢false (ap is_faulty e))
 
+-- each use of an option of `play` keeps them fine
 points_keep : Keeps false PointsAreFine points_filled
 points_keep [] rows e all = absurd (true≢false (ap is_faulty e))
 points_keep (v ∷ vs) rows e all =

@@ -38,6 +38,7 @@ module _ (id : Text) (low high : ℕ) where
   fine_append [] ys a b = b
   fine_append (x ∷ xs) ys a b = (a.0, fine_append xs ys a.1 b)
 
+  -- a change of the rows of any option
   fine_at_row : (name : Text) (change : Row → List Row) (missing : List Row) → ((r : Row) → IsFineRow r → AreFine (change r)) → AreFine missing
       → (rows : List Row) → AreFine rows → AreFine (at_row name change missing rows)
   fine_at_row name change missing changes none [] all = none

@@ -20,6 +20,7 @@ abbrev pub StopsElsewhere : Option (Text × List Text) → Type 0
 StopsElsewhere None = Unit {0}
 StopsElsewhere (Some p) = bytes_eq p.0 (codes "help") ≡ false
 
+-- `help` is a subcommand of the command, and entering it is a fault
 module _ (s : Shape) (helps : s.disable_help_subcommand ≡ false) where
   plain_step : (waiting : Waiting) (word : Text) (h : Held) → IsNoHelp (plain_word s.rules waiting word h).1
   plain_step idle word h = tt

@@ -19,16 +19,19 @@ abbrev pub is_faulty : Kinds → Bool
 is_faulty [] = false
 is_faulty (k ∷ ks) = true
 
+-- no fault in two steps is none in the first
 pub no_first : (a b : Kinds) → or_else a b ≡ [] → a ≡ []
 no_first [] b e = refl
 no_first (k ∷ ks) b e = e
 
+-- and none in the second
 pub no_next : (a b : Kinds) → or_else a b ≡ [] → b ≡ []
 no_next [] b e = e
 no_next (k ∷ ks) b e = absurd (true≢false (ap is_faulty e))
 
 -- ---- each of a list
 
+-- P holds of each element
 abbrev pub Every : {X : Type 0} → (X → Type 0) → List X → Type 0
 Every P [] = Unit {0}
 Every P (x ∷ xs) = P x × Every P xs
@@ -48,14 +51,17 @@ abbrev pub Keeps : Bool → (List Row → Type 0) → Rule → Type 0
 Keeps again P a = (values : List Text) (rows : List Row) → use_fault again a values rows ≡ [] → P rows → P (used a values rows)
 
 module _ (s : Shape) (P : List Row → Type 0) (keeps : Every (Keeps s.args_override_self P) s.rules) where
+  -- a step with these faults keeps P where there are none
   abbrev Fine : Kinds → Held → Held → Type 0
   Fine faults before after = faults ≡ [] → P before.rows → P after.rows
 
+  -- a use of the argument that is found by its id
   by_id : (found : Option Rule) (id : Text) (values : List Text) (rows : List Row) → arg_by_id s.rules id ≡ found
       → option_map_or (λ a. use_fault s.args_override_self a values rows) found [] ≡ [] → P rows → P (used_by_id found values rows)
   by_id None id values rows at e h = h
   by_id (Some a) id values rows at e h = every_found _ _ s.rules a keeps at values rows e h
 
+  -- what is pending is used
   pub settle_keeps : (h : Held) → Fine (settle_fault s.rules s.args_override_self h) h (settled s.rules h)
   settle_keeps h = go h.pending
     where
@@ -79,6 +85,7 @@ module _ (s : Shape) (P : List Row → Type 0) (keeps : Every (Keeps s.args_over
   flag_keeps a kept (Some v) h e rows = rows
   flag_keeps a kept None h e rows = react_keeps a kept [] h e rows
 
+  -- `--name` or `--name=value`
   long_keeps : (name : Text) (v : Option Text) (h : Held)
       → Fine (long_fault s.rules s.args_override_self (arg_by_long s.rules name) v h) h (long_met s.rules (arg_by_long s.rules name) v h).0
   long_keeps name v h = go (arg_by_long s.rules name) refl
@@ -99,6 +106,7 @@ module _ (s : Shape) (P : List Row → Type 0) (keeps : Every (Keeps s.args_over
   abbrev BundleKeeps : (Text → ℕ → Held → Kinds) → (Text → ℕ → Outcome → Held → Held × Outcome) → Type 0
   BundleKeeps faults met = (flags : Text) (skip : ℕ) (so_far : Outcome) (h : Held) → Fine (faults flags skip h) h (met flags skip so_far h).0
 
+  -- one flag of a bundle, and then the rest
   short_keeps : (x : ℕ) (rest : Text) (h : Held) (faults : Held → Kinds) (met : Held → Held × Outcome)
       → ((k : Held) → Fine (faults k) k (met k).0)
       → Fine (short_fault s.rules s.args_override_self (arg_by_short s.rules x) rest h faults) h (short_met s.rules (arg_by_short s.rules x) rest h met).0
@@ -135,6 +143,7 @@ module _ (s : Shape) (P : List Row → Type 0) (keeps : Every (Keeps s.args_over
 
   -- ---- words
 
+  -- a word that is no flag
   plain_keeps : (waiting : Waiting) (word : Text) (h : Held) → P h.rows → P (plain_word s.rules waiting word h).0.rows
   plain_keeps idle word h rows = rows
   plain_keeps positional word h rows = rows
@@ -160,6 +169,7 @@ module _ (s : Shape) (P : List Row → Type 0) (keeps : Every (Keeps s.args_over
       go None none = plain_keeps waiting word h rows
       go (Some flags) none = flag_done waiting word _ _ (flags_keep (length flags) flags h.skip plain (record h { skip = 0 }) none rows)
 
+  -- any word, before it goes to a positional
   word_keeps : (names : Names) (is_trailing : Bool) (waiting : Waiting) (position : ℕ) (word : Text) (h : Held)
       → Fine (word_fault s names is_trailing waiting word h) h (word_met s.rules names is_trailing waiting position word h).0
   word_keeps names true waiting position word h e rows = rows
@@ -176,6 +186,7 @@ module _ (s : Shape) (P : List Row → Type 0) (keeps : Every (Keeps s.args_over
 
   -- ---- the walk
 
+  -- a word that goes to a positional
   value_keeps : (w : Walk) (word : Text) (h : Held) → step_fault s w.position h value ≡ [] → P h.rows
       → P (to_positional s.rules (arg_by_index s.rules w.position) word w h).held.rows
   value_keeps w word h e rows = go (arg_by_index s.rules w.position) e

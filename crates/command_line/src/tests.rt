@@ -50,7 +50,7 @@ fn lines_that_are_accepted(rt: HostRuntime) {
 
 #[test]
 fn lines_that_are_refused(rt: HostRuntime) {
-    let rows: [(&'static [&'static str], ErrorKind); 24] = [
+    let rows: [(&'static [&'static str], ErrorKind); 25] = [
         (&[], ErrorKind::MissingSubcommand),
         (&["g"], ErrorKind::MissingSubcommand),
         (&["g", "run"], ErrorKind::InvalidSubcommand),
@@ -59,6 +59,7 @@ fn lines_that_are_refused(rt: HostRuntime) {
         (&["g", "--version"], ErrorKind::UnknownArgument),
         (&["g", "play", "--version"], ErrorKind::UnknownArgument),
         (&["g", "play", "script"], ErrorKind::UnknownArgument),
+        (&["g", "play", "help"], ErrorKind::UnknownArgument),
         (&["g", "play", "-p", "5"], ErrorKind::UnknownArgument),
         (&["g", "play", "--point", "5"], ErrorKind::UnknownArgument),
         (&["g", "play", "--points"], ErrorKind::InvalidValue),
