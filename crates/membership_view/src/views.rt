@@ -160,16 +160,27 @@ impl Views {
         ensures refused { IfErr result (RefusesOrLacksMemory self.old (Join silo)) }
         ensures unchanged { OnErr result (self.new ≡ self.old) }
     {
-        if !endpoint::is_newest(&self.rows, &silo) {
+        self.may_join(&silo)?;
+        match self.admit(silo) {
+            Ok(joined) => Ok(joined),
+            Err(_) => Err(ViewsError::OutOfMemory),
+        }
+    }
+
+    /// Whether a silo may join: refused as a join of it would be (`docs/RULES.md#membership`). Takes no memory.
+    pub fn may_join(&self, silo: &SiloAddress) -> Result<(), ViewsError>
+        ensures joins { OnOk result (after self.now (Join silo.now) ≡ Ok (with_join self.now silo.now)) }
+        ensures newest { OnOk result (is_newest silo.now self.now.rows ≡ true) }
+        ensures room { OnOk result (length self.now.rows < self.now.limit) }
+        ensures refused { IfErr result (Refuses self.now (Join silo.now)) }
+    {
+        if !endpoint::is_newest(&self.rows, silo) {
             return Err(ViewsError::OldGeneration);
         }
         if self.rows.len() >= self.limit {
             return Err(ViewsError::RowsFull);
         }
-        match self.admit(silo) {
-            Ok(joined) => Ok(joined),
-            Err(_) => Err(ViewsError::OutOfMemory),
-        }
+        Ok(())
     }
 
     /// An Active silo becomes Leaving; answers the version that this makes. Refused by 202 where the silo has never joined, by
