@@ -1,7 +1,9 @@
 -- What all places keep, and so all rings.
 use Rattle.std.proofs.Common.{◌≡◌, ◌⊎◌, inl, inr, ℕ, ◌-◌, ◌<◌, ◌≤◌, List, [], length, Bool, true, false, cond, Option, Some, None, refl, sym, ◌∙◌, subst, arith, IsTrue}
 use Rattle.std.specs.List.{All}
-use Rattle.std.specs.BTreeMap.{insert_entry}
+use Rattle.std.specs.List.Sorted.{IsStrictlySortedBy}
+use Rattle.std.specs.Map.{lookup, keys_of}
+use Rattle.std.specs.BTreeMap.{is_at, insert_entry}
 use Rattle.std.specs.Ordering.{is_eq}
 use Rattle.std.proofs.lemmas.Bool.Decides.{nat_tests}
 use Rattle.std.proofs.lemmas.List.Elements.{All-same, All-get_or}
@@ -65,6 +67,23 @@ IsPlaces-with_silo places silo given list kept count some is hashes =
     IsPlaces-more places silo list kept
     (subst (λ l. ArePlaces places silo l) (sym is)
     (these_places places silo given places.hashing refl kept.points_above kept.points_below count some (All-same (λ place. place < circle) _ _ (sym is) hashes)))
+
+-- ---- a silo is taken out
+found_before : (out : Bool) (its : Option (List ℕ)) (found : List ℕ) → cond out None its ≡ Some found → its ≡ Some found
+found_before true its found is = cc
+found_before false its found is = is
+
+pub IsPlaces-less : (places : PlacesValue) (silo : Silo) (entries : List (Silo × List ℕ)) → IsPlaces places → IsStrictlySortedBy silo_cmp (keys_of entries)
+    → ((other : Silo) → lookup (is_at (silo_cmp other)) entries ≡ cond (is_at (silo_cmp silo) other) None (places_of places other))
+    → IsPlaces (record places { entries = entries })
+IsPlaces-less places silo entries kept in_order left = record {
+  points_above = kept.points_above;
+  points_below = kept.points_below;
+  in_order = in_order;
+  each = λ other found is.
+      let its = kept.each other found (found_before (is_at (silo_cmp silo) other) (places_of places other) found (sym (left other) ∙ is)) in
+      record { some = its.some; most = its.most; hashes = its.hashes; hashed = its.hashed };
+}
 
 -- ---- points stand on the circle
 on_circle_if : (places : PlacesValue) (silo : Silo) → IsPlaces places → (its : Option (List ℕ)) → places_of places silo ≡ its → (point : Point) → In point (points_if silo its) → IsOnCircle point

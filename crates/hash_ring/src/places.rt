@@ -1,6 +1,9 @@
 ghost use Rattle.std.specs.List.{list_all};
 ghost use Rattle.membership_view.specs.Row.{is_active};
 ghost use Rattle.std.specs.Prelude.{◌≡◌, ◌||◌, not, ◌↔◌, ◌<◌, ◌≤◌, [], length, All, IsTrue, IfOk, IfErr, IfSome, OnOk, OnErr, IsErrOf, IsOk, true, false};
+ghost use Rattle.std.specs.BTreeMap.{is_at};
+ghost use Rattle.std.specs.Map.{remove_entry};
+ghost use Rattle.silo_address.specs.Silo.{silo_cmp};
 ghost use Rattle.ring_range.specs.Range.{circle};
 ghost use Rattle.hash_ring.specs.Numbers.{ring_error_number};
 ghost use Rattle.hash_ring.specs.Places.{IsPlaces, after_add, is_added, is_point_count, has_points, most_points, places_for, places_of, with_silo};
@@ -95,6 +98,14 @@ impl Places {
         let list = places_for(self.alloc, self.hashing, self.points, &silo, given)?;
         self.silos.insert(silo, list)?;
         Ok(())
+    }
+
+    /// Takes a silo out, with its places; one that was not added changes nothing. A join that fails later takes back so what it
+    /// added.
+    pub fn remove(&mut self, silo: &SiloAddress)
+        ensures { self.new ≡ record self.old { entries = remove_entry (is_at (silo_cmp silo.now)) self.old.entries } }
+    {
+        let _places = self.silos.remove(silo);
     }
 
     /// How the cluster hashes.
