@@ -178,27 +178,26 @@ pub owns_none : (points : List Point) (at : ℕ) (d : Point) → IsStrictlySorte
 owns_none points at d sorted on_circle within some same =
     by_owner points (get_or points at d) (owner_of points (get_or points at d).place) refl (not_owner points at d sorted on_circle within some same)
 
--- ---- point by point
-abbrev pub ranges_among : List Point → Silo → List Point → List Range
-ranges_among points silo some = map (range_of points) (filter (λ p. silo_eq p.silo silo && owns_its_place points p) some)
+-- what is made of the points that pass a test
+abbrev pub picked : {A : Type 0} → (Point → A) → (Point → Bool) → List Point → List A
+picked make test points = map make (filter test points)
 
-ranges_among-append : (points : List Point) (silo : Silo) (xs ys : List Point) → ranges_among points silo (xs ++ ys) ≡ ranges_among points silo xs ++ ranges_among points silo ys
-ranges_among-append points silo [] ys = refl
-ranges_among-append points silo (x ∷ xs) ys = by (silo_eq x.silo silo && owns_its_place points x) (ranges_among-append points silo xs ys)
+picked-append : {A : Type 0} (make : Point → A) (test : Point → Bool) (xs ys : List Point) → picked make test (xs ++ ys) ≡ picked make test xs ++ picked make test ys
+picked-append make test [] ys = refl
+picked-append make test (x ∷ xs) ys = by (test x) (picked-append make test xs ys)
   where
-    by : (b : Bool) → ranges_among points silo (xs ++ ys) ≡ ranges_among points silo xs ++ ranges_among points silo ys
-        → map (range_of points) (cond b (x ∷ filter (λ p. silo_eq p.silo silo && owns_its_place points p) (xs ++ ys)) (filter (λ p. silo_eq p.silo silo && owns_its_place points p) (xs ++ ys)))
-        ≡ map (range_of points) (cond b (x ∷ filter (λ p. silo_eq p.silo silo && owns_its_place points p) xs) (filter (λ p. silo_eq p.silo silo && owns_its_place points p) xs)) ++ ranges_among points silo ys
-    by true later = ap (λ l. range_of points x ∷ l) later
+    by : (b : Bool) → picked make test (xs ++ ys) ≡ picked make test xs ++ picked make test ys
+        → map make (cond b (x ∷ filter test (xs ++ ys)) (filter test (xs ++ ys))) ≡ map make (cond b (x ∷ filter test xs) (filter test xs)) ++ picked make test ys
+    by true later = ap (λ l. make x ∷ l) later
     by false later = later
 
-pub one_range_more : (points : List Point) (silo : Silo) (i : ℕ) (p : Point) (gives : Bool) → i < length points → p ≡ get_or points i p → gives ≡ (silo_eq p.silo silo && owns_its_place points p)
-    → ranges_among points silo (take (i + 1) points) ≡ ranges_among points silo (take i points) ++ cond gives (range_of points p ∷ []) []
-one_range_more points silo i p gives within is told =
-    ap (λ l. ranges_among points silo l) (one_more points i p within is)
-    ∙ ranges_among-append points silo (take i points) (p ∷ [])
-    ∙ ap (λ l. ranges_among points silo (take i points) ++ l) (by gives told)
+pub one_picked_more : {A : Type 0} (make : Point → A) (test : Point → Bool) (points : List Point) (i : ℕ) (p : Point) (passes : Bool) → i < length points → p ≡ get_or points i p → passes ≡ test p
+    → picked make test (take (i + 1) points) ≡ picked make test (take i points) ++ cond passes (make p ∷ []) []
+one_picked_more make test points i p passes within is told =
+    ap (λ l. picked make test l) (one_more points i p within is)
+    ∙ picked-append make test (take i points) (p ∷ [])
+    ∙ ap (λ l. picked make test (take i points) ++ l) (by passes told)
   where
-    by : (b : Bool) → b ≡ (silo_eq p.silo silo && owns_its_place points p) → ranges_among points silo (p ∷ []) ≡ cond b (range_of points p ∷ []) []
-    by true told = ap (λ b. map (range_of points) (cond b (p ∷ []) [])) (sym told)
-    by false told = ap (λ b. map (range_of points) (cond b (p ∷ []) [])) (sym told)
+    by : (b : Bool) → b ≡ test p → picked make test (p ∷ []) ≡ cond b (make p ∷ []) []
+    by true told = ap (λ b. map make (cond b (p ∷ []) [])) (sym told)
+    by false told = ap (λ b. map make (cond b (p ∷ []) [])) (sym told)

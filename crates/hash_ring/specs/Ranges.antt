@@ -30,6 +30,14 @@ owns_its_place points point = is_point point (owner_of points point.place)
 abbrev pub ranges_of : List Point → Silo → List Range
 ranges_of points silo = map (range_of points) (filter (λ p. silo_eq p.silo silo && owns_its_place points p) points)
 
+-- the range of a point, with its silo
+abbrev pub owned_range : List Point → Point → Range × Silo
+owned_range points point = (range_of points point, point.silo)
+
+-- every range of the ring with the silo that owns it, in the order of the points
+abbrev pub owned_ranges : List Point → List (Range × Silo)
+owned_ranges points = map (owned_range points) (filter (owns_its_place points) points)
+
 -- each hash that the silo owns is in just one of the ranges, and any other in none
 abbrev pub CoverOwned : List Point → Silo → List Range → Type 0
 CoverOwned points silo ranges = EachHash (λ hash. count_by (λ range. holds range hash) ranges ≡ (if owns points silo hash then 1 else 0))

@@ -3,7 +3,7 @@ ghost use Rattle.std.specs.Prelude.{◌≡◌, ◌<◌, ◌≤◌, ◌&&◌, All
 ghost use Rattle.silo_address.specs.Silo.{silo_eq};
 ghost use Rattle.ring_range.specs.Range.{circle};
 ghost use Rattle.hash_ring.specs.Point.{IsOnCircle, point_cmp};
-ghost use Rattle.hash_ring.specs.Ranges.{CoverOwned, owns_its_place, range_of, ranges_of, room};
+ghost use Rattle.hash_ring.specs.Ranges.{CoverOwned, owned_ranges, owns_its_place, range_of, ranges_of, room};
 ghost use Rattle.hash_ring.specs.Search.{PlacesRise};
 ghost use Rattle.hash_ring.specs.declared.point.Point.{Point as PointSeen};
 
@@ -25,6 +25,29 @@ impl Ring {
     {
         ranges_in(alloc, &self.points, silo)
     }
+
+    /// Each range of the ring with the silo that owns it, in order of place: one for each point that is the first at its place.
+    pub fn owned_ranges(&self, alloc: Global) -> Result<Vec<(RingRange, SiloAddress)>, AllocError>
+        ensures { IfOk result (λ ranges. ranges.items ≡ owned_ranges self.now.points) }
+    {
+        owned_in(alloc, &self.points)
+    }
+}
+
+// Each range with its owner, of points in order.
+fn owned_in(alloc: Global, points: &[Point]) -> Result<Vec<(RingRange, SiloAddress)>, AllocError>
+    requires in_order { IsStrictlySortedBy point_cmp points.now }
+    requires rise { PlacesRise points.now }
+    requires on_circle { All IsOnCircle points.now }
+    ensures { IfOk result (λ ranges. ranges.items ≡ owned_ranges points.now) }
+{
+    let mut ranges = Vec::new(alloc);
+    for at in 0..points.len() {
+        if is_first_there(points, at) {
+            ranges.push((range_from(points, at), points[at].silo))?;
+        }
+    }
+    Ok(ranges)
 }
 
 // The ranges of a silo, of points in order.

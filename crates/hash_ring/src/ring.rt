@@ -49,6 +49,16 @@ impl Ring {
         }
     }
 
+    /// The ring of the view before the first change: version 0, without a point.
+    pub fn empty(alloc: Global) -> Ring
+        ensures { result ≡ record { version = 0; points = [] } }
+    {
+        Ring {
+            version: 0,
+            points: Vec::new(alloc),
+        }
+    }
+
     /// The version of the view whose ring this is.
     pub fn version(&self) -> u64
         ensures { result ≡ self.now.version }

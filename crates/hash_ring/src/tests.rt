@@ -205,6 +205,20 @@ fn owners(rt: HostRuntime) -> Result<(), Fail> {
 
 // The places of A and of B, a silo, and its ranges.
 #[test]
+fn ranges_with_their_owners(rt: HostRuntime) -> Result<(), Fail> {
+    let ring = ring_of_two(rt.alloc(), &[4000000000, 10], &[20, 10])?;
+    let want = [(10, 10, A), (20, 3999999980, B), (4000000000, 294967306, A)];
+    let ranges = ring.owned_ranges(rt.alloc())?;
+    assert_eq!(rt; ranges.len(), 3);
+    for (owned, (start, size, text)) in ranges.iter().zip(want) {
+        assert_eq!(rt; owned.0, RingRange::new(start, size)?, "{text}");
+        assert_eq!(rt; owned.1, silo(text)?, "{text}");
+    }
+    assert!(rt; Ring::empty(rt.alloc()).owned_ranges(rt.alloc())?.is_empty());
+    Ok(())
+}
+
+#[test]
 fn ranges(rt: HostRuntime) -> Result<(), Fail> {
     let half = 2147483648;
     let table: [(&[u32], &[u32], &str, &[(u32, u64)]); 9] = [

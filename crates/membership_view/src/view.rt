@@ -1,4 +1,4 @@
-ghost use Rattle.std.specs.Prelude.{◌≡◌, ◌↔◌, IsTrue, IfOk};
+ghost use Rattle.std.specs.Prelude.{◌≡◌, ◌↔◌, [], IsTrue, IfOk};
 ghost use Rattle.membership_view.specs.View.{IsByAddress, active_silos, status_of};
 ghost use Rattle.membership_view.specs.Views.{rows_in};
 
@@ -46,6 +46,16 @@ impl View {
             version,
             rows: shown,
         })
+    }
+
+    /// The view before the first change: version 0, in which nobody is.
+    pub fn empty(alloc: Global) -> View
+        ensures { result ≡ record { version = 0; rows = [] } }
+    {
+        View {
+            version: 0,
+            rows: Vec::new(alloc),
+        }
     }
 
     /// The view's version.
