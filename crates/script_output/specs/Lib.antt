@@ -1,0 +1,4 @@
+pub mod Spaced
+pub mod Printed
+pub mod Effects
+pub mod Shown

@@ -1,0 +1,21 @@
+//! The lines that a script prints, each written behind what stands in a byte buffer. The rules are in
+//! `docs/RULES.md#what-a-script-prints`.
+//!
+//! Each call writes one line with its line feed, or leaves the bytes as they were where memory lacks.
+#![tactic(auto)]
+
+mod event_lines;
+pub mod laws;
+mod line;
+mod marked;
+mod show_lines;
+mod tables;
+mod words;
+
+pub use event_lines::{write_fault, write_outcome, write_refusal};
+pub use show_lines::{
+    write_held, write_no_owner, write_owner, write_range, write_silo, write_version,
+};
+
+#[cfg(test)]
+mod tests;

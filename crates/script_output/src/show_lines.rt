@@ -1,0 +1,200 @@
+//! The lines of `show` and `owner`.
+
+#![tactic(auto, using(crate::proofs::Writing::word_by_word))]
+
+ghost use Rattle.std.specs.Prelude.{◌≡◌, [], ◌∷◌, ◌++◌, OnOk, OnErr, codes};
+ghost use Rattle.std.specs.Fmt.{decimal};
+ghost use Rattle.silo_address.specs.SiloText.{silo_text};
+ghost use Rattle.silo_address.specs.Grain.{grain_text};
+ghost use Rattle.silo_address.specs.ActivationText.{activation_text};
+ghost use Rattle.ring_range.specs.Text.{range_text};
+ghost use Rattle.directory_rules.specs.Show.{held_line, owner_words, phase_word, status_word};
+ghost use Rattle.script_output.specs.Printed.{printed};
+ghost use Rattle.script_output.specs.Shown.{line_of_owner, line_of_range, line_of_silo, words_of_standing, words_of_state, line_of_version};
+ghost use Rattle.script_output.specs.Spaced.{spaced, BeginsWith};
+
+use crate::line::end_line;
+use crate::tables::{phase_word, status_word};
+use crate::words::{
+    push_activation, push_grain, push_named, push_number, push_range, push_silo, push_word,
+};
+use directory_rules::Held;
+use hash_ring::Point;
+use membership_view::Status;
+use ring_range::RingRange;
+use silo_address::{ActivationId, GrainId, SiloAddress};
+use std::alloc::AllocError;
+
+/// Writes `show`'s first line: the current version. Fails only for want of memory.
+pub fn write_version(out: &mut Vec<u8>, version: u64) -> Result<(), AllocError>
+    ensures written { OnOk result (out.new.items ≡ out.old.items ++ printed (line_of_version version)) }
+    ensures unchanged { OnErr result (out.new.items ≡ out.old.items) }
+{
+    let start = out.len();
+    let written = push_named(out, b"version", version);
+    end_line(out, start, written)
+}
+
+/// Writes a silo's line: its status, and where it isn't Dead the version that it has seen and the number of activations that
+/// it holds. Fails only for want of memory.
+pub fn write_silo(
+    out: &mut Vec<u8>,
+    silo: &SiloAddress,
+    status: Status,
+    standing: Option<(u64, usize)>,
+) -> Result<(), AllocError>
+    ensures written { OnOk result (out.new.items ≡ out.old.items ++ printed (line_of_silo silo.now status standing)) }
+    ensures unchanged { OnErr result (out.new.items ≡ out.old.items) }
+{
+    let start = out.len();
+    let written = push_silo_words(out, silo, status, standing);
+    end_line(out, start, written)
+}
+
+fn push_silo_words(
+    out: &mut Vec<u8>,
+    silo: &SiloAddress,
+    status: Status,
+    standing: Option<(u64, usize)>,
+) -> Result<(), AllocError>
+    ensures written { OnOk result (out.new.items ≡ out.old.items ++ spaced (codes "silo" ∷ silo_text silo.now ∷ status_word status ∷ words_of_standing standing)) }
+    ensures kept { BeginsWith out.old.items out.new.items }
+{
+    push_word(out, b"silo")?;
+    push_silo(out, silo)?;
+    push_word(out, status_word(status))?;
+    push_standing(out, standing)?;
+    Ok(())
+}
+
+fn push_standing(out: &mut Vec<u8>, standing: Option<(u64, usize)>) -> Result<(), AllocError>
+    ensures written { OnOk result (out.new.items ≡ out.old.items ++ spaced (words_of_standing standing)) }
+    ensures kept { BeginsWith out.old.items out.new.items }
+{
+    let Some((seen, held)) = standing else {
+        return Ok(());
+    };
+    push_named(out, b"seen", seen)?;
+    push_named(out, b"held", held as u64)?;
+    Ok(())
+}
+
+/// Writes the line of an activation that the silo holds for the grain. Fails only for want of memory.
+pub fn write_held(
+    out: &mut Vec<u8>,
+    silo: &SiloAddress,
+    grain: &GrainId,
+    held: &Held,
+) -> Result<(), AllocError>
+    ensures written { OnOk result (out.new.items ≡ out.old.items ++ printed (held_line silo.now grain.now held.now)) }
+    ensures unchanged { OnErr result (out.new.items ≡ out.old.items) }
+{
+    let start = out.len();
+    let written = push_held(out, silo, grain, held);
+    end_line(out, start, written)
+}
+
+fn push_held(
+    out: &mut Vec<u8>,
+    silo: &SiloAddress,
+    grain: &GrainId,
+    held: &Held,
+) -> Result<(), AllocError>
+    ensures written { OnOk result (out.new.items ≡ out.old.items ++ spaced
+        (codes "held" ∷ activation_text (record { silo = silo.now; count = held.now.count }) ∷ grain_text grain.now ∷ phase_word held.now.phase ∷ [])) }
+    ensures kept { BeginsWith out.old.items out.new.items }
+{
+    let activation = ActivationId {
+        silo: *silo,
+        count: held.count,
+    };
+    push_word(out, b"held")?;
+    push_activation(out, &activation)?;
+    push_grain(out, grain)?;
+    push_word(out, phase_word(held.phase))?;
+    Ok(())
+}
+
+/// Writes the line of a range of the current ring and of the silo that owns it: how many entries it has, where it is settled
+/// there, and `None` where it isn't. Fails only for want of memory.
+pub fn write_range(
+    out: &mut Vec<u8>,
+    range: &RingRange,
+    owner: &SiloAddress,
+    entries: Option<usize>,
+) -> Result<(), AllocError>
+    ensures written { OnOk result (out.new.items ≡ out.old.items ++ printed (line_of_range range.now owner.now entries)) }
+    ensures unchanged { OnErr result (out.new.items ≡ out.old.items) }
+{
+    let start = out.len();
+    let written = push_range_words(out, range, owner, entries);
+    end_line(out, start, written)
+}
+
+fn push_range_words(
+    out: &mut Vec<u8>,
+    range: &RingRange,
+    owner: &SiloAddress,
+    entries: Option<usize>,
+) -> Result<(), AllocError>
+    ensures written { OnOk result (out.new.items ≡ out.old.items ++ spaced (codes "range" ∷ range_text range.now ∷ silo_text owner.now ∷ words_of_state entries)) }
+    ensures kept { BeginsWith out.old.items out.new.items }
+{
+    push_word(out, b"range")?;
+    push_range(out, range)?;
+    push_silo(out, owner)?;
+    push_state(out, entries)?;
+    Ok(())
+}
+
+fn push_state(out: &mut Vec<u8>, entries: Option<usize>) -> Result<(), AllocError>
+    ensures written { OnOk result (out.new.items ≡ out.old.items ++ spaced (words_of_state entries)) }
+    ensures kept { BeginsWith out.old.items out.new.items }
+{
+    let Some(entries) = entries else {
+        return push_word(out, b"unsettled");
+    };
+    push_word(out, b"settled")?;
+    push_named(out, b"entries", entries as u64)?;
+    Ok(())
+}
+
+/// Writes the line of a ring with no point. Fails only for want of memory.
+pub fn write_no_owner(out: &mut Vec<u8>) -> Result<(), AllocError>
+    ensures written { OnOk result (out.new.items ≡ out.old.items ++ printed (codes "no owner")) }
+    ensures unchanged { OnErr result (out.new.items ≡ out.old.items) }
+{
+    out.extend_from_slice(b"no owner\n")
+}
+
+/// Writes the line that tells the owner of a hash: its silo and the index of its point, or that there is none. Fails only for
+/// want of memory.
+pub fn write_owner(out: &mut Vec<u8>, hash: u32, owner: Option<Point>) -> Result<(), AllocError>
+    ensures written { OnOk result (out.new.items ≡ out.old.items ++ printed (line_of_owner hash owner)) }
+    ensures unchanged { OnErr result (out.new.items ≡ out.old.items) }
+{
+    let start = out.len();
+    let written = push_owner_words(out, hash, owner);
+    end_line(out, start, written)
+}
+
+fn push_owner_words(out: &mut Vec<u8>, hash: u32, owner: Option<Point>) -> Result<(), AllocError>
+    ensures written { OnOk result (out.new.items ≡ out.old.items ++ spaced (codes "owner" ∷ decimal hash ∷ owner_words owner)) }
+    ensures kept { BeginsWith out.old.items out.new.items }
+{
+    push_named(out, b"owner", u64::from(hash))?;
+    push_point(out, owner)?;
+    Ok(())
+}
+
+fn push_point(out: &mut Vec<u8>, owner: Option<Point>) -> Result<(), AllocError>
+    ensures written { OnOk result (out.new.items ≡ out.old.items ++ spaced (owner_words owner)) }
+    ensures kept { BeginsWith out.old.items out.new.items }
+{
+    let Some(point) = owner else {
+        return push_word(out, b"none");
+    };
+    push_silo(out, &point.silo)?;
+    push_number(out, point.index as u64)?;
+    Ok(())
+}
