@@ -1,0 +1,59 @@
+-- Entries under keys: what is found, and how many there are, after one is put last and after one is taken out.
+use Rattle.std.proofs.Common.{◌≡◌, refl, ap, ◌+◌, List, [], ◌∷◌, ◌++◌, length, cond, Bool, true, false, Some, None, arith}
+use Rattle.std.specs.List.{AllByRecursion}
+use Rattle.std.specs.List.Sorted.{IsStrictlySortedBy}
+use Rattle.std.specs.Map.{lookup, remove_entry, keys_of}
+use Rattle.std.specs.declared.cmp.Ordering.{Ordering}
+use Rattle.std.specs.declared.cmp.Ordering.TheVariants.{Less}
+
+module _ {K X : Type 0} (test : K → Bool) where
+  -- an entry comes last
+  pub lookup_last : (es : List (K × X)) (e : K × X) → lookup test es ≡ None → lookup test (es ++ e ∷ []) ≡ cond (test e.0) (Some e.1) None
+  lookup_last [] e none = refl
+  lookup_last (x ∷ xs) e none = by (test x.0) none (lookup_last xs e)
+    where
+      by : (b : Bool) → cond b (Some x.1) (lookup test xs) ≡ None → (lookup test xs ≡ None → lookup test (xs ++ e ∷ []) ≡ cond (test e.0) (Some e.1) None)
+          → cond b (Some x.1) (lookup test (xs ++ e ∷ [])) ≡ cond (test e.0) (Some e.1) None
+      by true none later = cc
+      by false none later = later none
+
+  -- and is not what is found
+  pub lookup_before : (es : List (K × X)) (e : K × X) → test e.0 ≡ false → lookup test (es ++ e ∷ []) ≡ lookup test es
+  lookup_before [] e not = ap (λ b. cond b (Some e.1) None) not
+  lookup_before (x ∷ xs) e not = ap (λ found. cond (test x.0) (Some x.1) found) (lookup_before xs e not)
+
+  -- one entry less
+  pub length-remove_entry : (es : List (K × X)) (x : X) → lookup test es ≡ Some x → length (remove_entry test es) + 1 ≡ length es
+  length-remove_entry [] x found = cc
+  length-remove_entry (e ∷ es) x found = by (test e.0) found (length-remove_entry es x)
+    where
+      by : (b : Bool) → cond b (Some e.1) (lookup test es) ≡ Some x → (lookup test es ≡ Some x → length (remove_entry test es) + 1 ≡ length es)
+          → length (cond b es (e ∷ remove_entry test es)) + 1 ≡ length (e ∷ es)
+      by true found later = omega arith
+      by false found later = let h = later found in omega (h, arith)
+
+  pub remove_absent : (es : List (K × X)) → lookup test es ≡ None → remove_entry test es ≡ es
+  remove_absent [] none = refl
+  remove_absent (e ∷ es) none = by (test e.0) none (remove_absent es)
+    where
+      by : (b : Bool) → cond b (Some e.1) (lookup test es) ≡ None → (lookup test es ≡ None → remove_entry test es ≡ es) → cond b es (e ∷ remove_entry test es) ≡ e ∷ es
+      by true none later = cc
+      by false none later = ap (λ l. e ∷ l) (later none)
+
+  all-remove_entry : (P : K → Type 0) (es : List (K × X)) → AllByRecursion P (keys_of es) → AllByRecursion P (keys_of (remove_entry test es))
+  all-remove_entry P [] all = tt
+  all-remove_entry P (e ∷ es) all = by (test e.0) (all-remove_entry P es all.1)
+    where
+      by : (b : Bool) → AllByRecursion P (keys_of (remove_entry test es)) → AllByRecursion P (keys_of (cond b es (e ∷ remove_entry test es)))
+      by true later = all.1
+      by false later = (all.0, later)
+
+  -- the keys stay in order
+  pub sorted-remove_entry : (R : K → K → Ordering) (es : List (K × X)) → IsStrictlySortedBy R (keys_of es) → IsStrictlySortedBy R (keys_of (remove_entry test es))
+  unfolding IsStrictlySortedBy
+  sorted-remove_entry R [] s = tt
+  sorted-remove_entry R (e ∷ es) s = by (test e.0) (sorted-remove_entry R es s.1)
+    where
+      by : (b : Bool) → IsStrictlySortedBy R (keys_of (remove_entry test es)) → IsStrictlySortedBy R (keys_of (cond b es (e ∷ remove_entry test es)))
+      by true later = s.1
+      by false later = (all-remove_entry (λ y. R e.0 y ≡ Less) es s.0, later)

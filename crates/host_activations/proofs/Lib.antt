@@ -1,0 +1,13 @@
+pub mod Grains
+pub mod Entries
+pub mod Numbers
+pub mod Asking
+pub mod Finds
+pub mod Kept
+pub mod Found
+pub mod Fields
+pub mod Beginnings
+pub mod Endings
+pub mod Replies
+pub mod PutAll
+pub mod Outstanding

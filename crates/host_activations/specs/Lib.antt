@@ -1,0 +1,5 @@
+pub mod Numbers
+pub mod Asked
+pub mod Acts
+pub mod IsHost
+pub mod Fields

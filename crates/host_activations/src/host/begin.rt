@@ -1,0 +1,71 @@
+ghost use Rattle.std.specs.Prelude.{◌≡◌, ◌≤◌, ◌^◌, None, IsTrue, IfSome, IsSomeAnd, OnOk, OnErr};
+ghost use Rattle.directory_rules.specs.Host.{held_of, is_firm, with_closing, with_find, with_started};
+
+use super::Host;
+use crate::asked::Asked;
+use crate::held_map::{self, held_at};
+use directory_rules::{Held, Phase};
+use silo_address::{ActivationId, GrainId};
+use std::alloc::AllocError;
+
+impl Host {
+    /// An activation of the grain begins, in the place of a previous one if one is named, and asks to be entered. Fails only
+    /// for want of memory.
+    pub fn start(
+        &mut self,
+        grain: GrainId,
+        previous: Option<ActivationId>,
+    ) -> Result<(), AllocError>
+        requires new { held_of self.old grain ≡ None }
+        requires number { self.old.next_number ≤ 2 ^ 60 }
+        requires count { self.old.next_count ≤ 2 ^ 60 }
+        ensures started { OnOk result (self.new ≡ with_started self.old grain previous) }
+        ensures unchanged { OnErr result (self.new ≡ self.old) }
+    {
+        self.held.reserve(1)?;
+        self.outstanding
+            .insert(self.next_number, Asked::Activation(grain))?;
+        held_map::push(
+            &mut self.held,
+            grain,
+            self.next_count,
+            self.next_number,
+            previous,
+        );
+        self.next_number += 1;
+        self.next_count += 1;
+        Ok(())
+    }
+
+    /// The grain's firm activation asks to be taken out. Fails only for want of memory.
+    pub fn begin_to_close(&mut self, grain: &GrainId) -> Result<(), AllocError>
+        requires firm { IsSomeAnd (held_of self.old grain.now) (λ held. IsTrue (is_firm held.phase)) }
+        requires number { self.old.next_number ≤ 2 ^ 60 }
+        ensures closing { OnOk result (IfSome (held_of self.old grain.now) (λ held. self.new ≡ with_closing self.old grain.now held)) }
+        ensures unchanged { OnErr result (self.new ≡ self.old) }
+    {
+        let held = held_at(&self.held, grain).unwrap();
+        self.outstanding
+            .insert(self.next_number, Asked::Activation(*grain))?;
+        let closing = Held {
+            phase: Phase::Closing(self.next_number),
+            ..held
+        };
+        held_map::put(&mut self.held, grain, closing);
+        self.next_number += 1;
+        Ok(())
+    }
+
+    /// The host asks where the grain is. Fails only for want of memory.
+    pub fn ask(&mut self, grain: GrainId) -> Result<(), AllocError>
+        requires number { self.old.next_number ≤ 2 ^ 60 }
+        ensures asking { OnOk result (self.new ≡ with_find self.old grain) }
+        ensures unchanged { OnErr result (self.new ≡ self.old) }
+    {
+        self.outstanding
+            .insert(self.next_number, Asked::Find(grain))?;
+        self.next_number += 1;
+        self.find_count += 1;
+        Ok(())
+    }
+}

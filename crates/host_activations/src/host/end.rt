@@ -1,0 +1,59 @@
+ghost use Rattle.std.specs.Prelude.{◌≡◌, MatchOption};
+ghost use Rattle.directory_rules.specs.Host.{asking_under, confirmed, without_find, without_held};
+ghost use Rattle.host_activations.specs.Asked.{without_number};
+
+use super::Host;
+use super::replies::find_under;
+use crate::asked::Asked;
+use crate::held_map::{self, number_of};
+use directory_rules::{Held, Phase};
+use silo_address::GrainId;
+use std::collections::BTreeMap;
+
+impl Host {
+    /// The activation whose Register has the number is firm from now on. Where there is none, nothing changes.
+    pub fn confirm(&mut self, number: u64)
+        ensures { MatchOption (asking_under self.old number) (self.new ≡ self.old) (λ e. self.new ≡ confirmed self.old e.0 e.1) }
+    {
+        let Some(found) = self.asking_under(number) else {
+            return;
+        };
+        let (grain, held) = found;
+        let firm = Held {
+            phase: Phase::Firm,
+            previous: None,
+            ..held
+        };
+        self.outstanding.remove(&number);
+        held_map::put(&mut self.held, &grain, firm);
+    }
+
+    /// The grain's activation goes, and with it the request that it has outstanding. Where there is none, nothing changes.
+    pub fn end(&mut self, grain: &GrainId)
+        ensures { self.new ≡ without_held self.old grain.now }
+    {
+        let number = number_of(&self.held, grain);
+        free(&mut self.outstanding, number);
+        held_map::remove(&mut self.held, grain);
+    }
+
+    /// The find that has the number goes. Where there is none, nothing changes.
+    pub fn end_find(&mut self, number: u64)
+        ensures { self.new ≡ without_find self.old number }
+    {
+        let Some(_) = find_under(&self.outstanding, number) else {
+            return;
+        };
+        self.outstanding.remove(&number);
+        self.find_count -= 1;
+    }
+}
+
+// The number has nothing outstanding any more, if there is one.
+fn free(outstanding: &mut BTreeMap<u64, Asked>, number: Option<u64>)
+    ensures { outstanding.new.entries ≡ without_number number outstanding.old.entries }
+{
+    if let Some(number) = number {
+        outstanding.remove(&number);
+    }
+}

@@ -1,0 +1,9 @@
+//! A silo as the place of activations: the activations that it holds, the finds that it has outstanding, and the numbers
+//! of its requests (`docs/RULES.md#phases`).
+#![tactic(auto)]
+
+mod asked;
+mod held_map;
+mod host;
+
+pub use host::Host;
