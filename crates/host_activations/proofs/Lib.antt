@@ -11,3 +11,6 @@ pub mod Endings
 pub mod Replies
 pub mod PutAll
 pub mod Outstanding
+pub mod Counted
+pub mod Same
+pub mod Tables

@@ -1,5 +1,6 @@
 pub mod Numbers
 pub mod Asked
 pub mod Acts
+pub mod FirmTable
 pub mod IsHost
 pub mod Fields

@@ -6,7 +6,10 @@ ghost use Rattle.silo_address.specs.Grain.{Grain};
 
 mod begin;
 mod end;
+mod limits;
 mod replies;
+mod same;
+mod telling;
 
 use crate::asked::Asked;
 use crate::held_map::{HeldMap, held_at};

@@ -1,0 +1,174 @@
+-- The numbers of a host's requests are distinct and below the next one, as the rule says.
+use Rattle.std.proofs.Common.{arith, ◌≡◌, ◌≢◌, refl, sym, ap, subst, ◌∙◌, ℕ, List, [], ◌∷◌, ◌++◌, ◌+◌, ◌≤◌, ◌<◌, cond, length, length-append, Bool, true, false, Option, Some, None, option_and_then}
+use Rattle.std.specs.Prelude.{All, AllPairs, nat_lt}
+use Rattle.std.specs.List.{AllByRecursion, IsDistinct}
+use Rattle.std.specs.List.Sorted.{IsStrictlySortedBy}
+use Rattle.std.specs.Map.{keys_of, lookup}
+use Rattle.std.specs.BTreeMap.{is_at}
+use Rattle.std.specs.Ordering.{nat_cmp}
+use Rattle.std.specs.declared.cmp.Ordering.TheVariants.{Less, Equal}
+use Rattle.std.proofs.lemmas.Bool.{ltb-true, ltb-false}
+use Rattle.std.proofs.lemmas.Cmp.{tied_itself, nat_cmp_total}
+use Rattle.std.proofs.lemmas.List.Elements.{All-nil, All-cons}
+use Rattle.std.proofs.lemmas.List.Kept.{AllPairs-cons}
+use Rattle.std.proofs.lemmas.Map.Keys.{IsDistinct-head, IsDistinct-tail, sorted_head, sorted_tail}
+use Rattle.silo_address.specs.Silo.{Silo}
+use Rattle.silo_address.specs.Grain.{Grain, grain_eq}
+use Rattle.silo_address.proofs.Same.{Decides-grain}
+use Rattle.directory_rules.specs.declared.Act.{Act}
+use Rattle.directory_rules.specs.declared.Act.TheVariants as act
+use Rattle.directory_rules.specs.declared.Held.{Held}
+use Rattle.directory_rules.specs.declared.Phase.{Phase}
+use Rattle.directory_rules.specs.declared.Phase.TheVariants.{Asking, Firm, Closing}
+use Rattle.directory_rules.specs.Host.{Host, find_acts, held_acts, outstanding}
+use Rattle.directory_rules.specs.Laws.{AreNumbered, requests_of}
+use Rattle.directory_rules.proofs.Cases.{on_bool}
+use Rattle.directory_rules.proofs.Numbering.{one, one_same, one_cases, times, times_append, times_phase, with_number, numbers}
+use Rattle.directory_rules.proofs.Renewal.{held_numbers, same_keys, length_put_all}
+use Rattle.host_activations.specs.declared.asked.Asked.{Asked}
+use Rattle.host_activations.specs.declared.asked.Asked.TheVariants.{Activation, Find}
+use Rattle.host_activations.specs.Numbers.{number_in, number_of}
+use Rattle.host_activations.specs.Asked.{asked_under, find_in, finds_in}
+use Rattle.host_activations.specs.IsHost.{AreHeld}
+use Rattle.host_activations.proofs.Numbers.{on_number, number_at_itself}
+use Rattle.host_activations.proofs.Asking.{same_activation, no_find, nothing}
+use Rattle.host_activations.proofs.Found.{IsFoundIn, all_map, each_found}
+use Rattle.host_activations.proofs.Finds.{find_under, finds_sorted}
+use Rattle.host_activations.proofs.Fields.{meant}
+
+-- ---- How often a number occurs.
+phase_times : (n : ℕ) (phase : Phase) → (number_in phase ≡ Some n → ⊥) → times n (with_number phase []) ≡ 0
+phase_times n (Asking k) not = one_cases (λ r. r + 0 ≡ 0) n k (λ same. absurd (not (ap (λ (j : ℕ). Some j) same))) refl
+phase_times n Firm not = refl
+phase_times n (Closing k) not = one_cases (λ r. r + 0 ≡ 0) n k (λ same. absurd (not (ap (λ (j : ℕ). Some j) same))) refl
+
+-- no activation has the number
+none_has : (n : ℕ) (es : List (Grain × Held)) → AllByRecursion (λ e. number_in e.1.phase ≡ Some n → ⊥) es → times n (numbers es) ≡ 0
+none_has n [] none = refl
+none_has n (e ∷ es) none =
+    let here = times_phase n e.1.phase (numbers es) in let head = phase_times n e.1.phase none.0 in let later = none_has n es none.1 in omega (here, head, later, arith)
+
+-- one grain's at most
+others_not : (n : ℕ) (g : Grain) (es : List (Grain × Held)) → AllByRecursion (λ q. grain_eq g q ≡ false) (keys_of es) → AllByRecursion (λ e. number_in e.1.phase ≡ Some n → e.0 ≡ g) es
+    → AllByRecursion (λ e. number_in e.1.phase ≡ Some n → ⊥) es
+others_not n g [] apart only = tt
+others_not n g (e ∷ es) apart only =
+    ((λ has. let h : true ≡ false = sym ((Decides-grain g e.0).1 (sym (only.0 has))) ∙ apart.0 in cc), others_not n g es apart.1 only.1)
+
+phase_cases : {Q : Type 0} (n : ℕ) (phase : Phase) → (number_in phase ≡ Some n → times n (with_number phase []) ≡ 1 → Q) → (times n (with_number phase []) ≡ 0 → Q) → Q
+phase_cases {Q} n (Asking k) has not = one_cases (λ r. (number_in (Asking k) ≡ Some n → r + 0 ≡ 1 → Q) → (r + 0 ≡ 0 → Q) → Q) n k (λ same yes no. yes (ap (λ (j : ℕ). Some j) same) refl) (λ yes no. no refl) has not
+phase_cases {Q} n Firm has not = not refl
+phase_cases {Q} n (Closing k) has not = one_cases (λ r. (number_in (Closing k) ≡ Some n → r + 0 ≡ 1 → Q) → (r + 0 ≡ 0 → Q) → Q) n k (λ same yes no. yes (ap (λ (j : ℕ). Some j) same) refl) (λ yes no. no refl) has not
+
+one_has : (n : ℕ) (g : Grain) (es : List (Grain × Held)) → IsDistinct grain_eq (keys_of es) → AllByRecursion (λ e. number_in e.1.phase ≡ Some n → e.0 ≡ g) es → times n (numbers es) ≤ 1
+one_has n g [] apart only = omega arith
+one_has n g (e ∷ es) apart only =
+    let here = times_phase n e.1.phase (numbers es) in
+    let later = one_has n g es (IsDistinct-tail grain_eq e.0 (keys_of es) apart) only.1 in
+    phase_cases n e.1.phase
+    (λ has head. let rest = none_has n es (others_not n g es
+    (subst (λ (x : Grain). AllByRecursion (λ y. grain_eq x y ≡ false) (keys_of es)) (only.0 has) (IsDistinct-head grain_eq e.0 (keys_of es) apart)) only.1) in
+    omega (here, head, rest, arith))
+    (λ head. omega (here, head, later, arith))
+
+-- ---- Numbers in order.
+above_not : (n : ℕ) (ks : List ℕ) → AllByRecursion (λ k. nat_cmp n k ≡ Less) ks → times n ks ≡ 0
+above_not n [] above = refl
+above_not n (k ∷ ks) above =
+    let later = above_not n ks above.1 in
+    one_cases (λ r. r + times n ks ≡ 0) n k (λ same. let h : Equal ≡ Less = sym (tied_itself nat_cmp_total n) ∙ ap (λ (j : ℕ). nat_cmp n j) (sym same) ∙ above.0 in cc) (omega (later, arith))
+
+in_order_once : (n : ℕ) (ks : List ℕ) → IsStrictlySortedBy nat_cmp ks → times n ks ≤ 1
+in_order_once n [] sorted = omega arith
+in_order_once n (k ∷ ks) sorted =
+    let later = in_order_once n ks (sorted_tail nat_cmp k ks sorted) in
+    one_cases (λ r. r + times n ks ≤ 1) n k
+    (λ same. let none = above_not n ks (subst (λ (j : ℕ). AllByRecursion (λ y. nat_cmp j y ≡ Less) ks) same (sorted_head nat_cmp k ks sorted)) in omega (none, arith))
+    (omega (later, arith))
+
+not_there : {X : Type 0} (n : ℕ) (es : List (ℕ × X)) → lookup (is_at (nat_cmp n)) es ≡ None → times n (keys_of es) ≡ 0
+not_there n [] none = refl
+not_there n (e ∷ es) none = by (is_at (nat_cmp n) e.0) refl none (not_there n es)
+  where
+    by : (b : Bool) → is_at (nat_cmp n) e.0 ≡ b → cond b (Some e.1) (lookup (is_at (nat_cmp n)) es) ≡ None → (lookup (is_at (nat_cmp n)) es ≡ None → times n (keys_of es) ≡ 0)
+        → one n e.0 + times n (keys_of es) ≡ 0
+    by true at none later = cc
+    by false at none later =
+        let rest = later none in
+        one_cases (λ r. r + times n (keys_of es) ≡ 0) n e.0
+        (λ same. let h : true ≡ false = sym (number_at_itself n) ∙ ap (λ (j : ℕ). is_at (nat_cmp n) j) (sym same) ∙ at in cc) (omega (rest, arith))
+
+-- ---- Entries under numbers that occur once.
+all_so : (P : ℕ → Type 0) (es : List (ℕ × Act)) → ((n : ℕ) → 1 ≤ times n (keys_of es) → P n) → All (λ e. P e.0) es
+all_so P [] so = All-nil _
+all_so P (e ∷ es) so =
+    let same = one_same e.0 in
+    All-cons (λ x. P x.0) e es (so e.0 (omega (same, arith))) (all_so P es (λ n later. so n (omega (later, arith))))
+
+all_apart : (es : List (ℕ × Act)) → ((n : ℕ) → times n (keys_of es) ≤ 1) → AllPairs (λ e later. e.0 ≢ later.0) es
+all_apart [] once = λ i j d lt short. absurd (omega (short, arith))
+all_apart (e ∷ es) once =
+    AllPairs-cons (λ x later. x.0 ≢ later.0) e es
+    (all_so (λ n. e.0 ≢ n) es (λ n later same.
+    let here = subst (λ i. one n i ≡ 1) (sym same) (one_same n) in let few = once n in omega (here, later, few, arith)))
+    (all_apart es (λ n. let few = once n in omega (few, arith)))
+
+keys_append : (n : ℕ) (xs ys : List (ℕ × Act)) → times n (keys_of (xs ++ ys)) ≡ times n (keys_of xs) + times n (keys_of ys)
+keys_append n [] ys = omega arith
+keys_append n (x ∷ xs) ys = let later = keys_append n xs ys in omega (later, arith)
+
+module _ (silo : Silo) (next count : ℕ) (held : List (Grain × Held)) (out : List (ℕ × Asked)) (are : AreHeld next held out) where
+  abbrev host : Host
+  host = meant silo next count held out
+
+  stands : (n : ℕ) (e : Grain × Held) → IsFoundIn held e → number_in e.1.phase ≡ Some n → asked_under n out ≡ Some (Activation e.0)
+  stands n e found has = are.asked.there e.0 n (ap (λ o. option_and_then (λ (x : Held). number_in x.phase) o) found ∙ has)
+
+  not_held : (n : ℕ) → ((g : Grain) → asked_under n out ≡ Some (Activation g) → ⊥) → times n (numbers held) ≡ 0
+  not_held n never =
+      none_has n held
+      (all_map (IsFoundIn held) (λ e. number_in e.1.phase ≡ Some n → ⊥) held (λ e found has. never e.0 (stands n e found has)) (each_found held are.apart))
+
+  once : (n : ℕ) → times n (numbers held) + times n (keys_of (finds_in out)) ≤ 1
+  once n = by (asked_under n out) refl
+    where
+      few : times n (keys_of (finds_in out)) ≤ 1
+      few = in_order_once n (keys_of (finds_in out)) (finds_sorted out are.in_order)
+
+      by : (o : Option Asked) → asked_under n out ≡ o → times n (numbers held) + times n (keys_of (finds_in out)) ≤ 1
+      by None is = let none = not_held n (λ g h. nothing (Activation g) (sym is ∙ h)) in omega (none, few, arith)
+      by (Some (Find g)) is = let none = not_held n (λ q h. no_find g q (sym is ∙ h)) in omega (none, few, arith)
+      by (Some (Activation g)) is =
+          let one = one_has n g held are.apart (all_map (IsFoundIn held) (λ e. number_in e.1.phase ≡ Some n → e.0 ≡ g) held
+          (λ e found has. same_activation e.0 g (sym (stands n e found has) ∙ is)) (each_found held are.apart)) in
+          let none = not_there n (finds_in out) (find_under out are.in_order n ∙ ap (λ o. option_and_then find_in o) is) in
+          omega (one, none, arith)
+
+  past : (n : ℕ) → next ≤ n → times n (numbers held) + times n (keys_of (finds_in out)) ≡ 0
+  past n high = by (asked_under n out) refl
+    where
+      by : (o : Option Asked) → asked_under n out ≡ o → times n (numbers held) + times n (keys_of (finds_in out)) ≡ 0
+      by (Some it) is = let low = are.below n it is in absurd (omega (low, high, arith))
+      by None is =
+          let none = not_held n (λ g h. nothing (Activation g) (sym is ∙ h)) in
+          let other = not_there n (finds_in out) (find_under out are.in_order n ∙ ap (λ o. option_and_then find_in o) is) in
+          omega (none, other, arith)
+
+  held_times : (n : ℕ) → times n (keys_of (held_acts host)) ≡ times n (numbers held)
+  held_times n = ap (times n) (held_numbers host held)
+
+  find_times : (n : ℕ) → times n (keys_of (find_acts host)) ≡ times n (keys_of (finds_in out))
+  find_times n = ap (times n) (same_keys (λ grain. act.Find grain) (finds_in out))
+
+  all_times : (n : ℕ) → times n (keys_of (requests_of host)) ≡ times n (numbers held) + times n (keys_of (finds_in out))
+  all_times n = let both = keys_append n (held_acts host) (find_acts host) in let first = held_times n in let second = find_times n in omega (both, first, second, arith)
+
+  pub are_numbered : AreNumbered host
+  are_numbered = record {
+    distinct = all_apart (requests_of host) (λ n. let times = all_times n in let few = once n in omega (times, few, arith));
+    many = length_put_all (find_acts host) (held_acts host) (λ n. let first = held_times n in let second = find_times n in let few = once n in omega (first, second, few, arith))
+        ∙ sym (length-append (held_acts host) (find_acts host));
+    below = all_so (λ n. n < next) (requests_of host) (λ n there.
+        on_bool (λ b. n < next) (nat_lt n next) (λ t. ltb-true n next t)
+        (λ f. let high = ltb-false n next f in let none = past n (omega (high, arith)) in let times = all_times n in omega (there, none, times, arith)));
+  }

@@ -1,0 +1,10 @@
+use Rattle.std.proofs.Common.{sym, ap, ◌∙◌, length}
+use Rattle.directory_rules.specs.Host.{Host, outstanding}
+use Rattle.host_activations.proofs.Outstanding.{as_many}
+use Rattle.host_activations.proofs.host.Host.outstanding_count.Goals as goal
+
+pub returns : goal.returns
+returns c =
+    c.len.ensures.len
+    ∙ sym (as_many c.self.inside.silo c.self.inside.next_number c.self.inside.next_count c.self.inside.held.entries c.self.inside.outstanding.entries c.self.invariant.are_held)
+    ∙ ap (λ (h : Host). length (outstanding h)) c.self.view_is

@@ -1,0 +1,72 @@
+ghost use Rattle.std.specs.List.{IsDistinct};
+ghost use Rattle.std.specs.List.Sorted.{IsStrictlySortedBy};
+ghost use Rattle.std.specs.Map.{keys_of};
+ghost use Rattle.std.specs.Ordering.{nat_cmp};
+ghost use Rattle.std.specs.Prelude.{◌≡◌, ◌↔◌, IsTrue, IfOk};
+ghost use Rattle.directory_rules.specs.Laws.{AreNumbered};
+ghost use Rattle.host_activations.specs.IsHost.{IsNext};
+ghost use Rattle.silo_address.specs.Grain.{grain_eq};
+
+use super::Host;
+use crate::asked::Asked;
+use crate::held_map::HeldMap;
+use std::alloc::AllocError;
+use std::collections::BTreeMap;
+
+impl Host {
+    /// A law: what all hosts keep. Each grain has one activation; the requests have distinct numbers below the next one.
+    pub fn whole(&self)
+        ensures numbered { AreNumbered self.now }
+        ensures number { IsNext self.now.next_number }
+        ensures count { IsNext self.now.next_count }
+        ensures grains { IsDistinct grain_eq (keys_of self.now.held) }
+        ensures finds { IsStrictlySortedBy nat_cmp (keys_of self.now.finds) }
+    {
+        let _next_number = self.next_number;
+    }
+
+    /// An equal host. Fails only for want of memory.
+    pub fn copy(&self) -> Result<Host, AllocError>
+        ensures { IfOk result (λ host. host ≡ self.now) }
+    {
+        let held = self.held.clone()?;
+        let outstanding = self.outstanding.clone()?;
+        Ok(Host {
+            alloc: self.alloc,
+            silo: self.silo,
+            next_number: self.next_number,
+            next_count: self.next_count,
+            held,
+            outstanding,
+            find_count: self.find_count,
+        })
+    }
+
+    /// Whether the two are one silo with the same activations, in the same order, and the same requests outstanding.
+    pub fn same(&self, other: &Host) -> bool
+        ensures { IsTrue result ↔ (self.now ≡ other.now) }
+    {
+        if !self.silo.same(&other.silo) {
+            return false;
+        }
+        if self.next_number != other.next_number || self.next_count != other.next_count {
+            return false;
+        }
+        if !same_held(&self.held, &other.held) {
+            return false;
+        }
+        same_outstanding(&self.outstanding, &other.outstanding)
+    }
+}
+
+fn same_held(one: &HeldMap, other: &HeldMap) -> bool
+    ensures { IsTrue result ↔ (one.now.entries ≡ other.now.entries) }
+{
+    one.as_slice() == other.as_slice()
+}
+
+fn same_outstanding(one: &BTreeMap<u64, Asked>, other: &BTreeMap<u64, Asked>) -> bool
+    ensures { IsTrue result ↔ (one.now.entries ≡ other.now.entries) }
+{
+    *one == *other
+}
