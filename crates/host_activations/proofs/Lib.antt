@@ -14,3 +14,6 @@ pub mod Outstanding
 pub mod Counted
 pub mod Same
 pub mod Tables
+pub mod Ranks
+pub mod Renumbering
+pub mod Renewing

@@ -3,4 +3,5 @@ pub mod Asked
 pub mod Acts
 pub mod FirmTable
 pub mod IsHost
+pub mod Renewal
 pub mod Fields

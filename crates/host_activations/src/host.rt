@@ -7,6 +7,7 @@ ghost use Rattle.silo_address.specs.Grain.{Grain};
 mod begin;
 mod end;
 mod limits;
+mod renewal;
 mod replies;
 mod same;
 mod telling;

@@ -1,0 +1,217 @@
+-- After a renewal the new fields keep what every host keeps, and mean the rule's renewed host.
+use Rattle.std.proofs.Common.{arith, ◌≡◌, refl, sym, ap, subst, ◌∙◌, ℕ, List, [], ◌∷◌, ◌+◌, ◌^◌, ◌≤◌, ◌<◌, cond, length, map, Bool, true, false, Option, Some, None, option_and_then}
+use Rattle.std.specs.Prelude.{nat_lt, count_by}
+use Rattle.std.specs.List.{AllByRecursion, IsDistinct, enumerate_from}
+use Rattle.std.specs.Option.{option_map}
+use Rattle.std.specs.List.Sorted.{IsStrictlySortedBy}
+use Rattle.std.specs.Ordering.{nat_cmp}
+use Rattle.std.proofs.lemmas.Map.Keys.{sorted_tail}
+use Rattle.host_activations.proofs.Numbers.{number_at_itself}
+use Rattle.std.specs.Map.{lookup, keys_of, values_of}
+use Rattle.std.specs.BTreeMap.{is_at}
+use Rattle.std.proofs.lemmas.Option.{same_Some}
+use Rattle.std.proofs.lemmas.List.Sums.{sum_by-cons}
+use Rattle.std.proofs.lemmas.List.{length-map}
+use Rattle.silo_address.specs.Grain.{Grain, grain_cmp, grain_eq}
+use Rattle.silo_address.proofs.Order.{grain_cmp_exact}
+use Rattle.membership_view.proofs.Entries.{Equal-from}
+use Rattle.directory_rules.specs.declared.Held.{Held}
+use Rattle.directory_rules.specs.declared.Phase.{Phase}
+use Rattle.directory_rules.specs.declared.Phase.TheVariants.{Asking, Firm, Closing}
+use Rattle.directory_rules.specs.Host.{Host, new_number, outstanding, renewed, renewed_phase}
+use Rattle.host_activations.specs.declared.asked.Asked.{Asked}
+use Rattle.host_activations.specs.declared.asked.Asked.TheVariants.{Activation, Find}
+use Rattle.host_activations.specs.declared.host.Host.TheInside.{Inside}
+use Rattle.host_activations.specs.Numbers.{number_in, number_of}
+use Rattle.host_activations.specs.Asked.{asked_under, finds_in, AreAsked}
+use Rattle.host_activations.specs.Renewal.{phase_under, held_as, is_request_of, with_numbers}
+use Rattle.host_activations.specs.IsHost.{AreHeld, IsHost}
+use Rattle.host_activations.specs.Fields.{IsWhole, host_of}
+use Rattle.host_activations.proofs.Asking.{nothing}
+use Rattle.host_activations.proofs.Found.{IsFoundIn, all_map, each_found}
+use Rattle.host_activations.proofs.Outstanding.{keys_are, as_many}
+use Rattle.host_activations.proofs.Fields.{made, meant}
+use Rattle.host_activations.proofs.Ranks.{Ranks, below, found_behind, ranks_from, rank_found, rank_back, sorted-enumerate_from, finds-enumerate_from}
+use Rattle.host_activations.proofs.Renumbering.{after, each_after, after_resting, after_asking}
+
+below_keys : {X : Type 0} (k : ℕ) (es : List (ℕ × X)) → below k es ≡ count_by (λ j. nat_lt j k) (keys_of es)
+below_keys k [] = refl
+below_keys k (e ∷ es) =
+    let here = sum_by-cons (λ x. cond (nat_lt x.0 k) 1 0) e es in
+    let there = sum_by-cons (λ (j : ℕ). cond (nat_lt j k) 1 0) e.0 (keys_of es) in
+    let later = below_keys k es in omega (here, there, later, arith)
+
+all_high : (ks : List ℕ) → AllByRecursion (λ k. 0 ≤ k) ks
+all_high [] = tt
+all_high (k ∷ ks) = (omega arith, all_high ks)
+
+map_same : {A B : Type 0} (f g : A → B) (xs : List A) → AllByRecursion (λ x. f x ≡ g x) xs → map f xs ≡ map g xs
+map_same f g [] same = refl
+map_same f g (x ∷ xs) same = λ i. same.0 i ∷ map_same f g xs same.1 i
+
+module _ {K X Y : Type 0} (g : X → Y) where
+  lookup-map : (test : K → Bool) (es : List (K × X)) → lookup test (map (λ e. (e.0, g e.1)) es) ≡ option_map g (lookup test es)
+  lookup-map test [] = refl
+  lookup-map test (e ∷ es) = by (test e.0) (lookup-map test es)
+    where
+      by : (b : Bool) → lookup test (map (λ e. (e.0, g e.1)) es) ≡ option_map g (lookup test es)
+          → cond b (Some (g e.1)) (lookup test (map (λ e. (e.0, g e.1)) es)) ≡ option_map g (cond b (Some e.1) (lookup test es))
+      by true later = refl
+      by false later = later
+
+  keys-map : (es : List (K × X)) → keys_of (map (λ e. (e.0, g e.1)) es) ≡ keys_of es
+  keys-map [] = refl
+  keys-map (e ∷ es) = ap (λ l. e.0 ∷ l) (keys-map es)
+
+number_renewed : (host : Host) (phase : Phase) → number_in (renewed_phase host phase) ≡ option_map (new_number host) (number_in phase)
+number_renewed host (Asking k) = refl
+number_renewed host Firm = refl
+number_renewed host (Closing k) = refl
+
+rests : (host : Host) (phase : Phase) → number_in phase ≡ None → phase ≡ renewed_phase host phase
+rests host (Asking k) none = cc
+rests host Firm none = refl
+rests host (Closing k) none = cc
+
+asks : (host : Host) (phase : Phase) (k : ℕ) → number_in phase ≡ Some k → phase_under (new_number host k) phase ≡ renewed_phase host phase
+asks host (Asking j) k is = ap (λ (n : ℕ). Asking (new_number host n)) (sym (same_Some j k is))
+asks host Firm k is = refl
+asks host (Closing j) k is = ap (λ (n : ℕ). Closing (new_number host n)) (sym (same_Some j k is))
+
+of_grain : (q : Grain) (asked : Asked) → is_request_of q asked ≡ true → asked ≡ Activation q
+of_grain q (Activation g) is = ap (λ (x : Grain). Activation x) (grain_cmp_exact g q (Equal-from (grain_cmp g q) is))
+of_grain q (Find g) is = cc
+
+module _ {A : Type 0} (P Q : A → Type 0) where
+  all_of : (xs : List A) → ((x : A) → P x → Q x) → AllByRecursion P xs → AllByRecursion Q xs
+  all_of [] so all = tt
+  all_of (x ∷ xs) so all = (so x all.0, all_of xs so all.1)
+
+-- each is what is found under its number
+each_asked : (es : List (ℕ × Asked)) → IsStrictlySortedBy nat_cmp (keys_of es) → AllByRecursion (λ e. asked_under e.0 es ≡ Some e.1) es
+each_asked [] sorted = tt
+each_asked (e ∷ es) sorted =
+    (ap (λ b. cond b (Some e.1) (asked_under e.0 es)) (number_at_itself e.0),
+    all_of (λ x. asked_under x.0 es ≡ Some x.1) (λ x. asked_under x.0 (e ∷ es) ≡ Some x.1) es (λ x found. found_behind e es x.0 x.1 sorted found)
+    (each_asked es (sorted_tail nat_cmp e.0 (keys_of es) sorted)))
+
+module _ (h : Inside) (is : IsWhole h) where
+  abbrev out : List (ℕ × Asked)
+  out = h.outstanding.entries
+
+  -- the new number of each
+  abbrev new : ℕ → ℕ
+  new = new_number (host_of h)
+
+  abbrev renewed_held : Held → Held
+  renewed_held held = record held { phase = renewed_phase (host_of h) held.phase }
+
+  -- what is outstanding, and the activations, after it
+  abbrev pub now : List (ℕ × Asked)
+  now = enumerate_from h.next_number (values_of out)
+
+  abbrev held_now : List (Grain × Held)
+  held_now = map (λ e. (e.0, renewed_held e.1)) h.held.entries
+
+  counts : (k : ℕ) → new k ≡ h.next_number + below k out
+  counts k =
+      ap (λ (n : ℕ). h.next_number + n)
+      (below_keys k (outstanding (host_of h))
+      ∙ ap (λ ks. count_by (λ j. nat_lt j k) ks) (keys_are h.silo h.next_number h.next_count h.held.entries out is.are_held)
+      ∙ sym (below_keys k out))
+
+  ranks : Ranks new h.next_number out
+  ranks = ranks_from new 0 h.next_number out is.are_held.in_order (all_high (keys_of out)) (λ k high. counts k)
+
+  many : length (outstanding (host_of h)) ≡ length out
+  many = as_many h.silo h.next_number h.next_count h.held.entries out is.are_held
+
+  -- ---- The activations.
+  only_under : (q : Grain) (k : ℕ) → number_of q h.held.entries ≡ Some k → AllByRecursion (λ e. is_request_of q e.1 ≡ true → e.0 ≡ k) out
+  only_under q k has =
+      all_of (λ e. asked_under e.0 out ≡ Some e.1) (λ e. is_request_of q e.1 ≡ true → e.0 ≡ k) out
+      (λ e found request. same_Some e.0 k (sym (is.are_held.asked.only q e.0 (found ∙ ap (λ (a : Asked). Some a) (of_grain q e.1 request))) ∙ has))
+      (each_asked out is.are_held.in_order)
+
+  one_after : (e : Grain × Held) → IsFoundIn h.held.entries e → after now e.0 e.1 ≡ renewed_held e.1
+  one_after e found = by (number_in e.1.phase) refl
+    where
+      by : (o : Option ℕ) → number_in e.1.phase ≡ o → after now e.0 e.1 ≡ renewed_held e.1
+      by None none = after_resting now e.0 e.1 none ∙ ap (λ (p : Phase). record e.1 { phase = p }) (rests (host_of h) e.1.phase none)
+      by (Some k) has =
+          let number : number_of e.0 h.held.entries ≡ Some k = ap (λ o. option_and_then (λ (x : Held). number_in x.phase) o) found ∙ has in
+          after_asking new e.0 e.1 k h.next_number out is.are_held.in_order ranks (only_under e.0 k number) (is.are_held.asked.there e.0 k number)
+          ∙ ap (λ (p : Phase). record e.1 { phase = p }) (asks (host_of h) e.1.phase k has)
+
+  held_is : with_numbers now h.held.entries ≡ held_now
+  held_is =
+      each_after now h.held.entries
+      ∙ map_same (λ e. (e.0, after now e.0 e.1)) (λ e. (e.0, renewed_held e.1)) h.held.entries
+      (all_map (IsFoundIn h.held.entries) (λ e. (e.0, after now e.0 e.1) ≡ (e.0, renewed_held e.1)) h.held.entries (λ e found. ap (λ (x : Held). (e.0, x)) (one_after e found))
+      (each_found h.held.entries is.are_held.apart))
+
+  number_now : (q : Grain) → number_of q held_now ≡ option_map new (number_of q h.held.entries)
+  number_now q =
+      ap (λ o. option_and_then (λ (x : Held). number_in x.phase) o) (lookup-map renewed_held (is_at (grain_cmp q)) h.held.entries)
+      ∙ by (lookup (is_at (grain_cmp q)) h.held.entries)
+    where
+      by : (o : Option Held) → option_and_then (λ x. number_in x.phase) (option_map renewed_held o) ≡ option_map new (option_and_then (λ x. number_in x.phase) o)
+      by None = refl
+      by (Some x) = number_renewed (host_of h) x.phase
+
+  -- ---- What is outstanding.
+  asked_now : AreAsked held_now now
+  asked_now = record {
+    there = λ q n is_n. there_by q n (number_of q h.held.entries) refl (sym (number_now q) ∙ is_n);
+    only = λ q n found.
+        let back = rank_back new h.next_number out n (Activation q) is.are_held.in_order ranks found in
+        number_now q ∙ ap (option_map new) (is.are_held.asked.only q back.0 back.1) ∙ ap (λ (k : ℕ). Some k) back.2;
+  } where
+    there_by : (q : Grain) (n : ℕ) (o : Option ℕ) → number_of q h.held.entries ≡ o → option_map new o ≡ Some n → asked_under n now ≡ Some (Activation q)
+    there_by q n None none is_n = nothing n is_n
+    there_by q n (Some k) has is_n =
+        let ranked = rank_found new h.next_number out k (Activation q) ranks (is.are_held.asked.there q k has) in
+        ap (λ (m : ℕ). asked_under m now) (sym (same_Some (new k) n is_n)) ∙ ranked.found
+
+  below_now : (n : ℕ) (asked : Asked) → asked_under n now ≡ Some asked → n < h.next_number + length out
+  below_now n asked found =
+      let back = rank_back new h.next_number out n asked is.are_held.in_order ranks found in
+      let ranked = rank_found new h.next_number out back.0 asked ranks back.1 in
+      let high = ranked.high in let same = back.2 in omega (high, same, arith)
+
+  are_now : AreHeld (h.next_number + length out) held_now now
+  are_now = record {
+    apart = subst (IsDistinct grain_eq) (sym (keys-map renewed_held h.held.entries)) is.are_held.apart;
+    in_order = sorted-enumerate_from h.next_number (values_of out);
+    asked = asked_now;
+    below = below_now;
+  }
+
+  finds_now : finds_in now ≡ map (λ e. (new e.0, e.1)) (finds_in out)
+  finds_now = finds-enumerate_from new h.next_number out ranks
+
+  module _ (host : Host) (means : host_of h ≡ host) (left : host.next_number + length (outstanding host) ≤ 2 ^ 60 + 1) where
+    -- there are enough numbers
+    pub enough : h.next_number + length out ≤ 2 ^ 60 + 1
+    enough =
+        let left_here : h.next_number + length (outstanding (host_of h)) ≤ 2 ^ 60 + 1 = subst (λ (x : Host). x.next_number + length (outstanding x) ≤ 2 ^ 60 + 1) (sym means) left in
+        let all = many in omega (left_here, all, arith)
+
+    module _ (held_new : List (Grain × Held)) (out_new : List (ℕ × Asked)) (count : ℕ) (held_made : held_new ≡ with_numbers out_new h.held.entries) (out_made : out_new ≡ now) (counted : count ≡ length out) where
+      all_held : held_new ≡ held_now
+      all_held = held_made ∙ ap (λ l. with_numbers l h.held.entries) out_made ∙ held_is
+
+      pub renewed_is : IsHost (h.next_number + count) h.next_count held_new out_new h.find_count
+      renewed_is = record {
+        number = let above = is.number.above in record { above = omega (above, arith); within = omega (enough, counted, arith) };
+        count = is.count;
+        are_held = subst (λ (n : ℕ). AreHeld (h.next_number + n) held_new out_new) (sym counted)
+            (subst (λ l. AreHeld (h.next_number + length out) l out_new) (sym all_held) (subst (λ l. AreHeld (h.next_number + length out) held_now l) (sym out_made) are_now));
+        counted = is.counted ∙ sym (length-map (finds_in out) (λ e. (new e.0, e.1))) ∙ ap (λ (l : List (ℕ × Grain)). length l) (sym (ap finds_in out_made ∙ finds_now));
+        few = let few = is.few in omega (few, arith);
+      }
+
+      pub renewed_means : meant h.silo (h.next_number + count) h.next_count held_new out_new ≡ renewed host
+      renewed_means =
+          (λ i. made h.silo (h.next_number + (counted ∙ sym many) i) h.next_count (all_held i) ((ap finds_in out_made ∙ finds_now) i))
+          ∙ ap renewed means

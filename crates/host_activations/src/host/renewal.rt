@@ -1,0 +1,79 @@
+ghost use Rattle.std.specs.List.{enumerate_from};
+ghost use Rattle.std.specs.Map.{values_of};
+ghost use Rattle.std.specs.Prelude.{◌≡◌, ◌+◌, ◌≤◌, ◌^◌, length, IfOk, OnOk, OnErr};
+ghost use Rattle.directory_rules.specs.Host.{outstanding, renewed};
+ghost use Rattle.host_activations.specs.Renewal.{phase_under, with_number, with_numbers};
+ghost use Rattle.host_activations.specs.declared.asked.Asked.TheVariants.{Activation};
+
+use super::Host;
+use crate::asked::Asked;
+use crate::held_map::HeldMap;
+use directory_rules::Phase;
+use silo_address::GrainId;
+use std::alloc::{AllocError, Global};
+use std::collections::BTreeMap;
+
+impl Host {
+    /// Every outstanding request gets a new number, in the order of the old ones. Fails only for want of memory.
+    pub fn renew(&mut self) -> Result<(), AllocError>
+        requires { self.old.next_number + length (outstanding self.old) ≤ 2 ^ 60 + 1 }
+        ensures renewed { OnOk result (self.new ≡ renewed self.old) }
+        ensures unchanged { OnErr result (self.new ≡ self.old) }
+    {
+        let renewed = renumbered(self.alloc, &self.outstanding, self.next_number)?;
+        let count = self.outstanding.len() as u64;
+        set_numbers(&mut self.held, &renewed);
+        self.next_number += count;
+        self.outstanding = renewed;
+        Ok(())
+    }
+}
+
+// What is outstanding, in its order, under the numbers from this one on.
+fn renumbered(
+    alloc: Global,
+    outstanding: &BTreeMap<u64, Asked>,
+    first: u64,
+) -> Result<BTreeMap<u64, Asked>, AllocError>
+    requires { first + length outstanding.now.entries ≤ 2 ^ 60 + 1 }
+    ensures { IfOk result (λ renewed. renewed.entries ≡ enumerate_from first (values_of outstanding.now.entries)) }
+{
+    let mut renewed = BTreeMap::new(alloc);
+    let mut number = first;
+    for asked in outstanding.values() {
+        renewed.insert(number, *asked)?;
+        number += 1;
+    }
+    Ok(renewed)
+}
+
+// Each activation whose request is told has it under the number that is told.
+fn set_numbers(held: &mut HeldMap, renewed: &BTreeMap<u64, Asked>)
+    ensures { held.new.entries ≡ with_numbers renewed.now.entries held.old.entries }
+{
+    for (number, asked) in renewed {
+        if let Asked::Activation(grain) = asked {
+            set_number(held, grain, *number);
+        }
+    }
+}
+
+// The request of the grain's activation, if it has one, is under this number from now on.
+fn set_number(map: &mut HeldMap, grain: &GrainId, number: u64)
+    ensures { map.new.entries ≡ with_number map.old.entries (number, Activation grain.now) }
+{
+    if let Some(held) = map.get_mut(grain) {
+        held.phase = phase_under(number, &held.phase);
+    }
+}
+
+// The phase, its request under this number, if it has one.
+fn phase_under(number: u64, phase: &Phase) -> Phase
+    ensures { result ≡ phase_under number phase.now }
+{
+    match phase {
+        Phase::Asking(_) => Phase::Asking(number),
+        Phase::Firm => Phase::Firm,
+        Phase::Closing(_) => Phase::Closing(number),
+    }
+}
