@@ -1,5 +1,5 @@
 -- The piece of a hash: only the piece that begins nearest before it can have it.
-use Rattle.std.proofs.Common.{arith, ◌≡◌, refl, sym, ap, ◌∙◌, subst, ℕ, List, [], ◌<◌, ◌≤◌, find, ◌⊎◌, inl, inr}
+use Rattle.std.proofs.Common.{arith, ◌≡◌, refl, sym, ap, ◌∙◌, subst, ℕ, List, ◌<◌, ◌≤◌, find, ◌⊎◌, inl, inr}
 use Rattle.std.specs.Prelude.{Bool, true, false, if◌then◌else◌, Option, Some, None, IsSome, is_some}
 use Rattle.std.specs.Option.{option_map}
 use Rattle.std.specs.Ordering.{nat_cmp, is_gt}
@@ -70,10 +70,6 @@ module _ (pieces : List (ℕ × Piece)) (are : ArePieces pieces) (hash : ℕ) (b
           let this = is_this f.0 f.1 got.0 got.1 in
           let same : f.1 ≡ piece = same_Some f.1 piece (sym got.0 ∙ ap (λ k. lookup (is_at (nat_cmp k)) pieces) this ∙ near.there) in
           ap (λ p. Some p) same ∙ ap (λ b. if b then Some piece else None) (sym (ap (has hash) (sym same) ∙ got.1))
-
--- where there is no piece none has the hash
-pub piece_with_none : (hash : ℕ) (pieces : List (ℕ × Piece)) → pieces ≡ [] → piece_with hash pieces ≡ None
-piece_with_none hash pieces empty = ap (piece_with hash) empty
 
 module _ (pieces : List (ℕ × Piece)) (are : ArePieces pieces) (hash start : ℕ) (piece : Piece) (found : lookup (is_at (nat_cmp start)) pieces ≡ Some piece) where
   -- what is told by the key of a piece is told by its range's start

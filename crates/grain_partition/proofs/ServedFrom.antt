@@ -97,17 +97,6 @@ numbered_answer holding are request piece serves numbered reply pieces turn =
     placed same =
         ap (λ (p : Piece). set_value (is_at (nat_cmp piece.range.start)) holding.pieces (record p { entries = (turned request.act p.entries).table })) (sym same) ∙ sym turn.table_is
 
--- a Find that is served changes nothing
-pub find_answer : (holding : Holding) (request : Request) (piece : Piece) → serving_piece holding request ≡ Ok piece → is_numbered request.act ≡ false
-    → answered holding request ≡ record { reply = (answered holding request).reply; holding = holding }
-find_answer holding request piece serves find =
-    ap (λ s. answered_from s holding request) serves ∙ by request.act find ∙ ap (λ r. record { reply = r; holding = holding }) (ap (λ s. (answered_from s holding request).reply) (sym serves))
-  where
-    by : (act : Act) → is_numbered act ≡ false → served_by act piece holding request ≡ record { reply = (served_by act piece holding request).reply; holding = holding }
-    by (Register entry previous) find = cc
-    by (Deregister entry) find = cc
-    by (Find grain) find = refl
-
 abbrev replied : Reply → Holding → Answered
 replied reply holding = record { reply = reply; holding = holding }
 

@@ -1,5 +1,5 @@
 ghost use Rattle.std.specs.Map.Iter.{ShowsInOrder, deref_pair};
-ghost use Rattle.std.specs.Prelude.{◌≡◌, ◌↔◌, ℕ, [], IsTrue, IsSome, IfOk, OnOk, OnErr, MatchResult, option_copied};
+ghost use Rattle.std.specs.Prelude.{◌≡◌, ◌↔◌, ℕ, [], IsTrue, IsSome, IsOk, IsErr, IfOk, OnOk, OnErr, MatchResult, option_copied, false};
 ghost use Rattle.std.specs.Map.{lookup};
 ghost use Rattle.std.specs.Ordering.{nat_cmp};
 ghost use Rattle.std.specs.BTreeMap.{insert_entry, is_at};
@@ -104,11 +104,13 @@ impl Holding {
     }
 
     /// Serves a request: answers it, and makes its change. A sender's Registers and Deregisters are served by rising numbers,
-    /// so that a late copy of one changes nothing. Fails only for want of memory, and then changes nothing
-    /// (`docs/RULES.md#requests`).
+    /// so that a late copy of one changes nothing. Fails only for want of memory, and then changes nothing; a Find and a retry
+    /// need none (`docs/RULES.md#requests`).
     pub fn serve(&mut self, request: &Request) -> Result<Reply, AllocError>
         ensures served { IfOk result (λ reply. answered self.old request.now ≡ record { reply = reply; holding = self.new }) }
         ensures unchanged { OnErr result (self.new ≡ self.old) }
+        ensures find_succeeds { is_numbered request.now.act ≡ false → IsOk result }
+        ensures retry_succeeds { IsErr (serving_piece self.old request.now) → IsOk result }
     {
         self.whole();
         let start = match self.serving_piece(request) {
