@@ -13,3 +13,4 @@ pub mod AtTheEnd
 pub mod BareSteps
 pub mod Handing
 pub mod Sighted
+pub mod Within

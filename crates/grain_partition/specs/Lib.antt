@@ -5,3 +5,4 @@ pub mod Serving
 pub mod Settled
 pub mod Sight
 pub mod Entering
+pub mod Within

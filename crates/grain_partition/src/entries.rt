@@ -1,10 +1,9 @@
 //! All entries of pieces in one table.
-ghost use Rattle.std.specs.Prelude.{◌≡◌, length, filter, fold, IfOk, OnOk};
-ghost use Rattle.ring_range.specs.Range.{holds};
-ghost use Rattle.hash_ring.specs.Hash.{hash_grain};
+ghost use Rattle.std.specs.Prelude.{◌≡◌, filter, fold, IfOk, OnOk};
 ghost use Rattle.directory_rules.specs.Show.{settled_pieces};
 ghost use Rattle.directory_rules.specs.Sight.{all_entries};
 ghost use Rattle.directory_rules.specs.Table.{entries_of, with_entry};
+ghost use Rattle.grain_partition.specs.Within.{with_within, within_range};
 
 use crate::Piece;
 use hash_ring::Hashing;
@@ -27,39 +26,41 @@ pub(crate) fn all_entries(
     Ok(all)
 }
 
-/// Those of the settled pieces alone. Fails only for want of memory.
-pub(crate) fn settled_entries(
+/// Those entries of the settled pieces whose grains are hashed into the range. Fails only for want of memory.
+pub(crate) fn entries_within(
     alloc: Global,
     pieces: &BTreeMap<u32, Piece>,
+    hashing: Hashing,
+    range: &RingRange,
 ) -> Result<BTreeMap<GrainId, Entry>, AllocError>
-    ensures { IfOk result (λ all. all.entries ≡ all_entries (settled_pieces pieces.now.entries)) }
+    ensures { IfOk result (λ within. within.entries ≡ filter (λ e. within_range hashing range.now e.0) (all_entries (settled_pieces pieces.now.entries))) }
 {
-    let mut all = BTreeMap::new(alloc);
+    let mut within = BTreeMap::new(alloc);
     'pieces: for (_, piece) in pieces {
         if !piece.is_settled() {
             continue;
         }
-        put_all(&mut all, piece.entries())?;
+        put_within(&mut within, piece.entries(), hashing, range)?;
     }
-    Ok(all)
+    Ok(within)
 }
 
-/// How many entries of the table have grains that are hashed into the range.
-pub(crate) fn count_within(
+// Puts each entry of a table in whose grain is hashed into the range.
+fn put_within(
+    within: &mut BTreeMap<GrainId, Entry>,
     table: &BTreeMap<GrainId, Entry>,
     hashing: Hashing,
     range: &RingRange,
-) -> usize
-    ensures { result ≡ length (filter (λ e. holds range.now (hash_grain hashing e.0)) table.now.entries) }
+) -> Result<(), AllocError>
+    ensures { OnOk result (within.new.entries ≡ fold (with_within hashing range.now) within.old.entries (entries_of table.now.entries)) }
 {
-    let _most = table.len();
-    let mut count = 0;
-    'grains: for (grain, _) in table {
-        if range.contains(hashing.hash_grain(grain)) {
-            count += 1;
+    'entries: for (_, entry) in table {
+        if !range.contains(hashing.hash_grain(&entry.grain)) {
+            continue;
         }
+        within.insert(entry.grain, *entry)?;
     }
-    count
+    Ok(())
 }
 
 // Puts each entry of a table in, in place of one of its grain.

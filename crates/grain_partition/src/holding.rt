@@ -15,7 +15,7 @@ ghost use Rattle.grain_partition.specs.Settled.{LiesSettled};
 ghost use Rattle.grain_partition.specs.Sight.{AreOfRings};
 
 use crate::Piece;
-use crate::entries::{count_within, settled_entries};
+use crate::entries::entries_within;
 use crate::search::piece_with;
 use crate::served::serve_numbered;
 use crate::settled::are_settled;
@@ -220,8 +220,8 @@ impl Holding {
     ) -> Result<usize, AllocError>
         ensures { IfOk result (λ count. count ≡ entries_within hashing self.now.pieces range.now) }
     {
-        let settled = settled_entries(alloc, &self.pieces)?;
-        Ok(count_within(&settled, hashing, range))
+        let within = entries_within(alloc, &self.pieces, hashing, range)?;
+        Ok(within.len())
     }
 
     /// A law: what all holdings keep.
