@@ -76,7 +76,7 @@ fn sees(alloc: Global, holding: &Holding, who: &str, from: u64, to: u64) -> Resu
     let seen = view(alloc, &views, to)?;
     let new = Ring::anew(alloc, &seen, &places)?;
     let between = arcs(alloc, &old, &new)?;
-    let next = to == from + 1;
+    let next = to.saturating_sub(from) == 1;
     Ok(holding.sight(alloc, next, Hashing::Stated, &seen, &silo(who)?, &between)?)
 }
 
@@ -211,8 +211,13 @@ fn requests_that_come_again(rt: HostRuntime) -> Result<(), Fail> {
         (2, 50, Why::Unsettled),
     ];
     for (version, hash, why) in table {
-        let mut asked = request(0, hash, register(ANN, B, "")?)?;
-        asked.version = version;
+        let asked = Request {
+            sender: silo(B)?,
+            version,
+            number: 1,
+            hash,
+            act: Act::Find { grain: grain(ANN)? },
+        };
         let before = unsettled.copy()?;
         assert!(rt; unsettled.serve(&asked)?.same(&Reply::Retry(why)));
         assert!(rt; unsettled.same(&before));
@@ -220,19 +225,19 @@ fn requests_that_come_again(rt: HostRuntime) -> Result<(), Fail> {
     Ok(())
 }
 
-fn registered(holding: &mut Holding, number: u64, hash: u32, act: Act) -> Result<(), Fail> {
-    let asked = request(number, hash, act)?;
-    holding.serve(&asked)?;
-    Ok(())
-}
-
 // What stays settled keeps its entries, without those hashed elsewhere and those on dead silos.
 #[test]
 fn entries_at_newer_views(rt: HostRuntime) -> Result<(), Fail> {
     let mut at_2 = of_a(rt.alloc())?;
-    registered(&mut at_2, 1, 50, register(ANN, A, "")?)?;
-    registered(&mut at_2, 2, 70, register(BOB, A, "")?)?;
-    registered(&mut at_2, 3, 50, register(AMY, B, "")?)?;
+    let first = request(1, 50, register(ANN, A, "")?)?;
+    let second = request(2, 70, register(BOB, A, "")?)?;
+    let third = request(3, 50, register(AMY, B, "")?)?;
+    assert!(rt; at_2.serve(&first)?.same(&Reply::Registered(entry(ANN, A)?)));
+    assert!(rt;
+        at_2.serve(&second)?
+            .same(&Reply::Registered(entry(BOB, A)?))
+    );
+    assert!(rt; at_2.serve(&third)?.same(&Reply::Registered(entry(AMY, B)?)));
     let at_3 = sees(rt.alloc(), &at_2, A, 2, 3)?;
     let at_4 = sees(rt.alloc(), &at_3, A, 3, 4)?;
     let table: [(&Holding, &str, bool, usize); 7] = [
