@@ -1,5 +1,5 @@
 -- The numbers of a host's requests are distinct and below the next one, as the rule says.
-use Rattle.std.proofs.Common.{arith, ◌≡◌, ◌≢◌, refl, sym, ap, subst, ◌∙◌, ℕ, List, [], ◌∷◌, ◌++◌, ◌+◌, ◌≤◌, ◌<◌, cond, length, length-append, Bool, true, false, Option, Some, None, option_and_then}
+use Rattle.std.proofs.Common.{arith, ◌≡◌, ◌≢◌, refl, sym, ap, subst, ◌∙◌, ℕ, List, [], ◌∷◌, ◌++◌, ◌+◌, ◌≤◌, ◌<◌, cond, length-append, Bool, true, false, Option, Some, None, option_and_then}
 use Rattle.std.specs.Prelude.{All, AllPairs, nat_lt}
 use Rattle.std.specs.List.{AllByRecursion, IsDistinct}
 use Rattle.std.specs.List.Sorted.{IsStrictlySortedBy}
@@ -20,17 +20,17 @@ use Rattle.directory_rules.specs.declared.Act.TheVariants as act
 use Rattle.directory_rules.specs.declared.Held.{Held}
 use Rattle.directory_rules.specs.declared.Phase.{Phase}
 use Rattle.directory_rules.specs.declared.Phase.TheVariants.{Asking, Firm, Closing}
-use Rattle.directory_rules.specs.Host.{Host, find_acts, held_acts, outstanding}
+use Rattle.directory_rules.specs.Host.{Host, find_acts, held_acts}
 use Rattle.directory_rules.specs.Laws.{AreNumbered, requests_of}
 use Rattle.directory_rules.proofs.Cases.{on_bool}
-use Rattle.directory_rules.proofs.Numbering.{one, one_same, one_cases, times, times_append, times_phase, with_number, numbers}
+use Rattle.directory_rules.proofs.Numbering.{one, one_same, one_cases, times, times_phase, with_number, numbers}
 use Rattle.directory_rules.proofs.Renewal.{held_numbers, same_keys, length_put_all}
 use Rattle.host_activations.specs.declared.asked.Asked.{Asked}
 use Rattle.host_activations.specs.declared.asked.Asked.TheVariants.{Activation, Find}
-use Rattle.host_activations.specs.Numbers.{number_in, number_of}
+use Rattle.host_activations.specs.Numbers.{number_in}
 use Rattle.host_activations.specs.Asked.{asked_under, find_in, finds_in}
 use Rattle.host_activations.specs.IsHost.{AreHeld}
-use Rattle.host_activations.proofs.Numbers.{on_number, number_at_itself}
+use Rattle.host_activations.proofs.Numbers.{number_at_itself}
 use Rattle.host_activations.proofs.Asking.{same_activation, no_find, nothing}
 use Rattle.host_activations.proofs.Found.{IsFoundIn, all_map, each_found}
 use Rattle.host_activations.proofs.Finds.{find_under, finds_sorted}

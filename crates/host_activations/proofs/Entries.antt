@@ -1,6 +1,7 @@
 -- Entries under keys: what is found, and how many there are, after one is put last and after one is taken out.
-use Rattle.std.proofs.Common.{◌≡◌, refl, ap, ◌+◌, List, [], ◌∷◌, ◌++◌, length, cond, Bool, true, false, Some, None, arith}
+use Rattle.std.proofs.Common.{◌≡◌, refl, ap, ◌+◌, List, [], ◌∷◌, ◌++◌, length, cond, Bool, true, false, Some, None, map, arith}
 use Rattle.std.specs.List.{AllByRecursion}
+use Rattle.std.specs.Option.{option_map}
 use Rattle.std.specs.List.Sorted.{IsStrictlySortedBy}
 use Rattle.std.specs.Map.{lookup, remove_entry, keys_of}
 use Rattle.std.specs.declared.cmp.Ordering.{Ordering}
@@ -57,3 +58,18 @@ module _ {K X : Type 0} (test : K → Bool) where
       by : (b : Bool) → IsStrictlySortedBy R (keys_of (remove_entry test es)) → IsStrictlySortedBy R (keys_of (cond b es (e ∷ remove_entry test es)))
       by true later = s.1
       by false later = (all-remove_entry (λ y. R e.0 y ≡ Less) es s.0, later)
+
+-- the values, each put through a function
+module _ {K X Y : Type 0} (g : X → Y) where
+  pub lookup-map : (test : K → Bool) (es : List (K × X)) → lookup test (map (λ e. (e.0, g e.1)) es) ≡ option_map g (lookup test es)
+  lookup-map test [] = refl
+  lookup-map test (e ∷ es) = by (test e.0) (lookup-map test es)
+    where
+      by : (b : Bool) → lookup test (map (λ e. (e.0, g e.1)) es) ≡ option_map g (lookup test es)
+          → cond b (Some (g e.1)) (lookup test (map (λ e. (e.0, g e.1)) es)) ≡ option_map g (cond b (Some e.1) (lookup test es))
+      by true later = refl
+      by false later = later
+
+  pub keys-map : (es : List (K × X)) → keys_of (map (λ e. (e.0, g e.1)) es) ≡ keys_of es
+  keys-map [] = refl
+  keys-map (e ∷ es) = ap (λ l. e.0 ∷ l) (keys-map es)

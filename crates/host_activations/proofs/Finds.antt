@@ -1,5 +1,5 @@
 -- The finds among what is outstanding.
-use Rattle.std.proofs.Common.{◌≡◌, refl, sym, ap, ◌∙◌, ℕ, ◌+◌, List, length, cond, Bool, true, false, Option, Some, None, option_and_then}
+use Rattle.std.proofs.Common.{◌≡◌, refl, sym, ap, ◌∙◌, ℕ, ◌+◌, List, length, cond, Option, Some, None, option_and_then}
 use Rattle.std.specs.Option.{option_map}
 use Rattle.std.specs.List.Sorted.{IsStrictlySortedBy}
 use Rattle.std.specs.Map.{keys_of, lookup, remove_entry}
@@ -15,13 +15,9 @@ use Rattle.membership_view.proofs.Found.{same_entries}
 use Rattle.host_activations.specs.declared.asked.Asked.{Asked}
 use Rattle.host_activations.specs.declared.asked.Asked.TheVariants.{Activation, Find}
 use Rattle.host_activations.specs.Asked.{asked_under, find_in, finds_in}
-use Rattle.host_activations.proofs.Numbers.{on_number}
+use Rattle.host_activations.proofs.Numbers.{on_number, through}
 use Rattle.host_activations.proofs.Entries.{sorted-remove_entry, length-remove_entry, remove_absent}
 use Rattle.host_activations.proofs.Asking.{asked_put, asked_taken}
-
-through : {A B : Type 0} (f : A → Option B) (b : Bool) (x y : Option A) → option_and_then f (cond b x y) ≡ cond b (option_and_then f x) (option_and_then f y)
-through f true x y = refl
-through f false x y = refl
 
 module _ (out : List (ℕ × Asked)) (sorted : IsStrictlySortedBy nat_cmp (keys_of out)) where
   -- the find under a number

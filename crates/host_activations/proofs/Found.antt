@@ -14,10 +14,10 @@ use Rattle.host_activations.proofs.Numbers.{on_grain, at_itself}
 abbrev pub IsFoundIn : List (Grain × Held) → Grain × Held → Type 0
 IsFoundIn all e = lookup (is_at (grain_cmp e.0)) all ≡ Some e.1
 
-module _ (P Q : Grain × Held → Type 0) where
-  pub all_map : (es : List (Grain × Held)) → ((e : Grain × Held) → P e → Q e) → AllByRecursion P es → AllByRecursion Q es
+module _ {A : Type 0} (P Q : A → Type 0) where
+  pub all_map : (xs : List A) → ((x : A) → P x → Q x) → AllByRecursion P xs → AllByRecursion Q xs
   all_map [] so all = tt
-  all_map (e ∷ es) so all = (so e all.0, all_map es so all.1)
+  all_map (x ∷ xs) so all = (so x all.0, all_map xs so all.1)
 
 behind : (first : Grain × Held) (all es : List (Grain × Held)) → AllByRecursion (λ g. grain_eq first.0 g ≡ false) (keys_of es)
     → AllByRecursion (IsFoundIn all) es → AllByRecursion (IsFoundIn (first ∷ all)) es

@@ -37,7 +37,8 @@ number_at_itself n = ap is_eq (tied_itself nat_cmp_total n)
 pub by_order : (gs : List Grain) → IsDistinct grain_eq gs → IsDistinct (eq_by_cmp grain_cmp) gs
 by_order gs apart = subst (λ (test : Grain → Grain → Bool). IsDistinct test gs) (λ i a b. same_test a b i) apart
 
-through : {A B : Type 0} (f : A → Option B) (b : Bool) (x y : Option A) → option_and_then f (cond b x y) ≡ cond b (option_and_then f x) (option_and_then f y)
+-- a function over a choice
+pub through : {A B : Type 0} (f : A → Option B) (b : Bool) (x y : Option A) → option_and_then f (cond b x y) ≡ cond b (option_and_then f x) (option_and_then f y)
 through f true x y = refl
 through f false x y = refl
 

@@ -28,10 +28,11 @@ use Rattle.host_activations.specs.Acts.{entry_on, act_in_phase, act_for, acts_in
 use Rattle.host_activations.specs.IsHost.{AreHeld}
 use Rattle.host_activations.proofs.Numbers.{on_grain, on_number, number_at_itself}
 use Rattle.host_activations.proofs.Asking.{same_activation, no_find, nothing}
+use Rattle.host_activations.proofs.Entries.{keys-map, lookup-map}
 use Rattle.host_activations.proofs.Found.{IsFoundIn, all_map, each_found}
 use Rattle.host_activations.proofs.Finds.{find_under, finds_sorted}
 use Rattle.host_activations.proofs.Fields.{meant}
-use Rattle.host_activations.proofs.PutAll.{at, put_none, put_some, sorted_put_all, all_given, at-map, keys-map, keys-picked, is_some-lookup}
+use Rattle.host_activations.proofs.PutAll.{at, put_none, put_some, sorted_put_all, all_given, keys-picked, is_some-lookup}
 
 -- an act that an activation has stands under the number of its phase
 numbered : (phase : Phase) (host : Host) (grain : Grain) (held : Held) (x : ℕ × Act) → act_in phase host grain held ≡ Some x → number_in phase ≡ Some x.0
@@ -86,7 +87,7 @@ module _ (silo : Silo) (next count : ℕ) (held : List (Grain × Held)) (out : L
       (all_map (IsFoundIn held) (λ e. (x : ℕ × Act) → act_in e.1.phase host e.0 e.1 ≡ Some x → is_at (nat_cmp n) x.0 ≡ false) held
       (λ e found x is. on_number (λ b. b ≡ false) n x.0 (λ same. absurd (never e.0 (ap (λ (k : ℕ). asked_under k out) same ∙ stands e found x is))) (λ other. refl))
       (each_found held are.apart)))
-      ∙ at-map (λ (g : Grain). act.Find g) n (finds_in out)
+      ∙ lookup-map (λ (g : Grain). act.Find g) (is_at (nat_cmp n)) (finds_in out)
       ∙ ap (λ o. option_map (λ g. act.Find g) o) (find_under out are.in_order n)
 
   of_activation : (n : ℕ) (g : Grain) → asked_under n out ≡ Some (Activation g) → (o : Option Held) → lookup (is_at (grain_cmp g)) held ≡ o

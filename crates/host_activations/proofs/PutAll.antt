@@ -1,5 +1,5 @@
 -- Entries put in under their numbers, one after another: what is found then.
-use Rattle.std.proofs.Common.{◌≡◌, refl, ap, ◌∙◌, ℕ, List, [], ◌∷◌, cond, Bool, true, false, Option, Some, None, map, fold, is_some}
+use Rattle.std.proofs.Common.{◌≡◌, refl, ap, ◌∙◌, ℕ, List, [], ◌∷◌, cond, Bool, true, false, Option, Some, None, fold, is_some}
 use Rattle.std.specs.Prelude.{◌||◌}
 use Rattle.std.specs.List.{AllByRecursion, filter_map, cons_option, list_any, list_all}
 use Rattle.std.specs.Option.{option_map}
@@ -61,20 +61,6 @@ module _ {X : Type 0} where
       by : (o : Option (ℕ × X)) → ((x : ℕ × X) → o ≡ Some x → P x) → AllByRecursion P (filter_map f es) → AllByRecursion P (cons_option o (filter_map f es))
       by None here later = later
       by (Some x) here later = (here x refl, later)
-
-module _ {X Y : Type 0} (f : X → Y) where
-  pub at-map : (n : ℕ) (es : List (ℕ × X)) → lookup (is_at (nat_cmp n)) (map (λ e. (e.0, f e.1)) es) ≡ option_map f (lookup (is_at (nat_cmp n)) es)
-  at-map n [] = refl
-  at-map n (e ∷ es) = by (is_at (nat_cmp n) e.0) (at-map n es)
-    where
-      by : (b : Bool) → lookup (is_at (nat_cmp n)) (map (λ e. (e.0, f e.1)) es) ≡ option_map f (lookup (is_at (nat_cmp n)) es)
-          → cond b (Some (f e.1)) (lookup (is_at (nat_cmp n)) (map (λ e. (e.0, f e.1)) es)) ≡ option_map f (cond b (Some e.1) (lookup (is_at (nat_cmp n)) es))
-      by true later = refl
-      by false later = later
-
-  pub keys-map : (es : List (ℕ × X)) → keys_of (map (λ e. (e.0, f e.1)) es) ≡ keys_of es
-  keys-map [] = refl
-  keys-map (e ∷ es) = ap (λ l. e.0 ∷ l) (keys-map es)
 
 -- of each entry something is picked, so the keys stay
 pub keys-picked : {X Y : Type 0} (pick : X → Option Y) (es : List (ℕ × X)) → list_all (λ e. is_some (pick e.1)) es ≡ true

@@ -1,12 +1,12 @@
 -- What is outstanding, in its order, under the numbers from one on: each has its rank for a number.
-use Rattle.std.proofs.Common.{arith, ◌≡◌, refl, sym, ap, subst, ◌∙◌, ℕ, List, [], ◌∷◌, ◌++◌, ◌+◌, ◌≤◌, ◌<◌, cond, length, map, Bool, true, false, Option, Some, None}
+use Rattle.std.proofs.Common.{arith, ◌≡◌, refl, sym, ap, ◌∙◌, ℕ, List, [], ◌∷◌, ◌++◌, ◌+◌, ◌≤◌, ◌<◌, cond, length, map, Option, Some, None}
 use Rattle.std.specs.Prelude.{nat_lt, count_by}
-use Rattle.std.specs.List.{AllByRecursion, filter_map, cons_option, enumerate_from}
+use Rattle.std.specs.List.{AllByRecursion, cons_option, enumerate_from}
 use Rattle.std.specs.Option.{option_map}
 use Rattle.std.specs.List.Sorted.{IsStrictlySortedBy}
 use Rattle.std.specs.Map.{lookup, keys_of, values_of}
 use Rattle.std.specs.BTreeMap.{is_at, insert_entry}
-use Rattle.std.specs.Ordering.{is_eq, nat_cmp, match_ordering}
+use Rattle.std.specs.Ordering.{nat_cmp, match_ordering}
 use Rattle.std.specs.declared.cmp.Ordering.{Ordering}
 use Rattle.std.specs.declared.cmp.Ordering.TheVariants.{Less, Equal, Greater}
 use Rattle.std.proofs.lemmas.Bool.{ltb-true, ltb-false}
@@ -16,8 +16,7 @@ use Rattle.std.proofs.lemmas.Map.Keys.{sorted_head, sorted_tail}
 use Rattle.silo_address.specs.Grain.{Grain}
 use Rattle.directory_rules.proofs.Cases.{on_bool}
 use Rattle.host_activations.specs.declared.asked.Asked.{Asked}
-use Rattle.host_activations.specs.declared.asked.Asked.TheVariants.{Activation, Find}
-use Rattle.host_activations.specs.Asked.{asked_under, find_in, finds_in}
+use Rattle.host_activations.specs.Asked.{find_in, finds_in}
 use Rattle.host_activations.proofs.Numbers.{on_number, number_at_itself}
 
 -- ---- Numbers in order.
@@ -105,11 +104,12 @@ module _ {X : Type 0} where
   pub ranks_from : (f : ℕ → ℕ) (low m : ℕ) (es : List (ℕ × X)) → IsStrictlySortedBy nat_cmp (keys_of es) → AllByRecursion (λ k. low ≤ k) (keys_of es)
       → ((k : ℕ) → low ≤ k → f k ≡ m + below k es) → Ranks f m es
   ranks_from f low m [] sorted high counts = tt
-  ranks_from f low m (e ∷ es) sorted high counts =
-      ((let here = counts e.0 high.0 in let none = below_first e es (sorted_head nat_cmp e.0 (keys_of es) sorted) in omega (here, none, arith)),
-      ranks_from f (e.0 + 1) (m + 1) es (sorted_tail nat_cmp e.0 (keys_of es) sorted) (above (keys_of es) (sorted_head nat_cmp e.0 (keys_of es) sorted))
-      (λ k le. let low : low ≤ k = (let first = high.0 in omega (first, le, arith)) in
-      let here = counts k low in let more = below_behind k e es (omega (le, arith)) in omega (here, more, arith)))
+  ranks_from f low m (e ∷ es) sorted high counts = (
+    (let here = counts e.0 high.0 in let none = below_first e es (sorted_head nat_cmp e.0 (keys_of es) sorted) in omega (here, none, arith)),
+    ranks_from f (e.0 + 1) (m + 1) es (sorted_tail nat_cmp e.0 (keys_of es) sorted) (above (keys_of es) (sorted_head nat_cmp e.0 (keys_of es) sorted))
+        (λ k le. let low : low ≤ k = (let first = high.0 in omega (first, le, arith)) in
+        let here = counts k low in let more = below_behind k e es (omega (le, arith)) in omega (here, more, arith)),
+  )
     where
       above : (ks : List ℕ) → AllByRecursion (λ k. nat_cmp e.0 k ≡ Less) ks → AllByRecursion (λ k. e.0 + 1 ≤ k) ks
       above [] all = tt

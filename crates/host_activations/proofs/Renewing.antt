@@ -1,5 +1,5 @@
 -- After a renewal the new fields keep what every host keeps, and mean the rule's renewed host.
-use Rattle.std.proofs.Common.{arith, ◌≡◌, refl, sym, ap, subst, ◌∙◌, ℕ, List, [], ◌∷◌, ◌+◌, ◌^◌, ◌≤◌, ◌<◌, cond, length, map, Bool, true, false, Option, Some, None, option_and_then}
+use Rattle.std.proofs.Common.{arith, ◌≡◌, refl, sym, ap, subst, ◌∙◌, ℕ, List, [], ◌∷◌, ◌+◌, ◌^◌, ◌≤◌, ◌<◌, cond, length, map, true, Option, Some, None, option_and_then}
 use Rattle.std.specs.Prelude.{nat_lt, count_by}
 use Rattle.std.specs.List.{AllByRecursion, IsDistinct, enumerate_from}
 use Rattle.std.specs.Option.{option_map}
@@ -24,10 +24,11 @@ use Rattle.host_activations.specs.declared.asked.Asked.TheVariants.{Activation, 
 use Rattle.host_activations.specs.declared.host.Host.TheInside.{Inside}
 use Rattle.host_activations.specs.Numbers.{number_in, number_of}
 use Rattle.host_activations.specs.Asked.{asked_under, finds_in, AreAsked}
-use Rattle.host_activations.specs.Renewal.{phase_under, held_as, is_request_of, with_numbers}
+use Rattle.host_activations.specs.Renewal.{phase_under, is_request_of, with_numbers}
 use Rattle.host_activations.specs.IsHost.{AreHeld, IsHost}
 use Rattle.host_activations.specs.Fields.{IsWhole, host_of}
 use Rattle.host_activations.proofs.Asking.{nothing}
+use Rattle.host_activations.proofs.Entries.{keys-map, lookup-map}
 use Rattle.host_activations.proofs.Found.{IsFoundIn, all_map, each_found}
 use Rattle.host_activations.proofs.Outstanding.{keys_are, as_many}
 use Rattle.host_activations.proofs.Fields.{made, meant}
@@ -49,20 +50,6 @@ map_same : {A B : Type 0} (f g : A → B) (xs : List A) → AllByRecursion (λ x
 map_same f g [] same = refl
 map_same f g (x ∷ xs) same = λ i. same.0 i ∷ map_same f g xs same.1 i
 
-module _ {K X Y : Type 0} (g : X → Y) where
-  lookup-map : (test : K → Bool) (es : List (K × X)) → lookup test (map (λ e. (e.0, g e.1)) es) ≡ option_map g (lookup test es)
-  lookup-map test [] = refl
-  lookup-map test (e ∷ es) = by (test e.0) (lookup-map test es)
-    where
-      by : (b : Bool) → lookup test (map (λ e. (e.0, g e.1)) es) ≡ option_map g (lookup test es)
-          → cond b (Some (g e.1)) (lookup test (map (λ e. (e.0, g e.1)) es)) ≡ option_map g (cond b (Some e.1) (lookup test es))
-      by true later = refl
-      by false later = later
-
-  keys-map : (es : List (K × X)) → keys_of (map (λ e. (e.0, g e.1)) es) ≡ keys_of es
-  keys-map [] = refl
-  keys-map (e ∷ es) = ap (λ l. e.0 ∷ l) (keys-map es)
-
 number_renewed : (host : Host) (phase : Phase) → number_in (renewed_phase host phase) ≡ option_map (new_number host) (number_in phase)
 number_renewed host (Asking k) = refl
 number_renewed host Firm = refl
@@ -82,18 +69,14 @@ of_grain : (q : Grain) (asked : Asked) → is_request_of q asked ≡ true → as
 of_grain q (Activation g) is = ap (λ (x : Grain). Activation x) (grain_cmp_exact g q (Equal-from (grain_cmp g q) is))
 of_grain q (Find g) is = cc
 
-module _ {A : Type 0} (P Q : A → Type 0) where
-  all_of : (xs : List A) → ((x : A) → P x → Q x) → AllByRecursion P xs → AllByRecursion Q xs
-  all_of [] so all = tt
-  all_of (x ∷ xs) so all = (so x all.0, all_of xs so all.1)
-
 -- each is what is found under its number
 each_asked : (es : List (ℕ × Asked)) → IsStrictlySortedBy nat_cmp (keys_of es) → AllByRecursion (λ e. asked_under e.0 es ≡ Some e.1) es
 each_asked [] sorted = tt
-each_asked (e ∷ es) sorted =
-    (ap (λ b. cond b (Some e.1) (asked_under e.0 es)) (number_at_itself e.0),
-    all_of (λ x. asked_under x.0 es ≡ Some x.1) (λ x. asked_under x.0 (e ∷ es) ≡ Some x.1) es (λ x found. found_behind e es x.0 x.1 sorted found)
-    (each_asked es (sorted_tail nat_cmp e.0 (keys_of es) sorted)))
+each_asked (e ∷ es) sorted = (
+  ap (λ b. cond b (Some e.1) (asked_under e.0 es)) (number_at_itself e.0),
+  all_map (λ x. asked_under x.0 es ≡ Some x.1) (λ x. asked_under x.0 (e ∷ es) ≡ Some x.1) es (λ x found. found_behind e es x.0 x.1 sorted found)
+      (each_asked es (sorted_tail nat_cmp e.0 (keys_of es) sorted)),
+)
 
 module _ (h : Inside) (is : IsWhole h) where
   abbrev out : List (ℕ × Asked)
@@ -129,7 +112,7 @@ module _ (h : Inside) (is : IsWhole h) where
   -- ---- The activations.
   only_under : (q : Grain) (k : ℕ) → number_of q h.held.entries ≡ Some k → AllByRecursion (λ e. is_request_of q e.1 ≡ true → e.0 ≡ k) out
   only_under q k has =
-      all_of (λ e. asked_under e.0 out ≡ Some e.1) (λ e. is_request_of q e.1 ≡ true → e.0 ≡ k) out
+      all_map (λ e. asked_under e.0 out ≡ Some e.1) (λ e. is_request_of q e.1 ≡ true → e.0 ≡ k) out
       (λ e found request. same_Some e.0 k (sym (is.are_held.asked.only q e.0 (found ∙ ap (λ (a : Asked). Some a) (of_grain q e.1 request))) ∙ has))
       (each_asked out is.are_held.in_order)
 

@@ -1,7 +1,6 @@
 -- The rule's firm entries are those of the table that is made activation by activation.
 use Rattle.std.proofs.Common.{◌≡◌, refl, ap, List, [], ◌∷◌, cond, Bool, true, false, ◌&&◌, map, filter, fold}
 use Rattle.std.specs.Map.{values_of}
-use Rattle.silo_address.specs.Silo.{Silo}
 use Rattle.silo_address.specs.Grain.{Grain}
 use Rattle.silo_address.specs.declared.Entry.{Entry}
 use Rattle.ring_range.specs.Range.{Range, holds}

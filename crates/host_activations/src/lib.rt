@@ -7,3 +7,6 @@ mod held_map;
 mod host;
 
 pub use host::Host;
+
+#[cfg(test)]
+mod tests;

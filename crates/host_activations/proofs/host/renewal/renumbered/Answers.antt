@@ -1,4 +1,4 @@
-use Rattle.std.proofs.Common.{◌≡◌, refl, sym, ap, subst, ◌∙◌, ◌∷◌, [], ◌++◌, ◌+◌, ◌<◌, length, append_assoc, arith}
+use Rattle.std.proofs.Common.{◌≡◌, sym, ap, subst, ◌∙◌, ◌∷◌, [], ◌++◌, ◌+◌, ◌<◌, length, append_assoc, arith}
 use Rattle.std.specs.List.{AllByRecursion, enumerate_from}
 use Rattle.std.specs.Map.{keys_of}
 use Rattle.host_activations.proofs.Ranks.{put_last, below_last}
@@ -8,7 +8,7 @@ pub loop-asked-preserved : goal.loop-asked-preserved
 loop-asked-preserved c =
     let taken : c.loop-asked.asked-iterator ≡ c.in-Some.asked.now ∷ c.next.new.self = c.in-Some.ensures.steps in
     let last : c.insert.new.self.entries ≡ c.loop-asked.renewed.entries ++ (c.loop-asked.number, c.in-Some.asked.now) ∷ [] =
-        c.in_ok-insert.ensures.entries ∙ put_last c.loop-asked.renewed.entries c.loop-asked.number c.in-Some.asked.now c.loop-asked.invariant.below in
+    c.in_ok-insert.ensures.entries ∙ put_last c.loop-asked.renewed.entries c.loop-asked.number c.in-Some.asked.now c.loop-asked.invariant.below in
     record {
       so_far = ap (λ l. l ++ enumerate_from (c.loop-asked.number + 1) c.next.new.self) last
           ∙ append_assoc c.loop-asked.renewed.entries ((c.loop-asked.number, c.in-Some.asked.now) ∷ []) (enumerate_from (c.loop-asked.number + 1) c.next.new.self)

@@ -1,7 +1,6 @@
 use Rattle.std.proofs.Common.{sym, ap, ◌∙◌}
 use Rattle.std.specs.Map.{lookup, set_value}
 use Rattle.silo_address.specs.Grain.{grain_eq}
-use Rattle.directory_rules.specs.declared.Held.{Held}
 use Rattle.directory_rules.specs.declared.Phase.{Phase}
 use Rattle.host_activations.specs.Renewal.{held_as}
 use Rattle.host_activations.proofs.Grains.{tests_alike}

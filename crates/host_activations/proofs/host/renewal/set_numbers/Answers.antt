@@ -8,5 +8,5 @@ pub loop-number-preserved : goal.loop-number-preserved
 loop-number-preserved c =
     let taken : c.loop-number.number-iterator ≡ (c.in-Some.number.now, c.in-Some.asked.now) ∷ c.next.new.self = c.in-Some.ensures.steps in
     let same : with_number c.loop-number.held.entries (c.in-Some.number.now, c.in-Some.asked.now) ≡ c.loop-number.held.entries =
-        ap (λ (a : Asked). with_number c.loop-number.held.entries (c.in-Some.number.now, a)) c.in_default.is ∙ with_find c.loop-number.held.entries c.in-Some.number.now c.in_default.field-0 in
+    ap (λ (a : Asked). with_number c.loop-number.held.entries (c.in-Some.number.now, a)) c.in_default.is ∙ with_find c.loop-number.held.entries c.in-Some.number.now c.in_default.field-0 in
     ap (λ l. with_numbers c.next.new.self l) (sym same) ∙ ap (λ l. with_numbers l c.loop-number.held.entries) (sym taken) ∙ c.loop-number.invariant
