@@ -31,7 +31,9 @@ pub struct Host {
     next_number: u64,
     next_count: u64,
     held: HeldMap,
+    // All that is outstanding, by number, so that a reply finds what it answers at once.
     outstanding: BTreeMap<u64, Asked>,
+    // How many of them are finds.
     find_count: usize,
 }
 
