@@ -15,7 +15,7 @@ use std::collections::BTreeMap;
 use std::marker::Model;
 
 /// What an owner has been reported so far of a range that nobody hands over (`docs/RULES.md#recovery`).
-#[derive(Drop)]
+#[derive(Clone, Drop)]
 pub struct Recovery {
     alloc: Global,
     version: u64,

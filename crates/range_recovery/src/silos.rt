@@ -9,7 +9,7 @@ use std::alloc::{AllocError, Global};
 use std::marker::Model;
 
 /// The silos that are asked for their reports, by address, each once.
-#[derive(Drop)]
+#[derive(Clone, Drop)]
 pub(crate) struct AwaitedSilos {
     silos: Vec<Awaited>,
     // How many of them haven't reported.
