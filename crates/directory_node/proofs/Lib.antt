@@ -1,0 +1,10 @@
+pub mod Kept
+pub mod PieceRecoveries
+pub mod Numbers
+pub mod Reports
+pub mod Absorbing
+pub mod Writing
+pub mod Wants
+pub mod FirstSights
+pub mod FirstArcs
+pub mod Said

@@ -1,0 +1,82 @@
+-- A report that counts finds the piece that recovers, and its recovery.
+use Rattle.std.proofs.Common.{◌≡◌, refl, sym, subst, ap, ◌∙◌, ℕ, List, [], ◌∷◌}
+use Rattle.std.specs.Prelude.{Bool, true, false, cond, ◌&&◌, ◌==◌, Option, Some, None}
+use Rattle.std.specs.Ordering.{nat_cmp}
+use Rattle.std.specs.Map.{lookup, set_value, remove_entry}
+use Rattle.std.specs.BTreeMap.{is_at, insert_entry}
+use Rattle.ring_range.specs.Range.{Range, range_eq}
+use Rattle.ring_range.proofs.Same.{Decides-range}
+use Rattle.directory_rules.specs.declared.PieceState.{PieceState}
+use Rattle.directory_rules.specs.declared.PieceState.TheVariants.{Settled, Awaiting, Recovering}
+use Rattle.directory_rules.specs.Piece.{Piece}
+use Rattle.directory_rules.specs.Recovery.{Recovery, Report, Recovered, Rejects, recovered, with_report}
+use Rattle.directory_rules.specs.Letter.{Letter}
+use Rattle.directory_rules.specs.Node.{Node}
+use Rattle.directory_rules.specs.Transfer.{has_range, is_recovering, is_report_awaited, piece_at, recovers}
+use Rattle.std.proofs.lemmas.Map.Lookups.{exact_unsigned}
+use Rattle.membership_view.proofs.Entries.{Equal-from}
+use Rattle.directory_rules.proofs.Cases.{on_bool}
+use Rattle.directory_node.proofs.Kept.{apart_from, other_than_written, written_is_found}
+use Rattle.directory_node.specs.Taking.{IsTaken, with_taken}
+use Rattle.directory_node.specs.Node.{HasRecovery, HaveRecoveries, IsNode}
+
+both : (a b : Bool) → (a && b) ≡ true → (a ≡ true) × (b ≡ true)
+both true b is = (refl, is)
+both false b is = absurd (cc (is))
+
+recovering_is : (state : PieceState) → is_recovering state ≡ true → state ≡ Recovering
+recovering_is Settled is = absurd (cc (is))
+recovering_is (Awaiting from) is = absurd (cc (is))
+recovering_is Recovering is = refl
+
+-- there is a piece of just that range, and it recovers
+pub record RecoversPiece (node : Node) (range : Range) : Type 0 where
+  pub piece : Piece
+  pub there : lookup (is_at (nat_cmp range.start)) node.holding.pieces ≡ Some piece
+  pub its_range : piece.range ≡ range
+  pub state : piece.state ≡ Recovering
+
+found_piece : (node : Node) (range : Range) (found : Option Piece) → piece_at node range ≡ found → has_range is_recovering range found ≡ true → RecoversPiece node range
+found_piece node range None at is = absurd (cc (is))
+found_piece node range (Some piece) at is = record {
+  piece = piece;
+  there = at;
+  its_range = (Decides-range piece.range range).0 (both _ _ is).0;
+  state = recovering_is piece.state (both _ _ is).1;
+}
+
+pub range_recovers : (node : Node) (range : Range) → has_range is_recovering range (piece_at node range) ≡ true → RecoversPiece node range
+range_recovers node range is = found_piece node range (piece_at node range) refl is
+
+pub report_recovers : (node : Node) (letter : Letter) (report : Report) → is_report_awaited node letter report ≡ true → RecoversPiece node report.range
+report_recovers node letter report is =
+    range_recovers node report.range (both _ _ (both _ _ (both _ _ (both _ _ (both _ _ is).0).0).0).1).1
+
+-- and its recovery
+pub its_recovery : (node : Node) (range : Range) → IsNode node → (piece : RecoversPiece node range) → HasRecovery node.recoveries range.start piece.piece
+its_recovery node range is piece = is.recovers range.start piece.piece piece.there piece.state
+
+-- a refused report is taken by changing nothing
+pub refused_is_taken : (recovery its : Recovery) (report : Report) (old new : List (ℕ × Recovery)) (number : ℕ) → recovered its report ≡ Rejects number → recovery ≡ its → new ≡ old → IsTaken (recovered recovery report) recovery report old new false
+refused_is_taken recovery its report old new number is same unchanged =
+    subst (λ o. IsTaken o recovery report old new false) (sym (ap (λ r. recovered r report) same ∙ is)) (refl, unchanged)
+
+-- the recoveries, one of them with a report, still serve the pieces
+pub taken_keeps : (pieces : List (ℕ × Piece)) (recoveries : List (ℕ × Recovery)) (recovery : Recovery) (report : Report) → lookup (is_at (nat_cmp report.range.start)) recoveries ≡ Some recovery
+    → HaveRecoveries pieces recoveries → HaveRecoveries pieces (with_taken recovery report recoveries)
+taken_keeps pieces recoveries recovery report there have start piece found recovering =
+    let had = have start piece found recovering in
+    on_bool (λ b. HasRecovery (with_taken recovery report recoveries) start piece) (is_at (nat_cmp report.range.start) start)
+    (λ t.
+    let same : report.range.start ≡ start = exact_unsigned report.range.start start (Equal-from (nat_cmp report.range.start start) t) in
+    let one : had.recovery ≡ recovery = cc (had.there, ap (λ s. lookup (is_at (nat_cmp s)) recoveries) (sym same) ∙ there) in
+    record {
+      recovery = with_report recovery report;
+      there = ap (λ s. lookup (is_at (nat_cmp s)) (with_taken recovery report recoveries)) (sym same) ∙ written_is_found (is_at (nat_cmp report.range.start)) recoveries (with_report recovery report) recovery there;
+      its_range = ap (λ (r : Recovery). r.range) (sym one) ∙ had.its_range;
+    })
+    (λ f. record {
+      recovery = had.recovery;
+      there = other_than_written (is_at (nat_cmp report.range.start)) (is_at (nat_cmp start)) recoveries (with_report recovery report) (λ j at. apart_from report.range.start start j f at) ∙ had.there;
+      its_range = had.its_range;
+    })

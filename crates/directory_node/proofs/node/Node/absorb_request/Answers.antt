@@ -1,0 +1,17 @@
+use Rattle.std.proofs.Common.{rules, ◌≡◌, refl, sym, subst, ap, ◌∙◌, ℕ, List, []}
+use Rattle.directory_rules.specs.Piece.{Piece, Holding}
+use Rattle.directory_rules.specs.Answer.{Answered, answered}
+use Rattle.directory_node.specs.Node.{HaveRecoveries}
+use Rattle.directory_node.proofs.Kept.{answered_keeps, answered_none}
+use Rattle.directory_node.proofs.node.Node.absorb_request.Goals as goal
+
+-- src/requests.rt:42:13
+pub invariant_of-self : goal.invariant_of-self
+invariant_of-self c =
+    let is = ap (λ (a : Answered). a.holding.pieces) c.in_ok-serve.ensures.served in
+    record {
+      uncached = c.self.invariant.uncached;
+      recovers = subst (λ pieces. HaveRecoveries pieces c.self.inside.recoveries.entries) is (answered_keeps c.self.inside.holding c.args.request.now c.self.inside.recoveries.entries c.self.invariant.recovers);
+      unseen = λ none. sym is ∙ answered_none c.self.inside.holding c.args.request.now (c.self.invariant.unseen none);
+      bare = c.self.invariant.bare;
+    }

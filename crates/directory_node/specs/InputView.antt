@@ -1,0 +1,11 @@
+-- How an input of the code is one of the rule.
+use Rattle.directory_rules.specs.Input as rule
+use Rattle.directory_node.specs.declared.input.Input.{Input}
+use Rattle.directory_node.specs.declared.input.Input.TheVariants.{Sees, Wakes, Finds, Receives}
+
+-- the rule's input
+abbrev pub input_of : Input → rule.Input
+input_of (Sees before view places) = rule.Sees before.now view.now places.now
+input_of (Wakes grain) = rule.Wakes grain
+input_of (Finds grain) = rule.Finds grain
+input_of (Receives letter) = rule.Receives letter.now

@@ -1,0 +1,28 @@
+-- What every node of the code keeps.
+use Rattle.std.specs.Prelude.{◌≡◌, ℕ, List, [], Some}
+use Rattle.std.specs.Ordering.{nat_cmp}
+use Rattle.std.specs.Map.{lookup}
+use Rattle.std.specs.BTreeMap.{is_at}
+use Rattle.directory_rules.specs.declared.PieceState.TheVariants.{Recovering}
+use Rattle.directory_rules.specs.Piece.{Piece}
+use Rattle.directory_rules.specs.Recovery.{Recovery}
+use Rattle.directory_rules.specs.Node.{Node}
+
+-- there is a recovery under the start, of just that piece's range
+pub record HasRecovery (recoveries : List (ℕ × Recovery)) (start : ℕ) (piece : Piece) : Type 0 where
+  pub recovery : Recovery
+  pub there : lookup (is_at (nat_cmp start)) recoveries ≡ Some recovery
+  pub its_range : recovery.range ≡ piece.range
+
+-- each piece that recovers has its recovery
+abbrev pub HaveRecoveries : List (ℕ × Piece) → List (ℕ × Recovery) → Type 0
+HaveRecoveries pieces recoveries =
+    (start : ℕ) (piece : Piece) → lookup (is_at (nat_cmp start)) pieces ≡ Some piece → piece.state ≡ Recovering → HasRecovery recoveries start piece
+
+-- what a node keeps: it caches nothing, each piece that recovers has its recovery, and before the first view it has no
+-- piece, and its ring no point
+pub record IsNode (node : Node) : Type 0 where
+  pub uncached : node.settings.cache ≡ 0
+  pub recovers : HaveRecoveries node.holding.pieces node.recoveries
+  pub unseen : node.view.version ≡ 0 → node.holding.pieces ≡ []
+  pub bare : node.view.version ≡ 0 → node.ring.points ≡ []

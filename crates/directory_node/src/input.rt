@@ -1,0 +1,21 @@
+use crate::Letter;
+use hash_ring::Places;
+use membership_view::View;
+use silo_address::GrainId;
+
+/// One input of a silo's step.
+#[derive(Clone, Copy)]
+pub enum Input<'a> {
+    /// A view to be seen, with the one before it and the places of all silos.
+    Sees {
+        before: &'a View,
+        view: &'a View,
+        places: &'a Places,
+    },
+    /// An activation of the grain is to start.
+    Wakes(GrainId),
+    /// The grain is to be looked up.
+    Finds(GrainId),
+    /// A letter comes.
+    Receives(&'a Letter),
+}

@@ -1,0 +1,192 @@
+ghost use Rattle.std.specs.Prelude.{◌≡◌, ◌↔◌, IsTrue, IfOk};
+ghost use Rattle.directory_rules.specs.Letter.{act_kind, kind_of, reply_kind};
+ghost use Rattle.directory_node.specs.LetterView.{body_of};
+
+use directory_rules::{Act, LetterKind, Reply, Request};
+use range_recovery::Report;
+use ring_range::RingRange;
+use silo_address::SiloAddress;
+use std::alloc::AllocError;
+use std::marker::Model;
+
+/// What a letter says (`docs/RULES.md#letters`).
+#[derive(Drop)]
+pub enum Body {
+    /// A silo to the owner of a grain's hash.
+    Request(Request),
+    /// The owner back, under the request's number.
+    Reply { number: u64, reply: Reply },
+    /// The new owner of a range to any silo, for what that has firm there.
+    Query(RingRange),
+    /// What a silo has firm in a range.
+    Report(Report),
+    /// The asked silo has not seen the version yet.
+    Behind(RingRange),
+    /// The asked silo has passed the version.
+    Ahead(RingRange),
+}
+
+impl Body {
+    /// An equal body. Fails only for want of memory.
+    pub fn copy(&self) -> Result<Body, AllocError>
+        ensures { IfOk result (λ body. body_of body ≡ body_of self.now) }
+    {
+        match self {
+            Body::Request(request) => Ok(Body::Request(*request)),
+            Body::Reply { number, reply } => Ok(Body::Reply {
+                number: *number,
+                reply: *reply,
+            }),
+            Body::Query(range) => Ok(Body::Query(*range)),
+            Body::Report(report) => Ok(Body::Report(report.copy()?)),
+            Body::Behind(range) => Ok(Body::Behind(*range)),
+            Body::Ahead(range) => Ok(Body::Ahead(*range)),
+        }
+    }
+
+    /// Whether the two say the same.
+    pub fn same(&self, other: &Body) -> bool
+        ensures { IsTrue result ↔ (body_of self.now ≡ body_of other.now) }
+    {
+        match (self, other) {
+            (Body::Request(request), Body::Request(its)) => request.same(its),
+            (
+                Body::Reply { number, reply },
+                Body::Reply {
+                    number: its,
+                    reply: other,
+                },
+            ) => { number == its && reply.same(other) }
+            (Body::Query(range), Body::Query(its)) => range.same(its),
+            (Body::Report(report), Body::Report(its)) => report.same(its),
+            (Body::Behind(range), Body::Behind(its)) => range.same(its),
+            (Body::Ahead(range), Body::Ahead(its)) => range.same(its),
+            _ => false,
+        }
+    }
+}
+
+/// A letter from one silo to another. A request and a reply have the version that their sender had seen, the others that of the
+/// recovery.
+#[derive(Drop)]
+pub struct Letter {
+    from: SiloAddress,
+    to: SiloAddress,
+    version: u64,
+    body: Body,
+}
+
+impl Model for Letter {
+    ghost use Rattle.directory_rules.specs.Letter.{Letter};
+
+    ghost Value = { Letter };
+
+    ghost use Rattle.directory_node.specs.LetterView.{body_of};
+
+    ghost view = { λ l. record { from = l.from; to = l.to; version = l.version; body = body_of l.body } };
+}
+
+impl Letter {
+    /// A letter of these parts.
+    pub fn new(from: SiloAddress, to: SiloAddress, version: u64, body: Body) -> Letter
+        ensures { result ≡ record { from = from; to = to; version = version; body = body_of body } }
+    {
+        Letter {
+            from,
+            to,
+            version,
+            body,
+        }
+    }
+
+    /// Who sent it.
+    pub fn from(&self) -> SiloAddress
+        ensures { result ≡ self.now.from }
+    {
+        self.from
+    }
+
+    /// Whom it is for.
+    pub fn to(&self) -> SiloAddress
+        ensures { result ≡ self.now.to }
+    {
+        self.to
+    }
+
+    /// Its version.
+    pub fn version(&self) -> u64
+        ensures { result ≡ self.now.version }
+    {
+        self.version
+    }
+
+    /// What it says.
+    pub fn body(&self) -> &Body
+        ensures { body_of result.now ≡ self.now.body }
+    {
+        &self.body
+    }
+
+    /// Its kind, by what it says.
+    pub fn kind(&self) -> LetterKind
+        ensures { result ≡ kind_of self.now.body }
+    {
+        match &self.body {
+            Body::Request(request) => act_kind(&request.act),
+            Body::Reply { reply, .. } => reply_kind(reply),
+            Body::Query(_) => LetterKind::Query,
+            Body::Report(_) => LetterKind::Report,
+            Body::Behind(_) => LetterKind::Behind,
+            Body::Ahead(_) => LetterKind::Ahead,
+        }
+    }
+
+    /// An equal letter. Fails only for want of memory.
+    pub fn copy(&self) -> Result<Letter, AllocError>
+        ensures { IfOk result (λ letter. letter ≡ self.now) }
+    {
+        let body = self.body.copy()?;
+        Ok(Letter {
+            from: self.from,
+            to: self.to,
+            version: self.version,
+            body,
+        })
+    }
+
+    /// Whether the two are one letter.
+    pub fn same(&self, other: &Letter) -> bool
+        ensures { IsTrue result ↔ (self.now ≡ other.now) }
+    {
+        self.from.same(&other.from)
+            && self.to.same(&other.to)
+            && self.version == other.version
+            && self.body.same(&other.body)
+    }
+}
+
+// The kind of a request's letter.
+fn act_kind(act: &Act) -> LetterKind
+    ensures { result ≡ act_kind act.now }
+{
+    match act {
+        Act::Register { .. } => LetterKind::Register,
+        Act::Deregister { .. } => LetterKind::Deregister,
+        Act::Find { .. } => LetterKind::Find,
+    }
+}
+
+// The kind of a reply's letter.
+fn reply_kind(reply: &Reply) -> LetterKind
+    ensures { result ≡ reply_kind reply.now }
+{
+    match reply {
+        Reply::Registered(_) => LetterKind::Registered,
+        Reply::Taken(_) => LetterKind::Taken,
+        Reply::Removed => LetterKind::Removed,
+        Reply::Absent => LetterKind::Absent,
+        Reply::Found(_) => LetterKind::Found,
+        Reply::Nothing => LetterKind::Nothing,
+        Reply::Retry(_) => LetterKind::Retry,
+    }
+}

@@ -1,0 +1,23 @@
+//! One silo of a cluster: all that it knows, and its steps, each a function of what it knows and of one input. The rules are in
+//! `docs/RULES.md#the-world`.
+#![tactic(auto)]
+
+mod fault;
+mod input;
+mod letter;
+mod node;
+mod own_steps;
+mod recoveries;
+mod replies;
+mod requests;
+mod response;
+mod sending;
+mod sight;
+mod step;
+
+pub use fault::NodeFault;
+pub use input::Input;
+pub use letter::{Body, Letter};
+pub use node::Node;
+pub use response::Response;
+pub use step::Stepped;

@@ -1,0 +1,211 @@
+ghost use Rattle.std.specs.BTreeMap.{is_at};
+ghost use Rattle.std.specs.List.Sorted.{IsStrictlySortedBy};
+ghost use Rattle.std.specs.Map.{keys_of, lookup};
+ghost use Rattle.std.specs.Ordering.{nat_cmp};
+ghost use Rattle.std.specs.Prelude.{◌≡◌, IsTrue, IfOk, OnOk, OnErr, Some, []};
+ghost use Rattle.std.specs.List.{list_all};
+ghost use Rattle.silo_address.specs.Silo.{silo_eq};
+ghost use Rattle.directory_rules.specs.Recovery.{Recovery as RecoveryValue, recovered};
+ghost use Rattle.directory_node.specs.Taking.{IsTaken};
+ghost use Rattle.directory_rules.specs.Table.{is_before_first, lie_in, rise_by_grain};
+ghost use Rattle.directory_rules.specs.Transfer.{answering, has_range, is_recovering, is_report_awaited, piece_at, queried, recovers, report_of, reported, with_settled};
+ghost use Rattle.directory_node.specs.LetterView.{body_of};
+ghost use Rattle.directory_node.specs.Saying.{response_of, said_of};
+
+use crate::{Body, Letter, Node, Response};
+use directory_rules::{Effect, PieceState};
+use range_recovery::{Progress, Recovery, RecoveryError, Report};
+use ring_range::RingRange;
+use silo_address::{Entry, SiloAddress};
+use std::alloc::{AllocError, Global};
+use std::collections::BTreeMap;
+
+impl Node {
+    // A query comes: what the silo says. Nothing changes in it.
+    pub(crate) fn respond_query(
+        &self,
+        alloc: Global,
+        letter: &Letter,
+        range: RingRange,
+    ) -> Result<Response, AllocError>
+        ensures { IfOk result (λ response. response_of response ≡ said_of (queried self.now letter.now range)) }
+    {
+        if self.view.version() < letter.version() {
+            return self.answer(alloc, letter, Body::Behind(range), Effect::Behind);
+        }
+        if letter.version() < self.view.version() {
+            return self.answer(alloc, letter, Body::Ahead(range), Effect::Ahead);
+        }
+        let report = self.report_of(alloc, range)?;
+        self.answer(alloc, letter, Body::Report(report), Effect::Report)
+    }
+
+    // One letter back to the sender, of the letter's version.
+    fn answer(
+        &self,
+        alloc: Global,
+        letter: &Letter,
+        body: Body,
+        effect: Effect,
+    ) -> Result<Response, AllocError>
+        ensures { IfOk result (λ response. response_of response ≡ said_of (answering letter.now self.now (body_of body) effect)) }
+    {
+        let back = Letter::new(self.host.silo(), letter.from(), letter.version(), body);
+        Response::of_one(alloc, back, effect)
+    }
+
+    // What is firm here, for a range.
+    fn report_of(&self, alloc: Global, range: RingRange) -> Result<Report, AllocError>
+        ensures { IfOk result (λ report. report ≡ report_of self.now range) }
+    {
+        let entries = self
+            .host
+            .firm_entries(alloc, self.settings.hashing(), &range)?;
+        Ok(Report::new(self.view.version(), range, self.host.silo(), entries))
+    }
+
+    // A report comes: what it does. It sends no letter.
+    pub(crate) fn report_does(&self, letter: &Letter, report: &Report) -> Effect
+        ensures { said_of (reported self.now letter.now report.now) ≡ record { letters = []; effect = result } }
+    {
+        if !self.is_report_awaited(letter, report) {
+            return Effect::Ignored;
+        }
+        let Some(recovery) = self.recoveries.get(&report.range().start()) else {
+            unreachable!()
+        };
+        match recovery.judge(report) {
+            Ok(Progress::More) => Effect::More,
+            Ok(Progress::Complete) => Effect::Complete,
+            Err(_) => Effect::Ignored,
+        }
+    }
+
+    // A report comes: what stays.
+    pub(crate) fn absorb_report(
+        &mut self,
+        letter: &Letter,
+        report: &Report,
+    ) -> Result<(), AllocError>
+        ensures left { OnOk result (self.new ≡ (reported self.old letter.now report.now).node) }
+        ensures unchanged { OnErr result (self.new ≡ self.old) }
+    {
+        if !self.is_report_awaited(letter, report) {
+            return Ok(());
+        }
+        if take_report(&mut self.recoveries, report)? {
+            self.settle(report.range());
+        }
+        Ok(())
+    }
+
+    // All have reported: the piece has what was gathered, and its recovery goes.
+    fn settle(&mut self, range: RingRange)
+        requires recovers { IsTrue (has_range is_recovering range (piece_at self.old range)) }
+        ensures { (recovery : RecoveryValue) → lookup (is_at (nat_cmp range.start)) self.old.recoveries ≡ Some recovery → self.new ≡ with_settled self.old range recovery.gathered }
+    {
+        if let Some(recovery) = self.recoveries.remove(&range.start()) {
+            self.holding.install(range, recovery.into_entries());
+        }
+    }
+
+    // Whether the report counts: it is the sender's, of the letter's version, the piece recovers, and its entries are the
+    // sender's, are hashed into the range and stand in the order of their grains.
+    fn is_report_awaited(&self, letter: &Letter, report: &Report) -> bool
+        ensures { result ≡ is_report_awaited self.now letter.now report.now }
+    {
+        report.version() == letter.version()
+            && report.silo() == letter.from()
+            && self.recovers(letter.version(), report.range())
+            && rise_by_grain(report.entries())
+            && self.has_hashes_in(report.range(), report.entries())
+            && are_all_of(letter.from(), report.entries())
+    }
+
+    // Whether a piece of just that range recovers, at that version.
+    fn recovers(&self, version: u64, range: RingRange) -> bool
+        ensures { result ≡ recovers self.now version range }
+    {
+        if version != self.view.version() {
+            return false;
+        }
+        match self.holding.piece_at(range.start()) {
+            Some(piece) => piece.range() == range && is_recovering(piece.state()),
+            None => false,
+        }
+    }
+
+    // Whether the entries are all hashed into the range.
+    fn has_hashes_in(&self, range: RingRange, entries: &[Entry]) -> bool
+        ensures { result ≡ lie_in self.now.settings.hashing range entries.now }
+    {
+        let hashing = self.settings.hashing();
+        entries
+            .iter()
+            .all(|entry| range.contains(hashing.hash_grain(&entry.grain)))
+    }
+}
+
+// The report goes to the recovery of its range: whether all have reported now.
+fn take_report(
+    recoveries: &mut BTreeMap<u32, Recovery>,
+    report: &Report,
+) -> Result<bool, AllocError>
+    ensures taken { IfOk result (λ complete. (recovery : RecoveryValue) → lookup (is_at (nat_cmp report.now.range.start)) recoveries.old.entries ≡ Some recovery →
+        IsTaken (recovered recovery report.now) recovery report.now recoveries.old.entries recoveries.new.entries complete) }
+    ensures unchanged { OnErr result (recoveries.new.entries ≡ recoveries.old.entries) }
+    ensures in_order { IsStrictlySortedBy nat_cmp (keys_of recoveries.old.entries) }
+{
+    let Some(recovery) = recoveries.get_mut(&report.range().start()) else {
+        return Ok(false);
+    };
+    match recovery.take(report) {
+        Ok(Progress::Complete) => Ok(true),
+        Ok(Progress::More) => Ok(false),
+        Err(RecoveryError::WrongVersion) => Ok(false),
+        Err(RecoveryError::Stranger) => Ok(false),
+        Err(RecoveryError::Twice) => Ok(false),
+        Err(RecoveryError::OutOfMemory) => Err(AllocError),
+    }
+}
+
+// Whether the state recovers.
+pub(crate) fn is_recovering(state: PieceState) -> bool
+    ensures { result ≡ is_recovering state }
+{
+    match state {
+        PieceState::Recovering => true,
+        PieceState::Settled | PieceState::Awaiting(_) => false,
+    }
+}
+
+// Whether the entries stand in the order of their grains, each grain once.
+fn rise_by_grain(entries: &[Entry]) -> bool
+    ensures { result ≡ rise_by_grain entries.now }
+{
+    let mut rest = entries;
+    while let Some((entry, behind)) = rest.split_first() {
+        if !is_before_first(entry, behind) {
+            return false;
+        }
+        rest = behind;
+    }
+    true
+}
+
+// Whether the entry's grain is below that of the first one.
+fn is_before_first(entry: &Entry, entries: &[Entry]) -> bool
+    ensures { result ≡ is_before_first entry.now entries.now }
+{
+    match entries.first() {
+        Some(next) => entry.grain < next.grain,
+        None => true,
+    }
+}
+
+// Whether the entries are all of activations on that silo.
+fn are_all_of(silo: SiloAddress, entries: &[Entry]) -> bool
+    ensures { result ≡ list_all (λ e. silo_eq e.activation.silo silo) entries.now }
+{
+    entries.iter().all(|entry| entry.activation.silo == silo)
+}

@@ -1,0 +1,125 @@
+ghost use Rattle.std.specs.Prelude.{◌≡◌, IfOk, IfErr, IfSome, OnOk, OnErr, IsOk, IsErrOf, Ok, Err};
+ghost use Rattle.directory_rules.specs.Input.{step};
+ghost use Rattle.directory_rules.specs.Receive.{received};
+ghost use Rattle.directory_node.specs.First.{IsFirstSight};
+ghost use Rattle.directory_node.specs.InputView.{input_of};
+ghost use Rattle.directory_node.specs.Saying.{Tells, left_by, response_of, said, said_of, Makes};
+
+use crate::{Body, Input, Letter, Node, NodeFault, Response};
+use directory_rules::Effect;
+use std::alloc::{AllocError, Global};
+
+/// What a step makes: the new node, the letters that it sends, in order, and what it did.
+#[derive(Drop)]
+pub struct Stepped {
+    pub node: Node,
+    pub letters: Vec<Letter>,
+    pub effect: Effect,
+}
+
+impl Node {
+    /// The silo's step with an input, which leaves this node as it is. Refused as the rule says of each input
+    /// (`docs/RULES.md#the-world`).
+    pub fn step(&self, alloc: Global, input: &Input<'_>) -> Result<Stepped, NodeFault>
+        requires first { IsFirstSight self.now (input_of input.now) }
+        ensures { Makes (step self.now (input_of input.now)) result }
+    {
+        if let Input::Sees {
+            before,
+            view,
+            places,
+        } = input
+        {
+            return self.see(alloc, before, view, places);
+        }
+        let response = self.respond(alloc, input)?;
+        let Ok(mut node) = self.copy() else {
+            return Err(NodeFault::OutOfMemory);
+        };
+        match node.absorb(alloc, input) {
+            Ok(()) => Ok(Stepped {
+                node,
+                letters: response.letters,
+                effect: response.effect,
+            }),
+            Err(_) => Err(NodeFault::OutOfMemory),
+        }
+    }
+
+    /// What the silo says at an input: letters and effect of its step, or its refusal.
+    pub fn respond(&self, alloc: Global, input: &Input<'_>) -> Result<Response, NodeFault>
+        requires first { IsFirstSight self.now (input_of input.now) }
+        ensures { Tells (said (step self.now (input_of input.now))) result }
+    {
+        match input {
+            Input::Sees {
+                before,
+                view,
+                places,
+            } => {
+                let stepped = self.see(alloc, before, view, places)?;
+                Ok(Response {
+                    letters: stepped.letters,
+                    effect: stepped.effect,
+                })
+            }
+            Input::Wakes(grain) => self.respond_wake(alloc, *grain),
+            Input::Finds(grain) => self.respond_find(alloc, *grain),
+            Input::Receives(letter) => match self.respond_letter(alloc, letter) {
+                Ok(response) => Ok(response),
+                Err(_) => Err(NodeFault::OutOfMemory),
+            },
+        }
+    }
+
+    /// The step made in place, of an input that is not refused. Fails only for want of memory, and then nothing has changed.
+    pub fn absorb(&mut self, alloc: Global, input: &Input<'_>) -> Result<(), AllocError>
+        requires first { IsFirstSight self.old (input_of input.now) }
+        requires taken { IsOk (step self.old (input_of input.now)) }
+        ensures left { OnOk result (self.new ≡ left_by (step self.old (input_of input.now)) self.old) }
+        ensures unchanged { OnErr result (self.new ≡ self.old) }
+    {
+        match input {
+            Input::Sees {
+                before,
+                view,
+                places,
+            } => self.absorb_sight(alloc, before, view, places),
+            Input::Wakes(grain) => self.absorb_wake(*grain),
+            Input::Finds(grain) => self.absorb_find(*grain),
+            Input::Receives(letter) => self.absorb_letter(letter),
+        }
+    }
+
+    /// A letter comes: what the silo says.
+    pub fn respond_letter(&self, alloc: Global, letter: &Letter) -> Result<Response, AllocError>
+        ensures { IfOk result (λ response. response_of response ≡ said_of (received self.now letter.now)) }
+    {
+        match letter.body() {
+            Body::Request(request) => self.respond_request(alloc, letter, request),
+            Body::Reply { number, reply } => {
+                let effect = self.reply_does(letter.version(), *number, reply);
+                Ok(Response::silent(alloc, effect))
+            }
+            Body::Query(range) => self.respond_query(alloc, letter, *range),
+            Body::Report(report) => Ok(Response::silent(alloc, self.report_does(letter, report))),
+            Body::Behind(_) | Body::Ahead(_) => Ok(Response::silent(alloc, Effect::Noted)),
+        }
+    }
+
+    /// A letter comes: what stays.
+    pub fn absorb_letter(&mut self, letter: &Letter) -> Result<(), AllocError>
+        ensures left { OnOk result (self.new ≡ (received self.old letter.now).node) }
+        ensures unchanged { OnErr result (self.new ≡ self.old) }
+    {
+        match letter.body() {
+            Body::Request(request) => self.absorb_request(letter, request),
+            Body::Reply { number, reply } => {
+                self.absorb_reply(letter.version(), *number, reply);
+                Ok(())
+            }
+            Body::Report(report) => self.absorb_report(letter, report),
+            Body::Query(_) | Body::Behind(_) | Body::Ahead(_) => Ok(()),
+        }
+    }
+}
