@@ -1,0 +1,60 @@
+-- Entries in the order of their keys: one that is put in at a key that is there, and one that is put in and taken out again.
+use Rattle.std.proofs.Common.{◌≡◌, List, [], ◌∷◌, cond, Option, Some, None, IsSome, refl, sym, ◌∙◌, ap, subst}
+use Rattle.std.specs.Cmp.{IsTotalOrder}
+use Rattle.std.specs.List.{AllByRecursion}
+use Rattle.std.specs.List.Sorted.{IsStrictlySortedBy}
+use Rattle.std.specs.Map.{lookup, keys_of, set_value, remove_entry}
+use Rattle.std.specs.BTreeMap.{is_at, insert_entry}
+use Rattle.std.specs.Ordering.{is_eq, match_ordering}
+use Rattle.std.specs.declared.cmp.Ordering.{Ordering}
+use Rattle.std.specs.declared.cmp.Ordering.TheVariants.{Less, Equal, Greater}
+use Rattle.std.proofs.lemmas.Cmp.{tied_itself}
+use Rattle.std.proofs.lemmas.Option.{same_Some}
+use Rattle.std.proofs.lemmas.Map.Keys.{sorted_head, sorted_tail}
+
+-- a key that stands before the first of all is none of theirs
+above_none : {K X : Type 0} (R : K → K → Ordering) (o : IsTotalOrder R) (k first : K) → R k first ≡ Less → (es : List (K × X)) → AllByRecursion (λ y. R first y ≡ Less) (keys_of es)
+    → lookup (is_at (R k)) es ≡ None
+above_none R o k first less [] above = refl
+above_none R o k first less (e ∷ es) above =
+    ap (λ r. cond (is_eq r) (Some e.1) (lookup (is_at (R k)) es)) (o.trans k first e.0 less above.0) ∙ above_none R o k first less es above.1
+
+pub none_not_some : {X : Type 0} (found : Option X) → found ≡ None → IsSome found → ⊥
+none_not_some None none there = cc (there)
+none_not_some (Some x) none there = cc (none)
+
+-- an entry put in at a key that is there takes that one's place
+pub put_there : {K X : Type 0} (R : K → K → Ordering) (o : IsTotalOrder R) (k : K) (v : X) (es : List (K × X)) → IsStrictlySortedBy R (keys_of es) → IsSome (lookup (is_at (R k)) es)
+    → insert_entry R es k v ≡ set_value (is_at (R k)) es v
+put_there R o k v [] sorted there = absurd (cc (there))
+put_there {K} {X} R o k v (e ∷ es) sorted there =
+    by (R k e.0) refl (λ later. put_there R o k v es (sorted_tail R e.0 (keys_of es) sorted) later)
+    (λ less. above_none R o k e.0 less es (sorted_head R e.0 (keys_of es) sorted)) there
+  where
+    by : (r : Ordering) → R k e.0 ≡ r → (IsSome (lookup (is_at (R k)) es) → insert_entry R es k v ≡ set_value (is_at (R k)) es v)
+        → (R k e.0 ≡ Less → lookup (is_at (R k)) es ≡ None) → IsSome (cond (is_eq r) (Some e.1) (lookup (is_at (R k)) es))
+        → match_ordering r ((k, v) ∷ e ∷ es) ((e.0, v) ∷ es) (e ∷ insert_entry R es k v) ≡ cond (is_eq r) ((e.0, v) ∷ es) (e ∷ set_value (is_at (R k)) es v)
+    by Less h later none there = absurd (none_not_some (lookup (is_at (R k)) es) (none h) there)
+    by Equal h later none there = refl
+    by Greater h later none there = ap (λ (l : List (K × X)). e ∷ l) (later there)
+
+-- the value that was lent, changed, is written back: it is put in in its own place
+pub put_at : {K X : Type 0} (R : K → K → Ordering) (o : IsTotalOrder R) (k : K) (es : List (K × X)) → IsStrictlySortedBy R (keys_of es) → (lent found left : X) (change : X → X)
+    → Some lent ≡ lookup (is_at (R k)) es → lookup (is_at (R k)) es ≡ Some found → left ≡ change lent → set_value (is_at (R k)) es left ≡ insert_entry R es k (change found)
+put_at R o k es sorted lent found left change there is left_is =
+    ap (λ v. set_value (is_at (R k)) es v) (left_is ∙ ap change (same_Some lent found (there ∙ is)))
+    ∙ sym (put_there R o k (change found) es sorted (subst (λ e. IsSome e) (sym is) refl))
+
+-- what was put in at a new key and is taken out again leaves the entries as they were
+pub taken_back : {K X : Type 0} (R : K → K → Ordering) (o : IsTotalOrder R) (k : K) (v : X) (es : List (K × X)) → lookup (is_at (R k)) es ≡ None
+    → remove_entry (is_at (R k)) (insert_entry R es k v) ≡ es
+taken_back R o k v [] none = ap (λ r. cond (is_eq r) [] ((k, v) ∷ [])) (tied_itself o k)
+taken_back {K} {X} R o k v (e ∷ es) none = by (R k e.0) refl (λ later. taken_back R o k v es later) none
+  where
+    by : (r : Ordering) → R k e.0 ≡ r → (lookup (is_at (R k)) es ≡ None → remove_entry (is_at (R k)) (insert_entry R es k v) ≡ es)
+        → cond (is_eq r) (Some e.1) (lookup (is_at (R k)) es) ≡ None
+        → remove_entry (is_at (R k)) (match_ordering r ((k, v) ∷ e ∷ es) ((e.0, v) ∷ es) (e ∷ insert_entry R es k v)) ≡ e ∷ es
+    by Less h later none = ap (λ q. cond (is_eq q) (e ∷ es) ((k, v) ∷ remove_entry (is_at (R k)) (e ∷ es))) (tied_itself o k)
+    by Equal h later none = cc
+    by Greater h later none =
+        ap (λ q. cond (is_eq q) (insert_entry R es k v) (e ∷ remove_entry (is_at (R k)) (insert_entry R es k v))) h ∙ ap (λ (l : List (K × X)). e ∷ l) (later none)

@@ -1,0 +1,6 @@
+pub mod Posted
+pub mod Entries
+pub mod Kept
+pub mod FirstSight
+pub mod Happening
+pub mod Running

@@ -1,0 +1,66 @@
+-- A run, one event further.
+use Rattle.std.proofs.Common.{◌≡◌, ◌⊎◌, inl, inr, Ok, Err, OnErr, ℕ, ◌+◌, ◌<◌, List, [], ◌∷◌, ◌++◌, length, get_or, take, map, Result, refl, sym, ◌∙◌, ap}
+use Rattle.std.proofs.lemmas.List.{take_more, map-append}
+use Rattle.cluster_events.specs.declared.Event.{Event}
+use Rattle.cluster_events.specs.EventView.{event_of}
+use Rattle.directory_rules.specs.Event as rule
+use Rattle.directory_rules.specs.World.{World}
+use Rattle.directory_rules.specs.Happens.{happens}
+use Rattle.directory_rules.specs.Run.{run, told_of, world_after}
+
+run_more_world : (world : World) (events : List rule.Event) (event : rule.Event)
+    → (run world (events ++ event ∷ [])).world ≡ world_after (happens (run world events).world event) (run world events).world
+unfolding run
+run_more_world world [] event = refl
+run_more_world world (e ∷ events) event = run_more_world (world_after (happens world e) world) events event
+
+run_more_told : (world : World) (events : List rule.Event) (event : rule.Event)
+    → (run world (events ++ event ∷ [])).told ≡ (run world events).told ++ told_of (happens (run world events).world event) ∷ []
+unfolding run
+run_more_told world [] event = refl
+run_more_told world (e ∷ events) event = ap (λ (l : List (Result rule.Outcome ℕ)). told_of (happens world e) ∷ l) (run_more_told (world_after (happens world e) world) events event)
+
+-- the events so far, and the next one
+one_more : (events : List Event) (i : ℕ) (event : Event) → i < length events → event ≡ get_or events i event
+    → map event_of (take (i + 1) events) ≡ map event_of (take i events) ++ event_of event ∷ []
+one_more events i event below is =
+    ap (λ (l : List Event). map event_of l) (take_more events i event below ∙ ap (λ (e : Event). take i events ++ e ∷ []) (sym is))
+    ∙ map-append event_of (take i events) (event ∷ [])
+
+pub further_world : (world now next : World) (events : List Event) (i : ℕ) (event : Event) → i < length events → event ≡ get_or events i event
+    → now ≡ (run world (map event_of (take i events))).world → next ≡ world_after (happens now (event_of event)) now
+    → next ≡ (run world (map event_of (take (i + 1) events))).world
+further_world world now next events i event below is so_far after =
+    after
+    ∙ ap (λ (w : World). world_after (happens w (event_of event)) w) so_far
+    ∙ sym (run_more_world world (map event_of (take i events)) (event_of event))
+    ∙ ap (λ (l : List rule.Event). (run world l).world) (sym (one_more events i event below is))
+
+pub further_told : (world now : World) (events : List Event) (i : ℕ) (event : Event) (told : List (Result rule.Outcome ℕ)) (this : Result rule.Outcome ℕ) → i < length events → event ≡ get_or events i event
+    → now ≡ (run world (map event_of (take i events))).world → told ≡ (run world (map event_of (take i events))).told → this ≡ told_of (happens now (event_of event))
+    → told ++ this ∷ [] ≡ (run world (map event_of (take (i + 1) events))).told
+further_told world now events i event told this below is so_far told_so_far this_is =
+    ap (λ (l : List (Result rule.Outcome ℕ)). l ++ this ∷ []) told_so_far
+    ∙ ap (λ (r : Result rule.Outcome ℕ). (run world (map event_of (take i events))).told ++ r ∷ []) (this_is ∙ ap (λ (w : World). told_of (happens w (event_of event))) so_far)
+    ∙ sym (run_more_told world (map event_of (take i events)) (event_of event))
+    ∙ ap (λ (l : List rule.Event). (run world l).told) (sym (one_more events i event below is))
+
+-- before the first event
+pub none_world : (world : World) → world ≡ (run world []).world
+unfolding run
+none_world world = refl
+
+pub none_told : (world : World) → [] ≡ (run world []).told
+unfolding run
+none_told world = refl
+
+-- where want of memory ends the run: before the event, or after it has happened
+pub stopped_at : (world now next : World) (events : List Event) (i : ℕ) (event : Event) → i < length events → event ≡ get_or events i event
+    → now ≡ (run world (map event_of (take i events))).world → (next ≡ now) ⊎ (next ≡ world_after (happens now (event_of event)) now)
+    → (count : ℕ) × (next ≡ (run world (map event_of (take count events))).world)
+stopped_at world now next events i event below is so_far (inl same) = (i, same ∙ so_far)
+stopped_at world now next events i event below is so_far (inr after) = (i + 1, further_world world now next events i event below is so_far after)
+
+pub on_err : {A E P : Type 0} (result : Result A E) → P → OnErr result P
+on_err (Ok value) fact = tt
+on_err (Err fault) fact = fact

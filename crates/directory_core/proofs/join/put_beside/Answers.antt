@@ -1,0 +1,14 @@
+use Rattle.std.proofs.Common.{◌∙◌, ap, List}
+use Rattle.std.specs.Map.{remove_entry}
+use Rattle.std.specs.BTreeMap.{is_at}
+use Rattle.silo_address.specs.Silo.{Silo, silo_cmp}
+use Rattle.silo_address.proofs.Order.{silo_cmp_total}
+use Rattle.directory_rules.specs.Node.{Node}
+use Rattle.directory_core.proofs.Entries.{taken_back}
+use Rattle.directory_core.proofs.join.put_beside.Goals as goal
+
+pub returns-in-Err-clause-nodes_unchanged : goal.returns-in-Err-clause-nodes_unchanged
+returns-in-Err-clause-nodes_unchanged c =
+    c.remove-node.ensures.entries
+    ∙ ap (λ (l : List (Silo × Node)). remove_entry (is_at (silo_cmp c.args.silo)) l) c.in_ok-insert.ensures.entries
+    ∙ taken_back silo_cmp silo_cmp_total c.args.silo c.args.node c.args.nodes.now.entries c.requires.absent

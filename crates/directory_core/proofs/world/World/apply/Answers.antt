@@ -1,0 +1,18 @@
+use Rattle.std.proofs.Common.{◌≤◌, ◌<◌, sym, subst, ap, arith}
+use Rattle.directory_rules.specs.Settings.{Settings}
+use Rattle.cluster_events.specs.EventView.{event_of}
+use Rattle.directory_core.specs.Applying.{Tells}
+use Rattle.directory_core.proofs.Happening.{full, has_room}
+use Rattle.directory_core.proofs.world.World.apply.Goals as goal
+
+pub returns-then-accepted-events-clause-told : goal.returns-then-accepted-events-clause-told
+returns-then-accepted-events-clause-told c =
+    let events_are = ap (λ (s : Settings). s.events) c.settings.ensures in
+    let most : c.args.self.now.settings.events ≤ c.args.self.now.accepted = omega (arith, c.if-accepted-events.true, c.accepted.ensures, c.events.ensures, events_are) in
+    full c.args.self.now (event_of c.args.event.now) most
+
+pub returns-clause-told : goal.returns-clause-told
+returns-clause-told c =
+    let events_are = ap (λ (s : Settings). s.events) c.settings.ensures in
+    let room : c.args.self.now.accepted < c.args.self.now.settings.events = omega (arith, c.if-accepted-events.false, c.accepted.ensures, c.events.ensures, events_are) in
+    subst (λ h. Tells h c.attempt.new.self c.attempt.result) (sym (has_room c.args.self.now (event_of c.args.event.now) room)) c.attempt.ensures.told

@@ -1,0 +1,45 @@
+use Rattle.std.proofs.Common.{◌≡◌, true, List, Ok, sym, ◌∙◌, ap, arith}
+use Rattle.std.specs.Option.{option_map}
+use Rattle.silo_address.specs.Silo.{Silo}
+use Rattle.directory_rules.specs.declared.LetterKind.{LetterKind}
+use Rattle.directory_rules.specs.Event.{Delivered}
+use Rattle.directory_rules.specs.Letter.{Letter}
+use Rattle.directory_rules.specs.World.{World}
+use Rattle.directory_rules.specs.Mail.{has_room_for, span_of, with_delivered}
+use Rattle.directory_rules.specs.Happens.{node_of}
+use Rattle.directory_rules.specs.Receive.{received}
+use Rattle.cluster_events.specs.OutcomeView.{span_of as code_span}
+use Rattle.directory_core.specs.Stepping.{after_step}
+use Rattle.directory_core.proofs.Happening.{delivered_told, open_delivery}
+use Rattle.directory_core.proofs.world.World.deliver.Goals as goal
+
+pub returns-in_default-respond_letter-clause-told : goal.returns-in_default-respond_letter-clause-told
+returns-in_default-respond_letter-clause-told c =
+    open_delivery c.args.self.now c.args.number c.in-Some.letter.now c.in-Some-node.node.now (sym c.in-Some.ensures)
+    (ap (λ (s : Silo). node_of c.args.self.now s) (sym c.to-to.ensures) ∙ sym c.in-Some-node.ensures)
+
+pub returns-in-Err-clause-told : goal.returns-in-Err-clause-told
+returns-in-Err-clause-told c =
+    open_delivery c.args.self.now c.args.number c.in-Some.letter.now c.in-Some-node.node.now (sym c.in-Some.ensures)
+    (ap (λ (s : Silo). node_of c.args.self.now s) (sym c.to-to.ensures) ∙ sym c.in-Some-node.ensures)
+
+pub returns-in-Ok-absorb_letter-clause-told : goal.returns-in-Ok-absorb_letter-clause-told
+returns-in-Ok-absorb_letter-clause-told c =
+    let letter = c.in-Some.letter.now in
+    let node = c.in-Some-node.node.now in
+    let letters = c.in-Ok.response.letters.items in
+    let room : has_room_for c.args.self.now c.deref.result.now ≡ true = grind arith in
+    delivered_told c.args.self.now c.args.number letter node letters c.in-Ok.response.effect (option_map code_span c.span_of.result) (sym c.in-Some.ensures)
+    (ap (λ (s : Silo). node_of c.args.self.now s) (sym c.to-to.ensures) ∙ sym c.in-Some-node.ensures)
+    (sym c.in-Ok.ensures)
+    (ap (λ (l : List Letter). has_room_for c.args.self.now l) (sym c.deref.ensures.value) ∙ room)
+    (c.span_of.ensures ∙ ap (λ (l : List Letter). span_of c.args.self.now l) c.deref-2.ensures.value)
+    ∙ ap (λ (k : LetterKind). Ok (record {
+      outcome = record { happening = Delivered c.args.number k c.in-Ok.response.effect; sent = option_map code_span c.span_of.result };
+      world = after_step (with_delivered c.args.self.now c.args.number letter) letter.to (received node letter).node letters;
+    })) (sym c.kind-kind.ensures)
+    ∙ ap (λ (w : World). Ok (record {
+      outcome = record { happening = Delivered c.args.number c.kind-kind.result c.in-Ok.response.effect; sent = option_map code_span c.span_of.result };
+      world = w;
+    })) (ap (λ (s : Silo). after_step (with_delivered c.args.self.now c.args.number letter) s (received node letter).node letters) (sym c.to-to.ensures)
+    ∙ sym (c.in-Ok-absorb_letter.ensures.made letter node (sym c.in-Some.ensures) (sym c.in-Some-node.ensures)))

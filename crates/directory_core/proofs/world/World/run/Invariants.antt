@@ -1,0 +1,10 @@
+use Rattle.std.proofs.Common.{◌≡◌, map, take}
+use Rattle.cluster_events.specs.EventView.{event_of}
+use Rattle.directory_rules.specs.Run.{run}
+use Rattle.directory_core.proofs.world.World.run.Given as goal
+
+abbrev pub invariant-loop-event : goal.invariant-loop-event
+invariant-loop-event l = record {
+  world : l.self ≡ (run l.fn.self (map event_of (take l.event-index l.events))).world;
+  told : l.told.items ≡ (run l.fn.self (map event_of (take l.event-index l.events))).told;
+}

@@ -1,0 +1,10 @@
+pub mod Numbers
+pub mod Mail
+pub mod MailView
+pub mod OwnView
+pub mod Stepping
+pub mod Joining
+pub mod Whole
+pub mod WorldView
+pub mod Applying
+pub mod ToldView

@@ -1,0 +1,128 @@
+ghost use Rattle.std.specs.Prelude.{◌≡◌, ◌<◌, IfErr, IfOk, None, Ok, OnErr, OnOk, length};
+ghost use Rattle.std.specs.Map.{lookup};
+ghost use Rattle.std.specs.BTreeMap.{is_at, insert_entry};
+ghost use Rattle.silo_address.specs.Silo.{silo_cmp};
+ghost use Rattle.membership_view.specs.Changes.{after_join, standing, with_join};
+ghost use Rattle.hash_ring.specs.Places.{after_add};
+ghost use Rattle.directory_rules.specs.Happens.{join};
+ghost use Rattle.directory_core.specs.Applying.{Tells};
+ghost use Rattle.directory_core.specs.Joining.{RefusesPlaces, with_admitted};
+
+use crate::{CoreFault, World};
+use cluster_events::{Happening, Outcome};
+use directory_node::Node;
+use hash_ring::{Places, RingError};
+use membership_view::{Joined, Views};
+use silo_address::SiloAddress;
+use std::alloc::AllocError;
+use std::collections::BTreeMap;
+
+impl World {
+    // A silo joins: 201, 205, then 402, 403.
+    pub(crate) fn join(&mut self, silo: SiloAddress, given: &[u32]) -> Result<Outcome, CoreFault>
+        requires room { self.old.accepted < self.old.settings.events }
+        ensures told { Tells (join self.old silo given.now) self.new result }
+        ensures unchanged { OnErr result (self.new ≡ self.old) }
+    {
+        if let Err(fault) = self.views.may_join(&silo) {
+            return Err(CoreFault::of_views(fault));
+        }
+        if given.len() > self.settings.places() {
+            return Err(CoreFault::Ring(RingError::PointCount));
+        }
+        let joined = self.admit(silo, given)?;
+        Ok(Outcome {
+            happening: Happening::Joined {
+                version: joined.version,
+                silo,
+                replaced: joined.replaced,
+            },
+            sent: None,
+        })
+    }
+
+    // A silo that the views don't refuse joins.
+    fn admit(&mut self, silo: SiloAddress, given: &[u32]) -> Result<Joined, CoreFault>
+        requires may { after_join self.old.views silo ≡ Ok (with_join self.old.views silo) }
+        requires first { length self.old.views.rows < self.old.views.limit }
+        requires room { self.old.accepted < self.old.settings.events }
+        ensures places { OnOk result (after_add self.old.places silo given.now ≡ Ok self.new.places) }
+        ensures made { OnOk result (self.new ≡ with_admitted self.old silo self.new.places) }
+        ensures version { IfOk result (λ joined. joined.version ≡ self.new.views.version) }
+        ensures replaced { IfOk result (λ joined. joined.replaced ≡ standing silo self.old.views.rows) }
+        ensures refused { IfErr result (λ fault. RefusesPlaces fault (after_add self.old.places silo given.now)) }
+        ensures unchanged { OnErr result (self.new ≡ self.old) }
+    {
+        let node = Node::new(self.alloc, self.settings, silo);
+        let joined = put_in(
+            &mut self.views,
+            &mut self.places,
+            &mut self.nodes,
+            silo,
+            given,
+            node,
+        )?;
+        self.accepted += 1;
+        Ok(joined)
+    }
+}
+
+// The silo gets its places, its node and its row; where one fails for want of memory, what it got is taken out again.
+fn put_in(
+    views: &mut Views,
+    places: &mut Places,
+    nodes: &mut BTreeMap<SiloAddress, Node>,
+    silo: SiloAddress,
+    given: &[u32],
+    node: Node,
+) -> Result<Joined, CoreFault>
+    requires may { after_join views.old silo ≡ Ok (with_join views.old silo) }
+    requires absent { lookup (is_at (silo_cmp silo)) nodes.old.entries ≡ None }
+    ensures views { OnOk result (views.new ≡ with_join views.old silo) }
+    ensures places { OnOk result (after_add places.old silo given.now ≡ Ok places.new) }
+    ensures nodes { OnOk result (nodes.new.entries ≡ insert_entry silo_cmp nodes.old.entries silo node) }
+    ensures version { IfOk result (λ joined. joined.version ≡ views.new.version) }
+    ensures replaced { IfOk result (λ joined. joined.replaced ≡ standing silo views.old.rows) }
+    ensures refused { IfErr result (λ fault. RefusesPlaces fault (after_add places.old silo given.now)) }
+    ensures views_unchanged { OnErr result (views.new ≡ views.old) }
+    ensures places_unchanged { OnErr result (places.new ≡ places.old) }
+    ensures nodes_unchanged { OnErr result (nodes.new.entries ≡ nodes.old.entries) }
+{
+    match places.add(silo, given) {
+        Ok(()) => {}
+        Err(fault) => return Err(CoreFault::of_ring(fault)),
+    }
+    match put_beside(views, nodes, silo, node) {
+        Ok(joined) => Ok(joined),
+        Err(_) => {
+            places.remove(&silo);
+            Err(CoreFault::OutOfMemory)
+        }
+    }
+}
+
+// The silo gets its node and its row.
+fn put_beside(
+    views: &mut Views,
+    nodes: &mut BTreeMap<SiloAddress, Node>,
+    silo: SiloAddress,
+    node: Node,
+) -> Result<Joined, AllocError>
+    requires may { after_join views.old silo ≡ Ok (with_join views.old silo) }
+    requires absent { lookup (is_at (silo_cmp silo)) nodes.old.entries ≡ None }
+    ensures views { OnOk result (views.new ≡ with_join views.old silo) }
+    ensures nodes { OnOk result (nodes.new.entries ≡ insert_entry silo_cmp nodes.old.entries silo node) }
+    ensures version { IfOk result (λ joined. joined.version ≡ views.new.version) }
+    ensures replaced { IfOk result (λ joined. joined.replaced ≡ standing silo views.old.rows) }
+    ensures views_unchanged { OnErr result (views.new ≡ views.old) }
+    ensures nodes_unchanged { OnErr result (nodes.new.entries ≡ nodes.old.entries) }
+{
+    nodes.insert(silo, node)?;
+    match views.join(silo) {
+        Ok(joined) => Ok(joined),
+        Err(_) => {
+            let _node = nodes.remove(&silo);
+            Err(AllocError)
+        }
+    }
+}

@@ -1,0 +1,20 @@
+//! The cluster as one value: what happens in it, event by event, by the event rule (`docs/RULES.md#the-world`).
+#![tactic(auto)]
+
+mod apply;
+mod fault;
+mod join;
+mod mail;
+mod own;
+mod run;
+mod sight;
+mod steps;
+mod told;
+mod world;
+
+pub use fault::CoreFault;
+pub use told::Told;
+pub use world::World;
+
+#[cfg(test)]
+mod tests;

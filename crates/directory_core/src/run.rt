@@ -1,0 +1,52 @@
+ghost use Rattle.std.specs.Prelude.{◌≡◌, ◌⊎◌, ◌++◌, ◌∷◌, [], ℕ, IfOk, OnErr, OnOk, map, take};
+ghost use Rattle.cluster_events.specs.EventView.{event_of};
+ghost use Rattle.directory_rules.specs.Happens.{happens};
+ghost use Rattle.directory_core.specs.Applying.{IsLeftOpen};
+ghost use Rattle.directory_rules.specs.Run.{run, told_of, world_after};
+
+use crate::{Told, World};
+use cluster_events::Event;
+use std::alloc::{AllocError, Global};
+
+impl World {
+    /// Events happen, one after the other; a refused one changes nothing, and the run goes on behind it. Answers what each event
+    /// told, or why it was refused (`docs/RULES.md#the-world`). Want of memory ends the run, and what was applied stands.
+    pub fn run(&mut self, alloc: Global, events: &[Event]) -> Result<Vec<Told>, AllocError>
+        ensures told { IfOk result (λ told. told.items ≡ (run self.old (map event_of events.now)).told) }
+        ensures world { OnOk result (self.new ≡ (run self.old (map event_of events.now)).world) }
+        ensures stopped { OnErr result ((count : ℕ) × (self.new ≡ (run self.old (map event_of (take count events.now))).world)) }
+    {
+        let mut told = Vec::new(alloc);
+        for event in events {
+            self.tell_next(event, &mut told)?;
+        }
+        Ok(told)
+    }
+
+    // The next event of a run happens, and is told. Fails only for want of memory; then the event has happened or not.
+    fn tell_next(&mut self, event: &Event, told: &mut Vec<Told>) -> Result<(), AllocError>
+        ensures told { OnOk result (told.new.items ≡ told.old.items ++ told_of (happens self.old (event_of event.now)) ∷ []) }
+        ensures world { OnOk result (self.new ≡ world_after (happens self.old (event_of event.now)) self.old) }
+        ensures stopped { OnErr result ((self.new ≡ self.old) ⊎ (self.new ≡ world_after (happens self.old (event_of event.now)) self.old)) }
+    {
+        let this = self.apply_next(event)?;
+        told.push(this)?;
+        Ok(())
+    }
+
+    // The next event of a run happens: what it told, or why it was refused. Fails only for want of memory.
+    fn apply_next(&mut self, event: &Event) -> Result<Told, AllocError>
+        ensures told { IfOk result (λ told. told ≡ told_of (happens self.old (event_of event.now))) }
+        ensures world { OnOk result (self.new ≡ world_after (happens self.old (event_of event.now)) self.old) }
+        ensures unchanged { OnErr result (self.new ≡ self.old) }
+        ensures open { OnErr result (IsLeftOpen (happens self.old (event_of event.now))) }
+    {
+        match self.apply(event) {
+            Ok(outcome) => Ok(Told::new(Ok(outcome))),
+            Err(fault) => match fault.number() {
+                Some(_) => Ok(Told::new(Err(fault))),
+                None => Err(AllocError),
+            },
+        }
+    }
+}

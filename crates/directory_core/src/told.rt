@@ -1,0 +1,39 @@
+ghost use Rattle.std.specs.Prelude.{◌≡◌};
+ghost use Rattle.directory_core.specs.ToldView.{told_as};
+
+use crate::CoreFault;
+use cluster_events::Outcome;
+use std::marker::Model;
+
+/// What an event of a run told: its outcome, or why it was refused.
+#[derive(Drop)]
+pub struct Told {
+    result: Result<Outcome, CoreFault>,
+}
+
+impl Model for Told {
+    ghost use Rattle.std.specs.Prelude.{ℕ, Result};
+    ghost use Rattle.directory_rules.specs.Event.{Outcome};
+
+    ghost Value = { Result Outcome ℕ };
+
+    ghost use Rattle.directory_core.specs.ToldView.{told_as};
+
+    ghost view = { λ t. told_as t.result };
+}
+
+impl Told {
+    // That was told.
+    pub(crate) fn new(told: Result<Outcome, CoreFault>) -> Told
+        ensures { result ≡ told_as told }
+    {
+        Told { result: told }
+    }
+
+    /// The outcome, or why the event was refused; never for want of memory.
+    pub fn result(&self) -> &Result<Outcome, CoreFault>
+        ensures { told_as result.now ≡ self.now }
+    {
+        &self.result
+    }
+}
