@@ -1,0 +1,7 @@
+pub mod Lines
+mod Turns
+mod Steps
+mod Sending
+mod Standings
+mod TurnsTaken
+mod Rows

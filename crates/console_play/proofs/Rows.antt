@@ -1,0 +1,60 @@
+-- Rows shown one after the other.
+use Rattle.std.proofs.Common.{◌≡◌, ℕ, ◌++◌, List, [], ◌∷◌, length, false, map, subst, ap, refl, sym, ◌∙◌, append_assoc, append-nil}
+use Rattle.std.specs.Prelude.{filter, flat_map, ◌==◌}
+use Rattle.std.proofs.lemmas.List.Concat.{flat_map-append}
+use Rattle.silo_address.specs.Silo.{Silo}
+use Rattle.ring_range.specs.Range.{Range}
+use Rattle.hash_ring.specs.declared.point.Point.{Point}
+use Rattle.hash_ring.specs.Ranges.{owned_range, owned_ranges, owns_its_place}
+use Rattle.directory_rules.specs.World.{World}
+use Rattle.directory_rules.specs.Show.{range_line, range_lines}
+use Rattle.directory_rules.specs.Output.{text_of_lines}
+use Rattle.directory_rules.specs.Words.{line_feed}
+
+-- what is shown now, and the lines of the rows that are left, are those of all rows behind the start
+abbrev pub Shows : {X : Type 0} → (X → List (List ℕ)) → (start : List ℕ) → (all : List X) → (now : List ℕ) → (rest : List X) → Type 0
+Shows lines start all now rest = now ++ text_of_lines (flat_map lines rest) ≡ start ++ text_of_lines (flat_map lines all)
+
+-- one row more
+pub shows_more : {X : Type 0} (lines : X → List (List ℕ)) (start : List ℕ) (all : List X) (now next : List ℕ) (row : X) (rest left : List X) → left ≡ row ∷ rest
+    → next ≡ now ++ text_of_lines (lines row) → Shows lines start all now left → Shows lines start all next rest
+shows_more lines start all now next row rest left is shown shows =
+    ap (λ (t : List ℕ). t ++ text_of_lines (flat_map lines rest)) shown
+    ∙ (append_assoc now (text_of_lines (lines row)) (text_of_lines (flat_map lines rest))
+    ∙ (ap (λ (t : List ℕ). now ++ t) (sym (flat_map-append (λ (line : List ℕ). line ++ line_feed ∷ []) (lines row) (flat_map lines rest)))
+    ∙ (ap (λ rows. now ++ text_of_lines (flat_map lines rows)) (sym is) ∙ shows)))
+
+-- all are shown
+pub shows_all : {X : Type 0} (lines : X → List (List ℕ)) (start : List ℕ) (all : List X) (now : List ℕ) (rest : List X) → rest ≡ []
+    → Shows lines start all now rest → now ≡ start ++ text_of_lines (flat_map lines all)
+shows_all lines start all now rest none shows =
+    sym (append-nil now) ∙ (ap (λ rows. now ++ text_of_lines (flat_map lines rows)) (sym none) ∙ shows)
+
+-- a line a row
+pub flat_map_lines : {X : Type 0} (line : X → List ℕ) (rows : List X) → flat_map (λ e. line e ∷ []) rows ≡ map line rows
+flat_map_lines line [] = refl
+flat_map_lines line (row ∷ rows) = ap (λ ls. line row ∷ ls) (flat_map_lines line rows)
+
+-- lines behind lines
+pub text_behind : (start middle text : List ℕ) (one other : List (List ℕ)) → middle ≡ start ++ text_of_lines one → text ≡ middle ++ text_of_lines other
+    → text ≡ start ++ text_of_lines (one ++ other)
+text_behind start middle text one other first second =
+    second ∙ (ap (λ (t : List ℕ). t ++ text_of_lines other) first ∙ (append_assoc start (text_of_lines one) (text_of_lines other)
+    ∙ ap (λ (t : List ℕ). start ++ t) (sym (flat_map-append (λ (line : List ℕ). line ++ line_feed ∷ []) one other))))
+
+map_twice : {X Y : Type 0} (f : Y → List ℕ) (g : X → Y) (xs : List X) → map f (map g xs) ≡ map (λ x. f (g x)) xs
+map_twice f g [] = refl
+map_twice f g (x ∷ xs) = ap (λ ls. f (g x) ∷ ls) (map_twice f g xs)
+
+of_some_points : (world : World) (points : List Point) → (length points == 0) ≡ false
+    → map (λ e. range_line world e.0 e.1) (owned_ranges points) ≡ range_lines world points
+of_some_points world [] none = absurd (cc)
+of_some_points world (point ∷ points) some =
+    map_twice (λ (e : Range × Silo). range_line world e.0 e.1) (owned_range (point ∷ points)) (filter (owns_its_place (point ∷ points)) (point ∷ points))
+
+-- the lines of the ranges of a ring that has a point
+pub ranges_are : (world : World) (points ring current : List Point) (slice ranges : List (Range × Silo)) → points ≡ ring → (length points == 0) ≡ false
+    → ring ≡ current → slice ≡ ranges → ranges ≡ owned_ranges ring → map (λ e. range_line world e.0 e.1) slice ≡ range_lines world current
+ranges_are world points ring current slice ranges points_are some is slice_is owned =
+    ap (map (λ (e : Range × Silo). range_line world e.0 e.1)) (slice_is ∙ (owned ∙ ap owned_ranges is))
+    ∙ of_some_points world current (subst (λ (ps : List Point). (length ps == 0) ≡ false) (points_are ∙ is) some)

@@ -1,0 +1,5 @@
+pub mod Performing
+pub mod Playing
+pub mod Sessions
+pub mod Transfers
+pub mod Turns
