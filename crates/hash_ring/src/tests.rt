@@ -293,7 +293,8 @@ fn a_ring_goes_on(rt: HostRuntime) -> Result<(), Fail> {
     let mut earlier = view(rt.alloc(), &views, 0)?;
     for (version, want) in table {
         let now = view(rt.alloc(), &views, version)?;
-        let ring = gone_on(rt.alloc(), &earlier, &now, &places)??;
+        let advanced = gone_on(rt.alloc(), &earlier, &now, &places)?;
+        let ring = advanced?;
         assert!(rt;
             ring.same(&Ring::anew(rt.alloc(), &now, &places)?),
             "{version}"
