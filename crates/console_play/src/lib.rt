@@ -13,3 +13,6 @@ mod turn;
 
 pub use ended::{Ended, LineFault};
 pub use playing::{play, play_to_one_silo};
+
+#[cfg(test)]
+mod tests;

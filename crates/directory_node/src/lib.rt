@@ -14,6 +14,8 @@ mod response;
 mod sending;
 mod sight;
 mod step;
+#[cfg(test)]
+mod tests;
 
 pub use fault::NodeFault;
 pub use input::Input;
