@@ -1,8 +1,8 @@
 -- A report that counts, taken in place.
-use Rattle.std.proofs.Common.{◌≡◌, refl, sym, subst, ap, ◌∙◌, ℕ, List, [], ◌∷◌}
-use Rattle.std.specs.Prelude.{Bool, true, false, cond, Option, Some, None}
+use Rattle.std.proofs.Common.{◌≡◌, sym, subst, ap, ◌∙◌, ℕ, List}
+use Rattle.std.specs.Prelude.{Bool, true, false, cond, Some}
 use Rattle.std.specs.Ordering.{nat_cmp}
-use Rattle.std.specs.Map.{keys_of, lookup, set_value, remove_entry}
+use Rattle.std.specs.Map.{keys_of, lookup, remove_entry}
 use Rattle.std.specs.BTreeMap.{is_at, insert_entry}
 use Rattle.directory_rules.specs.Letter.{Letter}
 use Rattle.directory_rules.specs.Node.{Node}
@@ -16,8 +16,8 @@ use Rattle.ring_range.specs.Range.{Range}
 use Rattle.directory_rules.specs.declared.Effect.TheVariants.{Ignored}
 use Rattle.directory_node.proofs.Kept.{written_is_found}
 use Rattle.directory_node.proofs.Writing.{insert_entry-there, remove-set_value}
-use Rattle.directory_node.specs.Node.{HasRecovery, HaveRecoveries, IsNode}
-use Rattle.directory_node.specs.Taking.{IsTaken, with_taken}
+use Rattle.directory_node.specs.Node.{HaveRecoveries, IsNode}
+use Rattle.directory_node.specs.Taking.{IsTaken}
 use Rattle.directory_node.proofs.Reports.{report_recovers, its_recovery, taken_keeps}
 
 -- what the report does to the recoveries of the node

@@ -1,8 +1,7 @@
 -- At a first sight the ring is compared with no point.
-use Rattle.std.proofs.Common.{◌≡◌, refl, sym, ap, ◌∙◌, ℕ, List, [], ◌∷◌}
-use Rattle.std.specs.Prelude.{Bool, true, false, cond, ◌&&◌, ◌==◌, All, Option, None, map}
+use Rattle.std.proofs.Common.{◌≡◌, refl, ap, List, [], ◌∷◌}
+use Rattle.std.specs.Prelude.{Bool, cond, ◌&&◌, ◌==◌, All, None, map}
 use Rattle.std.proofs.lemmas.List.Elements.{All-nil, All-cons}
-use Rattle.std.proofs.lemmas.Bool.Decides.{Decides-eqb}
 use Rattle.ring_range.specs.Range.{Range}
 use Rattle.membership_view.specs.View.{ViewValue}
 use Rattle.hash_ring.specs.declared.Point.{Point}

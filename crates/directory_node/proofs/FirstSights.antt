@@ -1,7 +1,7 @@
 -- A first sight: nobody was there before, so every piece recovers, and nothing is sealed or awaited.
-use Rattle.std.proofs.Common.{◌≡◌, refl, sym, subst, ap, ◌∙◌, ℕ, ◌<◌, List, [], ◌∷◌, ◌++◌, arith}
-use Rattle.std.specs.Prelude.{Bool, true, false, cond, ◌&&◌, ◌==◌, is_some, not, All, Option, Some, None, flat_map, map, filter}
-use Rattle.std.specs.List.{list_all, filter_map, cons_option}
+use Rattle.std.proofs.Common.{◌≡◌, refl, ap, ◌∙◌, ℕ, ◌<◌, List, [], ◌∷◌, arith}
+use Rattle.std.specs.Prelude.{Bool, true, false, cond, ◌&&◌, ◌==◌, is_some, not, All, None, flat_map, map, filter}
+use Rattle.std.specs.List.{list_all, cons_option}
 use Rattle.std.proofs.lemmas.List.Elements.{All-head, All-tail, All-nil, All-cons}
 use Rattle.ring_range.specs.Range.{Range}
 use Rattle.ring_range.specs.Cut.{cut_parts, cut_steps, parts_between}
@@ -11,7 +11,7 @@ use Rattle.membership_view.specs.View.{ViewValue}
 use Rattle.hash_ring.specs.declared.Hashing.{Hashing}
 use Rattle.range_moves.specs.declared.Arc.{Arc}
 use Rattle.directory_rules.specs.declared.PieceState.{PieceState}
-use Rattle.directory_rules.specs.declared.PieceState.TheVariants.{Settled, Awaiting, Recovering}
+use Rattle.directory_rules.specs.declared.PieceState.TheVariants.{Settled, Recovering}
 use Rattle.directory_rules.specs.Piece.{Piece}
 use Rattle.directory_rules.specs.Sight.{is_handed_over, is_in_settled, is_owner, kept_entries, missing_state, piece_of, pieces_after, sealed, shelf_after, snapshot_for, was_settled}
 use Rattle.directory_rules.specs.Step.{gathering_in, new_gatherings}

@@ -1,5 +1,5 @@
 -- What every step keeps: each piece that recovers has its recovery.
-use Rattle.std.proofs.Common.{◌≡◌, inl, inr, refl, sym, subst, ap, ◌∙◌, ℕ, List, [], ◌∷◌}
+use Rattle.std.proofs.Common.{◌≡◌, inl, inr, refl, sym, ap, ◌∙◌, ℕ, List, [], ◌∷◌}
 use Rattle.std.specs.Prelude.{◌⊎◌, Bool, true, false, cond, not, nat_lt, ◌==◌, ◌&&◌, Option, Some, None, Result, Ok, Err}
 use Rattle.std.specs.Ordering.{nat_cmp}
 use Rattle.std.specs.Map.{lookup, set_value, remove_entry}
@@ -8,7 +8,7 @@ use Rattle.directory_rules.specs.declared.Act.{Act}
 use Rattle.directory_rules.specs.declared.Act.TheVariants.{Register, Deregister, Find}
 use Rattle.directory_rules.specs.declared.Request.{Request}
 use Rattle.directory_rules.specs.declared.Why.{Why}
-use Rattle.directory_rules.specs.declared.Why.TheVariants.{View, Unsettled, OldNumber, NotOwner}
+use Rattle.directory_rules.specs.declared.Why.TheVariants.{View, OldNumber}
 use Rattle.directory_rules.specs.declared.PieceState.{PieceState}
 use Rattle.directory_rules.specs.declared.PieceState.TheVariants.{Settled, Awaiting, Recovering}
 use Rattle.directory_rules.specs.Piece.{Piece, Holding}

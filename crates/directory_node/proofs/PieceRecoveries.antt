@@ -1,6 +1,6 @@
 -- The recoveries of pieces that stand under their starts.
 use Rattle.std.proofs.Common.{◌≡◌, refl, sym, subst, ap, ◌∙◌, ℕ, List, [], ◌∷◌, ◌++◌, append-nil}
-use Rattle.std.specs.Prelude.{Bool, true, false, cond, Option, Some, None}
+use Rattle.std.specs.Prelude.{true, false, Option, Some, None}
 use Rattle.std.specs.List.{All, filter_map, cons_option}
 use Rattle.std.specs.List.Sorted.{IsStrictlySortedBy}
 use Rattle.std.specs.Map.{keys_of, lookup}
@@ -19,7 +19,7 @@ use Rattle.directory_rules.specs.Recovery.{Recovery, new_recovery}
 use Rattle.directory_rules.specs.Step.{new_recoveries, recovery_in}
 use Rattle.directory_rules.specs.Transfer.{is_recovering}
 use Rattle.grain_partition.proofs.AtTheEnd.{insert_entry-end}
-use Rattle.directory_node.specs.Node.{HasRecovery, HaveRecoveries}
+use Rattle.directory_node.specs.Node.{HaveRecoveries}
 use Rattle.grain_partition.specs.Holding.{ArePieces}
 
 -- the recovery that a piece in that state wants

@@ -1,18 +1,18 @@
 -- A report that counts finds the piece that recovers, and its recovery.
-use Rattle.std.proofs.Common.{◌≡◌, refl, sym, subst, ap, ◌∙◌, ℕ, List, [], ◌∷◌}
-use Rattle.std.specs.Prelude.{Bool, true, false, cond, ◌&&◌, ◌==◌, Option, Some, None}
+use Rattle.std.proofs.Common.{◌≡◌, refl, sym, subst, ap, ◌∙◌, ℕ, List}
+use Rattle.std.specs.Prelude.{Bool, true, false, ◌&&◌, Option, Some, None}
 use Rattle.std.specs.Ordering.{nat_cmp}
-use Rattle.std.specs.Map.{lookup, set_value, remove_entry}
-use Rattle.std.specs.BTreeMap.{is_at, insert_entry}
-use Rattle.ring_range.specs.Range.{Range, range_eq}
+use Rattle.std.specs.Map.{lookup}
+use Rattle.std.specs.BTreeMap.{is_at}
+use Rattle.ring_range.specs.Range.{Range}
 use Rattle.ring_range.proofs.Same.{Decides-range}
 use Rattle.directory_rules.specs.declared.PieceState.{PieceState}
 use Rattle.directory_rules.specs.declared.PieceState.TheVariants.{Settled, Awaiting, Recovering}
 use Rattle.directory_rules.specs.Piece.{Piece}
-use Rattle.directory_rules.specs.Recovery.{Recovery, Report, Recovered, Rejects, recovered, with_report}
+use Rattle.directory_rules.specs.Recovery.{Recovery, Report, Rejects, recovered, with_report}
 use Rattle.directory_rules.specs.Letter.{Letter}
 use Rattle.directory_rules.specs.Node.{Node}
-use Rattle.directory_rules.specs.Transfer.{has_range, is_recovering, is_report_awaited, piece_at, recovers}
+use Rattle.directory_rules.specs.Transfer.{has_range, is_recovering, is_report_awaited, piece_at}
 use Rattle.std.proofs.lemmas.Map.Lookups.{exact_unsigned}
 use Rattle.membership_view.proofs.Entries.{Equal-from}
 use Rattle.directory_rules.proofs.Cases.{on_bool}

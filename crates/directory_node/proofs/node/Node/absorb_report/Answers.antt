@@ -1,11 +1,11 @@
-use Rattle.std.proofs.Common.{◌≡◌, sym, subst, ap, ◌∙◌, ℕ, true, false, Some}
+use Rattle.std.proofs.Common.{◌≡◌, subst, ap, ◌∙◌, Some}
 use Rattle.std.specs.Map.{lookup}
 use Rattle.std.specs.BTreeMap.{is_at}
 use Rattle.std.specs.Ordering.{nat_cmp}
 use Rattle.ring_range.specs.Range.{Range}
 use Rattle.directory_rules.specs.Recovery.{Recovery}
 use Rattle.directory_rules.specs.Node.{Node}
-use Rattle.directory_rules.specs.Transfer.{is_report_awaited, reported, with_settled}
+use Rattle.directory_rules.specs.Transfer.{reported, with_settled}
 use Rattle.directory_node.specs.NodeView.{node_of}
 use Rattle.directory_node.proofs.Absorbing.{Takes, kept_by_taking, left_by_more, left_by_union}
 use Rattle.directory_node.proofs.node.Node.absorb_report.Goals as goal

@@ -1,6 +1,5 @@
-use Rattle.std.proofs.Common.{rules, ◌≡◌, refl, sym, subst, ap, ◌∙◌, ℕ, List, []}
-use Rattle.directory_rules.specs.Piece.{Piece, Holding}
-use Rattle.directory_rules.specs.Answer.{Answered, answered}
+use Rattle.std.proofs.Common.{sym, subst, ap, ◌∙◌}
+use Rattle.directory_rules.specs.Answer.{Answered}
 use Rattle.directory_node.specs.Node.{HaveRecoveries}
 use Rattle.directory_node.proofs.Kept.{answered_keeps, answered_none}
 use Rattle.directory_node.proofs.node.Node.absorb_request.Goals as goal

@@ -1,16 +1,13 @@
-use Rattle.std.proofs.Common.{◌≡◌, arith, refl, sym, subst, ap, ◌∙◌, ◌<◌, ℕ, List, []}
+use Rattle.std.proofs.Common.{◌≡◌, arith, sym, subst, ap, ◌∙◌, ℕ, []}
 use Rattle.std.specs.Prelude.{All}
-use Rattle.silo_address.specs.Silo.{Silo}
 use Rattle.membership_view.specs.View.{ViewValue}
-use Rattle.hash_ring.specs.declared.Hashing.{Hashing}
 use Rattle.directory_rules.specs.declared.PieceState.TheVariants.{Recovering}
 use Rattle.directory_rules.specs.Piece.{Piece, Holding}
-use Rattle.directory_rules.specs.Recovery.{Recovery}
 use Rattle.directory_rules.specs.Host.{renewed}
 use Rattle.directory_rules.specs.Cache.{new_cache}
 use Rattle.directory_rules.specs.Node.{Node}
 use Rattle.directory_rules.specs.Sight.{pieces_after, sealed, shelf_after}
-use Rattle.directory_rules.specs.Step.{new_gatherings, new_recoveries, node_after}
+use Rattle.directory_rules.specs.Step.{new_recoveries, node_after}
 use Rattle.directory_node.specs.Node.{HaveRecoveries}
 use Rattle.directory_node.specs.NodeView.{node_of}
 use Rattle.directory_node.proofs.FirstSights.{all_recover, none_gathered, none_sealed}

@@ -1,4 +1,4 @@
-use Rattle.std.proofs.Common.{◌≡◌, ◌≤◌, ◌+◌, ℕ, length, sym, ap, subst, ◌∙◌, true}
+use Rattle.std.proofs.Common.{◌≡◌, ◌≤◌, ◌+◌, length, sym, ap, subst, ◌∙◌, true}
 use Rattle.directory_rules.specs.Host.{Host, has_numbers, outstanding}
 use Rattle.directory_rules.specs.Node.{Node}
 use Rattle.directory_node.proofs.Numbers.{numbers_fit}

@@ -1,11 +1,10 @@
-use Rattle.std.proofs.Common.{◌≡◌, sym, subst, ap, ◌∙◌, true, ℕ}
-use Rattle.std.specs.Prelude.{Option, None}
+use Rattle.std.proofs.Common.{◌≡◌, sym, ap, ◌∙◌, true, ℕ}
+use Rattle.std.specs.Prelude.{None}
 use Rattle.std.specs.Option.{option_copied}
 use Rattle.std.specs.Map.{lookup}
 use Rattle.std.specs.BTreeMap.{is_at}
 use Rattle.std.specs.Ordering.{nat_cmp}
 use Rattle.ring_range.specs.Range.{Range}
-use Rattle.directory_rules.specs.Node.{Node}
 use Rattle.directory_rules.specs.Transfer.{is_report_awaited}
 use Rattle.directory_node.specs.NodeView.{node_of}
 use Rattle.directory_node.proofs.Reports.{report_recovers, its_recovery}

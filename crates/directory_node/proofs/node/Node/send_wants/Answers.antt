@@ -1,4 +1,4 @@
-use Rattle.std.proofs.Common.{◌≡◌, sym, subst, ap, ◌∙◌, ◌++◌}
+use Rattle.std.proofs.Common.{sym, subst, ap, ◌∙◌, ◌++◌}
 use Rattle.ring_range.specs.Range.{Range}
 use Rattle.directory_rules.specs.Sending.{query_letters}
 use Rattle.directory_node.proofs.Wants.{WantsLeft, wants_one_less}

@@ -1,6 +1,3 @@
-use Rattle.std.proofs.Common.{◌≡◌, ◌++◌}
-use Rattle.std.specs.Prelude.{All}
-use Rattle.directory_rules.specs.declared.PieceState.TheVariants.{Recovering}
 use Rattle.directory_node.proofs.Wants.{WantsLeft}
 use Rattle.directory_node.proofs.node.Node.send_wants.Given as goal
 

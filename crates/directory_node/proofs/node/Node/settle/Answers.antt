@@ -1,10 +1,9 @@
-use Rattle.std.proofs.Common.{◌≡◌, refl, sym, subst, ap, ◌∙◌, true, ℕ, List, []}
+use Rattle.std.proofs.Common.{refl, sym, subst, ap, ◌∙◌, ℕ}
 use Rattle.std.specs.Map.{remove_entry}
 use Rattle.std.specs.BTreeMap.{is_at}
 use Rattle.std.specs.Ordering.{nat_cmp}
 use Rattle.directory_rules.specs.Answer.{with_piece}
 use Rattle.directory_rules.specs.Piece.{Piece, Holding}
-use Rattle.directory_rules.specs.Recovery.{Recovery}
 use Rattle.directory_rules.specs.declared.PieceState.TheVariants.{Settled}
 use Rattle.directory_node.specs.Node.{HaveRecoveries}
 use Rattle.directory_node.proofs.Kept.{settled_removes}

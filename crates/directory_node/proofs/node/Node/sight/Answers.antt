@@ -1,6 +1,5 @@
-use Rattle.std.proofs.Common.{◌≡◌, sym, subst, ap, ◌∙◌, List, []}
+use Rattle.std.proofs.Common.{◌≡◌, sym, subst, ap, ◌∙◌, []}
 use Rattle.std.specs.Prelude.{All, None}
-use Rattle.hash_ring.specs.declared.Point.{Point}
 use Rattle.range_moves.specs.declared.Arc.{Arc}
 use Rattle.range_moves.specs.Arcs.{AreArcs, arcs_of}
 use Rattle.directory_node.proofs.FirstArcs.{compared_none, from_nobody}

@@ -1,4 +1,4 @@
-use Rattle.std.proofs.Common.{◌≡◌, sym, subst, ap, ◌∙◌}
+use Rattle.std.proofs.Common.{sym, subst}
 use Rattle.std.specs.Prelude.{IsOk}
 use Rattle.directory_rules.specs.Input.{step}
 use Rattle.directory_rules.specs.Node.{Node}
