@@ -1,5 +1,5 @@
 -- Turns, one after the other.
-use Rattle.std.proofs.Common.{◌≡◌, ℕ, suc, ◌+◌, ◌-◌, ◌<◌, ◌++◌, Bool, true, false, ◌≤◌, List, [], refl, sym, subst, arith}
+use Rattle.std.proofs.Common.{◌≡◌, ℕ, suc, ◌+◌, ◌-◌, ◌<◌, Bool, true, false, ◌≤◌, List, [], subst, arith}
 use Rattle.directory_rules.specs.World.{World}
 use Rattle.directory_rules.specs.Output.{Session, Performed, printing, settled, settled_within}
 use Rattle.script_output.specs.Spaced.{BeginsWith}

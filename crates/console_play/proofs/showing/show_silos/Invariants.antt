@@ -1,7 +1,5 @@
-use Rattle.std.proofs.Common.{◌≡◌, ◌++◌, drop}
-use Rattle.std.specs.Prelude.{flat_map}
+use Rattle.std.proofs.Common.{drop}
 use Rattle.directory_rules.specs.Happens.{node_of}
-use Rattle.directory_rules.specs.Output.{text_of_lines}
 use Rattle.directory_rules.specs.Show.{current_view, silo_lines}
 use Rattle.script_output.specs.Spaced.{BeginsWith}
 use Rattle.console_play.proofs.Rows.{Shows}
