@@ -1,5 +1,5 @@
 -- A script played by the code: what is written of the rule's output, by the ending.
-use Rattle.std.specs.Prelude.{◌≡◌, ℕ, List, [], ◌∷◌, ◌++◌, Option, Some, None, ⊤}
+use Rattle.std.specs.Prelude.{◌≡◌, ℕ, ◌≤◌, List, [], ◌∷◌, ◌++◌, length, Option, Some, None, ⊤}
 use Rattle.std.specs.Io.KnownBytes.{Appends, IsAtEnd}
 use Rattle.directory_rules.specs.Lines.{fault_line}
 use Rattle.directory_rules.specs.World.{World}
@@ -32,18 +32,22 @@ Concludes output text (Faulted fault) = (output ≡ record { text = text; status
 Concludes output text OutOfMemory = BeginsWith text output.text
 Concludes output text Broken = BeginsWith text output.text
 
--- a script that is played whole is read to its end
-abbrev pub ReadsAll : Option (List ℕ) → Ended → Type 0
-ReadsAll read Played = IsAtEnd read
-ReadsAll read other = ⊤
+-- how many bytes a script may have
+abbrev pub most_read : ℕ
+most_read = 268435456
 
--- a script with that output is played and written behind what the writer had before: the reader's rest is then `read`, what the
+-- a script that is played whole is within the limit, and is read to its end
+abbrev pub ReadsAll : (script : List ℕ) → (rest : Option (List ℕ)) → Ended → Type 0
+ReadsAll script rest Played = (length script ≤ most_read) × IsAtEnd rest
+ReadsAll script rest other = ⊤
+
+-- a script with that output is played and written behind what the writer had before: the reader's rest is then `rest`, what the
 -- writer has is `written`
-pub record Ends (output : Output) (read begun written : Option (List ℕ)) (ended : Ended) : Type 0 where
+pub record Ends (script : List ℕ) (output : Output) (rest begun written : Option (List ℕ)) (ended : Ended) : Type 0 where
   pub text : List ℕ
   pub writes : Appends begun written text
   pub concludes : Concludes output text ended
-  pub reads : ReadsAll read ended
+  pub reads : ReadsAll script rest ended
 
 -- a text in front of an output
 abbrev pub behind : List ℕ → Output → Output

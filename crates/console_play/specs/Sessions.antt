@@ -1,5 +1,6 @@
 -- Sessions: what is to come of them, and what steps make of it.
-use Rattle.std.specs.Prelude.{◌≡◌, ℕ, ◌+◌, ◌*◌, ◌<◌, Bool, true, false, if◌then◌else◌, List, [], ◌++◌, length, drop, ⊤}
+use Rattle.std.specs.Prelude.{◌≡◌, ℕ, ◌+◌, ◌*◌, ◌<◌, Bool, true, false, if◌then◌else◌, List, [], ◌++◌, length, drop, Contains, ⊤}
+use Rattle.directory_rules.specs.Words.{line_feed}
 use Rattle.directory_rules.specs.World.{World}
 use Rattle.directory_rules.specs.Output.{Output}
 use Rattle.console_play.specs.declared.ended.Ended.{Ended}
@@ -7,7 +8,7 @@ use Rattle.console_play.specs.declared.ended.Ended.TheVariants as ended
 use Rattle.console_play.specs.declared.session.Session.{Session}
 use Rattle.console_play.specs.declared.step.Step.{Step}
 use Rattle.console_play.specs.declared.step.Step.TheVariants.{Played, Wants, Ends}
-use Rattle.console_play.specs.Playing.{Concludes, to_come}
+use Rattle.console_play.specs.Playing.{Concludes, most_read, to_come}
 
 -- how far a session has come
 pub record Standing : Type 0 where
@@ -34,7 +35,7 @@ standing session = record {
 
 -- before the first line
 abbrev pub first_standing : World → Standing
-first_standing world = record { world = world; line = 1; waiting = []; held = []; left = 268435456; ended = false }
+first_standing world = record { world = world; line = 1; waiting = []; held = []; left = most_read; ended = false }
 
 -- the output that is still made if that is what more is read
 abbrev pub future : Standing → List ℕ → Output
@@ -56,8 +57,15 @@ IfAll other holds = ⊤
 -- a line was played
 pub record HasPlayed (old new : Standing) : Type 0 where
   pub same_end : new.ended ≡ old.ended
+  pub same_left : new.left ≡ old.left
   pub less : work new < work old
   pub to_come : (more : List ℕ) → MayCome old more → future new more ≡ future old more
+
+-- no line can be played before more is read
+pub record NeedsMore (old new : Standing) : Type 0 where
+  pub same : new ≡ old
+  pub goes_on : old.ended ≡ false
+  pub no_line : ¬ (Contains old.held line_feed)
 
 -- the script ends
 pub record HasEnded (old new : Standing) (ended : Ended) : Type 0 where
@@ -67,5 +75,5 @@ pub record HasEnded (old new : Standing) (ended : Ended) : Type 0 where
 -- what a step did
 abbrev pub Steps : Standing → Standing → Step → Type 0
 Steps old new Played = HasPlayed old new
-Steps old new Wants = (new ≡ old) × (old.ended ≡ false)
+Steps old new Wants = NeedsMore old new
 Steps old new (Ends ended) = HasEnded old new ended

@@ -1,10 +1,9 @@
 -- What reads and writes make of a session.
-use Rattle.std.specs.Prelude.{◌≡◌, ℕ, ◌<◌, Bool, true, false, List, [], ◌++◌, Option, Some, None, ⊤}
+use Rattle.std.specs.Prelude.{◌≡◌, ℕ, ◌+◌, ◌<◌, Bool, true, false, List, [], ◌++◌, length, Option, Some, None, ⊤}
 use Rattle.std.specs.Io.KnownBytes.{Appends, Consumes, IsAtEnd}
 use Rattle.script_output.specs.Spaced.{BeginsWith}
 use Rattle.console_play.specs.declared.ended.Ended.{Ended}
 use Rattle.console_play.specs.declared.ended.Ended.TheVariants as ended
-use Rattle.console_play.specs.Playing.{behind}
 use Rattle.console_play.specs.Sessions.{Standing, future, work}
 
 -- memory, a read or a write failed
@@ -27,9 +26,7 @@ Sends bytes begun written false = WritesFront bytes begun written
 -- what waited is written, and nothing else has changed
 pub record HasDrained (old : Standing) (begun : Option (List ℕ)) (new : Standing) (written : Option (List ℕ)) : Type 0 where
   pub appends : Appends begun written old.waiting
-  pub same_end : new.ended ≡ old.ended
-  pub same_work : work new ≡ work old
-  pub to_come : (more : List ℕ) → behind old.waiting (future new more) ≡ future old more
+  pub drained : new ≡ record old { waiting = [] }
 
 abbrev pub Drains : Standing → Option (List ℕ) → Standing → Option (List ℕ) → Option Ended → Type 0
 Drains old begun new written None = HasDrained old begun new written
@@ -37,6 +34,7 @@ Drains old begun new written (Some ended) = WritesFront old.waiting begun writte
 
 -- so many bytes are taken over from the chunk
 pub record HasTakenIn (old : Standing) (got : List ℕ) (new : Standing) : Type 0 where
+  pub counted : new.left + length got ≡ old.left
   pub less : work new < work old
   pub to_come : (more : List ℕ) → future new more ≡ future old (got ++ more)
   pub at_end : new.ended ≡ true → got ≡ []
@@ -49,6 +47,7 @@ TakesIn old got new (Some ended) = IsCut ended
 pub record HasFilled (old : Standing) (read : Option (List ℕ)) (new : Standing) (rest : Option (List ℕ)) : Type 0 where
   pub got : List ℕ
   pub consumes : Consumes read rest got
+  pub counted : new.left + length got ≡ old.left
   pub less : work new < work old
   pub to_come : (more : List ℕ) → future new more ≡ future old (got ++ more)
   pub at_end : new.ended ≡ true → IsAtEnd rest

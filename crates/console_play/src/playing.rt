@@ -27,7 +27,7 @@ pub fn play_to_one_silo<R: Read, W: Write>(
 ) -> Option<Ended>
     ensures in_range { IsSome result ↔ ((1 ≤ points) × (points ≤ 128)) }
     ensures ends { IfSome result (λ ended. IfSome (R.remaining reader.old) (λ script.
-        Ends (output_of known_commands (record (directory_settings hashing points 0) { silos = 1 }) script)
+        Ends script (output_of known_commands (record (directory_settings hashing points 0) { silos = 1 }) script)
         (R.remaining reader.new) (W.contents writer.old) (W.contents writer.new) ended)) }
 {
     let world = World::for_one_silo(alloc, hashing, points)?;
@@ -40,7 +40,7 @@ pub fn play_to_one_silo<R: Read, W: Write>(
 /// that goes on behind them fails. No read or write is tried again, and a write that takes nothing is a failure.
 pub fn play<R: Read, W: Write>(alloc: Global, world: World, reader: &mut R, writer: &mut W) -> Ended
     ensures { IfSome (R.remaining reader.old) (λ script.
-        Ends (played known_commands 1 (in_session world) (lines_of script))
+        Ends script (played known_commands 1 (in_session world) (lines_of script))
         (R.remaining reader.new) (W.contents writer.old) (W.contents writer.new) result) }
 {
     let Ok(mut session) = Session::new(alloc, world) else {

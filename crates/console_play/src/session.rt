@@ -52,7 +52,7 @@ impl Session {
     pub(crate) fn new(alloc: Global, world: World) -> Result<Session, AllocError>
         ensures { IfOk result (λ session. standing session ≡ first_standing world) }
     {
-        let chunk = vec![in alloc; 0; CHUNK]?;
+        let chunk = empty_chunk(alloc)?;
         Ok(Session {
             alloc,
             world,
@@ -130,6 +130,13 @@ impl Session {
             Err(_) => Step::Ends(Ended::OutOfMemory),
         }
     }
+}
+
+// Room for what is read at once.
+fn empty_chunk(alloc: Global) -> Result<Vec<u8>, AllocError>
+    ensures { IfOk result (λ chunk. vec_len chunk ≡ 65536) }
+{
+    vec![in alloc; 0; CHUNK]
 }
 
 /// What stands from `start` on.

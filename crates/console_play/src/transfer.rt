@@ -1,6 +1,7 @@
 //! The reader and the writer of a session.
 
-ghost use Rattle.std.specs.Prelude.{◌≡◌, ◌≤◌, ◌++◌, IfOk, false, take};
+ghost use Rattle.std.specs.Prelude.{◌≡◌, ◌≤◌, ◌++◌, [], Contains, IfOk, false, take};
+ghost use Rattle.directory_rules.specs.Words.{line_feed};
 ghost use Rattle.console_play.specs.Transfers.{Drains, Fills, Sends, TakesIn};
 
 use crate::Ended;
@@ -22,9 +23,12 @@ impl Session {
         None
     }
 
-    /// Reads more of the script; answers how the play ends where that fails.
+    /// Reads more of the script, where no line that is held can be played and nothing waits to be written; answers how the play
+    /// ends where that fails.
     pub(crate) fn fill<R: Read>(&mut self, reader: &mut R) -> Option<Ended>
-        requires { self.old.ended ≡ false }
+        requires goes_on { self.old.ended ≡ false }
+        requires written { self.old.out.items ≡ [] }
+        requires no_line { ¬ (Contains (standing self.old).held line_feed) }
         ensures { Fills (standing self.old) (R.remaining reader.old) (standing self.new) (R.remaining reader.new) result }
     {
         match reader.read(self.chunk.as_mut_slice()) {

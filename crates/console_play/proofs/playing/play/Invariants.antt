@@ -9,7 +9,7 @@ use Rattle.console_play.proofs.playing.play.Given as goal
 
 abbrev pub invariant-turns : goal.invariant-turns
 invariant-turns g l = IfSome (g.R.Read.remaining l.fn.reader) (λ script.
-    Stands (played known_commands 1 (in_session l.fn.world) (lines_of script)) (g.W.Write.contents l.fn.writer)
+    Stands script (played known_commands 1 (in_session l.fn.world) (lines_of script)) (g.W.Write.contents l.fn.writer)
     (standing l.session) (g.R.Read.remaining l.reader) (g.W.Write.contents l.writer))
 
 abbrev pub decreases-turns : goal.decreases-turns

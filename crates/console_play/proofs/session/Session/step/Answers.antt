@@ -15,6 +15,7 @@ returns-in-Ok-None c =
     c.in-Some.ensures.rest c.in-Some.ensures.shorter in
     record {
       same_end = refl;
+      same_left = refl;
       less = omega (arith, ap length rest_is, ap length c.tail.ensures, c.in-Some.ensures.shorter);
       to_come = λ more may. goes_on _ _ _ _ _ c.in-Some.line.now _ _ _ c.in-Ok-None.field-0-is
           (first_of _ c.tail.result.now _ rest _ more c.tail.ensures rest_is (c.in-Some.ensures.later more)) c.in-Ok-None.ensures.played;
