@@ -1,2 +1,2 @@
-pub mod EventView
-pub mod OutcomeView
+pub mod EventModel
+pub mod OutcomeModel

@@ -1,7 +1,8 @@
 -- Lines written behind what stood there, and what begins with it.
 use Rattle.std.proofs.Common.{◌≡◌, ℕ, ◌++◌, List, [], ◌∷◌, length, take, ap, refl, sym, ◌∙◌, append_assoc, append-nil}
 use Rattle.std.proofs.Math.Seq.{take-append_seam}
-use Rattle.directory_rules.specs.Output.{Performed, before, printing, text_of_lines}
+use Rattle.script_rules.specs.Output.{Performed, before, printing}
+use Rattle.texts.specs.Printed.{text_of_lines}
 use Rattle.directory_rules.specs.World.{World}
 use Rattle.script_output.specs.Printed.{printed}
 use Rattle.script_output.specs.Spaced.{BeginsWith}

@@ -7,9 +7,9 @@ use Rattle.ring_range.specs.Range.{Range}
 use Rattle.hash_ring.specs.declared.point.Point.{Point}
 use Rattle.hash_ring.specs.Ranges.{owned_range, owned_ranges, owns_its_place}
 use Rattle.directory_rules.specs.World.{World}
-use Rattle.directory_rules.specs.Show.{range_line, range_lines}
-use Rattle.directory_rules.specs.Output.{text_of_lines}
-use Rattle.directory_rules.specs.Words.{line_feed}
+use Rattle.script_rules.specs.Show.{range_line, range_lines}
+use Rattle.texts.specs.Printed.{text_of_lines}
+use Rattle.texts.specs.Words.{line_feed}
 
 -- what is shown now, and the lines of the rows that are left, are those of all rows behind the start
 abbrev pub Shows : {X : Type 0} → (X → List (List ℕ)) → (start : List ℕ) → (all : List X) → (now : List ℕ) → (rest : List X) → Type 0

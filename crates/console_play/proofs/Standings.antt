@@ -4,8 +4,9 @@ use Rattle.std.proofs.lemmas.List.{length-append, length-take-le}
 use Rattle.std.specs.Io.KnownBytes.{Appends, Consumes, IsAtEnd}
 use Rattle.std.proofs.KnownBytes.{Appends-trans, Appends-nil}
 use Rattle.directory_rules.specs.World.{World}
-use Rattle.directory_rules.specs.Script.{lines_of}
-use Rattle.directory_rules.specs.Output.{Output, played}
+use Rattle.script_rules.specs.Script.{lines_of}
+use Rattle.script_rules.specs.Output.{played}
+use Rattle.texts.specs.Printed.{Output}
 use Rattle.script_commands.specs.Known.{known_commands}
 use Rattle.script_output.specs.Spaced.{BeginsWith}
 use Rattle.console_play.specs.declared.ended.Ended.{Ended}

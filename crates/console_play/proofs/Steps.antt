@@ -2,9 +2,10 @@
 use Rattle.std.proofs.Common.{◌≡◌, ℕ, ◌+◌, ◌-◌, ◌<◌, ◌≤◌, ◌++◌, List, [], ◌∷◌, Option, None, Some, Err, length, drop, ap, sym, ◌∙◌, append-nil, subst, arith}
 use Rattle.std.proofs.lemmas.List.{drop-drop, length-drop}
 use Rattle.directory_rules.specs.World.{World}
-use Rattle.directory_rules.specs.Script.{lines_of, read_line}
-use Rattle.directory_rules.specs.Lines.{fault_line}
-use Rattle.directory_rules.specs.Output.{Output, line_played, played, text_of_lines}
+use Rattle.script_rules.specs.Script.{lines_of, read_line}
+use Rattle.script_rules.specs.Lines.{fault_line}
+use Rattle.script_rules.specs.Output.{line_played, played}
+use Rattle.texts.specs.Printed.{Output, text_of_lines}
 use Rattle.script_commands.specs.Known.{known_commands}
 use Rattle.script_commands.specs.Numbers.{script_fault_number}
 use Rattle.script_output.specs.Printed.{printed}

@@ -1,8 +1,9 @@
 -- Turns, by what the step, the read and the write of each did.
 use Rattle.std.proofs.Common.{◌≡◌, ℕ, List, Option, Some, None, IfSome, subst, sym, refl}
 use Rattle.directory_rules.specs.World.{World}
-use Rattle.directory_rules.specs.Script.{lines_of}
-use Rattle.directory_rules.specs.Output.{Output, played}
+use Rattle.script_rules.specs.Script.{lines_of}
+use Rattle.script_rules.specs.Output.{played}
+use Rattle.texts.specs.Printed.{Output}
 use Rattle.script_commands.specs.Known.{known_commands}
 use Rattle.console_play.specs.declared.ended.Ended.{Ended}
 use Rattle.console_play.specs.Performing.{in_session}

@@ -3,7 +3,9 @@ use Rattle.std.specs.Prelude.{◌≡◌, ℕ, ◌++◌, Bool, true, false, List}
 use Rattle.directory_rules.specs.Event.{Event}
 use Rattle.directory_rules.specs.World.{World}
 use Rattle.directory_rules.specs.Happens.{happens}
-use Rattle.directory_rules.specs.Output.{Session, Performed, after_event, deliver_next, least_deliverable, text_of_lines}
+use Rattle.script_rules.specs.Output.{Session, Performed, after_event, deliver_next}
+use Rattle.texts.specs.Printed.{text_of_lines}
+use Rattle.directory_rules.specs.Happens.{least_deliverable}
 
 -- a script on its way, in which no check has printed a fault
 abbrev pub in_session : World → Session

@@ -1,10 +1,11 @@
 -- A script played by the code: what is written of the rule's output, by the ending.
 use Rattle.std.specs.Prelude.{◌≡◌, ℕ, ◌≤◌, List, [], ◌∷◌, ◌++◌, length, Option, Some, None, ⊤}
 use Rattle.std.specs.Io.KnownBytes.{Appends, IsAtEnd}
-use Rattle.directory_rules.specs.Lines.{fault_line}
+use Rattle.script_rules.specs.Lines.{fault_line}
 use Rattle.directory_rules.specs.World.{World}
-use Rattle.directory_rules.specs.Script.{lines_of, read_line}
-use Rattle.directory_rules.specs.Output.{Output, Session, line_played, played, text_of_lines}
+use Rattle.script_rules.specs.Script.{lines_of, read_line}
+use Rattle.script_rules.specs.Output.{Session, line_played, played}
+use Rattle.texts.specs.Printed.{Output, text_of_lines}
 use Rattle.script_commands.specs.Known.{known_commands}
 use Rattle.console_play.specs.Performing.{in_session}
 use Rattle.script_commands.specs.Numbers.{script_fault_number}

@@ -1,8 +1,8 @@
 -- Sessions: what is to come of them, and what steps make of it.
 use Rattle.std.specs.Prelude.{◌≡◌, ℕ, ◌+◌, ◌*◌, ◌<◌, Bool, true, false, if◌then◌else◌, List, [], ◌++◌, length, drop, Contains, ⊤}
-use Rattle.directory_rules.specs.Words.{line_feed}
+use Rattle.texts.specs.Words.{line_feed}
 use Rattle.directory_rules.specs.World.{World}
-use Rattle.directory_rules.specs.Output.{Output}
+use Rattle.texts.specs.Printed.{Output}
 use Rattle.console_play.specs.declared.ended.Ended.{Ended}
 use Rattle.console_play.specs.declared.ended.Ended.TheVariants as ended
 use Rattle.console_play.specs.declared.session.Session.{Session}

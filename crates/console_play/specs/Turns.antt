@@ -1,7 +1,7 @@
 -- Turns: how far a play has come, and what a turn makes of it.
 use Rattle.std.specs.Prelude.{◌≡◌, ℕ, ◌+◌, List, length, Option, Some, None}
 use Rattle.std.specs.Io.KnownBytes.{Appends}
-use Rattle.directory_rules.specs.Output.{Output}
+use Rattle.texts.specs.Printed.{Output}
 use Rattle.console_play.specs.declared.ended.Ended.{Ended}
 use Rattle.console_play.specs.Playing.{Ends, behind, most_read}
 use Rattle.console_play.specs.Sessions.{MayCome, Standing, future}

@@ -3,9 +3,9 @@
 #![tactic(auto, using(crate::proofs::Lines::line_by_line))]
 
 ghost use Rattle.std.specs.Prelude.{◌≡◌, ℕ, List, [], ◌∷◌, IfOk, OnOk, OnErr, length};
-ghost use Rattle.directory_rules.specs.Output.{events_in_turn, performed, settled};
-ghost use Rattle.cluster_events.specs.EventView.{event_of};
-ghost use Rattle.script_commands.specs.CommandView.{command_of};
+ghost use Rattle.script_rules.specs.Output.{events_in_turn, performed, delivered_all};
+ghost use Rattle.cluster_events.specs.EventModel.{event_of};
+ghost use Rattle.script_commands.specs.CommandModel.{command_of};
 ghost use Rattle.script_output.specs.Spaced.{BeginsWith};
 ghost use Rattle.console_play.specs.Performing.{Performs, TakesTurn, delivery_turn, event_turn, in_session};
 
@@ -49,7 +49,7 @@ fn taken_back_at_error(
 }
 
 // One function a command.
-#[tactic(auto, unfolding(directory_rules::specs::Output::performed))]
+#[tactic(auto, unfolding(script_rules::specs::Output::performed))]
 fn carry_out(
     alloc: Global,
     world: &mut World,
@@ -98,7 +98,7 @@ fn take_turn(world: &mut World, event: &Event, out: &mut Vec<u8>) -> Result<bool
 
 // Fresh letters are delivered until there is none or one is refused, as many at most as may ever be sent.
 fn settle(world: &mut World, out: &mut Vec<u8>) -> Result<(), AllocError>
-    ensures performed { OnOk result (Performs (settled (in_session world.old)) out.old.items world.new out.new.items) }
+    ensures performed { OnOk result (Performs (delivered_all (in_session world.old)) out.old.items world.new out.new.items) }
     ensures kept { OnErr result (BeginsWith out.old.items out.new.items) }
 {
     let most = world.settings().letters();

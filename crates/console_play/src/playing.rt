@@ -1,9 +1,9 @@
 //! Scripts, from a reader to a writer.
 
 ghost use Rattle.std.specs.Prelude.{◌≡◌, ◌≤◌, ◌↔◌, IfSome, IsSome};
-ghost use Rattle.directory_rules.specs.Output.{output_of, played};
+ghost use Rattle.script_rules.specs.Output.{output_of, played};
 ghost use Rattle.directory_rules.specs.Settings.{directory_settings};
-ghost use Rattle.directory_rules.specs.Script.{lines_of};
+ghost use Rattle.script_rules.specs.Script.{lines_of};
 ghost use Rattle.script_commands.specs.Known.{known_commands};
 ghost use Rattle.console_play.specs.Performing.{in_session};
 ghost use Rattle.console_play.specs.Playing.{Ends};

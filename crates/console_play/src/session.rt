@@ -1,8 +1,8 @@
 //! A script on its way.
 
 ghost use Rattle.std.specs.Prelude.{◌≡◌, ◌<◌, ◌≤◌, ◌+◌, vec_len, length, [], ◌∷◌, IfOk, Contains, drop, true};
-ghost use Rattle.directory_rules.specs.Words.{carriage_return, line_feed};
-ghost use Rattle.directory_rules.specs.Script.{lines_of};
+ghost use Rattle.texts.specs.Words.{carriage_return, line_feed};
+ghost use Rattle.script_rules.specs.Script.{lines_of};
 ghost use Rattle.std.specs.Io.BufRead.{strip_last};
 
 use crate::line::play_line;

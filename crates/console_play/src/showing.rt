@@ -4,8 +4,10 @@
 
 ghost use Rattle.std.specs.Prelude.{◌≡◌, ◌++◌, [], ◌∷◌, IfOk, OnOk, OnErr, flat_map, map};
 ghost use Rattle.directory_rules.specs.Happens.{node_of};
-ghost use Rattle.directory_rules.specs.Output.{printing, text_of_lines};
-ghost use Rattle.directory_rules.specs.Show.{current_ring, current_view, held_line, owner_line, range_line, range_lines, show_lines, silo_lines};
+ghost use Rattle.script_rules.specs.Output.{printing};
+ghost use Rattle.texts.specs.Printed.{text_of_lines};
+ghost use Rattle.script_rules.specs.Show.{held_line, owner_line, range_line, range_lines, show_lines, silo_lines};
+ghost use Rattle.directory_rules.specs.World.{current_ring, current_view};
 ghost use Rattle.script_output.specs.Shown.{settled_entries};
 ghost use Rattle.script_output.specs.Spaced.{BeginsWith};
 ghost use Rattle.console_play.specs.Performing.{Performs, in_session};

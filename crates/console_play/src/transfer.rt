@@ -1,7 +1,7 @@
 //! The reader and the writer of a session.
 
 ghost use Rattle.std.specs.Prelude.{◌≡◌, ◌≤◌, ◌++◌, [], Contains, IfOk, false, take};
-ghost use Rattle.directory_rules.specs.Words.{line_feed};
+ghost use Rattle.texts.specs.Words.{line_feed};
 ghost use Rattle.console_play.specs.Transfers.{Drains, Fills, Sends, TakesIn};
 
 use crate::Ended;

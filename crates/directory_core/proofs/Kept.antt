@@ -8,7 +8,7 @@ use Rattle.silo_address.specs.Silo.{Silo, silo_cmp}
 use Rattle.silo_address.proofs.Order.{silo_cmp_total}
 use Rattle.membership_view.specs.declared.Row.{Row}
 use Rattle.membership_view.specs.Views.{ViewsValue, rows_in, row_of}
-use Rattle.membership_view.specs.Changes.{after_join, joined_rows, standing, with_join}
+use Rattle.membership_view.specs.Changes.{after_join, joined_rows, occupant, with_join}
 use Rattle.membership_view.proofs.Entries.{lookup-insert_entry}
 use Rattle.hash_ring.specs.Places.{PlacesValue, after_add, has_points, is_added, is_point_count, places_for, with_silo}
 use Rattle.directory_rules.specs.Laws.{ArePeopled, is_live}
@@ -125,7 +125,7 @@ kept_joining (Some old) world silo views places is room limit versions peopled p
 pub kept_join : (world : World) (silo : Silo) (given : List ℕ) (places : PlacesValue) → IsWorld world → after_join world.views silo ≡ Ok (with_join world.views silo)
     → length world.views.rows < world.views.limit → after_add world.places silo given ≡ Ok places → world.accepted < world.settings.events → IsWorld (with_admitted world silo places)
 kept_join world silo given places is may first added room =
-    kept_joining (standing silo world.views.rows) world silo (with_join world.views silo) places is room refl versions
+    kept_joining (occupant silo world.views.rows) world silo (with_join world.views silo) places is room refl versions
     (peopled_join world.views (with_join world.views silo) world.nodes silo (new_node world.settings silo) is.peopled may) placed
   where
     none : world.views.rows ≡ []
@@ -160,7 +160,7 @@ kept_admitted world now same silo given views places nodes is may first room vie
     let may_first : after_join world.views silo ≡ Ok (with_join world.views silo) = subst (λ (w : World). after_join w.views silo ≡ Ok (with_join w.views silo)) (sym same) may in
     let first_first : length world.views.rows < world.views.limit = subst (λ (w : World). length w.views.rows < w.views.limit) (sym same) first in
     let room_first : world.accepted < world.settings.events = subst (λ (w : World). w.accepted < w.settings.events) (sym same) room in
-    let none : standing silo world.views.rows ≡ None = ap (λ (r : List (Silo × Row)). standing silo r) (nobody world is first_first) in
+    let none : occupant silo world.views.rows ≡ None = ap (λ (r : List (Silo × Row)). occupant silo r) (nobody world is first_first) in
     let kept : IsWorld (counted (after_joining world silo None (with_join world.views silo) places)) =
     subst (λ o. IsWorld (counted (after_joining world silo o (with_join world.views silo) places))) none (kept_join world silo given places is may_first first_first added room_first) in
     subst (λ (v : ViewsValue). IsWorld (record world { accepted = world.accepted + 1; views = v; places = places; nodes = nodes })) (sym views_are)

@@ -22,7 +22,7 @@ use Rattle.directory_rules.specs.World.{Posted}
 use Rattle.directory_rules.specs.Mail.{fresh_letter}
 use Rattle.directory_core.specs.declared.mail.Slot.{Slot}
 use Rattle.directory_core.specs.Mail.{AreStaleBefore, fresh_slot, stale_slot, is_fresh_to, least_fresh, letter_in, with_posted, with_stale}
-use Rattle.directory_core.specs.MailView.{mail_in, posted_in, posted_from}
+use Rattle.directory_core.specs.MailModel.{mail_in, posted_in, posted_from}
 
 -- ---- where a number stands
 here : (n m : ℕ) → n ≡ m → is_at (nat_cmp n) m ≡ true

@@ -2,7 +2,7 @@
 use Rattle.std.proofs.Common.{◌≡◌, ◌⊎◌, inl, inr, Ok, Err, OnErr, ℕ, ◌+◌, ◌<◌, List, [], ◌∷◌, ◌++◌, length, get_or, take, map, Result, refl, sym, ◌∙◌, ap}
 use Rattle.std.proofs.lemmas.List.{take_more, map-append}
 use Rattle.cluster_events.specs.declared.Event.{Event}
-use Rattle.cluster_events.specs.EventView.{event_of}
+use Rattle.cluster_events.specs.EventModel.{event_of}
 use Rattle.directory_rules.specs.Event as rule
 use Rattle.directory_rules.specs.World.{World}
 use Rattle.directory_rules.specs.Happens.{happens}
@@ -63,4 +63,4 @@ stopped_at world now next events i event below is so_far (inr after) = (i + 1, f
 
 pub on_err : {A E P : Type 0} (result : Result A E) → P → OnErr result P
 on_err (Ok value) fact = tt
-on_err (Err fault) fact = fact
+on_err (Err refusal) fact = fact

@@ -1,10 +1,10 @@
 pub mod Numbers
 pub mod Mail
-pub mod MailView
-pub mod OwnView
+pub mod MailModel
+pub mod OwnModel
 pub mod Stepping
 pub mod Joining
 pub mod Whole
-pub mod WorldView
+pub mod WorldModel
 pub mod Applying
-pub mod ToldView
+pub mod ToldModel

@@ -1,20 +1,20 @@
 -- The numbers by which events are refused.
 use Rattle.std.specs.Prelude.{ℕ, Option, Some, None}
-use Rattle.membership_view.specs.Fault.{number_of}
+use Rattle.membership_view.specs.Refusal.{views_error_number}
 use Rattle.hash_ring.specs.Numbers.{ring_error_number}
-use Rattle.directory_node.specs.Numbers.{node_fault_number}
-use Rattle.directory_core.specs.declared.fault.CoreFault.{CoreFault}
-use Rattle.directory_core.specs.declared.fault.CoreFault.TheVariants.{NoSuchSilo, DeadSilo, NoSuchVersion, NoSuchLetter, JournalFull, MailFull, Views, Ring, Node, OutOfMemory}
+use Rattle.directory_node.specs.Numbers.{step_refusal_number}
+use Rattle.directory_core.specs.declared.refusal.EventRefusal.{EventRefusal}
+use Rattle.directory_core.specs.declared.refusal.EventRefusal.TheVariants.{NoSuchSilo, DeadSilo, NoSuchVersion, NoSuchLetter, JournalFull, MailFull, Views, Ring, Node, OutOfMemory}
 
 -- a refusal's number; want of memory has none
-abbrev pub core_fault_number : CoreFault → Option ℕ
-core_fault_number NoSuchSilo = Some 901
-core_fault_number DeadSilo = Some 902
-core_fault_number NoSuchVersion = Some 904
-core_fault_number NoSuchLetter = Some 905
-core_fault_number JournalFull = Some 908
-core_fault_number MailFull = Some 909
-core_fault_number (Views fault) = number_of fault
-core_fault_number (Ring fault) = ring_error_number fault
-core_fault_number (Node fault) = node_fault_number fault
-core_fault_number OutOfMemory = None
+abbrev pub event_refusal_number : EventRefusal → Option ℕ
+event_refusal_number NoSuchSilo = Some 901
+event_refusal_number DeadSilo = Some 902
+event_refusal_number NoSuchVersion = Some 904
+event_refusal_number NoSuchLetter = Some 905
+event_refusal_number JournalFull = Some 908
+event_refusal_number MailFull = Some 909
+event_refusal_number (Views refusal) = views_error_number refusal
+event_refusal_number (Ring refusal) = ring_error_number refusal
+event_refusal_number (Node refusal) = step_refusal_number refusal
+event_refusal_number OutOfMemory = None

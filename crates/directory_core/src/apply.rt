@@ -1,28 +1,28 @@
 ghost use Rattle.std.specs.Prelude.{◌≡◌, ◌<◌, OnErr};
-ghost use Rattle.cluster_events.specs.EventView.{event_of};
+ghost use Rattle.cluster_events.specs.EventModel.{event_of};
 ghost use Rattle.directory_rules.specs.Happens.{attempted, happens};
 ghost use Rattle.directory_core.specs.Applying.{Tells};
 
 use crate::own::Own;
-use crate::{CoreFault, World};
+use crate::{EventRefusal, World};
 use cluster_events::{Event, Outcome};
 
 impl World {
-    /// An event happens. It is accepted, with what it tells, or refused by a fault with its number, and then nothing changes
+    /// An event happens. It is accepted, with what it tells, or refused by a refusal with its number, and then nothing changes
     /// (`docs/RULES.md#the-world`). Want of memory changes nothing either; it comes only where no number refuses the event, but
     /// for 805 and 909, which only the whole step tells.
-    pub fn apply(&mut self, event: &Event) -> Result<Outcome, CoreFault>
+    pub fn apply(&mut self, event: &Event) -> Result<Outcome, EventRefusal>
         ensures told { Tells (happens self.old (event_of event.now)) self.new result }
         ensures unchanged { OnErr result (self.new ≡ self.old) }
     {
         if self.accepted() >= self.settings().events() {
-            return Err(CoreFault::JournalFull);
+            return Err(EventRefusal::JournalFull);
         }
         self.attempt(event)
     }
 
     // An event happens while there is room for one more.
-    fn attempt(&mut self, event: &Event) -> Result<Outcome, CoreFault>
+    fn attempt(&mut self, event: &Event) -> Result<Outcome, EventRefusal>
         requires room { self.old.accepted < self.old.settings.events }
         ensures told { Tells (attempted self.old (event_of event.now)) self.new result }
         ensures unchanged { OnErr result (self.new ≡ self.old) }

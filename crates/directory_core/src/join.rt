@@ -2,13 +2,13 @@ ghost use Rattle.std.specs.Prelude.{◌≡◌, ◌<◌, IfErr, IfOk, None, Ok, O
 ghost use Rattle.std.specs.Map.{lookup};
 ghost use Rattle.std.specs.BTreeMap.{is_at, insert_entry};
 ghost use Rattle.silo_address.specs.Silo.{silo_cmp};
-ghost use Rattle.membership_view.specs.Changes.{after_join, standing, with_join};
+ghost use Rattle.membership_view.specs.Changes.{after_join, occupant, with_join};
 ghost use Rattle.hash_ring.specs.Places.{after_add};
 ghost use Rattle.directory_rules.specs.Happens.{join};
 ghost use Rattle.directory_core.specs.Applying.{Tells};
 ghost use Rattle.directory_core.specs.Joining.{RefusesPlaces, with_admitted};
 
-use crate::{CoreFault, World};
+use crate::{EventRefusal, World};
 use cluster_events::{Happening, Outcome};
 use directory_node::Node;
 use hash_ring::{Places, RingError};
@@ -19,16 +19,16 @@ use std::collections::BTreeMap;
 
 impl World {
     // A silo joins: 201, 205, then 402, 403.
-    pub(crate) fn join(&mut self, silo: SiloAddress, given: &[u32]) -> Result<Outcome, CoreFault>
+    pub(crate) fn join(&mut self, silo: SiloAddress, given: &[u32]) -> Result<Outcome, EventRefusal>
         requires room { self.old.accepted < self.old.settings.events }
         ensures told { Tells (join self.old silo given.now) self.new result }
         ensures unchanged { OnErr result (self.new ≡ self.old) }
     {
-        if let Err(fault) = self.views.may_join(&silo) {
-            return Err(CoreFault::of_views(fault));
+        if let Err(refusal) = self.views.may_join(&silo) {
+            return Err(EventRefusal::of_views(refusal));
         }
         if given.len() > self.settings.places() {
-            return Err(CoreFault::Ring(RingError::PointCount));
+            return Err(EventRefusal::Ring(RingError::PointCount));
         }
         let joined = self.admit(silo, given)?;
         Ok(Outcome {
@@ -42,15 +42,15 @@ impl World {
     }
 
     // A silo that the views don't refuse joins.
-    fn admit(&mut self, silo: SiloAddress, given: &[u32]) -> Result<Joined, CoreFault>
+    fn admit(&mut self, silo: SiloAddress, given: &[u32]) -> Result<Joined, EventRefusal>
         requires may { after_join self.old.views silo ≡ Ok (with_join self.old.views silo) }
         requires first { length self.old.views.rows < self.old.views.limit }
         requires room { self.old.accepted < self.old.settings.events }
         ensures places { OnOk result (after_add self.old.places silo given.now ≡ Ok self.new.places) }
         ensures made { OnOk result (self.new ≡ with_admitted self.old silo self.new.places) }
         ensures version { IfOk result (λ joined. joined.version ≡ self.new.views.version) }
-        ensures replaced { IfOk result (λ joined. joined.replaced ≡ standing silo self.old.views.rows) }
-        ensures refused { IfErr result (λ fault. RefusesPlaces fault (after_add self.old.places silo given.now)) }
+        ensures replaced { IfOk result (λ joined. joined.replaced ≡ occupant silo self.old.views.rows) }
+        ensures refused { IfErr result (λ refusal. RefusesPlaces refusal (after_add self.old.places silo given.now)) }
         ensures unchanged { OnErr result (self.new ≡ self.old) }
     {
         let node = Node::new(self.alloc, self.settings, silo);
@@ -75,28 +75,28 @@ fn put_in(
     silo: SiloAddress,
     given: &[u32],
     node: Node,
-) -> Result<Joined, CoreFault>
+) -> Result<Joined, EventRefusal>
     requires may { after_join views.old silo ≡ Ok (with_join views.old silo) }
     requires absent { lookup (is_at (silo_cmp silo)) nodes.old.entries ≡ None }
     ensures views { OnOk result (views.new ≡ with_join views.old silo) }
     ensures places { OnOk result (after_add places.old silo given.now ≡ Ok places.new) }
     ensures nodes { OnOk result (nodes.new.entries ≡ insert_entry silo_cmp nodes.old.entries silo node) }
     ensures version { IfOk result (λ joined. joined.version ≡ views.new.version) }
-    ensures replaced { IfOk result (λ joined. joined.replaced ≡ standing silo views.old.rows) }
-    ensures refused { IfErr result (λ fault. RefusesPlaces fault (after_add places.old silo given.now)) }
+    ensures replaced { IfOk result (λ joined. joined.replaced ≡ occupant silo views.old.rows) }
+    ensures refused { IfErr result (λ refusal. RefusesPlaces refusal (after_add places.old silo given.now)) }
     ensures views_unchanged { OnErr result (views.new ≡ views.old) }
     ensures places_unchanged { OnErr result (places.new ≡ places.old) }
     ensures nodes_unchanged { OnErr result (nodes.new.entries ≡ nodes.old.entries) }
 {
     match places.add(silo, given) {
         Ok(()) => {}
-        Err(fault) => return Err(CoreFault::of_ring(fault)),
+        Err(refusal) => return Err(EventRefusal::of_ring(refusal)),
     }
     match put_beside(views, nodes, silo, node) {
         Ok(joined) => Ok(joined),
         Err(_) => {
             places.remove(&silo);
-            Err(CoreFault::OutOfMemory)
+            Err(EventRefusal::OutOfMemory)
         }
     }
 }
@@ -113,7 +113,7 @@ fn put_beside(
     ensures views { OnOk result (views.new ≡ with_join views.old silo) }
     ensures nodes { OnOk result (nodes.new.entries ≡ insert_entry silo_cmp nodes.old.entries silo node) }
     ensures version { IfOk result (λ joined. joined.version ≡ views.new.version) }
-    ensures replaced { IfOk result (λ joined. joined.replaced ≡ standing silo views.old.rows) }
+    ensures replaced { IfOk result (λ joined. joined.replaced ≡ occupant silo views.old.rows) }
     ensures views_unchanged { OnErr result (views.new ≡ views.old) }
     ensures nodes_unchanged { OnErr result (nodes.new.entries ≡ nodes.old.entries) }
 {

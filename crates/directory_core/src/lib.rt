@@ -2,7 +2,7 @@
 #![tactic(auto)]
 
 mod apply;
-mod fault;
+mod refusal;
 mod join;
 mod mail;
 mod own;
@@ -12,7 +12,7 @@ mod steps;
 mod told;
 mod world;
 
-pub use fault::CoreFault;
+pub use refusal::EventRefusal;
 pub use told::Told;
 pub use world::World;
 

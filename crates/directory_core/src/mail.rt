@@ -5,8 +5,8 @@ ghost use Rattle.directory_rules.specs.Input.{step};
 ghost use Rattle.directory_rules.specs.Receive.{received};
 ghost use Rattle.directory_node.specs.Saying.{left_by};
 ghost use Rattle.directory_core.specs.Mail.{AreStaleBefore, fresh_slot, is_fresh_to, least_fresh, letter_in, stale_slot, with_posted, with_stale};
-ghost use Rattle.directory_core.specs.MailView.{mail_in, posted_in};
-ghost use Rattle.directory_core.specs.OwnView.{input_of_own};
+ghost use Rattle.directory_core.specs.MailModel.{mail_in, posted_in};
+ghost use Rattle.directory_core.specs.OwnModel.{input_of_own};
 ghost use Rattle.directory_core.specs.declared.mail.Slot.{Slot as SlotSeen};
 
 use crate::own::{self, Own};
@@ -37,7 +37,7 @@ impl Model for Mail {
     ghost Value = { MailValue };
 
     ghost use Rattle.directory_core.specs.Mail.{AreStaleBefore};
-    ghost use Rattle.directory_core.specs.MailView.{mail_of};
+    ghost use Rattle.directory_core.specs.MailModel.{mail_of};
 
     ghost view = { mail_of };
 

@@ -1,10 +1,10 @@
 ghost use Rattle.std.specs.Prelude.{◌≡◌, IsOk, OnErr, OnOk};
 ghost use Rattle.directory_rules.specs.Input.{step};
 ghost use Rattle.directory_node.specs.Saying.{left_by};
-ghost use Rattle.directory_core.specs.OwnView.{input_of_own};
+ghost use Rattle.directory_core.specs.OwnModel.{input_of_own};
 ghost use Rattle.directory_core.specs.Stepping.{Says};
 
-use crate::CoreFault;
+use crate::EventRefusal;
 use directory_node::{Node, Response};
 use silo_address::GrainId;
 use std::alloc::{AllocError, Global};
@@ -19,7 +19,7 @@ pub(crate) enum Own {
 }
 
 // What a node says as it does so.
-pub(crate) fn said(alloc: Global, node: &Node, own: &Own) -> Result<Response, CoreFault>
+pub(crate) fn said(alloc: Global, node: &Node, own: &Own) -> Result<Response, EventRefusal>
     ensures { Says (step node.now (input_of_own own.now)) result }
 {
     let response = match own {
@@ -28,7 +28,7 @@ pub(crate) fn said(alloc: Global, node: &Node, own: &Own) -> Result<Response, Co
     };
     match response {
         Ok(response) => Ok(response),
-        Err(fault) => Err(CoreFault::of_node(fault)),
+        Err(refusal) => Err(EventRefusal::of_node(refusal)),
     }
 }
 

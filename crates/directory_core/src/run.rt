@@ -1,5 +1,5 @@
 ghost use Rattle.std.specs.Prelude.{◌≡◌, ◌⊎◌, ◌++◌, ◌∷◌, [], ℕ, IfOk, OnErr, OnOk, map, take};
-ghost use Rattle.cluster_events.specs.EventView.{event_of};
+ghost use Rattle.cluster_events.specs.EventModel.{event_of};
 ghost use Rattle.directory_rules.specs.Happens.{happens};
 ghost use Rattle.directory_core.specs.Applying.{IsLeftOpen};
 ghost use Rattle.directory_rules.specs.Run.{run, told_of, world_after};
@@ -43,8 +43,8 @@ impl World {
     {
         match self.apply(event) {
             Ok(outcome) => Ok(Told::new(Ok(outcome))),
-            Err(fault) => match fault.number() {
-                Some(_) => Ok(Told::new(Err(fault))),
+            Err(refusal) => match refusal.number() {
+                Some(_) => Ok(Told::new(Err(refusal))),
                 None => Err(AllocError),
             },
         }

@@ -11,9 +11,9 @@ ghost use Rattle.directory_core.specs.Mail.{with_posted};
 ghost use Rattle.directory_core.specs.Stepping.{MakesOrStops, after_step};
 
 use crate::mail::Mail;
-use crate::{CoreFault, World};
+use crate::{EventRefusal, World};
 use cluster_events::{Happening, Outcome};
-use directory_node::{Input, Letter, Node, NodeFault, Stepped};
+use directory_node::{Input, Letter, Node, StepRefusal, Stepped};
 use membership_view::View;
 use silo_address::SiloAddress;
 use std::alloc::AllocError;
@@ -21,7 +21,7 @@ use std::collections::BTreeMap;
 
 impl World {
     // A silo sees a version: 901, 902, 903, 904, 805, then 909.
-    pub(crate) fn sees(&mut self, silo: &SiloAddress, version: u64) -> Result<Outcome, CoreFault>
+    pub(crate) fn sees(&mut self, silo: &SiloAddress, version: u64) -> Result<Outcome, EventRefusal>
         requires room { self.old.accepted < self.old.settings.events }
         ensures told { Tells (sees self.old silo.now version) self.new result }
         ensures unchanged { OnErr result (self.new ≡ self.old) }
@@ -30,14 +30,14 @@ impl World {
             return Err(self.absent(silo));
         };
         if version <= node.view().version() {
-            return Err(CoreFault::Node(NodeFault::NotNewer));
+            return Err(EventRefusal::Node(StepRefusal::NotNewer));
         }
         if !self.is_seeable(silo, version) {
-            return Err(CoreFault::NoSuchVersion);
+            return Err(EventRefusal::NoSuchVersion);
         }
         let stepped = self.sight(node, version)?;
         if !self.has_room_for(&stepped.letters) {
-            return Err(CoreFault::MailFull);
+            return Err(EventRefusal::MailFull);
         }
         let outcome = Outcome {
             happening: Happening::Saw {
@@ -49,7 +49,7 @@ impl World {
         };
         match self.replace(silo, stepped.node, stepped.letters) {
             Ok(()) => Ok(outcome),
-            Err(_) => Err(CoreFault::OutOfMemory),
+            Err(_) => Err(EventRefusal::OutOfMemory),
         }
     }
 
@@ -62,7 +62,7 @@ impl World {
     }
 
     // What a node's sight of a newer version makes.
-    fn sight(&self, node: &Node, version: u64) -> Result<Stepped, CoreFault>
+    fn sight(&self, node: &Node, version: u64) -> Result<Stepped, EventRefusal>
         requires newer { node.now.view.version < version }
         requires made { version ≤ self.now.views.version }
         ensures { MakesOrStops (step node.now (sight_of self.now version)) result }
@@ -76,20 +76,20 @@ impl World {
         };
         match node.step(self.alloc, &input) {
             Ok(stepped) => Ok(stepped),
-            Err(fault) => Err(CoreFault::of_node(fault)),
+            Err(refusal) => Err(EventRefusal::of_node(refusal)),
         }
     }
 
     // The view of a version that was made.
-    fn view(&self, version: u64) -> Result<View, CoreFault>
+    fn view(&self, version: u64) -> Result<View, EventRefusal>
         requires made { version ≤ self.now.views.version }
         ensures exact { IfOk result (λ view. view ≡ view_at self.now.views version) }
-        ensures memory { IfErr result (λ fault. fault ≡ CoreFault.OutOfMemory) }
+        ensures memory { IfErr result (λ refusal. refusal ≡ EventRefusal.OutOfMemory) }
     {
         match self.views.view(self.alloc, version) {
             Ok(Some(view)) => Ok(view),
             Ok(None) => unreachable!(),
-            Err(_) => Err(CoreFault::OutOfMemory),
+            Err(_) => Err(EventRefusal::OutOfMemory),
         }
     }
 

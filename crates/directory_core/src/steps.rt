@@ -9,17 +9,17 @@ ghost use Rattle.directory_rules.specs.Mail.{has_room_for, letter_of, span_of, w
 ghost use Rattle.directory_rules.specs.Node.{Node as NodeValue};
 ghost use Rattle.directory_rules.specs.Receive.{received};
 ghost use Rattle.directory_node.specs.Saying.{left_by};
-ghost use Rattle.cluster_events.specs.OutcomeView.{span_of as code_span};
+ghost use Rattle.cluster_events.specs.OutcomeModel.{span_of as code_span};
 ghost use Rattle.std.specs.Option.{option_map};
 ghost use Rattle.directory_core.specs.Applying.{Tells};
 ghost use Rattle.directory_core.specs.Mail.{letter_in, with_posted, with_stale};
-ghost use Rattle.directory_core.specs.OwnView.{input_of_own};
-ghost use Rattle.directory_core.specs.Numbers.{core_fault_number};
+ghost use Rattle.directory_core.specs.OwnModel.{input_of_own};
+ghost use Rattle.directory_core.specs.Numbers.{event_refusal_number};
 ghost use Rattle.directory_core.specs.Stepping.{after_step};
 
 use crate::mail::Mail;
 use crate::own::{self, Own};
-use crate::{CoreFault, World};
+use crate::{EventRefusal, World};
 use cluster_events::{Happening, Outcome, Span};
 use directory_node::{Letter, Node};
 use silo_address::SiloAddress;
@@ -29,7 +29,7 @@ use std::collections::BTreeMap;
 // Steps of silos in the world: what the step says is known before anything changes, then it is made in place.
 impl World {
     // A silo takes a step of its own, which is no sight: 901, 902, then as the step refuses, then 909.
-    pub(crate) fn does(&mut self, silo: &SiloAddress, own: &Own) -> Result<Outcome, CoreFault>
+    pub(crate) fn does(&mut self, silo: &SiloAddress, own: &Own) -> Result<Outcome, EventRefusal>
         requires room { self.old.accepted < self.old.settings.events }
         ensures told { Tells (does self.old silo.now (input_of_own own.now)) self.new result }
         ensures unchanged { OnErr result (self.new ≡ self.old) }
@@ -39,7 +39,7 @@ impl World {
         };
         let response = own::said(self.alloc, node, own)?;
         if !self.has_room_for(&response.letters) {
-            return Err(CoreFault::MailFull);
+            return Err(EventRefusal::MailFull);
         }
         let outcome = Outcome {
             happening: Happening::Did {
@@ -50,7 +50,7 @@ impl World {
         };
         match self.absorb(silo, own, response.letters) {
             Ok(()) => Ok(outcome),
-            Err(_) => Err(CoreFault::OutOfMemory),
+            Err(_) => Err(EventRefusal::OutOfMemory),
         }
     }
 
@@ -60,12 +60,12 @@ impl World {
     }
 
     // Why a silo without a node takes no step.
-    pub(crate) fn absent(&self, silo: &SiloAddress) -> CoreFault
-        ensures { core_fault_number result ≡ Some (absent_number self.now silo.now) }
+    pub(crate) fn absent(&self, silo: &SiloAddress) -> EventRefusal
+        ensures { event_refusal_number result ≡ Some (absent_number self.now silo.now) }
     {
         match self.views.row(silo) {
-            Some(_) => CoreFault::DeadSilo,
-            None => CoreFault::NoSuchSilo,
+            Some(_) => EventRefusal::DeadSilo,
+            None => EventRefusal::NoSuchSilo,
         }
     }
 
@@ -95,24 +95,24 @@ impl World {
     }
 
     // A letter comes to its receiver: 905, 902, then 909.
-    pub(crate) fn deliver(&mut self, number: u64) -> Result<Outcome, CoreFault>
+    pub(crate) fn deliver(&mut self, number: u64) -> Result<Outcome, EventRefusal>
         requires room { self.old.accepted < self.old.settings.events }
         ensures told { Tells (deliver self.old number) self.new result }
         ensures unchanged { OnErr result (self.new ≡ self.old) }
     {
         let Some(letter) = self.letter(number) else {
-            return Err(CoreFault::NoSuchLetter);
+            return Err(EventRefusal::NoSuchLetter);
         };
         let to = letter.to();
         let kind = letter.kind();
         let Some(node) = self.node(&to) else {
-            return Err(CoreFault::DeadSilo);
+            return Err(EventRefusal::DeadSilo);
         };
         let Ok(response) = node.respond_letter(self.allocator(), letter) else {
-            return Err(CoreFault::OutOfMemory);
+            return Err(EventRefusal::OutOfMemory);
         };
         if !self.has_room_for(&response.letters) {
-            return Err(CoreFault::MailFull);
+            return Err(EventRefusal::MailFull);
         }
         let outcome = Outcome {
             happening: Happening::Delivered {
@@ -124,7 +124,7 @@ impl World {
         };
         match self.absorb_letter(&to, number, response.letters) {
             Ok(()) => Ok(outcome),
-            Err(_) => Err(CoreFault::OutOfMemory),
+            Err(_) => Err(EventRefusal::OutOfMemory),
         }
     }
 

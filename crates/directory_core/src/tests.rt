@@ -1,4 +1,4 @@
-use crate::{CoreFault, World};
+use crate::{EventRefusal, World};
 use cluster_events::{Event, Happening, Outcome, Span};
 use directory_rules::{Effect, LetterKind};
 use hash_ring::{Hashing, RingError};
@@ -53,10 +53,10 @@ fn find(rt: &impl Abort) -> Event {
     }
 }
 
-// The event is refused, by the fault with that number.
-fn is_refused(rt: &impl Abort, world: &mut World, event: &Event, fault: CoreFault, number: u16) {
-    assert_eq!(rt; world.apply(event), Err(fault));
-    assert_eq!(rt; fault.number(), Some(number));
+// The event is refused, by the refusal with that number.
+fn is_refused(rt: &impl Abort, world: &mut World, event: &Event, refusal: EventRefusal, number: u16) {
+    assert_eq!(rt; world.apply(event), Err(refusal));
+    assert_eq!(rt; refusal.number(), Some(number));
 }
 
 // The event is accepted, and tells that.
@@ -166,16 +166,16 @@ fn the_first_run(rt: HostRuntime) {
 #[test]
 fn refusals_before_the_first_join(rt: HostRuntime) {
     let mut world = first(&rt, rt.alloc());
-    is_refused(&rt, &mut world, &wake(&rt), CoreFault::NoSuchSilo, 901);
-    is_refused(&rt, &mut world, &find(&rt), CoreFault::NoSuchSilo, 901);
-    is_refused(&rt, &mut world, &see(&rt, 1), CoreFault::NoSuchSilo, 901);
+    is_refused(&rt, &mut world, &wake(&rt), EventRefusal::NoSuchSilo, 901);
+    is_refused(&rt, &mut world, &find(&rt), EventRefusal::NoSuchSilo, 901);
+    is_refused(&rt, &mut world, &see(&rt, 1), EventRefusal::NoSuchSilo, 901);
     let deliver = Event::Deliver { number: 1 };
-    is_refused(&rt, &mut world, &deliver, CoreFault::NoSuchLetter, 905);
+    is_refused(&rt, &mut world, &deliver, EventRefusal::NoSuchLetter, 905);
     let many = join_with(&rt, rt.alloc(), 129);
-    let too_many = CoreFault::Ring(RingError::PointCount);
+    let too_many = EventRefusal::Ring(RingError::PointCount);
     is_refused(&rt, &mut world, &many, too_many, 402);
     let none = join_with(&rt, rt.alloc(), 0);
-    let missing = CoreFault::Ring(RingError::PointsMissing);
+    let missing = EventRefusal::Ring(RingError::PointsMissing);
     is_refused(&rt, &mut world, &none, missing, 403);
     assert_eq!(rt; world.accepted(), 0);
     assert_eq!(rt; world.current(), 0);
@@ -189,7 +189,7 @@ fn a_run_goes_on(rt: HostRuntime) {
     let told = world.run(rt.alloc(), &events).expect(&rt, "memory");
     assert_eq!(rt; told.len(), 2);
     let first = told.first().expect(&rt, "two are told");
-    assert_eq!(rt; *first.result(), Err(CoreFault::NoSuchLetter));
+    assert_eq!(rt; *first.result(), Err(EventRefusal::NoSuchLetter));
     let last = told.last().expect(&rt, "two are told");
     assert!(rt; last.result().is_ok());
 }

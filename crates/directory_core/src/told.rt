@@ -1,14 +1,14 @@
 ghost use Rattle.std.specs.Prelude.{◌≡◌};
-ghost use Rattle.directory_core.specs.ToldView.{told_as};
+ghost use Rattle.directory_core.specs.ToldModel.{told_as};
 
-use crate::CoreFault;
+use crate::EventRefusal;
 use cluster_events::Outcome;
 use std::marker::Model;
 
 /// What an event of a run told: its outcome, or why it was refused.
 #[derive(Drop)]
 pub struct Told {
-    result: Result<Outcome, CoreFault>,
+    result: Result<Outcome, EventRefusal>,
 }
 
 impl Model for Told {
@@ -17,21 +17,21 @@ impl Model for Told {
 
     ghost Value = { Result Outcome ℕ };
 
-    ghost use Rattle.directory_core.specs.ToldView.{told_as};
+    ghost use Rattle.directory_core.specs.ToldModel.{told_as};
 
     ghost view = { λ t. told_as t.result };
 }
 
 impl Told {
     // That was told.
-    pub(crate) fn new(told: Result<Outcome, CoreFault>) -> Told
+    pub(crate) fn new(told: Result<Outcome, EventRefusal>) -> Told
         ensures { result ≡ told_as told }
     {
         Told { result: told }
     }
 
     /// The outcome, or why the event was refused; never for want of memory.
-    pub fn result(&self) -> &Result<Outcome, CoreFault>
+    pub fn result(&self) -> &Result<Outcome, EventRefusal>
         ensures { told_as result.now ≡ self.now }
     {
         &self.result

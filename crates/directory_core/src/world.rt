@@ -5,8 +5,8 @@ ghost use Rattle.directory_rules.specs.Settings.{directory_settings};
 ghost use Rattle.directory_rules.specs.World.{first_world};
 ghost use Rattle.directory_rules.specs.Happens.{node_of};
 ghost use Rattle.directory_rules.specs.Mail.{letter_of};
-ghost use Rattle.directory_rules.specs.Show.{current_ring};
-ghost use Rattle.directory_rules.specs.Output.{least_deliverable};
+ghost use Rattle.directory_rules.specs.World.{current_ring};
+ghost use Rattle.directory_rules.specs.Happens.{least_deliverable};
 ghost use Rattle.directory_core.specs.Whole.{IsWorld};
 
 use crate::mail::Mail;
@@ -38,7 +38,7 @@ impl Model for World {
     ghost Value = { World };
 
     ghost use Rattle.directory_core.specs.Whole.{IsWorld};
-    ghost use Rattle.directory_core.specs.WorldView.{world_of};
+    ghost use Rattle.directory_core.specs.WorldModel.{world_of};
 
     ghost view = { world_of };
 

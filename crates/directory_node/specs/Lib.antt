@@ -1,8 +1,8 @@
 pub mod Numbers
-pub mod LetterView
-pub mod InputView
+pub mod LetterModel
+pub mod InputModel
 pub mod Saying
 pub mod Node
-pub mod NodeView
+pub mod NodeModel
 pub mod First
 pub mod Taking

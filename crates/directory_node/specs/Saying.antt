@@ -6,8 +6,8 @@ use Rattle.directory_rules.specs.Node.{Node}
 use Rattle.directory_rules.specs.Step as rule
 use Rattle.directory_node.specs.declared.response.Response.{Response}
 use Rattle.directory_node.specs.declared.step.Stepped.{Stepped}
-use Rattle.directory_node.specs.declared.fault.NodeFault.{NodeFault}
-use Rattle.directory_node.specs.Numbers.{node_fault_number}
+use Rattle.directory_node.specs.declared.refusal.StepRefusal.{StepRefusal}
+use Rattle.directory_node.specs.Numbers.{step_refusal_number}
 
 -- what a step says: its letters, and what it did
 pub record Said : Type 0 where
@@ -37,15 +37,15 @@ RefusesBy (Some number) outcome = outcome ≡ Err number
 RefusesBy None outcome = IsOk outcome
 
 -- the code says what the rule says, or refuses by its number
-abbrev pub Tells : Result Said ℕ → Result Response NodeFault → Type 0
+abbrev pub Tells : Result Said ℕ → Result Response StepRefusal → Type 0
 Tells outcome (Ok response) = outcome ≡ Ok (response_of response)
-Tells outcome (Err fault) = RefusesBy (node_fault_number fault) outcome
+Tells outcome (Err refusal) = RefusesBy (step_refusal_number refusal) outcome
 
 -- the code's step in the rule's words
 abbrev pub stepped_of : Stepped → rule.Stepped
 stepped_of stepped = record { node = stepped.node; letters = stepped.letters.items; effect = stepped.effect }
 
 -- the code makes what the rule makes, or refuses by its number
-abbrev pub Makes : Result rule.Stepped ℕ → Result Stepped NodeFault → Type 0
+abbrev pub Makes : Result rule.Stepped ℕ → Result Stepped StepRefusal → Type 0
 Makes outcome (Ok stepped) = outcome ≡ Ok (stepped_of stepped)
-Makes outcome (Err fault) = RefusesBy (node_fault_number fault) outcome
+Makes outcome (Err refusal) = RefusesBy (step_refusal_number refusal) outcome

@@ -2,7 +2,7 @@
 //! `docs/RULES.md#the-world`.
 #![tactic(auto)]
 
-mod fault;
+mod refusal;
 mod input;
 mod letter;
 mod node;
@@ -17,7 +17,7 @@ mod step;
 #[cfg(test)]
 mod tests;
 
-pub use fault::NodeFault;
+pub use refusal::StepRefusal;
 pub use input::Input;
 pub use letter::{Body, Letter};
 pub use node::Node;

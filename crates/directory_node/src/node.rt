@@ -30,7 +30,7 @@ impl Model for Node {
     ghost Value = { Node };
 
     ghost use Rattle.directory_node.specs.Node.{IsNode};
-    ghost use Rattle.directory_node.specs.NodeView.{node_of};
+    ghost use Rattle.directory_node.specs.NodeModel.{node_of};
 
     ghost view = { node_of };
 

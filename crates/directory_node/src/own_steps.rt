@@ -3,31 +3,31 @@ ghost use Rattle.directory_rules.specs.Step.{finding, find_grain, started, wake}
 ghost use Rattle.hash_ring.specs.Ring.{is_active_in};
 ghost use Rattle.directory_node.specs.Saying.{Tells, left_by, response_of, said, said_of};
 
-use crate::{Letter, Node, NodeFault, Response};
+use crate::{Letter, Node, StepRefusal, Response};
 use directory_rules::{Act, Effect};
 use silo_address::{ActivationId, Entry, GrainId};
 use std::alloc::{AllocError, Global};
 
 impl Node {
     /// The silo is woken for a grain: what it says.
-    pub fn respond_wake(&self, alloc: Global, grain: GrainId) -> Result<Response, NodeFault>
+    pub fn respond_wake(&self, alloc: Global, grain: GrainId) -> Result<Response, StepRefusal>
         ensures { Tells (said (wake self.now grain)) result }
     {
         if !self.is_active() {
-            return Err(NodeFault::NotActiveSilo);
+            return Err(StepRefusal::NotActiveSilo);
         }
         if self.host.held(&grain).is_some() {
-            return Err(NodeFault::AlreadyHere);
+            return Err(StepRefusal::AlreadyHere);
         }
         if self.host.is_full_of_activations(&self.settings) {
-            return Err(NodeFault::HostFull);
+            return Err(StepRefusal::HostFull);
         }
         if !(self.host.has_numbers(&self.settings, 1) && self.host.has_count(&self.settings)) {
-            return Err(NodeFault::NumbersSpent);
+            return Err(StepRefusal::NumbersSpent);
         }
         match self.starting(alloc, grain, None) {
             Ok(response) => Ok(response),
-            Err(_) => Err(NodeFault::OutOfMemory),
+            Err(_) => Err(StepRefusal::OutOfMemory),
         }
     }
 
@@ -64,21 +64,21 @@ impl Node {
     }
 
     /// The silo looks a grain up: what it says.
-    pub fn respond_find(&self, alloc: Global, grain: GrainId) -> Result<Response, NodeFault>
+    pub fn respond_find(&self, alloc: Global, grain: GrainId) -> Result<Response, StepRefusal>
         ensures { Tells (said (find_grain self.now grain)) result }
     {
         if self.host.is_full_of_finds(&self.settings) {
-            return Err(NodeFault::HostFull);
+            return Err(StepRefusal::HostFull);
         }
         if !self.host.has_numbers(&self.settings, 1) {
-            return Err(NodeFault::NumbersSpent);
+            return Err(StepRefusal::NumbersSpent);
         }
         match self.request_letters(alloc, self.host.next_number(), Act::Find { grain }) {
             Ok(letters) => Ok(Response {
                 letters,
                 effect: Effect::Finding(grain),
             }),
-            Err(_) => Err(NodeFault::OutOfMemory),
+            Err(_) => Err(StepRefusal::OutOfMemory),
         }
     }
 

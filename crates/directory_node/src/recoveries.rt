@@ -9,7 +9,7 @@ ghost use Rattle.directory_rules.specs.Recovery.{Recovery as RecoveryValue, reco
 ghost use Rattle.directory_node.specs.Taking.{IsTaken};
 ghost use Rattle.directory_rules.specs.Table.{is_before_first, lie_in, rise_by_grain};
 ghost use Rattle.directory_rules.specs.Transfer.{answering, has_range, is_recovering, is_report_awaited, piece_at, queried, recovers, report_of, reported, with_settled};
-ghost use Rattle.directory_node.specs.LetterView.{body_of};
+ghost use Rattle.directory_node.specs.LetterModel.{body_of};
 ghost use Rattle.directory_node.specs.Saying.{response_of, said_of};
 
 use crate::{Body, Letter, Node, Response};

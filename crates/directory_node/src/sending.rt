@@ -1,6 +1,6 @@
 ghost use Rattle.std.specs.Prelude.{◌≡◌, ◌++◌, IfOk, OnOk};
 ghost use Rattle.directory_rules.specs.Sending.{grain_of, letter_to, owner_by, request_letters, request_of};
-ghost use Rattle.directory_node.specs.LetterView.{body_of};
+ghost use Rattle.directory_node.specs.LetterModel.{body_of};
 
 use crate::{Body, Letter, Node};
 use directory_rules::{Act, Request};

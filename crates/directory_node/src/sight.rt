@@ -14,7 +14,7 @@ ghost use Rattle.directory_node.specs.Saying.{Makes, left_by, stepped_of};
 
 use crate::recoveries::is_recovering;
 use crate::step::Stepped;
-use crate::{Body, Letter, Node, NodeFault};
+use crate::{Body, Letter, Node, StepRefusal};
 use directory_rules::{Act, Effect};
 use grain_partition::Holding;
 use hash_ring::{Places, Ring};
@@ -35,19 +35,19 @@ impl Node {
         before: &View,
         view: &View,
         places: &Places,
-    ) -> Result<Stepped, NodeFault>
+    ) -> Result<Stepped, StepRefusal>
         requires first { IsFirst self.now before.now view.now places.now }
         ensures { Makes (see self.now before.now view.now places.now) result }
     {
         if self.view.version() >= view.version() {
-            return Err(NodeFault::NotNewer);
+            return Err(StepRefusal::NotNewer);
         }
         if !self.can_renew() {
-            return Err(NodeFault::NumbersSpent);
+            return Err(StepRefusal::NumbersSpent);
         }
         match self.sight(alloc, before, view, places) {
             Ok(stepped) => Ok(stepped),
-            Err(_) => Err(NodeFault::OutOfMemory),
+            Err(_) => Err(StepRefusal::OutOfMemory),
         }
     }
 

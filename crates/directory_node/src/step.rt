@@ -2,10 +2,10 @@ ghost use Rattle.std.specs.Prelude.{◌≡◌, IfOk, IfErr, IfSome, OnOk, OnErr,
 ghost use Rattle.directory_rules.specs.Input.{step};
 ghost use Rattle.directory_rules.specs.Receive.{received};
 ghost use Rattle.directory_node.specs.First.{IsFirstSight};
-ghost use Rattle.directory_node.specs.InputView.{input_of};
+ghost use Rattle.directory_node.specs.InputModel.{input_of};
 ghost use Rattle.directory_node.specs.Saying.{Tells, left_by, response_of, said, said_of, Makes};
 
-use crate::{Body, Input, Letter, Node, NodeFault, Response};
+use crate::{Body, Input, Letter, Node, StepRefusal, Response};
 use directory_rules::Effect;
 use std::alloc::{AllocError, Global};
 
@@ -20,7 +20,7 @@ pub struct Stepped {
 impl Node {
     /// The silo's step with an input, which leaves this node as it is. Refused as the rule says of each input
     /// (`docs/RULES.md#the-world`).
-    pub fn step(&self, alloc: Global, input: &Input<'_>) -> Result<Stepped, NodeFault>
+    pub fn step(&self, alloc: Global, input: &Input<'_>) -> Result<Stepped, StepRefusal>
         requires first { IsFirstSight self.now (input_of input.now) }
         ensures { Makes (step self.now (input_of input.now)) result }
     {
@@ -34,7 +34,7 @@ impl Node {
         }
         let response = self.respond(alloc, input)?;
         let Ok(mut node) = self.copy() else {
-            return Err(NodeFault::OutOfMemory);
+            return Err(StepRefusal::OutOfMemory);
         };
         match node.absorb(alloc, input) {
             Ok(()) => Ok(Stepped {
@@ -42,12 +42,12 @@ impl Node {
                 letters: response.letters,
                 effect: response.effect,
             }),
-            Err(_) => Err(NodeFault::OutOfMemory),
+            Err(_) => Err(StepRefusal::OutOfMemory),
         }
     }
 
     /// What the silo says at an input: letters and effect of its step, or its refusal.
-    pub fn respond(&self, alloc: Global, input: &Input<'_>) -> Result<Response, NodeFault>
+    pub fn respond(&self, alloc: Global, input: &Input<'_>) -> Result<Response, StepRefusal>
         requires first { IsFirstSight self.now (input_of input.now) }
         ensures { Tells (said (step self.now (input_of input.now))) result }
     {
@@ -67,7 +67,7 @@ impl Node {
             Input::Finds(grain) => self.respond_find(alloc, *grain),
             Input::Receives(letter) => match self.respond_letter(alloc, letter) {
                 Ok(response) => Ok(response),
-                Err(_) => Err(NodeFault::OutOfMemory),
+                Err(_) => Err(StepRefusal::OutOfMemory),
             },
         }
     }

@@ -1,7 +1,7 @@
 ghost use Rattle.directory_node.specs.First.{IsFirstSight};
-ghost use Rattle.directory_node.specs.InputView.{input_of};
+ghost use Rattle.directory_node.specs.InputModel.{input_of};
 
-use crate::{Body, Input, Letter, Node, NodeFault, Response, Stepped};
+use crate::{Body, Input, Letter, Node, StepRefusal, Response, Stepped};
 use directory_rules::{Effect, LetterKind, Phase, Reply, Settings, Why};
 use hash_ring::{Hashing, Places};
 use membership_view::{View, Views};
@@ -77,7 +77,7 @@ fn places(rt: &impl Abort, alloc: Global) -> Places {
 }
 
 // A has joined, and sees a version: at version 1 its piece recovers.
-fn sight(rt: &impl Abort, alloc: Global, version: u64) -> Result<Stepped, NodeFault> {
+fn sight(rt: &impl Abort, alloc: Global, version: u64) -> Result<Stepped, StepRefusal> {
     let node = joined(rt, alloc);
     let before = View::empty(alloc);
     let view = view(rt, alloc, version);
@@ -140,20 +140,20 @@ fn settled(rt: &impl Abort, alloc: Global) -> Node {
 }
 
 #[tactic(auto, using(crate::proofs::Said::made_if_said))]
-fn wakes(alloc: Global, node: &mut Node, grain: GrainId) -> Result<Response, NodeFault> {
+fn wakes(alloc: Global, node: &mut Node, grain: GrainId) -> Result<Response, StepRefusal> {
     let response = node.respond_wake(alloc, grain)?;
     match node.absorb_wake(grain) {
         Ok(()) => Ok(response),
-        Err(_) => Err(NodeFault::OutOfMemory),
+        Err(_) => Err(StepRefusal::OutOfMemory),
     }
 }
 
 #[tactic(auto, using(crate::proofs::Said::made_if_said))]
-fn finds(alloc: Global, node: &mut Node, grain: GrainId) -> Result<Response, NodeFault> {
+fn finds(alloc: Global, node: &mut Node, grain: GrainId) -> Result<Response, StepRefusal> {
     let response = node.respond_find(alloc, grain)?;
     match node.absorb_find(grain) {
         Ok(()) => Ok(response),
-        Err(_) => Err(NodeFault::OutOfMemory),
+        Err(_) => Err(StepRefusal::OutOfMemory),
     }
 }
 
@@ -250,9 +250,9 @@ fn steps_in_parts(rt: HostRuntime) {
     check_parts(&rt, rt.alloc(), &mut node, &receives);
 }
 
-fn check_refused<T: Drop>(rt: &impl Abort, made: Result<T, NodeFault>, number: u16) {
-    let fault = made.err().expect(rt, "a refusal");
-    assert_eq!(rt; fault.number(), Some(number));
+fn check_refused<T: Drop>(rt: &impl Abort, made: Result<T, StepRefusal>, number: u16) {
+    let refusal = made.err().expect(rt, "a refusal");
+    assert_eq!(rt; refusal.number(), Some(number));
 }
 
 #[test]

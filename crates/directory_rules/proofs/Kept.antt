@@ -8,7 +8,7 @@ use Rattle.silo_address.specs.Silo.{Silo}
 use Rattle.membership_view.specs.declared.status.Status.{Status}
 use Rattle.membership_view.specs.declared.status.Status.TheVariants.{Active, Leaving, Dead}
 use Rattle.membership_view.specs.Views.{ViewsValue}
-use Rattle.membership_view.specs.Changes.{standing}
+use Rattle.membership_view.specs.Changes.{occupant}
 use Rattle.hash_ring.specs.Places.{PlacesValue}
 use Rattle.directory_rules.specs.Settings.{Settings}
 use Rattle.directory_rules.specs.Letter.{Letter}
@@ -75,7 +75,7 @@ without_replaced P world (Some old) on = on
 
 joined : (P : Fact) (places : Result PlacesValue ℕ) (views : ViewsValue) (world : World) (silo : Silo) → On P world → After P (rule.joined places views world silo)
 joined P (Err number) views world silo on = tt
-joined P (Ok places) views world silo on = without_replaced P world (standing silo world.views.rows) on
+joined P (Ok places) views world silo on = without_replaced P world (occupant silo world.views.rows) on
 
 join_viewed : (P : Fact) (views : Result ViewsValue ℕ) (world : World) (silo : Silo) (places : List ℕ) → On P world → After P (rule.join_viewed views world silo places)
 join_viewed P (Err number) world silo places on = tt

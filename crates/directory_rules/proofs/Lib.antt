@@ -22,9 +22,3 @@ pub mod Renewal
 pub mod Numbered
 pub mod Throughout
 pub mod Worked
-mod TurningHashes
-mod Settling
-mod Contained
-mod RightDumps
-mod Shapes
-mod RightShapes

@@ -10,7 +10,7 @@ use Rattle.silo_address.specs.Silo.{Silo, silo_cmp}
 use Rattle.membership_view.specs.declared.status.Status.{Status}
 use Rattle.membership_view.specs.declared.status.Status.TheVariants.{Active, Leaving, Dead}
 use Rattle.membership_view.specs.Views.{ViewsValue}
-use Rattle.membership_view.specs.Changes.{standing, after_join}
+use Rattle.membership_view.specs.Changes.{occupant, after_join}
 use Rattle.hash_ring.specs.Places.{PlacesValue, after_add}
 use Rattle.directory_rules.specs.Settings.{Settings}
 use Rattle.directory_rules.specs.Letter.{Letter}
@@ -99,7 +99,7 @@ joined : (E : Event → Type 0) (P : PlacesValue → Type 0) (Q : Node → Type 
 joined E P Q k (Err number) views world silo given so each is = tt
 joined E P Q k (Ok places) views world silo given so each is = record {
   places = k.adding world.places silo given places so each.places (added (nat_lt world.settings.places (length given)) (after_add world.places silo given) places is);
-  nodes = All-values-insert_entry silo_cmp silo (new_node world.settings silo) Q (rule.without_replaced world (standing silo world.views.rows)).nodes (replaced P Q world (standing silo world.views.rows) each) (k.new world.settings silo);
+  nodes = All-values-insert_entry silo_cmp silo (new_node world.settings silo) Q (rule.without_replaced world (occupant silo world.views.rows)).nodes (replaced P Q world (occupant silo world.views.rows) each) (k.new world.settings silo);
 }
 
 join_viewed : (E : Event → Type 0) (P : PlacesValue → Type 0) (Q : Node → Type 0) (k : StepsKeepBy E P Q) (views : Result ViewsValue ℕ) (world : World) (silo : Silo) (given : List ℕ) → E (Join silo given) → Each P Q world → After P Q (rule.join_viewed views world silo given)

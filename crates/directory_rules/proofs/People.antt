@@ -15,13 +15,13 @@ use Rattle.silo_address.proofs.Order.{silo_cmp_total, silo_cmp_exact, apart_in_o
 use Rattle.membership_view.specs.declared.status.Status.{Status}
 use Rattle.membership_view.specs.declared.status.Status.TheVariants.{Active, Leaving, Dead}
 use Rattle.membership_view.specs.Views.{ViewsValue, view_at, status_at}
-use Rattle.membership_view.specs.Changes.{Join, Leave, Die, after, after_join, leave_from, die_from, shares_endpoint, with_leave, with_death, standing}
+use Rattle.membership_view.specs.Changes.{Join, Leave, Die, after, after_join, leave_from, die_from, shares_endpoint, with_leave, with_death, occupant}
 use Rattle.membership_view.specs.Step.{Joins, Leaves, Dies}
 use Rattle.membership_view.proofs.Entries.{lookup-insert_entry, sorted-insert_entry, Equal-from}
 use Rattle.membership_view.proofs.Kept.{whole-after}
 use Rattle.membership_view.proofs.Stepping.{changes_are_steps}
 use Rattle.membership_view.proofs.Order.{Decides-shares}
-use Rattle.membership_view.proofs.Looking.{standing_law}
+use Rattle.membership_view.proofs.Looking.{occupant_law}
 use Rattle.directory_rules.specs.Node.{Node}
 use Rattle.directory_rules.specs.Laws.{is_live, ArePeopled}
 use Rattle.directory_rules.proofs.Cases.{on_bool}
@@ -122,23 +122,23 @@ others_stay (Some old) nodes q not = at_other old q nodes (λ same. not (ap Some
 
 -- a silo joins, and the older one of its endpoint, if there is one, goes
 pub peopled_join : (views next : ViewsValue) (nodes : List (Silo × Node)) (silo : Silo) (node : Node) → ArePeopled views nodes → after_join views silo ≡ Ok next
-    → ArePeopled next (insert_entry silo_cmp (without (standing silo views.rows) nodes) silo node)
+    → ArePeopled next (insert_entry silo_cmp (without (occupant silo views.rows) nodes) silo node)
 peopled_join views next nodes silo node are is =
     let step : Joins silo (view_at views views.version) (view_at next next.version) = changes_are_steps views (Join silo) next (record { whole = are.whole; is = is }) in
     record {
       whole = whole-after views are.whole (Join silo) next is;
-      by_address = sorted-insert_entry silo_cmp_total silo node (without (standing silo views.rows) nodes) (without_sorted (standing silo views.rows) nodes are.by_address);
-      live = λ q. by_silo (is_some (at q (insert_entry silo_cmp (without (standing silo views.rows) nodes) silo node)) ≡ is_live (now next q)) q silo
-          (λ same. there_put silo q node (without (standing silo views.rows) nodes) same ∙ subst (λ s. true ≡ is_live (now next s)) (sym same) (sym (ap is_live step.joined)))
-          (λ differ. ap is_some (at_put silo q node (without (standing silo views.rows) nodes) differ) ∙ elsewhere views next nodes silo q are step differ);
+      by_address = sorted-insert_entry silo_cmp_total silo node (without (occupant silo views.rows) nodes) (without_sorted (occupant silo views.rows) nodes are.by_address);
+      live = λ q. by_silo (is_some (at q (insert_entry silo_cmp (without (occupant silo views.rows) nodes) silo node)) ≡ is_live (now next q)) q silo
+          (λ same. there_put silo q node (without (occupant silo views.rows) nodes) same ∙ subst (λ s. true ≡ is_live (now next s)) (sym same) (sym (ap is_live step.joined)))
+          (λ differ. ap is_some (at_put silo q node (without (occupant silo views.rows) nodes) differ) ∙ elsewhere views next nodes silo q are step differ);
     } where
       elsewhere : (views next : ViewsValue) (nodes : List (Silo × Node)) (silo q : Silo) → ArePeopled views nodes → Joins silo (view_at views views.version) (view_at next next.version) → q ≢ silo
-          → is_some (at q (without (standing silo views.rows) nodes)) ≡ is_live (now next q)
+          → is_some (at q (without (occupant silo views.rows) nodes)) ≡ is_live (now next q)
       elsewhere views next nodes silo q are step differ =
           elim (decided (shares_endpoint silo q) (Decides-shares silo q)) [
-            | inl same ↦ replaced_gone (standing silo views.rows) nodes q are.by_address
-                (λ there. (standing_law views are.whole silo q).1 (same, live_stands (now views q) (sym (are.live q) ∙ there)))
+            | inl same ↦ replaced_gone (occupant silo views.rows) nodes q are.by_address
+                (λ there. (occupant_law views are.whole silo q).1 (same, live_stands (now views q) (sym (are.live q) ∙ there)))
                 ∙ sym (ap is_live (step.older q same differ) ∙ not_live (now views q))
-            | inr apart ↦ ap is_some (others_stay (standing silo views.rows) nodes q (λ stands. apart ((standing_law views are.whole silo q).0 stands).0))
+            | inr apart ↦ ap is_some (others_stay (occupant silo views.rows) nodes q (λ stands. apart ((occupant_law views are.whole silo q).0 stands).0))
                 ∙ are.live q ∙ sym (ap is_live (step.others q apart))
           ]

@@ -6,7 +6,7 @@ use Rattle.silo_address.specs.Silo.{Silo, silo_cmp}
 use Rattle.membership_view.specs.declared.status.Status.{Status}
 use Rattle.membership_view.specs.declared.status.Status.TheVariants.{Active, Leaving, Dead}
 use Rattle.membership_view.specs.Views.{ViewsValue}
-use Rattle.membership_view.specs.Changes.{standing, after_join, die_from}
+use Rattle.membership_view.specs.Changes.{occupant, after_join, die_from}
 use Rattle.membership_view.proofs.Entries.{sorted-nil}
 use Rattle.hash_ring.specs.Places.{PlacesValue}
 use Rattle.directory_rules.specs.Settings.{Settings, AreSettings}
@@ -66,7 +66,7 @@ joining (Some old) world silo views node are = are
 joined : (places : Result PlacesValue ℕ) (views : ViewsValue) (world : World) (silo : Silo) → Peopled world → after_join world.views silo ≡ Ok views → After (rule.joined places views world silo)
 joined (Err number) views world silo are is = tt
 joined (Ok places) views world silo are is =
-    settings_same (standing silo world.views.rows) (joining (standing silo world.views.rows) world silo views (new_node world.settings silo) (peopled_join world.views views world.nodes silo (new_node world.settings silo) are is)) where
+    settings_same (occupant silo world.views.rows) (joining (occupant silo world.views.rows) world silo views (new_node world.settings silo) (peopled_join world.views views world.nodes silo (new_node world.settings silo) are is)) where
       settings_same : (old : Option Silo) → ArePeopled views (rule.with_node (rule.without_replaced world old) silo (new_node world.settings silo)).nodes → Peopled (rule.after_joining world silo old views places)
       settings_same old are = are
 

@@ -1,21 +1,21 @@
 -- What happens: every event is accepted, with what it tells and the world after it, or refused by a number, and then the
 -- world stays as it is.
-use Rattle.std.specs.Prelude.{ℕ, ◌+◌, ◌-◌, ◌&&◌, nat_le, nat_lt, not, is_some, Bool, if◌then◌else◌, List, Option, Some, None, Result, Ok, Err, length}
-use Rattle.std.specs.Option.{unwrap_or}
+use Rattle.std.specs.Prelude.{ℕ, ◌+◌, ◌-◌, ◌&&◌, nat_le, nat_lt, not, is_some, Bool, if◌then◌else◌, List, Option, Some, None, Result, Ok, Err, length, find}
+use Rattle.std.specs.Option.{option_map, unwrap_or}
 use Rattle.std.specs.Map.{lookup, remove_entry}
 use Rattle.std.specs.BTreeMap.{is_at, insert_entry}
 use Rattle.silo_address.specs.Silo.{Silo, silo_cmp}
 use Rattle.membership_view.specs.declared.status.Status.{Status}
 use Rattle.membership_view.specs.declared.status.Status.TheVariants.{Active, Leaving, Dead}
 use Rattle.membership_view.specs.Views.{ViewsValue, view_at, status_at, row_of, joining_version}
-use Rattle.membership_view.specs.Changes.{standing, with_leave, with_death, after_join}
+use Rattle.membership_view.specs.Changes.{occupant, with_leave, with_death, after_join}
 use Rattle.hash_ring.specs.Places.{PlacesValue, after_add}
 use Rattle.directory_rules.specs.Letter.{Letter, kind_of}
 use Rattle.directory_rules.specs.Node.{Node, new_node}
 use Rattle.directory_rules.specs.Event.{Event, Join, Leave, Kill, See, Wake, Close, Find, Forget, Deliver, Lose, Nudge, Offer, Happening, Joined, Left, Died, Saw, Did, Delivered, Lost}
 use Rattle.directory_rules.specs.Step.{Stepped}
 use Rattle.directory_rules.specs.Input.{Input, Sees, Wakes, Closes, Finds, Forgets, Nudges, Offers, Receives, step}
-use Rattle.directory_rules.specs.World.{World, Accepted}
+use Rattle.directory_rules.specs.World.{World, Posted, Accepted}
 use Rattle.directory_rules.specs.Mail.{letter_of, with_sent, has_room_for, span_of, with_delivered, with_lost}
 
 -- the node of a silo that isn't Dead
@@ -58,7 +58,7 @@ after_joining world silo replaced views places =
 abbrev pub joined : Result PlacesValue ℕ → ViewsValue → World → Silo → Result Accepted ℕ
 joined (Err number) views world silo = Err number
 joined (Ok places) views world silo =
-    Ok (tells (after_joining world silo (standing silo world.views.rows) views places) (Joined views.version silo (standing silo world.views.rows)))
+    Ok (tells (after_joining world silo (occupant silo world.views.rows) views places) (Joined views.version silo (occupant silo world.views.rows)))
 
 -- the places that come with a join: no more than the settings let
 abbrev pub placed : World → Silo → List ℕ → Result PlacesValue ℕ
@@ -184,6 +184,14 @@ deliver world number = delivers (letter_of world number) world number
 -- a letter is lost for good: 905 where it isn't in the mail
 abbrev pub lose : World → (number : ℕ) → Result Accepted ℕ
 lose world number = if is_some (letter_of world number) then Ok (tells (with_lost world number) (Lost number)) else Err 905
+
+-- whether the letter may still be delivered: it is fresh, and its receiver isn't Dead
+abbrev pub is_deliverable : World → Posted → Bool
+is_deliverable world posted = posted.fresh && is_some (node_of world posted.letter.to)
+
+-- the least letter that may still be delivered, if there is one
+abbrev pub least_deliverable : World → Option ℕ
+least_deliverable world = option_map (λ e. e.0) (find (λ e. is_deliverable world e.1) world.mail)
 
 -- what happens at an event, if there is room for one more
 abbrev pub attempted : World → Event → Result Accepted ℕ

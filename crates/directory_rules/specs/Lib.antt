@@ -29,13 +29,3 @@ pub mod PlainMachine
 pub mod Headline
 pub mod Laws
 pub mod Worked
-pub mod Words
-pub mod Script
-pub mod Lines
-pub mod Show
-pub mod Dump
-pub mod Verdict
-pub mod RightDump
-pub mod DumpShape
-pub mod RightShape
-pub mod Output

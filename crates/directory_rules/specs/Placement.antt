@@ -30,7 +30,7 @@ by_least counts [] = None
 by_least counts (silo ∷ silos) = Some (fewer_of counts silo (by_least counts silos))
 
 -- the silo that the policy chooses, by a view, the silo that asks, the grain's hash and how many activations silos have
-abbrev pub place : Policy → ViewValue → (local : Silo) → (hash : ℕ) → (counts : List (Silo × ℕ)) → Option Silo
-place PreferLocal view local hash counts = if is_active_in view local then Some local else by_hash view hash
-place HashBased view local hash counts = by_hash view hash
-place LeastHeld view local hash counts = by_least counts (active_silos view)
+abbrev pub silo_for : Policy → ViewValue → (local : Silo) → (hash : ℕ) → (counts : List (Silo × ℕ)) → Option Silo
+silo_for PreferLocal view local hash counts = if is_active_in view local then Some local else by_hash view hash
+silo_for HashBased view local hash counts = by_hash view hash
+silo_for LeastHeld view local hash counts = by_least counts (active_silos view)

@@ -1,6 +1,6 @@
 -- A sight: a silo sees a newer version. The ring of the version that it had seen is compared to the ring of the new one;
 -- what it owns in the new one becomes pieces, and what it gives up is sealed for the new owners.
-use Rattle.std.specs.Prelude.{ℕ, ◌+◌, ◌==◌, ◌&&◌, ◌||◌, not, is_none, is_some, Bool, true, false, if◌then◌else◌, List, [], ◌∷◌, ◌++◌, Option, Some, None, map, filter, fold, flat_map}
+use Rattle.std.specs.Prelude.{ℕ, ◌+◌, ◌==◌, ◌&&◌, ◌||◌, not, is_none, is_some, Bool, true, false, if◌then◌else◌, List, [], ◌∷◌, ◌++◌, Option, Some, None, map, filter, fold, flat_map, length}
 use Rattle.std.specs.List.{list_all, list_any}
 use Rattle.std.specs.Map.{keys_of}
 use Rattle.silo_address.specs.Silo.{Silo, silo_eq}
@@ -35,6 +35,13 @@ was_settled pieces range = list_all (is_in_settled pieces) (cut_parts range (key
 -- all entries of the pieces, in the order of their grains
 abbrev pub all_entries : List (ℕ × Piece) → Table
 all_entries pieces = fold with_entry [] (flat_map (λ e. entries_of e.1.entries) pieces)
+
+-- the pieces that are settled, and how many of their entries are hashed into the range
+abbrev pub settled_pieces : List (ℕ × Piece) → List (ℕ × Piece)
+settled_pieces pieces = filter (λ e. is_settled e.1.state) pieces
+
+abbrev pub entries_within : Hashing → List (ℕ × Piece) → Range → ℕ
+entries_within hashing pieces range = length (filter (λ e. holds range (hash_grain hashing e.0)) (all_entries (settled_pieces pieces)))
 
 -- whether the entry is hashed into the range, and its silo isn't Dead in the view
 abbrev pub is_kept : Hashing → ViewValue → Range → Entry → Bool

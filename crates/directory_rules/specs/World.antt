@@ -1,8 +1,11 @@
 -- The flat world: all that there is.
 use Rattle.std.specs.Prelude.{ℕ, Bool, List, []}
 use Rattle.silo_address.specs.Silo.{Silo}
-use Rattle.membership_view.specs.Views.{ViewsValue}
+use Rattle.membership_view.specs.View.{ViewValue}
+use Rattle.membership_view.specs.Views.{ViewsValue, view_at}
+use Rattle.hash_ring.specs.declared.point.Point.{Point}
 use Rattle.hash_ring.specs.Places.{PlacesValue}
+use Rattle.hash_ring.specs.Ring.{sorted_ring}
 use Rattle.directory_rules.specs.Settings.{Settings}
 use Rattle.directory_rules.specs.Letter.{Letter}
 use Rattle.directory_rules.specs.Node.{Node}
@@ -27,6 +30,13 @@ pub record World : Type 0 where
   pub mail : List (ℕ × Posted)
   -- how many letters were ever sent; they are numbered from 1
   pub sent : ℕ
+
+-- the view of the current version, and its ring
+abbrev pub current_view : World → ViewValue
+current_view world = view_at world.views world.views.version
+
+abbrev pub current_ring : World → List Point
+current_ring world = sorted_ring (current_view world) world.places
 
 -- before the first event
 abbrev pub first_world : Settings → World

@@ -10,7 +10,6 @@ mod letter_kind;
 mod piece_state;
 mod policy;
 mod reply;
-pub mod script_laws;
 mod settings;
 
 pub use act::{Act, Request};

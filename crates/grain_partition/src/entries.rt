@@ -1,6 +1,6 @@
 //! All entries of pieces in one table.
 ghost use Rattle.std.specs.Prelude.{◌≡◌, filter, fold, IfOk, OnOk};
-ghost use Rattle.directory_rules.specs.Show.{settled_pieces};
+ghost use Rattle.directory_rules.specs.Sight.{settled_pieces};
 ghost use Rattle.directory_rules.specs.Sight.{all_entries};
 ghost use Rattle.directory_rules.specs.Table.{entries_of, with_entry};
 ghost use Rattle.grain_partition.specs.Within.{with_within, within_range};

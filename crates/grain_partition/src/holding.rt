@@ -7,7 +7,7 @@ ghost use Rattle.silo_address.specs.Silo.{silo_cmp};
 ghost use Rattle.directory_rules.specs.Piece.{Piece as PieceValue};
 ghost use Rattle.directory_rules.specs.Answer.{answered, is_numbered, last_served, piece_with, serving_piece, with_piece};
 ghost use Rattle.directory_rules.specs.declared.PieceState.TheVariants.{Settled};
-ghost use Rattle.directory_rules.specs.Show.{entries_within};
+ghost use Rattle.directory_rules.specs.Sight.{entries_within};
 ghost use Rattle.directory_rules.specs.Sight.{pieces_after, was_settled};
 ghost use Rattle.grain_partition.specs.Holding.{HasPiece, IsHolding};
 ghost use Rattle.grain_partition.specs.Serving.{IsTurnOf};

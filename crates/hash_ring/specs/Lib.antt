@@ -1,7 +1,7 @@
 pub mod Hash
 pub mod Point
 pub mod Places
-pub mod PlacesView
+pub mod PlacesModel
 pub mod Owner
 pub mod Ring
 pub mod Ranges

@@ -26,7 +26,7 @@ impl Ring {
         ensures advanced { OnOk result (self.new ≡ ring_of view.now places.now) }
         ensures not_next { IsErrOf result RingError.NotNextView ↔ (view.now.version ≢ self.old.version + 1) }
         ensures missing { IsErrOf result RingError.PointsMissing ↔ ((view.now.version ≡ self.old.version + 1) × (are_added view.now places.now ≡ false)) }
-        ensures only { IfErr result (λ fault. (fault ≡ RingError.NotNextView) ⊎ (fault ≡ RingError.PointsMissing) ⊎ (fault ≡ RingError.OutOfMemory)) }
+        ensures only { IfErr result (λ refusal. (refusal ≡ RingError.NotNextView) ⊎ (refusal ≡ RingError.PointsMissing) ⊎ (refusal ≡ RingError.OutOfMemory)) }
 
         // Where no silo is new, no memory is needed.
         ensures succeeds { view.now.version ≡ self.old.version + 1 → new_silos self.old view.now ≡ [] → IsOk result }

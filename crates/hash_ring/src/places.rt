@@ -7,7 +7,7 @@ ghost use Rattle.silo_address.specs.Silo.{silo_cmp};
 ghost use Rattle.ring_range.specs.Range.{circle};
 ghost use Rattle.hash_ring.specs.Numbers.{ring_error_number};
 ghost use Rattle.hash_ring.specs.Places.{IsPlaces, after_add, is_added, is_point_count, has_points, most_points, places_for, places_of, with_silo};
-ghost use Rattle.hash_ring.specs.PlacesView.{lent};
+ghost use Rattle.hash_ring.specs.PlacesModel.{lent};
 ghost use Rattle.hash_ring.specs.Ring.{are_added};
 
 use crate::silo_places::SiloPlaces;
@@ -48,7 +48,7 @@ impl Places {
     pub fn new(alloc: Global, hashing: Hashing, points: usize) -> Result<Places, RingError>
         ensures made { IfOk result (λ places. places ≡ record { hashing = hashing; points = points; entries = [] }) }
         ensures point_count { IsErrOf result RingError.PointCount ↔ ¬ ((0 < points) × (points ≤ most_points)) }
-        ensures only { IfErr result (λ fault. fault ≡ RingError.PointCount) }
+        ensures only { IfErr result (λ refusal. refusal ≡ RingError.PointCount) }
     {
         if points == 0 || points > MOST_POINTS {
             return Err(RingError::PointCount);
@@ -68,7 +68,7 @@ impl Places {
         ensures added { OnOk result (after_add self.old silo given.now ≡ Ok self.new) }
 
         // Memory is wanted last, for a silo that may be added otherwise.
-        ensures refused { IfErr result (λ fault. IfSome (ring_error_number fault) (λ number. after_add self.old silo given.now ≡ Err number)) }
+        ensures refused { IfErr result (λ refusal. IfSome (ring_error_number refusal) (λ number. after_add self.old silo given.now ≡ Err number)) }
         ensures memory { IsErrOf result RingError.OutOfMemory → IsOk (after_add self.old silo given.now) }
         ensures unchanged { OnErr result (self.new ≡ self.old) }
     {

@@ -35,7 +35,7 @@ impl Ring {
     pub fn anew(alloc: Global, view: &View, places: &Places) -> Result<Ring, RingError>
         ensures made { IfOk result (λ ring. ring ≡ ring_of view.now places.now) }
         ensures missing { IsErrOf result RingError.PointsMissing ↔ (are_added view.now places.now ≡ false) }
-        ensures only { IfErr result (λ fault. (fault ≡ RingError.PointsMissing) ⊎ (fault ≡ RingError.OutOfMemory)) }
+        ensures only { IfErr result (λ refusal. (refusal ≡ RingError.PointsMissing) ⊎ (refusal ≡ RingError.OutOfMemory)) }
     {
         if !places.has_active_of(view) {
             return Err(RingError::PointsMissing);

@@ -91,9 +91,9 @@ fn numbers_of_points(rt: HostRuntime) -> Result<(), Fail> {
                 assert_eq!(rt; places.points(), points);
                 assert_eq!(rt; places.hashing(), Hashing::Sha256);
             }
-            Err(fault) => {
+            Err(refusal) => {
                 assert!(rt; !fits, "{points}");
-                assert_eq!(rt; fault, RingError::PointCount);
+                assert_eq!(rt; refusal, RingError::PointCount);
             }
         }
     }
@@ -123,7 +123,7 @@ fn silos_added_and_refused(rt: HostRuntime) -> Result<(), Fail> {
         };
         match places.add(silo(text)?, list) {
             Ok(()) => assert_eq!(rt; refused, None, "{text}"),
-            Err(fault) => assert_eq!(rt; fault.number(), refused, "{text}"),
+            Err(refusal) => assert_eq!(rt; refusal.number(), refused, "{text}"),
         }
     }
     assert!(rt; stated.is_added(&silo(A)?));
@@ -264,9 +264,9 @@ fn gone_on(
     let before = ring.copy()?;
     match ring.advance(view, places) {
         Ok(()) => Ok(Ok(ring)),
-        Err(fault) => {
+        Err(refusal) => {
             if ring.same(&before) {
-                Ok(Err(fault))
+                Ok(Err(refusal))
             } else {
                 Err(Fail::new("a refusal has changed the ring"))
             }
@@ -331,14 +331,14 @@ fn rings_refused(rt: HostRuntime) -> Result<(), Fail> {
                 assert_eq!(rt; refused, None, "{version}");
                 assert_eq!(rt; ring.owner(5), Some(point(5, A, 0)?));
             }
-            Err(fault) => assert_eq!(rt; fault.number(), refused, "{version}"),
+            Err(refusal) => assert_eq!(rt; refusal.number(), refused, "{version}"),
         }
     }
     let third = view(rt.alloc(), &views, 3)?;
     assert!(rt; !places.has_active_of(&third));
     match Ring::anew(rt.alloc(), &third, &places) {
         Ok(_) => assert!(rt; false, "a silo was not added"),
-        Err(fault) => assert_eq!(rt; fault, RingError::PointsMissing),
+        Err(refusal) => assert_eq!(rt; refusal, RingError::PointsMissing),
     }
     Ok(())
 }

@@ -11,12 +11,12 @@ use Rattle.membership_view.specs.declared.status.Status.{Status}
 use Rattle.membership_view.specs.declared.status.Status.TheVariants.{Active}
 use Rattle.membership_view.specs.Row.{has_come, status_in, joining, dying}
 use Rattle.membership_view.specs.Views.{ViewsValue, view_at, rows_in}
-use Rattle.membership_view.specs.Changes.{is_newest, standing, changed, without, next_views, joined_rows}
+use Rattle.membership_view.specs.Changes.{is_newest, occupant, changed, without, next_views, joined_rows}
 use Rattle.membership_view.proofs.Entries.{Equal-from, lookup-changed, lookup-insert_entry, lookup-picked, sorted-picked}
 use Rattle.membership_view.proofs.Found.{same_entries}
 use Rattle.membership_view.proofs.Statuses.{status_before_dying}
-use Rattle.membership_view.proofs.SameEndpoint.{found_row, standing_is}
-use Rattle.membership_view.proofs.Joining.{put_in, new_row, found_standing}
+use Rattle.membership_view.proofs.SameEndpoint.{found_row, occupant_is}
+use Rattle.membership_view.proofs.Joining.{put_in, new_row, found_occupant}
 use Rattle.silo_address.proofs.Order.{silo_cmp_exact, silo_cmp_total}
 
 -- a silo's status in the view of a version, by its row
@@ -91,14 +91,14 @@ same-put_in version made silo rows newest h q = row_status-put_in version made s
 -- a join leaves every earlier version as it was
 pub same-joined : (version made : ℕ) (silo : Silo) (rows : List (Silo × Row)) → IsStrictlySortedBy silo_cmp (keys_of rows) → is_newest silo rows ≡ true
     → version < made → SaysSame version (joined_rows silo made rows) rows
-same-joined version made silo rows s newest h = by (standing silo rows) refl
+same-joined version made silo rows s newest h = by (occupant silo rows) refl
   where
-    by : (o : Option Silo) → standing silo rows ≡ o → SaysSame version (without o made (put_in silo made rows)) rows
+    by : (o : Option Silo) → occupant silo rows ≡ o → SaysSame version (without o made (put_in silo made rows)) rows
     by None is q = same-put_in version made silo rows newest h q
     by (Some old) is q =
-        let stands = standing_is silo rows s old is in
+        let stands = occupant_is silo rows s old is in
         let before : has_come stands.row.dead version ≡ false = ap (λ c. has_come c version) stands.not_dead in
-        same-changed version (dying made) old (put_in silo made rows) stands.row (found_standing silo made rows newest old stands)
+        same-changed version (dying made) old (put_in silo made rows) stands.row (found_occupant silo made rows newest old stands)
         (status_before_dying version made stands.row h before) q
         ∙ same-put_in version made silo rows newest h q
 

@@ -13,12 +13,12 @@ use Rattle.silo_address.specs.Silo.{Silo, silo_cmp, IsSameEndpoint}
 use Rattle.membership_view.specs.declared.row.Row.{Row}
 use Rattle.membership_view.specs.Row.{has_come, joining, dying}
 use Rattle.membership_view.specs.Views.{ViewsValue}
-use Rattle.membership_view.specs.Changes.{shares_endpoint, is_newest, standing, without, next_views, joined_rows}
+use Rattle.membership_view.specs.Changes.{shares_endpoint, is_newest, occupant, without, next_views, joined_rows}
 use Rattle.membership_view.specs.Whole.{IsInTime, IsViews, changes_of}
 use Rattle.membership_view.proofs.Entries.{Equal-from, lookup-insert_entry, length-insert_entry, sorted-insert_entry, length-changed, keys-changed}
 use Rattle.membership_view.proofs.Order.{shares_itself, shares_back, Decides-shares}
 use Rattle.membership_view.proofs.Statuses.{changes_dying, come}
-use Rattle.membership_view.proofs.SameEndpoint.{found_row, lower_generation, IsStanding, standing_is, standing_some}
+use Rattle.membership_view.proofs.SameEndpoint.{found_row, lower_generation, IsOccupant, occupant_is, occupant_some}
 use Rattle.membership_view.proofs.ChangedRow.{IsFoundChanged, found_changed, sum-changed, in_time_later}
 use Rattle.silo_address.proofs.Order.{silo_cmp_exact, silo_cmp_total}
 
@@ -46,8 +46,8 @@ found_put_in silo version rows q x found = by (is_at (silo_cmp q) silo) refl (sy
     by true at is = inl (silo_cmp_exact q silo (Equal-from (silo_cmp q silo) at), sym (same_Some (joining version) x is))
     by false at is = inr (at, is)
 
--- the one that is standing is not the one that joins
-pub not_itself : (silo : Silo) (rows : List (Silo × Row)) → is_newest silo rows ≡ true → (old : Silo) → IsStanding silo rows old → old ≡ silo → ⊥
+-- the one that is occupant is not the one that joins
+pub not_itself : (silo : Silo) (rows : List (Silo × Row)) → is_newest silo rows ≡ true → (old : Silo) → IsOccupant silo rows old → old ≡ silo → ⊥
 not_itself silo rows newest old is same =
     let e : Some is.row ≡ None = sym is.found ∙ ap (λ k. found_row rows k) same ∙ new_row silo rows newest in
     cc
@@ -56,24 +56,24 @@ not_itself silo rows newest old is same =
 pub record IsOlder (silo : Silo) (version : ℕ) (rows : List (Silo × Row)) (q : Silo) (after : Row) : Type 0 where
   pub row : Row
   pub found : found_row rows q ≡ Some row
-  pub is : ((standing silo rows ≡ Some q) × (row.dead ≡ None) × (after ≡ dying version row)) ⊎ (((standing silo rows ≡ Some q) → ⊥) × (after ≡ row))
+  pub is : ((occupant silo rows ≡ Some q) × (row.dead ≡ None) × (after ≡ dying version row)) ⊎ (((occupant silo rows ≡ Some q) → ⊥) × (after ≡ row))
 
 abbrev pub IsAfterJoin : Silo → ℕ → List (Silo × Row) → Silo → Row → Type 0
 IsAfterJoin silo version rows q after = ((q ≡ silo) × (after ≡ joining version)) ⊎ IsOlder silo version rows q after
 
 pub found_after : (silo : Silo) (version : ℕ) (rows : List (Silo × Row)) → IsStrictlySortedBy silo_cmp (keys_of rows) → is_newest silo rows ≡ true
     → (q : Silo) (after : Row) → found_row (joined_rows silo version rows) q ≡ Some after → IsAfterJoin silo version rows q after
-found_after silo version rows s newest q after found = by (standing silo rows) refl found
+found_after silo version rows s newest q after found = by (occupant silo rows) refl found
   where
-    old_case : (old : Silo) → standing silo rows ≡ Some old → (f : IsFoundChanged (dying version) old (put_in silo version rows) q after) → IsAfterJoin silo version rows q after
+    old_case : (old : Silo) → occupant silo rows ≡ Some old → (f : IsFoundChanged (dying version) old (put_in silo version rows) q after) → IsAfterJoin silo version rows q after
     old_case old h f = elim (found_put_in silo version rows q f.row f.found) [
       | inl e ↦ elim f.is [
-        | inl k ↦ absurd (not_itself silo rows newest old (standing_is silo rows s old h) (k.0 ∙ e.0))
+        | inl k ↦ absurd (not_itself silo rows newest old (occupant_is silo rows s old h) (k.0 ∙ e.0))
         | inr k ↦ inl (e.0, k.1 ∙ e.1)
       ]
       | inr e ↦ elim f.is [
         | inl k ↦
-            let is = standing_is silo rows s old h in
+            let is = occupant_is silo rows s old h in
             let same : is.row ≡ f.row = same_Some is.row f.row (sym is.found ∙ ap (λ j. found_row rows j) k.0 ∙ e.1) in
             inr (record { row = f.row; found = e.1; is = inl (h ∙ ap (λ j. Some j) k.0, ap (λ (x : Row). x.dead) (sym same) ∙ is.not_dead, k.1) })
         | inr k ↦
@@ -81,23 +81,23 @@ found_after silo version rows s newest q after found = by (standing silo rows) r
       ]
     ]
       where
-        apart : (old : Silo) → standing silo rows ≡ Some q → standing silo rows ≡ Some old → is_at (silo_cmp old) q ≡ false → ⊥
+        apart : (old : Silo) → occupant silo rows ≡ Some q → occupant silo rows ≡ Some old → is_at (silo_cmp old) q ≡ false → ⊥
         apart old a b not =
             let same : old ≡ q = same_Some old q (sym b ∙ a) in
             let yes : is_at (silo_cmp old) q ≡ true = ap (λ j. is_at (silo_cmp old) j) (sym same) ∙ ap is_eq (tied_itself silo_cmp_total old) in
             cc
 
-    none_case : standing silo rows ≡ None → (((q ≡ silo) × (after ≡ joining version)) ⊎ ((is_at (silo_cmp q) silo ≡ false) × (found_row rows q ≡ Some after)))
+    none_case : occupant silo rows ≡ None → (((q ≡ silo) × (after ≡ joining version)) ⊎ ((is_at (silo_cmp q) silo ≡ false) × (found_row rows q ≡ Some after)))
         → IsAfterJoin silo version rows q after
     none_case h f = elim f [
       | inl e ↦ inl e
       | inr e ↦ inr (record { row = after; found = e.1; is = inr (λ stands. absurd (nothing q stands h), refl) })
     ]
       where
-        nothing : (q : Silo) → standing silo rows ≡ Some q → standing silo rows ≡ None → ⊥
+        nothing : (q : Silo) → occupant silo rows ≡ Some q → occupant silo rows ≡ None → ⊥
         nothing q a b = let e : Some q ≡ None = sym a ∙ b in cc
 
-    by : (o : Option Silo) → standing silo rows ≡ o → found_row (without o version (put_in silo version rows)) q ≡ Some after → IsAfterJoin silo version rows q after
+    by : (o : Option Silo) → occupant silo rows ≡ o → found_row (without o version (put_in silo version rows)) q ≡ Some after → IsAfterJoin silo version rows q after
     by None h found = none_case h (found_put_in silo version rows q after found)
     by (Some old) h found = old_case old h (found_changed (dying version) old (put_in silo version rows) q after found)
 
@@ -142,10 +142,10 @@ sum-put_in silo version rows s newest =
     let none : unwrap_or (option_map changes_of (found_row rows silo)) 0 ≡ 0 = ap (λ o. unwrap_or (option_map changes_of o) 0) (new_row silo rows newest) in
     omega (arith, e, none)
 
--- the one that is standing keeps its row when the other is put in
-pub found_standing : (silo : Silo) (version : ℕ) (rows : List (Silo × Row)) → is_newest silo rows ≡ true → (old : Silo) → (stands : IsStanding silo rows old)
+-- the one that is occupant keeps its row when the other is put in
+pub found_occupant : (silo : Silo) (version : ℕ) (rows : List (Silo × Row)) → is_newest silo rows ≡ true → (old : Silo) → (stands : IsOccupant silo rows old)
     → found_row (put_in silo version rows) old ≡ Some stands.row
-found_standing silo version rows newest old stands =
+found_occupant silo version rows newest old stands =
     lookup-insert_entry silo_cmp_total silo (joining version) old rows ∙ other (is_at (silo_cmp old) silo) refl ∙ stands.found
   where
     other : (b : Bool) → is_at (silo_cmp old) silo ≡ b → cond b (Some (joining version)) (found_row rows old) ≡ found_row rows old
@@ -154,12 +154,12 @@ found_standing silo version rows newest old stands =
 
 -- one change more at least
 counted-joined : (silo : Silo) (version : ℕ) (rows : List (Silo × Row)) → IsStrictlySortedBy silo_cmp (keys_of rows) → is_newest silo rows ≡ true
-    → (o : Option Silo) → standing silo rows ≡ o
+    → (o : Option Silo) → occupant silo rows ≡ o
     → sum_by changes_of (values_of rows) + 1 ≤ sum_by changes_of (values_of (without o version (put_in silo version rows)))
 counted-joined silo version rows s newest None is = omega (arith, sum-put_in silo version rows s newest)
 counted-joined silo version rows s newest (Some old) is =
-    let stands = standing_is silo rows s old is in
-    let e = sum-changed (dying version) old (put_in silo version rows) stands.row (sorted-insert_entry silo_cmp_total silo (joining version) rows s) (found_standing silo version rows newest old stands) (changes_dying version stands.row stands.not_dead) in
+    let stands = occupant_is silo rows s old is in
+    let e = sum-changed (dying version) old (put_in silo version rows) stands.row (sorted-insert_entry silo_cmp_total silo (joining version) rows s) (found_occupant silo version rows newest old stands) (changes_dying version stands.row stands.not_dead) in
     omega (arith, e, sum-put_in silo version rows s newest)
 
 -- after a join every row is in time
@@ -215,9 +215,9 @@ older_dead-joined views whole silo newest a b ra rb of_a of_b shares lower = eli
       | inr k ↦ ap (λ (x : Row). has_come x.dead (views.version + 1)) k.1 ∙ before e k.0 e.row.dead refl
     ]
       where
-        before : (e : IsOlder silo (views.version + 1) views.rows a ra) → (standing silo views.rows ≡ Some a → ⊥) → (o : Option ℕ) → e.row.dead ≡ o
+        before : (e : IsOlder silo (views.version + 1) views.rows a ra) → (occupant silo views.rows ≡ Some a → ⊥) → (o : Option ℕ) → e.row.dead ≡ o
             → has_come e.row.dead (views.version + 1) ≡ true
-        before e not None none = absurd (not (standing_some views.rows whole.in_order whole.older_dead silo a e.row e.found (ap (λ s. shares_endpoint s a) (sym p) ∙ (Decides-shares b a).1 shares) none))
+        before e not None none = absurd (not (occupant_some views.rows whole.in_order whole.older_dead silo a e.row e.found (ap (λ s. shares_endpoint s a) (sym p) ∙ (Decides-shares b a).1 shares) none))
         before e not (Some made) is =
             let k : made ≤ views.version = ((whole.in_time a e.row e.found).dead_after made is).1 in
             come e.row.dead (views.version + 1) made is (omega arith)
@@ -229,15 +229,15 @@ whole-joined views whole silo newest room = record {
   limit_above = whole.limit_above;
   limit_below = whole.limit_below;
   within_limit =
-      let k : length (joined_rows silo (views.version + 1) views.rows) ≡ length views.rows + 1 = length-joined silo (views.version + 1) views.rows newest (standing silo views.rows) in
+      let k : length (joined_rows silo (views.version + 1) views.rows) ≡ length views.rows + 1 = length-joined silo (views.version + 1) views.rows newest (occupant silo views.rows) in
       omega arith;
-  in_order = sorted-joined silo (views.version + 1) views.rows whole.in_order (standing silo views.rows);
+  in_order = sorted-joined silo (views.version + 1) views.rows whole.in_order (occupant silo views.rows);
   in_time = λ q after at. in_time-joined views whole silo q after (found_after silo (views.version + 1) views.rows whole.in_order newest q after at);
   older_dead = λ a b ra rb at_a at_b. older_dead-joined views whole silo newest a b ra rb
       (found_after silo (views.version + 1) views.rows whole.in_order newest a ra at_a)
       (found_after silo (views.version + 1) views.rows whole.in_order newest b rb at_b);
   counted =
-      let more = counted-joined silo (views.version + 1) views.rows whole.in_order newest (standing silo views.rows) refl in
+      let more = counted-joined silo (views.version + 1) views.rows whole.in_order newest (occupant silo views.rows) refl in
       let k : views.version ≤ sum_by changes_of (values_of views.rows) = whole.counted in
       omega (arith, more, k);
 }

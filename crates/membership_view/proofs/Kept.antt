@@ -80,8 +80,8 @@ active_row version row in' says =
     (not_made row.dead version (λ made is. (in'.dead_after made is).1) parts.0, not_made row.left version (λ made is. (in'.left_after made is).1) parts.1)
 
 -- the row of a silo that isn't Dead is not dead
-pub standing_row : (version : ℕ) (row : Row) → IsInTime version row → status_in version row ≢ Some Dead → row.dead ≡ None
-standing_row version row in' says =
+pub occupant_row : (version : ℕ) (row : Row) → IsInTime version row → status_in version row ≢ Some Dead → row.dead ≡ None
+occupant_row version row in' says =
     not_made row.dead version (λ made is. (in'.dead_after made is).1) (not_dead_is (has_come row.dead version) (has_come row.left version) _ says)
 
 leaving_ok : (version : ℕ) (row : Row) → IsInTime version row → row.left ≡ None → IsChange (version + 1) (leaving (version + 1)) row
@@ -121,7 +121,7 @@ pub whole-death : (views : ViewsValue) → IsViews views → (silo : Silo) (row 
     → IsViews (next_views views (changed (dying (views.version + 1)) silo views.rows))
 whole-death views whole silo row found says =
     let in' = whole.in_time silo row found in
-    whole-changed views whole silo row found (dying (views.version + 1)) (dying_ok views.version row in' (standing_row views.version row in' says))
+    whole-changed views whole silo row found (dying (views.version + 1)) (dying_ok views.version row in' (occupant_row views.version row in' says))
 
 -- what all views keep they keep after every accepted change
 pub whole-after : (views : ViewsValue) → IsViews views → (change : Change) (next : ViewsValue) → after views change ≡ Ok next → IsViews next

@@ -6,14 +6,14 @@ use Rattle.membership_view.specs.declared.row.Row.{Row}
 use Rattle.membership_view.specs.declared.status.Status.TheVariants.{Active, Leaving, Dead}
 use Rattle.membership_view.specs.Row.{has_come, status_in}
 use Rattle.membership_view.specs.Views.{ViewsValue, row_of, status_at}
-use Rattle.membership_view.specs.Changes.{is_newest, standing}
+use Rattle.membership_view.specs.Changes.{is_newest, occupant}
 use Rattle.membership_view.specs.Whole.{IsViews}
-use Rattle.membership_view.specs.Laws.{NewestIs, StandingIs, IsStandingIn}
+use Rattle.membership_view.specs.Laws.{NewestIs, OccupantIs, IsLiveIn}
 use Rattle.membership_view.proofs.Order.{Decides-shares}
 use Rattle.membership_view.proofs.Statuses.{there_from}
 use Rattle.membership_view.proofs.Known.{status_at-made}
-use Rattle.membership_view.proofs.SameEndpoint.{lower_generation, newest_from, standing_is, standing_some}
-use Rattle.membership_view.proofs.Kept.{standing_row}
+use Rattle.membership_view.proofs.SameEndpoint.{lower_generation, newest_from, occupant_is, occupant_some}
+use Rattle.membership_view.proofs.Kept.{occupant_row}
 
 pub newest_is : NewestIs
 newest_is views whole silo = (λ newest other same there. lower newest other same (row_of views other) refl there, λ each. newest_from silo views.rows whole.in_order (λ q row found shares. each q ((Decides-shares silo q).0 shares) (ap (λ o. is_some (option_map (λ (r : Row). r.joined) o)) found)))
@@ -24,7 +24,7 @@ newest_is views whole silo = (λ newest other same there. lower newest other sam
     lower newest other same (Some row) is there = lower_generation silo views.rows newest other row is ((Decides-shares silo other).1 same)
 
 -- a silo whose row is not dead is there and isn't Dead in the current view
-stands_now : (views : ViewsValue) → IsViews views → (silo : Silo) (row : Row) → row_of views silo ≡ Some row → row.dead ≡ None → IsStandingIn views views.version silo
+stands_now : (views : ViewsValue) → IsViews views → (silo : Silo) (row : Row) → row_of views silo ≡ Some row → row.dead ≡ None → IsLiveIn views views.version silo
 stands_now views whole silo row found none =
     let says : status_at views views.version silo ≡ status_in views.version row =
     status_at-made views whole.in_order views.version silo (omega arith) ∙ ap (λ o. option_and_then (status_in views.version) o) found in (
@@ -42,22 +42,22 @@ stands_now views whole silo row found none =
         never_by (has_come row.left version) (nat_le row.joined version)
         (sym (ap (λ c. if has_come c version then Some Dead else (if has_come row.left version then Some Leaving else (if nat_le row.joined version then Some Active else None))) none) ∙ h)
 
-pub standing_law : StandingIs
-standing_law views whole silo old = (there, back)
+pub occupant_law : OccupantIs
+occupant_law views whole silo old = (there, back)
   where
-    there : standing silo views.rows ≡ Some old → IsSameEndpoint silo old × IsStandingIn views views.version old
+    there : occupant silo views.rows ≡ Some old → IsSameEndpoint silo old × IsLiveIn views views.version old
     there h =
-        let is = standing_is silo views.rows whole.in_order old h in
+        let is = occupant_is silo views.rows whole.in_order old h in
         ((Decides-shares silo old).0 is.shares, stands_now views whole old is.row is.found is.not_dead)
 
     back_by : (o : Option Row) → row_of views old ≡ o → IsSameEndpoint silo old → IsSome (option_and_then (status_in views.version) o)
-        → option_and_then (status_in views.version) o ≢ Some Dead → standing silo views.rows ≡ Some old
+        → option_and_then (status_in views.version) o ≢ Some Dead → occupant silo views.rows ≡ Some old
     back_by None is same there not_dead = cc
     back_by (Some row) is same there not_dead =
-        standing_some views.rows whole.in_order whole.older_dead silo old row is ((Decides-shares silo old).1 same)
-        (standing_row views.version row (whole.in_time old row is) not_dead)
+        occupant_some views.rows whole.in_order whole.older_dead silo old row is ((Decides-shares silo old).1 same)
+        (occupant_row views.version row (whole.in_time old row is) not_dead)
 
-    back : IsSameEndpoint silo old × IsStandingIn views views.version old → standing silo views.rows ≡ Some old
+    back : IsSameEndpoint silo old × IsLiveIn views views.version old → occupant silo views.rows ≡ Some old
     back h =
         let says = status_at-made views whole.in_order views.version old (omega arith) in
         back_by (row_of views old) refl h.0 (subst (λ o. IsSome o) says (h.1).0) (λ dead. (h.1).1 (says ∙ dead))

@@ -11,10 +11,10 @@ use Rattle.std.specs.declared.cmp.Ordering.TheVariants.{Less, Equal, Greater}
 use Rattle.silo_address.specs.Silo.{Silo, silo_cmp}
 use Rattle.membership_view.specs.declared.row.Row.{Row}
 use Rattle.membership_view.specs.Row.{has_come}
-use Rattle.membership_view.specs.Changes.{shares_endpoint, is_newest, standing}
+use Rattle.membership_view.specs.Changes.{shares_endpoint, is_newest, occupant}
 use Rattle.membership_view.specs.Whole.{OlderAreDead}
 use Rattle.membership_view.proofs.Order.{shares_back, shares_between, same_generation, by_generation, nat_upto, Decides-shares}
-use Rattle.membership_view.proofs.SameEndpoint.{found_row, lower_generation, newest_from, IsStanding, standing_is, standing_none}
+use Rattle.membership_view.proofs.SameEndpoint.{found_row, lower_generation, newest_from, IsOccupant, occupant_is, occupant_none}
 use Rattle.silo_address.proofs.Order.{silo_cmp_total}
 
 above : (a b : ℕ) → b < a → is_gt (nat_cmp a b) ≡ true
@@ -70,65 +70,65 @@ upto_from Less h = cc
 upto_from Equal h = refl
 upto_from Greater h = refl
 
--- a silo that is standing stands before the place of a newer one of its endpoint
-stands_before : (silo : Silo) (rows : List (Silo × Row)) → is_newest silo rows ≡ true → (old : Silo) → IsStanding silo rows old → silo_cmp old silo ≡ Less
+-- a silo that is occupant stands before the place of a newer one of its endpoint
+stands_before : (silo : Silo) (rows : List (Silo × Row)) → is_newest silo rows ≡ true → (old : Silo) → IsOccupant silo rows old → silo_cmp old silo ≡ Less
 stands_before silo rows newest old is =
     by_generation old silo (shares_back silo old is.shares)
     ∙ less old.generation silo.generation (lower_generation silo rows newest old is.row is.found is.shares)
 
--- where no row is before a silo's place, nobody of its endpoint is standing
-pub standing_first : (silo : Silo) (rows : List (Silo × Row)) → IsStrictlySortedBy silo_cmp (keys_of rows) → is_newest silo rows ≡ true
-    → ((q : Silo) → silo_cmp q silo ≡ Less → found_row rows q ≡ None) → None ≡ standing silo rows
-standing_first silo rows s newest none = by (standing silo rows) refl
+-- where no row is before a silo's place, nobody of its endpoint is occupant
+pub occupant_first : (silo : Silo) (rows : List (Silo × Row)) → IsStrictlySortedBy silo_cmp (keys_of rows) → is_newest silo rows ≡ true
+    → ((q : Silo) → silo_cmp q silo ≡ Less → found_row rows q ≡ None) → None ≡ occupant silo rows
+occupant_first silo rows s newest none = by (occupant silo rows) refl
   where
-    never : (old : Silo) → IsStanding silo rows old → ⊥
+    never : (old : Silo) → IsOccupant silo rows old → ⊥
     never old is = let e : Some is.row ≡ None = sym is.found ∙ none old (stands_before silo rows newest old is) in cc
 
-    by : (o : Option Silo) → standing silo rows ≡ o → None ≡ o
+    by : (o : Option Silo) → occupant silo rows ≡ o → None ≡ o
     by None h = refl
-    by (Some old) h = absurd (never old (standing_is silo rows s old h))
+    by (Some old) h = absurd (never old (occupant_is silo rows s old h))
 
 -- what the last row before the place of a silo that is the newest tells
-pub standing_last : (silo : Silo) (rows : List (Silo × Row)) → IsStrictlySortedBy silo_cmp (keys_of rows) → is_newest silo rows ≡ true → OlderAreDead rows
+pub occupant_last : (silo : Silo) (rows : List (Silo × Row)) → IsStrictlySortedBy silo_cmp (keys_of rows) → is_newest silo rows ≡ true → OlderAreDead rows
     → (last : Silo) (row : Row) → found_row rows last ≡ Some row → silo_cmp last silo ≡ Less
     → ((q : Silo) → silo_cmp q silo ≡ Less → IsSome (found_row rows q) → is_lt (silo_cmp last q) ≡ false)
-    → (if shares_endpoint silo last && is_none row.dead then Some last else None) ≡ standing silo rows
-standing_last silo rows s newest older_dead last row found before greatest = by (standing silo rows) refl
+    → (if shares_endpoint silo last && is_none row.dead then Some last else None) ≡ occupant silo rows
+occupant_last silo rows s newest older_dead last row found before greatest = by (occupant silo rows) refl
   where
-    shares_last : (old : Silo) → IsStanding silo rows old → shares_endpoint old last ≡ true
+    shares_last : (old : Silo) → IsOccupant silo rows old → shares_endpoint old last ≡ true
     shares_last old is =
         let stands = stands_before silo rows newest old is in
         let upto : is_gt (silo_cmp old last) ≡ false = ap is_gt (silo_cmp_total.antisymm old last) ∙ upto_from (silo_cmp last old) (greatest old stands (ap is_some is.found)) in
         shares_between old last silo upto (ap is_gt before) (shares_back silo old is.shares)
 
-    dead_before : (old : Silo) (is : IsStanding silo rows old) → old.generation < last.generation → ⊥
+    dead_before : (old : Silo) (is : IsOccupant silo rows old) → old.generation < last.generation → ⊥
     dead_before old is lower =
         let come : has_come is.row.dead row.joined ≡ true = older_dead old last is.row row is.found found ((Decides-shares last old).0 (shares_back old last (shares_last old is))) lower in
         let none : has_come is.row.dead row.joined ≡ false = ap (λ c. has_come c row.joined) is.not_dead in
         cc
 
-    not_behind : (old : Silo) (is : IsStanding silo rows old) → last.generation < old.generation → ⊥
+    not_behind : (old : Silo) (is : IsOccupant silo rows old) → last.generation < old.generation → ⊥
     not_behind old is higher =
         let lt : silo_cmp last old ≡ Less = by_generation last old (shares_back old last (shares_last old is)) ∙ less last.generation old.generation higher in
         let e : is_lt (silo_cmp last old) ≡ false = greatest old (stands_before silo rows newest old is) (ap is_some is.found) in
         let f : is_lt (silo_cmp last old) ≡ true = ap is_lt lt in
         cc
 
-    only : (old : Silo) → IsStanding silo rows old → old ≡ last
+    only : (old : Silo) → IsOccupant silo rows old → old ≡ last
     only old is = elim (cases_order old.generation last.generation) [
       | inl same ↦ same_generation old last (shares_last old is) same
       | inr k ↦ elim k [ inl lower ↦ absurd (dead_before old is lower) | inr higher ↦ absurd (not_behind old is higher) ]
     ]
 
-    passes : (old : Silo) → IsStanding silo rows old → (shares_endpoint silo last && is_none row.dead) ≡ true
+    passes : (old : Silo) → IsOccupant silo rows old → (shares_endpoint silo last && is_none row.dead) ≡ true
     passes old is =
         let same = only old is in
         let e : is.row ≡ row = same_Some is.row row (sym is.found ∙ ap (λ k. found_row rows k) same ∙ found) in
         and_from (shares_endpoint silo last) (is_none row.dead) (ap (λ k. shares_endpoint silo k) (sym same) ∙ is.shares)
         (ap (λ (r : Row). is_none r.dead) (sym e) ∙ ap is_none is.not_dead)
 
-    by : (o : Option Silo) → standing silo rows ≡ o → (if shares_endpoint silo last && is_none row.dead then Some last else None) ≡ o
-    by None h = ap (λ b. if b then Some last else None) (standing_none rows silo h last row found)
+    by : (o : Option Silo) → occupant silo rows ≡ o → (if shares_endpoint silo last && is_none row.dead then Some last else None) ≡ o
+    by None h = ap (λ b. if b then Some last else None) (occupant_none rows silo h last row found)
     by (Some old) h =
-        let is = standing_is silo rows s old h in
+        let is = occupant_is silo rows s old h in
         ap (λ b. if b then Some last else None) (passes old is) ∙ ap (λ k. Some k) (sym (only old is))

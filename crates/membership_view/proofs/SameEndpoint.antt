@@ -8,7 +8,7 @@ use Rattle.std.specs.BTreeMap.{is_at}
 use Rattle.silo_address.specs.Silo.{Silo, silo_cmp}
 use Rattle.membership_view.specs.declared.row.Row.{Row}
 use Rattle.membership_view.specs.Row.{has_come}
-use Rattle.membership_view.specs.Changes.{shares_endpoint, is_newest, standing}
+use Rattle.membership_view.specs.Changes.{shares_endpoint, is_newest, occupant}
 use Rattle.membership_view.specs.Whole.{OlderAreDead}
 use Rattle.membership_view.proofs.Found.{all_found, all_from_found, find_found, find_none}
 use Rattle.membership_view.proofs.Order.{shares_back, shares_along, same_generation, Decides-shares}
@@ -45,17 +45,17 @@ none_is : {A : Type 0} (o : Option A) → is_none o ≡ true → o ≡ None
 none_is None h = refl
 none_is (Some x) h = cc
 
--- the silo that is standing has a row, shares the endpoint and is not Dead
-pub record IsStanding (silo : Silo) (rows : List (Silo × Row)) (old : Silo) : Type 0 where
+-- the silo that is occupant has a row, shares the endpoint and is not Dead
+pub record IsOccupant (silo : Silo) (rows : List (Silo × Row)) (old : Silo) : Type 0 where
   pub row : Row
   pub found : found_row rows old ≡ Some row
   pub shares : shares_endpoint silo old ≡ true
   pub not_dead : row.dead ≡ None
 
-pub standing_is : (silo : Silo) (rows : List (Silo × Row)) → IsStrictlySortedBy silo_cmp (keys_of rows) → (old : Silo) → standing silo rows ≡ Some old → IsStanding silo rows old
-standing_is silo rows s old is = by (find (λ e. shares_endpoint silo e.0 && is_none e.1.dead) rows) refl is
+pub occupant_is : (silo : Silo) (rows : List (Silo × Row)) → IsStrictlySortedBy silo_cmp (keys_of rows) → (old : Silo) → occupant silo rows ≡ Some old → IsOccupant silo rows old
+occupant_is silo rows s old is = by (find (λ e. shares_endpoint silo e.0 && is_none e.1.dead) rows) refl is
   where
-    by : (o : Option (Silo × Row)) → find (λ e. shares_endpoint silo e.0 && is_none e.1.dead) rows ≡ o → option_map (λ e. e.0) o ≡ Some old → IsStanding silo rows old
+    by : (o : Option (Silo × Row)) → find (λ e. shares_endpoint silo e.0 && is_none e.1.dead) rows ≡ o → option_map (λ e. e.0) o ≡ Some old → IsOccupant silo rows old
     by None h is = cc
     by (Some e) h is =
         let same : e.0 ≡ old = cc in
@@ -83,10 +83,10 @@ one_stands rows older_dead a b row next at_a at_b shares a_stands b_stands =
     no : (row : Row) (version : ℕ) → row.dead ≡ None → has_come row.dead version ≡ true → ⊥
     no row version none come = let e : has_come row.dead version ≡ false = ap (λ c. has_come c version) none in cc
 
--- where none is standing, no silo of the endpoint is not Dead
-pub standing_none : (rows : List (Silo × Row)) (silo : Silo) → standing silo rows ≡ None → (q : Silo) (row : Row) → found_row rows q ≡ Some row
+-- where none is occupant, no silo of the endpoint is not Dead
+pub occupant_none : (rows : List (Silo × Row)) (silo : Silo) → occupant silo rows ≡ None → (q : Silo) (row : Row) → found_row rows q ≡ Some row
     → (shares_endpoint silo q && is_none row.dead) ≡ false
-standing_none rows silo none q row found =
+occupant_none rows silo none q row found =
     find_none silo_cmp_total (λ k x. shares_endpoint silo k && is_none x.dead) silo_cmp_exact rows
     (nothing (find (λ e. shares_endpoint silo e.0 && is_none e.1.dead) rows) none) q row found
   where
@@ -94,19 +94,19 @@ standing_none rows silo none q row found =
     nothing None h = refl
     nothing (Some e) h = cc
 
--- a silo of the endpoint that is not Dead is the one that is standing
-pub standing_some : (rows : List (Silo × Row)) → IsStrictlySortedBy silo_cmp (keys_of rows) → OlderAreDead rows → (silo q : Silo) (row : Row)
-    → found_row rows q ≡ Some row → shares_endpoint silo q ≡ true → row.dead ≡ None → standing silo rows ≡ Some q
-standing_some rows s older_dead silo q row found shares stands = by (standing silo rows) refl
+-- a silo of the endpoint that is not Dead is the one that is occupant
+pub occupant_some : (rows : List (Silo × Row)) → IsStrictlySortedBy silo_cmp (keys_of rows) → OlderAreDead rows → (silo q : Silo) (row : Row)
+    → found_row rows q ≡ Some row → shares_endpoint silo q ≡ true → row.dead ≡ None → occupant silo rows ≡ Some q
+occupant_some rows s older_dead silo q row found shares stands = by (occupant silo rows) refl
   where
-    at_none : standing silo rows ≡ None → ⊥
+    at_none : occupant silo rows ≡ None → ⊥
     at_none none =
-        let no : (shares_endpoint silo q && is_none row.dead) ≡ false = standing_none rows silo none q row found in
+        let no : (shares_endpoint silo q && is_none row.dead) ≡ false = occupant_none rows silo none q row found in
         let yes : (shares_endpoint silo q && is_none row.dead) ≡ true = and_from (shares_endpoint silo q) (is_none row.dead) shares (ap is_none stands) in
         cc
 
-    by : (o : Option Silo) → standing silo rows ≡ o → standing silo rows ≡ Some q
+    by : (o : Option Silo) → occupant silo rows ≡ o → occupant silo rows ≡ Some q
     by None h = absurd (at_none h)
     by (Some old) h =
-        let is = standing_is silo rows s old h in
+        let is = occupant_is silo rows s old h in
         h ∙ ap (λ k. Some k) (one_stands rows older_dead old q is.row row is.found found (shares_along old silo q (shares_back silo old is.shares) shares) is.not_dead stands)

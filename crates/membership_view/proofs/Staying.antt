@@ -15,7 +15,7 @@ use Rattle.membership_view.proofs.Entries.{sorted-nil}
 use Rattle.membership_view.proofs.Order.{Decides-shares, same_generation}
 use Rattle.membership_view.proofs.Statuses.{has_come_later, joined_since, there_from, nothing_before, dead_later, there_later, status_before_leaving, status_before_dying}
 use Rattle.membership_view.proofs.Known.{status_at-row, status_at-made}
-use Rattle.membership_view.proofs.Kept.{join_is, leave_is, death_is, has_row, active_row, standing_row, whole-after}
+use Rattle.membership_view.proofs.Kept.{join_is, leave_is, death_is, has_row, active_row, occupant_row, whole-after}
 use Rattle.membership_view.proofs.After.{SaysSame, same-changed, same-joined, rows_in-same, view_at-same}
 
 pub views_start : ViewsStart
@@ -59,7 +59,7 @@ is_next views (Leave silo) next accepts =
 is_next views (Die silo) next accepts =
     let is = death_is views silo next (status_at views views.version silo) accepts.is in
     let has = has_row views accepts.whole silo is.was is.there in
-    let none = standing_row views.version has.row (accepts.whole.in_time silo has.row has.found) (λ e. is.not_dead (sym has.says ∙ e)) in
+    let none = occupant_row views.version has.row (accepts.whole.in_time silo has.row has.found) (λ e. is.not_dead (sym has.says ∙ e)) in
     record {
       rows = changed (dying (views.version + 1)) silo views.rows;
       is = is.is;

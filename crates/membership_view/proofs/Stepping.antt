@@ -13,7 +13,7 @@ use Rattle.membership_view.specs.declared.status.Status.{Status}
 use Rattle.membership_view.specs.declared.status.Status.TheVariants.{Active, Leaving, Dead}
 use Rattle.membership_view.specs.Row.{has_come, status_in, joining, leaving, dying}
 use Rattle.membership_view.specs.Views.{ViewsValue, row_of, view_at, status_at}
-use Rattle.membership_view.specs.Changes.{Join, Leave, Die, is_newest, standing, changed, without, next_views, joined_rows}
+use Rattle.membership_view.specs.Changes.{Join, Leave, Die, is_newest, occupant, changed, without, next_views, joined_rows}
 use Rattle.membership_view.specs.Whole.{IsViews}
 use Rattle.membership_view.specs.Step.{Joins, Leaves, Dies}
 use Rattle.membership_view.specs.Laws.{ChangesAreSteps}
@@ -21,8 +21,8 @@ use Rattle.membership_view.proofs.Entries.{lookup-changed, lookup-insert_entry}
 use Rattle.membership_view.proofs.Order.{Decides-shares}
 use Rattle.membership_view.proofs.Statuses.{status_next, dead_by, there_from}
 use Rattle.membership_view.proofs.Known.{status_at-made}
-use Rattle.membership_view.proofs.SameEndpoint.{found_row, lower_generation, standing_is, standing_some}
-use Rattle.membership_view.proofs.Joining.{put_in, IsOlder, found_after, not_itself, found_standing}
+use Rattle.membership_view.proofs.SameEndpoint.{found_row, lower_generation, occupant_is, occupant_some}
+use Rattle.membership_view.proofs.Joining.{put_in, IsOlder, found_after, not_itself, found_occupant}
 use Rattle.membership_view.proofs.Kept.{join_is, leave_is, death_is, has_row, active_row, whole-after}
 use Rattle.membership_view.proofs.After.{row_status, row_status-changed, row_status-put_in, apart}
 use Rattle.silo_address.proofs.Order.{silo_cmp_total}
@@ -98,7 +98,7 @@ death_step views whole silo was there not_dead kept =
     }
 
 -- the silo that joined
-joined_says : (made : ℕ) (silo : Silo) (rows : List (Silo × Row)) → is_newest silo rows ≡ true → (o : Option Silo) → ((old : Silo) → o ≡ Some old → standing silo rows ≡ Some old)
+joined_says : (made : ℕ) (silo : Silo) (rows : List (Silo × Row)) → is_newest silo rows ≡ true → (o : Option Silo) → ((old : Silo) → o ≡ Some old → occupant silo rows ≡ Some old)
     → IsStrictlySortedBy silo_cmp (keys_of rows)
     → row_status made (without o made (put_in silo made rows)) silo ≡ Some Active
 joined_says made silo rows newest o stands s = by o stands
@@ -109,11 +109,11 @@ joined_says made silo rows newest o stands s = by o stands
         ∙ ap (λ b. if b then status_in made (joining made) else row_status made rows silo) (at_itself silo)
         ∙ ap (λ b. if b then Some Active else None) (le-leb made made (omega arith))
 
-    by : (o : Option Silo) → ((old : Silo) → o ≡ Some old → standing silo rows ≡ Some old) → row_status made (without o made (put_in silo made rows)) silo ≡ Some Active
+    by : (o : Option Silo) → ((old : Silo) → o ≡ Some old → occupant silo rows ≡ Some old) → row_status made (without o made (put_in silo made rows)) silo ≡ Some Active
     by None stands = put
     by (Some old) stands =
-        let is = standing_is silo rows s old (stands old refl) in
-        row_status-changed made (dying made) old (put_in silo made rows) is.row (found_standing silo made rows newest old is) silo
+        let is = occupant_is silo rows s old (stands old refl) in
+        row_status-changed made (dying made) old (put_in silo made rows) is.row (found_occupant silo made rows newest old is) silo
         ∙ ap (λ b. if b then status_in made (dying made is.row) else row_status made (put_in silo made rows) silo) (apart old silo (not_itself silo rows newest old is))
         ∙ put
 
@@ -149,7 +149,7 @@ other_is : (silo : Silo) (made : ℕ) (rows : List (Silo × Row)) → IsStrictly
 other_is silo made rows s newest q ne = by (found_row (joined_rows silo made rows) q) refl
   where
     by : (o : Option Row) → found_row (joined_rows silo made rows) q ≡ o → IsOther silo made rows q
-    by None h = inl (h, none_before silo made rows q (standing silo rows) h)
+    by None h = inl (h, none_before silo made rows q (occupant silo rows) h)
     by (Some next) h = elim (found_after silo made rows s newest q next h) [
       | inl e ↦ absurd (ne e.0)
       | inr f ↦ inr (next, h, f)
@@ -171,9 +171,9 @@ older_says views whole silo newest q same ne = elim (other_is silo (views.versio
       ∙ dies (status_in views.version (e.2).row) (there_from views.version (e.2).row (whole.in_time q (e.2).row (e.2).found).joined_by))
 ]
   where
-    dead_before : (row : Row) → row_of views q ≡ Some row → (standing silo views.rows ≡ Some q → ⊥) → (o : Option ℕ) → row.dead ≡ o
+    dead_before : (row : Row) → row_of views q ≡ Some row → (occupant silo views.rows ≡ Some q → ⊥) → (o : Option ℕ) → row.dead ≡ o
         → status_in (views.version + 1) row ≡ Some Dead
-    dead_before row found not None none = absurd (not (standing_some views.rows whole.in_order whole.older_dead silo q row found ((Decides-shares silo q).1 same) none))
+    dead_before row found not None none = absurd (not (occupant_some views.rows whole.in_order whole.older_dead silo q row found ((Decides-shares silo q).1 same) none))
     dead_before row found not (Some made) is =
         let k : made ≤ views.version = ((whole.in_time q row found).dead_after made is).1 in
         dead_by (views.version + 1) made row is (omega arith)
@@ -197,7 +197,7 @@ foreign_says views whole silo newest q other = elim (other_is silo (views.versio
 
     as_it_was : (next : Row) → (f : IsOlder silo (views.version + 1) views.rows q next) → next ≡ f.row
     as_it_was next f = elim f.is [
-      | inl e ↦ absurd (other ((Decides-shares silo q).0 (standing_is silo views.rows whole.in_order q e.0).shares))
+      | inl e ↦ absurd (other ((Decides-shares silo q).0 (occupant_is silo views.rows whole.in_order q e.0).shares))
       | inr e ↦ e.1
     ]
 
@@ -209,7 +209,7 @@ join_step views whole silo newest kept = record {
   newest = λ q same there. lower q same (row_of views q) refl (subst (λ o. IsSome o) (now_is views whole q) there);
   joined =
       next_is views (joined_rows silo (views.version + 1) views.rows) kept silo
-      ∙ joined_says (views.version + 1) silo views.rows newest (standing silo views.rows) (λ old h. h) whole.in_order;
+      ∙ joined_says (views.version + 1) silo views.rows newest (occupant silo views.rows) (λ old h. h) whole.in_order;
   older = λ q same ne.
       next_is views (joined_rows silo (views.version + 1) views.rows) kept q
       ∙ older_says views whole silo newest q same ne

@@ -26,8 +26,8 @@ abbrev pub is_newest : Silo → List (Silo × Row) → Bool
 is_newest silo rows = list_all (λ e. not (shares_endpoint silo e.0) || nat_lt e.0.generation silo.generation) rows
 
 -- the silo of this one's endpoint that is not Dead, if there is one
-abbrev pub standing : Silo → List (Silo × Row) → Option Silo
-standing silo rows = option_map (λ e. e.0) (find (λ e. shares_endpoint silo e.0 && is_none e.1.dead) rows)
+abbrev pub occupant : Silo → List (Silo × Row) → Option Silo
+occupant silo rows = option_map (λ e. e.0) (find (λ e. shares_endpoint silo e.0 && is_none e.1.dead) rows)
 
 -- the rows, with a change made to that of one silo
 abbrev pub changed : (Row → Row) → Silo → List (Silo × Row) → List (Silo × Row)
@@ -40,7 +40,7 @@ without (Some old) version rows = changed (dying version) old rows
 
 -- the rows once a silo has joined in a version: its row is put in, and an older one of its endpoint that isn't Dead dies
 abbrev pub joined_rows : Silo → ℕ → List (Silo × Row) → List (Silo × Row)
-joined_rows silo version rows = without (standing silo rows) version (insert_entry silo_cmp rows silo (joining version))
+joined_rows silo version rows = without (occupant silo rows) version (insert_entry silo_cmp rows silo (joining version))
 
 -- the views after an accepted change: one version more, and these rows
 abbrev pub next_views : ViewsValue → List (Silo × Row) → ViewsValue

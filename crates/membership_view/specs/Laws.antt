@@ -4,7 +4,7 @@ use Rattle.silo_address.specs.Silo.{Silo, IsSameEndpoint}
 use Rattle.membership_view.specs.declared.status.Status.TheVariants.{Dead}
 use Rattle.membership_view.specs.View.{ViewValue, status_of}
 use Rattle.membership_view.specs.Views.{ViewsValue, first_views, view_at, status_at, joining_version}
-use Rattle.membership_view.specs.Changes.{Change, after, is_newest, standing}
+use Rattle.membership_view.specs.Changes.{Change, after, is_newest, occupant}
 use Rattle.membership_view.specs.Whole.{IsViews}
 use Rattle.membership_view.specs.Step.{MembershipStep}
 
@@ -55,13 +55,13 @@ JoinedFrom = (views : ViewsValue) → IsViews views → (silo : Silo) (joined : 
     → (version : ℕ) → version ≤ views.version → IsSome (status_at views version silo) ↔ (joined ≤ version)
 
 -- a silo that is there and isn't Dead in a view
-abbrev pub IsStandingIn : ViewsValue → ℕ → Silo → Type 0
-IsStandingIn views version silo = IsSome (status_at views version silo) × (status_at views version silo ≢ Some Dead)
+abbrev pub IsLiveIn : ViewsValue → ℕ → Silo → Type 0
+IsLiveIn views version silo = IsSome (status_at views version silo) × (status_at views version silo ≢ Some Dead)
 
 -- in no view two silos of one endpoint are there that aren't Dead
 abbrev pub OneStands : Type 0
 OneStands = (views : ViewsValue) → IsViews views → (version : ℕ) (a b : Silo) → IsSameEndpoint a b
-    → IsStandingIn views version a → IsStandingIn views version b → a ≡ b
+    → IsLiveIn views version a → IsLiveIn views version b → a ≡ b
 
 -- a silo is the newest of its endpoint where every silo of it that ever joined has a lower generation
 abbrev pub NewestIs : Type 0
@@ -70,9 +70,9 @@ NewestIs = (views : ViewsValue) → IsViews views → (silo : Silo)
     ↔ ((other : Silo) → IsSameEndpoint silo other → IsSome (joining_version views other) → other.generation < silo.generation)
 
 -- the silo that a join replaces is the one of its endpoint that is there in the current view and isn't Dead
-abbrev pub StandingIs : Type 0
-StandingIs = (views : ViewsValue) → IsViews views → (silo old : Silo)
-    → (standing silo views.rows ≡ Some old) ↔ (IsSameEndpoint silo old × IsStandingIn views views.version old)
+abbrev pub OccupantIs : Type 0
+OccupantIs = (views : ViewsValue) → IsViews views → (silo old : Silo)
+    → (occupant silo views.rows ≡ Some old) ↔ (IsSameEndpoint silo old × IsLiveIn views views.version old)
 
 -- a membership step from the current view is accepted, and makes a view with these statuses; only a join may find no room
 abbrev pub StepsAreChanges : Type 0

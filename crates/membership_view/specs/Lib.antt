@@ -2,7 +2,7 @@ pub mod Row
 pub mod View
 pub mod Views
 pub mod Changes
-pub mod Fault
+pub mod Refusal
 pub mod Whole
 pub mod Step
 pub mod Laws

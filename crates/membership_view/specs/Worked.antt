@@ -4,7 +4,7 @@ use Rattle.silo_address.specs.Silo.{Silo}
 use Rattle.membership_view.specs.declared.status.Status.TheVariants.{Active, Leaving, Dead}
 use Rattle.membership_view.specs.View.{active_silos}
 use Rattle.membership_view.specs.Views.{ViewsValue, first_views, view_at, status_at}
-use Rattle.membership_view.specs.Changes.{Join, Leave, Die, after, standing}
+use Rattle.membership_view.specs.Changes.{Join, Leave, Die, after, occupant}
 
 -- 10.0.0.1:1000@1
 abbrev pub silo_a : Silo
@@ -53,7 +53,7 @@ after_death = record {
 -- each change, each refusal, and what the views say at the end
 pub record WorkedChanges : Type 0 where
   pub joins : after before_all (Join silo_a) ≡ Ok after_first
-  pub replaces : standing silo_a_again after_first.rows ≡ Some silo_a
+  pub replaces : occupant silo_a_again after_first.rows ≡ Some silo_a
   pub joins_again : after after_first (Join silo_a_again) ≡ Ok after_restart
   pub old_generation : after after_restart (Join silo_a) ≡ Err 201
   pub rows_full : after after_restart (Join silo_b) ≡ Err 205

@@ -1,5 +1,5 @@
 ghost use Rattle.std.specs.Prelude.{◌≡◌, true};
-ghost use Rattle.membership_view.specs.Changes.{is_newest, standing};
+ghost use Rattle.membership_view.specs.Changes.{is_newest, occupant};
 ghost use Rattle.membership_view.specs.Whole.{OlderAreDead};
 
 use crate::Row;
@@ -20,10 +20,10 @@ pub(crate) fn is_newest(rows: &BTreeMap<SiloAddress, Row>, silo: &SiloAddress) -
 }
 
 /// The silo of this one's endpoint that is not Dead, if there is one.
-pub(crate) fn standing(rows: &BTreeMap<SiloAddress, Row>, silo: &SiloAddress) -> Option<SiloAddress>
+pub(crate) fn occupant(rows: &BTreeMap<SiloAddress, Row>, silo: &SiloAddress) -> Option<SiloAddress>
     requires newest { is_newest silo.now rows.now.entries ≡ true }
     requires older_dead { OlderAreDead rows.now.entries }
-    ensures { result ≡ standing silo.now rows.now.entries }
+    ensures { result ≡ occupant silo.now rows.now.entries }
 {
     let (last, row) = rows.range(..*silo).next_back()?;
     if silo.same_endpoint(last) && row.dead.is_none() {

@@ -1,6 +1,6 @@
 //! What holds of all views. Each function here does nothing: its contract is a law on what the other contracts speak of, for the
 //! proofs of crates above.
-ghost use Rattle.membership_view.specs.Laws.{ChangesAreSteps, VersionsRise, ViewsStart, ViewsStay, ViewsAreKept, FirstIsEmpty, DeadStaysDead, RowsStay, JoinedFrom, OneStands, NewestIs, StandingIs, StepsAreChanges};
+ghost use Rattle.membership_view.specs.Laws.{ChangesAreSteps, VersionsRise, ViewsStart, ViewsStay, ViewsAreKept, FirstIsEmpty, DeadStaysDead, RowsStay, JoinedFrom, OneStands, NewestIs, OccupantIs, StepsAreChanges};
 ghost use Rattle.membership_view.specs.Worked.{WorkedChanges};
 
 /// Each accepted change makes one version, one higher, and is one membership step from the current view to the next one. Every
@@ -31,7 +31,7 @@ pub fn one_stands()
 /// and which silo of its endpoint is there in the current view and isn't Dead.
 pub fn joins_look_for()
     ensures newest { NewestIs }
-    ensures standing { StandingIs }
+    ensures occupant { OccupantIs }
 {}
 
 /// Each membership step from the current view is an accepted change, unless it is a join for which there is no room.

@@ -2,14 +2,14 @@
 #![tactic(auto)]
 
 mod endpoint;
-mod fault;
+mod refusal;
 pub mod laws;
 mod row;
 mod status;
 mod view;
 mod views;
 
-pub use fault::ViewsError;
+pub use refusal::ViewsError;
 pub use row::Row;
 pub use status::Status;
 pub use view::View;

@@ -32,14 +32,14 @@ fn changed(views: &mut Views, change: Change, text: &str) -> Result<Result<u64, 
     let outcome = match change {
         Change::Join => match views.join(silo) {
             Ok(joined) => Ok(joined.version),
-            Err(fault) => Err(fault),
+            Err(refusal) => Err(refusal),
         },
         Change::Leave => views.leave(&silo),
         Change::Die => views.declare_dead(&silo),
     };
     match outcome {
         Ok(version) => Ok(Ok(version)),
-        Err(fault) => Ok(Err(fault.number().unwrap_or(0))),
+        Err(refusal) => Ok(Err(refusal.number().unwrap_or(0))),
     }
 }
 
@@ -273,8 +273,8 @@ fn faults_in_words(rt: HostRuntime) -> Result<(), Fail> {
         ),
         (ViewsError::OutOfMemory, "out of memory"),
     ];
-    for (fault, words) in table {
-        assert_eq!(rt; fault.to_string(rt.alloc())?.as_str(), words);
+    for (refusal, words) in table {
+        assert_eq!(rt; refusal.to_string(rt.alloc())?.as_str(), words);
     }
     Ok(())
 }
@@ -300,8 +300,8 @@ fn join_or_stay(rt: &impl Abort, alloc: Global, views: &mut Views, number: u32) 
     };
     match views.join(silo) {
         Ok(joined) => assert_eq!(rt; joined.version, before.current() + 1),
-        Err(fault) => {
-            assert_eq!(rt; fault, ViewsError::OutOfMemory);
+        Err(refusal) => {
+            assert_eq!(rt; refusal, ViewsError::OutOfMemory);
             assert!(rt; views.same(&before));
         }
     }

@@ -1,8 +1,8 @@
 ghost use Rattle.std.specs.Map.Iter.{ShowsInOrder, deref_pair};
 ghost use Rattle.std.specs.Prelude.{◌≡◌, ◌≢◌, ◌<◌, ◌≤◌, ◌↔◌, length, IsTrue, IfOk, IfErr, OnOk, OnErr, IfSome, IsSome, true};
 ghost use Rattle.silo_address.specs.Silo.{Silo};
-ghost use Rattle.membership_view.specs.Changes.{Join, Leave, Die, after, changed, is_newest, joined_rows, standing, with_death, with_join, with_leave};
-ghost use Rattle.membership_view.specs.Fault.{Refuses, RefusesOrLacksMemory};
+ghost use Rattle.membership_view.specs.Changes.{Join, Leave, Die, after, changed, is_newest, joined_rows, occupant, with_death, with_join, with_leave};
+ghost use Rattle.membership_view.specs.Refusal.{Refuses, RefusesOrLacksMemory};
 ghost use Rattle.membership_view.specs.Row.{leaving, dying};
 ghost use Rattle.membership_view.specs.Views.{first_views, row_of, view_at, status_at, joining_version, leaving_version, dying_version};
 ghost use Rattle.membership_view.specs.Whole.{IsViews, OlderAreDead};
@@ -154,7 +154,7 @@ impl Views {
     pub fn join(&mut self, silo: SiloAddress) -> Result<Joined, ViewsError>
         ensures joined { OnOk result (after self.old (Join silo) ≡ Ok self.new) }
         ensures version { IfOk result (λ joined. joined.version ≡ self.new.version) }
-        ensures replaced { IfOk result (λ joined. joined.replaced ≡ standing silo self.old.rows) }
+        ensures replaced { IfOk result (λ joined. joined.replaced ≡ occupant silo self.old.rows) }
 
         // Memory is wanted last, by a join that nothing refuses.
         ensures refused { IfErr result (RefusesOrLacksMemory self.old (Join silo)) }
@@ -219,7 +219,7 @@ impl Views {
         requires room { length self.old.rows < self.old.limit }
         ensures ok { OnOk result (self.new ≡ with_join self.old silo) }
         ensures version { IfOk result (λ joined. joined.version ≡ self.new.version) }
-        ensures replaced { IfOk result (λ joined. joined.replaced ≡ standing silo self.old.rows) }
+        ensures replaced { IfOk result (λ joined. joined.replaced ≡ occupant silo self.old.rows) }
         ensures err { OnErr result (self.new ≡ self.old) }
     {
         let version = self.version + 1;
@@ -292,10 +292,10 @@ fn put_in(
     requires older_dead { OlderAreDead rows.old.entries }
     ensures ok { OnOk result (rows.new.entries ≡ joined_rows silo version rows.old.entries) }
     ensures version { IfOk result (λ joined. joined.version ≡ version) }
-    ensures replaced { IfOk result (λ joined. joined.replaced ≡ standing silo rows.old.entries) }
+    ensures replaced { IfOk result (λ joined. joined.replaced ≡ occupant silo rows.old.entries) }
     ensures err { OnErr result (rows.new.entries ≡ rows.old.entries) }
 {
-    let replaced = endpoint::standing(rows, &silo);
+    let replaced = endpoint::occupant(rows, &silo);
     let row = Row {
         joined: version,
         left: None,

@@ -7,13 +7,13 @@ use Rattle.silo_address.specs.StatedHash.{stated_hash}
 use Rattle.ring_range.specs.Meet.{meet_of}
 use Rattle.ring_range.specs.Cut.{cut_parts}
 use Rattle.directory_rules.specs.Happens.{happens}
-use Rattle.directory_rules.specs.Script.{read_line}
-use Rattle.directory_rules.specs.Lines.{outcome_line}
-use Rattle.directory_rules.specs.Show.{show_lines, mail_lines, owner_line, place_line}
-use Rattle.directory_rules.specs.Dump.{dump_of, dump_text}
-use Rattle.directory_rules.specs.DumpShape.{is_dump}
-use Rattle.directory_rules.specs.Verdict.{verdict}
-use Rattle.directory_rules.specs.Output.{performed, played}
+use Rattle.script_rules.specs.Script.{read_line}
+use Rattle.script_rules.specs.Lines.{outcome_line}
+use Rattle.script_rules.specs.Show.{show_lines, mail_lines, owner_line, place_line}
+use Rattle.dump_rules.specs.Dump.{dump_of, dump_text}
+use Rattle.dump_rules.specs.DumpShape.{is_dump}
+use Rattle.dump_rules.specs.Verdict.{verdict}
+use Rattle.script_rules.specs.Output.{performed, played}
 
 unfoldable pub all_opened : Type 0
 unfolding digits sha256 hash_after compress rounds schedule first_words digest_bytes silo_words read_silo read_grain stated_hash meet_of cut_parts happens read_line outcome_line show_lines mail_lines owner_line place_line dump_of dump_text is_dump verdict performed played

@@ -6,8 +6,8 @@ use Rattle.silo_address.specs.declared.Entry.{Entry}
 use Rattle.ring_range.specs.Range.{Range}
 use Rattle.hash_ring.specs.declared.hashing.Hashing.TheVariants.{Stated}
 use Rattle.hash_ring.specs.declared.point.Point.{Point}
-use Rattle.directory_rules.specs.Dump.{DumpPhase, Asking, Firm, DumpHeld, Settled, DumpPiece, DumpNode, DumpRow, DumpValue}
-use Rattle.directory_rules.specs.Output.{text_of_lines}
+use Rattle.dump_rules.specs.Dump.{DumpPhase, Asking, Firm, DumpHeld, Settled, DumpPiece, DumpNode, DumpRow, DumpValue}
+use Rattle.texts.specs.Printed.{text_of_lines}
 use Rattle.rules_rows.specs.Row.{JudgedDump}
 
 -- 10.0.0.1:1000@1 and 10.0.0.2:1000@1

@@ -1,7 +1,7 @@
 -- Worked rows: faults of scripts.
 use Rattle.std.specs.Prelude.{[], ◌∷◌, ◌++◌, codes, replicate}
-use Rattle.directory_rules.specs.Words.{line_feed}
-use Rattle.directory_rules.specs.Output.{text_of_lines}
+use Rattle.texts.specs.Words.{line_feed}
+use Rattle.texts.specs.Printed.{text_of_lines}
 use Rattle.rules_rows.specs.Row.{Row}
 
 -- a word that names no command, on a line without an end

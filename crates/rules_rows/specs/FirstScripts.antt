@@ -1,6 +1,6 @@
 -- Worked rows: the first scripts: one silo, or none.
 use Rattle.std.specs.Prelude.{[], ◌∷◌, codes}
-use Rattle.directory_rules.specs.Output.{text_of_lines}
+use Rattle.texts.specs.Printed.{text_of_lines}
 use Rattle.rules_rows.specs.Row.{Row}
 
 -- one silo joins, settles, enters an activation and finds it

@@ -1,6 +1,6 @@
 -- A worked script over hashed points, two a silo. The hashes were computed outside.
 use Rattle.std.specs.Prelude.{[], ◌∷◌, codes}
-use Rattle.directory_rules.specs.Output.{text_of_lines}
+use Rattle.texts.specs.Printed.{text_of_lines}
 use Rattle.rules_rows.specs.Row.{Row}
 
 -- a join that names a place, a ring of two points, an entry, the dump and its verdict

@@ -1,6 +1,6 @@
 -- Worked rows: offers of activations.
 use Rattle.std.specs.Prelude.{[], ◌∷◌, codes}
-use Rattle.directory_rules.specs.Output.{text_of_lines}
+use Rattle.texts.specs.Printed.{text_of_lines}
 use Rattle.rules_rows.specs.Row.{Row}
 
 -- an activation is offered, and begins on another silo in place of the first

@@ -1,6 +1,6 @@
 -- A worked row: a snapshot that takes more than one page.
 use Rattle.std.specs.Prelude.{[], ◌∷◌, codes}
-use Rattle.directory_rules.specs.Output.{text_of_lines}
+use Rattle.texts.specs.Printed.{text_of_lines}
 use Rattle.rules_rows.specs.Row.{Row}
 
 -- a snapshot of 65 entries goes in two pages, with the digest of all of it

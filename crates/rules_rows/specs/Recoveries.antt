@@ -1,6 +1,6 @@
 -- Worked rows: ranges that are recovered, and views that overtake one another.
 use Rattle.std.specs.Prelude.{[], ◌∷◌, codes}
-use Rattle.directory_rules.specs.Output.{text_of_lines}
+use Rattle.texts.specs.Printed.{text_of_lines}
 use Rattle.rules_rows.specs.Row.{Row}
 
 -- a silo dies; the new owner has the entries once all silos have reported

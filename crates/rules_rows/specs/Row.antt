@@ -3,10 +3,12 @@
 use Rattle.std.specs.Prelude.{◌≡◌, ℕ, true, List, [], ◌∷◌, codes}
 use Rattle.hash_ring.specs.declared.hashing.Hashing.TheVariants.{Sha256, Stated}
 use Rattle.directory_rules.specs.Settings.{Settings, directory_settings}
-use Rattle.directory_rules.specs.Script.{commands}
-use Rattle.directory_rules.specs.Dump.{DumpValue, dump_text}
-use Rattle.directory_rules.specs.DumpShape.{is_dump}
-use Rattle.directory_rules.specs.Output.{output_of, text_of_lines, judgement_of, judged}
+use Rattle.script_rules.specs.Script.{commands}
+use Rattle.dump_rules.specs.Dump.{DumpValue, dump_text}
+use Rattle.dump_rules.specs.DumpShape.{is_dump}
+use Rattle.script_rules.specs.Output.{output_of}
+use Rattle.texts.specs.Printed.{text_of_lines}
+use Rattle.dump_rules.specs.Judgement.{judgement_of, judged}
 
 -- a script, what it prints, and the status with which it ends
 pub record Row : Type 0 where

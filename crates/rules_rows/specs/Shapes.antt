@@ -6,7 +6,7 @@ use Rattle.silo_address.specs.Silo.{Silo}
 use Rattle.silo_address.specs.Grain.{Grain}
 use Rattle.silo_address.specs.declared.Entry.{Entry}
 use Rattle.hash_ring.specs.declared.hashing.Hashing.TheVariants.{Sha256, Stated}
-use Rattle.directory_rules.specs.Dump.{Firm, DumpHeld, DumpState, Settled, Awaiting, Recovering, DumpPiece, DumpNode, DumpRow, DumpValue}
+use Rattle.dump_rules.specs.Dump.{Firm, DumpHeld, DumpState, Settled, Awaiting, Recovering, DumpPiece, DumpNode, DumpRow, DumpValue}
 use Rattle.rules_rows.specs.Dumps.{silo_a, silo_b, grain_z, entry_z, held_z, lower_half, upper_half, settled_piece, point_at, row_a, row_b, ring_ab, node_a}
 
 -- ---- The right dump: silos a and b each own a half, and a holds z firm, with its entry.

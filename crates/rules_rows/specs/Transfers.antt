@@ -1,6 +1,6 @@
 -- Worked rows: ranges that are handed over.
 use Rattle.std.specs.Prelude.{[], ◌∷◌, codes}
-use Rattle.directory_rules.specs.Output.{text_of_lines}
+use Rattle.texts.specs.Printed.{text_of_lines}
 use Rattle.rules_rows.specs.Row.{Row}
 
 -- a second silo joins and is handed half of the circle

@@ -4,9 +4,9 @@ use Rattle.std.specs.Io.BufRead.{ends_with_byte, strip_last}
 use Rattle.std.proofs.lemmas.Bool.{eq-eqb, eqb-true, lt-ltb}
 use Rattle.std.proofs.lemmas.List.{append-nil, get_or_default, length-append, length-take-le, take_rest}
 use Rattle.memchr.specs.Find.{IsFirstByte, is_byte}
-use Rattle.directory_rules.specs.Words.{carriage_return, line_feed}
+use Rattle.texts.specs.Words.{carriage_return, line_feed}
 use Rattle.std.specs.Prelude.{Contains}
-use Rattle.directory_rules.specs.Script.{Grammar, lines_of, longest_line, read_line}
+use Rattle.script_rules.specs.Script.{Grammar, lines_of, longest_line, read_line}
 use Rattle.script_commands.specs.Laws.{BeginsWithFault}
 use Rattle.script_commands.proofs.Pieces.{pieces_at-cut, pieces_at-front, pieces_at-whole}
 

@@ -2,7 +2,7 @@
 use Rattle.std.proofs.Common.{◌==◌, ◌≡◌, ◌≢◌, true, false, ap, refl, ◌∙◌, ℕ, ◌<◌, zero, suc, Bool, List, [], ◌∷◌, ◌++◌, length, get_or, take, drop, arith}
 use Rattle.std.specs.List.{onto_first}
 use Rattle.std.proofs.lemmas.Bool.{eq-eqb, ne_eqb}
-use Rattle.directory_rules.specs.Words.{pieces_at, with_byte}
+use Rattle.texts.specs.Words.{pieces_at, with_byte}
 
 -- with a mark in front a new piece begins
 pub pieces_at-mark : (mark byte : ℕ) (bytes : List ℕ) → byte ≡ mark → pieces_at mark (byte ∷ bytes) ≡ [] ∷ pieces_at mark bytes

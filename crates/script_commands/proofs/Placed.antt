@@ -1,7 +1,7 @@
 -- The places of a join, read word by word.
 use Rattle.std.proofs.Common.{◌≡◌, ap, ◌∙◌, sym, refl, ℕ, Result, Ok, Err, List, [], ◌∷◌, ◌++◌, append_assoc}
 use Rattle.std.proofs.lemmas.List.{append-nil}
-use Rattle.directory_rules.specs.Script.{hash_word, places_in, ◌>>=◌}
+use Rattle.script_rules.specs.Script.{hash_word, places_in, ◌>>=◌}
 use Rattle.script_commands.specs.declared.error.ReadError.{ReadError}
 use Rattle.script_commands.specs.declared.error.ReadError.TheVariants.{Fault, OutOfMemory}
 use Rattle.script_commands.specs.Reading.{Fails}

@@ -8,7 +8,7 @@ use Rattle.std.proofs.lemmas.List.{append-nil, length-drop, length-take-le, take
 use Rattle.std.proofs.lemmas.List.Sums.{fails_before_first, passes_at_first, prefix_len-le-length}
 use Rattle.std.proofs.Math.Nat.{eq-or-lt_of_le}
 use Rattle.std.specs.List.{position_or_len}
-use Rattle.directory_rules.specs.Words.{space, is_some_bytes, pieces_at, words_in}
+use Rattle.texts.specs.Words.{space, is_some_bytes, pieces_at, words_in}
 use Rattle.script_commands.proofs.Pieces.{pieces_at-mark, pieces_at-whole, pieces_at-cut}
 
 -- a piece with a byte is a word

@@ -1,7 +1,7 @@
 -- The commands that the program knows, each as it stands among those of the rule.
 use Rattle.std.specs.Prelude.{ℕ, List, [], ◌∷◌, codes}
 use Rattle.directory_rules.specs.Event as event
-use Rattle.directory_rules.specs.Script.{Grammar, Settle, Owner, Show, a_hash, a_silo_and_grain, a_silo_and_places, a_silo_and_version, no_word}
+use Rattle.script_rules.specs.Script.{Grammar, Settle, Owner, Show, a_hash, a_silo_and_grain, a_silo_and_places, a_silo_and_version, no_word}
 
 -- each known command under its name, with what stands behind the name
 abbrev pub known_commands : List (List ℕ × Grammar)

@@ -1,6 +1,6 @@
 -- What the laws of the crate say.
 use Rattle.std.specs.Prelude.{◌≡◌, ℕ, List, ◌∷◌, Err}
-use Rattle.directory_rules.specs.Script.{Grammar, read_line}
+use Rattle.script_rules.specs.Script.{Grammar, read_line}
 
 -- the first of the lines has that fault
 abbrev pub BeginsWithFault : List (List ℕ × Grammar) → List (List ℕ) → ℕ → Type 0

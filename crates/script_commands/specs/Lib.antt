@@ -1,4 +1,4 @@
-pub mod CommandView
+pub mod CommandModel
 pub mod Laws
 pub mod Numbers
 pub mod Known

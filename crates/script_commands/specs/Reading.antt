@@ -1,7 +1,7 @@
 -- How what the code read stands to what the rule reads.
 use Rattle.std.specs.Prelude.{◌≡◌, ℕ, ⊤, Option, Some, Result, Ok, Err, IsOk}
 use Rattle.directory_rules.specs.Event as event
-use Rattle.directory_rules.specs.Script as script
+use Rattle.script_rules.specs.Script as script
 use Rattle.script_commands.specs.declared.error.ScriptFault.{ScriptFault}
 use Rattle.script_commands.specs.declared.error.ReadError.{ReadError}
 use Rattle.script_commands.specs.declared.error.ReadError.TheVariants.{Fault, OutOfMemory}

@@ -4,8 +4,8 @@ ghost use Rattle.std.specs.Prelude.{◌≡◌, ℕ, List};
 ghost use Rattle.silo_address.specs.Silo.{Silo};
 ghost use Rattle.silo_address.specs.Grain.{Grain};
 ghost use Rattle.directory_rules.specs.Event as rule;
-ghost use Rattle.directory_rules.specs.Words.{words_in};
-ghost use Rattle.directory_rules.specs.Script as script;
+ghost use Rattle.texts.specs.Words.{words_in};
+ghost use Rattle.script_rules.specs.Script as script;
 ghost use Rattle.script_commands.specs.Reading.{Reads, told};
 
 use crate::places::places_in;

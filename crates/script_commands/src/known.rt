@@ -4,9 +4,9 @@
 ghost use Rattle.std.specs.Map.{lookup};
 ghost use Rattle.std.specs.Prelude.{◌≡◌, IsErrOf, Some, bytes_eq};
 ghost use Rattle.directory_rules.specs.Event as event;
-ghost use Rattle.directory_rules.specs.Words.{words_in};
-ghost use Rattle.directory_rules.specs.Script as script;
-ghost use Rattle.script_commands.specs.CommandView.{command_of};
+ghost use Rattle.texts.specs.Words.{words_in};
+ghost use Rattle.script_rules.specs.Script as script;
+ghost use Rattle.script_commands.specs.CommandModel.{command_of};
 ghost use Rattle.script_commands.specs.Known.{known_commands};
 ghost use Rattle.script_commands.specs.Reading.{IsJoin, Reads, told};
 

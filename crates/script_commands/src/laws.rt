@@ -2,8 +2,8 @@
 
 ghost use Rattle.std.specs.Map.{lookup};
 ghost use Rattle.std.specs.Prelude.{◌≡◌, ◌<◌, ◌+◌, ◌++◌, ℕ, List, Some, Contains, bytes_eq, length, map};
-ghost use Rattle.directory_rules.specs.Words.{line_feed};
-ghost use Rattle.directory_rules.specs.Script.{Grammar, commands, lines_of, longest_line};
+ghost use Rattle.texts.specs.Words.{line_feed};
+ghost use Rattle.script_rules.specs.Script.{Grammar, commands, lines_of, longest_line};
 ghost use Rattle.script_commands.specs.Known.{known_commands};
 ghost use Rattle.script_commands.specs.Laws.{BeginsWithFault};
 

@@ -1,7 +1,7 @@
 ghost use Rattle.std.specs.Io.BufRead.{strip_last};
 ghost use Rattle.std.specs.Prelude.{◌≡◌, ◌↔◌, ◌-◌, ◌<◌, ◌++◌, ℕ, List, [], ◌∷◌, Contains, IfSome, IsSome, MatchOption, drop, length};
-ghost use Rattle.directory_rules.specs.Script.{lines_of};
-ghost use Rattle.directory_rules.specs.Words.{carriage_return, line_feed};
+ghost use Rattle.script_rules.specs.Script.{lines_of};
+ghost use Rattle.texts.specs.Words.{carriage_return, line_feed};
 
 use memchr::memchr;
 

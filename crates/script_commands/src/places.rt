@@ -1,8 +1,8 @@
 //! The places that a join lists.
 
 ghost use Rattle.std.specs.Prelude.{◌≡◌};
-ghost use Rattle.directory_rules.specs.Words.{words_in};
-ghost use Rattle.directory_rules.specs.Script as script;
+ghost use Rattle.texts.specs.Words.{words_in};
+ghost use Rattle.script_rules.specs.Script as script;
 ghost use Rattle.script_commands.specs.Reading.{Reads, Fails};
 
 use crate::grammar::hash_word;

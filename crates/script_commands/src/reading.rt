@@ -1,7 +1,7 @@
 ghost use Rattle.std.specs.List.{list_all};
 ghost use Rattle.std.specs.Prelude.{◌≡◌, IsErrOf, option_map};
-ghost use Rattle.directory_rules.specs.Script as script;
-ghost use Rattle.script_commands.specs.CommandView.{command_of};
+ghost use Rattle.script_rules.specs.Script as script;
+ghost use Rattle.script_commands.specs.CommandModel.{command_of};
 ghost use Rattle.script_commands.specs.Known.{known_commands};
 ghost use Rattle.script_commands.specs.Reading.{IsJoin, Reads};
 

@@ -2,7 +2,7 @@
 
 ghost use Rattle.std.specs.Option.{option_copied};
 ghost use Rattle.std.specs.Prelude.{◌≡◌, ◌≢◌, ◌<◌, ◌≤◌, ℕ, [], ◌∷◌, IfSome, MatchOption, length, option_map, slice_index};
-ghost use Rattle.directory_rules.specs.Words.{space, words_in};
+ghost use Rattle.texts.specs.Words.{space, words_in};
 ghost use Rattle.script_commands.specs.WordCounts.{only_two_words, only_word, two_copied};
 
 use texts::first_place;

@@ -1,6 +1,6 @@
 -- Spaced words, and the sentence that they are but for the last space.
 use Rattle.std.proofs.Common.{◌≡◌, ℕ, ◌<◌, List, [], ◌∷◌, ◌++◌, length, refl, sym, ◌∙◌, ap, append_assoc, append-nil, arith}
-use Rattle.directory_rules.specs.Words.{space, sentence}
+use Rattle.texts.specs.Words.{space, sentence}
 use Rattle.script_output.specs.Spaced.{spaced}
 
 pub spaced-append : (one other : List (List ℕ)) → spaced (one ++ other) ≡ spaced one ++ spaced other

@@ -1,6 +1,6 @@
 -- Lines as they are printed.
 use Rattle.std.specs.Prelude.{ℕ, List, [], ◌∷◌, ◌++◌}
-use Rattle.directory_rules.specs.Words.{line_feed}
+use Rattle.texts.specs.Words.{line_feed}
 
 -- the line, and the line feed that ends it
 abbrev pub printed : List ℕ → List ℕ

@@ -9,25 +9,26 @@ use Rattle.ring_range.specs.Text.{range_text}
 use Rattle.hash_ring.specs.declared.point.Point.{Point}
 use Rattle.directory_rules.specs.Node.{Node}
 use Rattle.directory_rules.specs.World.{World}
-use Rattle.directory_rules.specs.Words.{sentence}
-use Rattle.directory_rules.specs.Show.{status_word, owner_words, is_served, entries_within}
+use Rattle.texts.specs.Words.{sentence}
+use Rattle.script_rules.specs.Show.{status_word, owner_words, is_served}
+use Rattle.directory_rules.specs.Sight.{entries_within}
 
 -- the line of the current version
 abbrev pub line_of_version : (version : ℕ) → List ℕ
 line_of_version version = sentence (codes "version" ∷ decimal version ∷ [])
 
 -- the version that a silo has seen, and how many activations it holds
-abbrev pub standing_of : Node → ℕ × ℕ
-standing_of node = (node.view.version, length node.host.held)
+abbrev pub seen_of : Node → ℕ × ℕ
+seen_of node = (node.view.version, length node.host.held)
 
 -- these two in words; a Dead silo has none
-abbrev pub words_of_standing : Option (ℕ × ℕ) → List (List ℕ)
-words_of_standing None = []
-words_of_standing (Some standing) = codes "seen" ∷ decimal standing.0 ∷ codes "held" ∷ decimal standing.1 ∷ []
+abbrev pub seen_words : Option (ℕ × ℕ) → List (List ℕ)
+seen_words None = []
+seen_words (Some seen) = codes "seen" ∷ decimal seen.0 ∷ codes "held" ∷ decimal seen.1 ∷ []
 
 -- a silo's own line
 abbrev pub line_of_silo : Silo → Status → Option (ℕ × ℕ) → List ℕ
-line_of_silo silo status standing = sentence (codes "silo" ∷ silo_text silo ∷ status_word status ∷ words_of_standing standing)
+line_of_silo silo status seen = sentence (codes "silo" ∷ silo_text silo ∷ status_word status ∷ seen_words seen)
 
 -- how many entries a range has at its owner, where it is settled there
 abbrev pub settled_entries : World → Option Node → Range → Option ℕ

@@ -2,7 +2,7 @@
 use Rattle.std.specs.Prelude.{◌≡◌, ℕ, List, [], ◌∷◌, ◌++◌, slice_index}
 use Rattle.std.specs.Fmt.{decimal}
 use Rattle.silo_address.specs.Marks.{colon, dot}
-use Rattle.directory_rules.specs.Words.{space}
+use Rattle.texts.specs.Words.{space}
 
 -- the words, each with a space behind it
 unfoldable pub spaced : List (List ℕ) → List ℕ

@@ -1,7 +1,7 @@
 //! How a line ends: its last space becomes the line feed.
 
 ghost use Rattle.std.specs.Prelude.{◌≡◌, ◌<◌, ℕ, List, [], ◌∷◌, ◌++◌, length, OnOk, OnErr};
-ghost use Rattle.directory_rules.specs.Words.{line_feed, sentence};
+ghost use Rattle.texts.specs.Words.{line_feed, sentence};
 ghost use Rattle.script_output.specs.Printed.{printed};
 ghost use Rattle.script_output.specs.Spaced.{spaced, BeginsWith};
 

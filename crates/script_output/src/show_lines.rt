@@ -8,9 +8,9 @@ ghost use Rattle.silo_address.specs.SiloText.{silo_text};
 ghost use Rattle.silo_address.specs.Grain.{grain_text};
 ghost use Rattle.silo_address.specs.ActivationText.{activation_text};
 ghost use Rattle.ring_range.specs.Text.{range_text};
-ghost use Rattle.directory_rules.specs.Show.{held_line, owner_words, phase_word, status_word};
+ghost use Rattle.script_rules.specs.Show.{held_line, owner_words, phase_word, status_word};
 ghost use Rattle.script_output.specs.Printed.{printed};
-ghost use Rattle.script_output.specs.Shown.{line_of_owner, line_of_range, line_of_silo, words_of_standing, words_of_state, line_of_version};
+ghost use Rattle.script_output.specs.Shown.{line_of_owner, line_of_range, line_of_silo, seen_words, words_of_state, line_of_version};
 ghost use Rattle.script_output.specs.Spaced.{spaced, BeginsWith};
 
 use crate::line::end_line;
@@ -41,13 +41,13 @@ pub fn write_silo(
     out: &mut Vec<u8>,
     silo: &SiloAddress,
     status: Status,
-    standing: Option<(u64, usize)>,
+    seen: Option<(u64, usize)>,
 ) -> Result<(), AllocError>
-    ensures written { OnOk result (out.new.items ≡ out.old.items ++ printed (line_of_silo silo.now status standing)) }
+    ensures written { OnOk result (out.new.items ≡ out.old.items ++ printed (line_of_silo silo.now status seen)) }
     ensures unchanged { OnErr result (out.new.items ≡ out.old.items) }
 {
     let start = out.len();
-    let written = push_silo_words(out, silo, status, standing);
+    let written = push_silo_words(out, silo, status, seen);
     end_line(out, start, written)
 }
 
@@ -55,23 +55,23 @@ fn push_silo_words(
     out: &mut Vec<u8>,
     silo: &SiloAddress,
     status: Status,
-    standing: Option<(u64, usize)>,
+    seen: Option<(u64, usize)>,
 ) -> Result<(), AllocError>
-    ensures written { OnOk result (out.new.items ≡ out.old.items ++ spaced (codes "silo" ∷ silo_text silo.now ∷ status_word status ∷ words_of_standing standing)) }
+    ensures written { OnOk result (out.new.items ≡ out.old.items ++ spaced (codes "silo" ∷ silo_text silo.now ∷ status_word status ∷ seen_words seen)) }
     ensures kept { BeginsWith out.old.items out.new.items }
 {
     push_word(out, b"silo")?;
     push_silo(out, silo)?;
     push_word(out, status_word(status))?;
-    push_standing(out, standing)?;
+    push_seen(out, seen)?;
     Ok(())
 }
 
-fn push_standing(out: &mut Vec<u8>, standing: Option<(u64, usize)>) -> Result<(), AllocError>
-    ensures written { OnOk result (out.new.items ≡ out.old.items ++ spaced (words_of_standing standing)) }
+fn push_seen(out: &mut Vec<u8>, seen: Option<(u64, usize)>) -> Result<(), AllocError>
+    ensures written { OnOk result (out.new.items ≡ out.old.items ++ spaced (seen_words seen)) }
     ensures kept { BeginsWith out.old.items out.new.items }
 {
-    let Some((seen, held)) = standing else {
+    let Some((seen, held)) = seen else {
         return Ok(());
     };
     push_named(out, b"seen", seen)?;

@@ -1,8 +1,8 @@
 //! The word for each kind, effect, status and phase.
 
 ghost use Rattle.std.specs.Prelude.{◌≡◌, ◌∷◌};
-ghost use Rattle.directory_rules.specs.Lines.{kind_word, effect_words};
-ghost use Rattle.directory_rules.specs.Show.{phase_word, status_word};
+ghost use Rattle.script_rules.specs.Lines.{kind_word, effect_words};
+ghost use Rattle.script_rules.specs.Show.{phase_word, status_word};
 ghost use Rattle.script_output.specs.Effects.{second_words};
 
 use directory_rules::{Effect, LetterKind, Phase};

@@ -8,8 +8,8 @@ ghost use Rattle.silo_address.specs.ActivationText.{activation_text};
 ghost use Rattle.silo_address.specs.Grain.{grain_text};
 ghost use Rattle.silo_address.specs.SiloText.{silo_text};
 ghost use Rattle.ring_range.specs.Text.{range_text};
-ghost use Rattle.directory_rules.specs.Lines.{entry_words, span_text};
-ghost use Rattle.cluster_events.specs.OutcomeView.{span_of};
+ghost use Rattle.script_rules.specs.Lines.{entry_words, span_text};
+ghost use Rattle.cluster_events.specs.OutcomeModel.{span_of};
 ghost use Rattle.script_output.specs.Spaced.{spaced, BeginsWith};
 
 use crate::marked::{push_marked, push_marked_number, push_marked_silo};

@@ -3,7 +3,7 @@ pub mod Chain
 pub mod Silo
 pub mod SiloText
 pub mod SiloReading
-pub mod WordsView
+pub mod WordsModel
 pub mod Grain
 pub mod GrainFields
 pub mod GrainLaws

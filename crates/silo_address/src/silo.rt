@@ -4,7 +4,7 @@ ghost use Rattle.silo_address.specs.Numbers.{silo_error_number};
 ghost use Rattle.silo_address.specs.Silo.{IsSameEndpoint, IsSilo, Silo};
 ghost use Rattle.silo_address.specs.SiloReading.{read_silo, silo_by_words};
 ghost use Rattle.silo_address.specs.SiloText.{AreNumerals, HasSiloShape, HasWords, Words, silo_of, silo_text};
-ghost use Rattle.silo_address.specs.WordsView.{words_view};
+ghost use Rattle.silo_address.specs.WordsModel.{words_view};
 
 use crate::words::{SiloWords, words};
 use std::alloc::{AllocError, Global};

@@ -6,7 +6,7 @@ ghost use Rattle.std.specs.List.{position_or_len};
 ghost use Rattle.texts.specs.Numeral.{IsNumeral, numeral_value};
 ghost use Rattle.silo_address.specs.SiloText.{AreNumerals, is_mark};
 ghost use Rattle.silo_address.specs.SiloReading.{only_word, silo_words, word_before};
-ghost use Rattle.silo_address.specs.WordsView.{cut_view, slice_view, words_view};
+ghost use Rattle.silo_address.specs.WordsModel.{cut_view, slice_view, words_view};
 
 use texts::{is_numeral, value_up_to};
 

@@ -1,2 +1,4 @@
 pub mod Numeral
 pub mod Place
+pub mod Words
+pub mod Printed

@@ -1,5 +1,5 @@
 use Rattle.std.proofs.Common.{ℕ, Option, IfOk, subst}
-use Rattle.directory_rules.specs.Output.{deliver_next}
+use Rattle.script_rules.specs.Output.{deliver_next}
 use Rattle.console_play.specs.Performing.{TakesTurn, in_session}
 use Rattle.console_play.proofs.performing.deliver_next.Goals as goal
 

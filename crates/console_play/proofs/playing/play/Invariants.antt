@@ -1,6 +1,6 @@
 use Rattle.std.proofs.Common.{IfSome}
-use Rattle.directory_rules.specs.Output.{played}
-use Rattle.directory_rules.specs.Script.{lines_of}
+use Rattle.script_rules.specs.Output.{played}
+use Rattle.script_rules.specs.Script.{lines_of}
 use Rattle.script_commands.specs.Known.{known_commands}
 use Rattle.console_play.specs.Performing.{in_session}
 use Rattle.console_play.specs.Sessions.{standing, work}

@@ -1,5 +1,5 @@
 use Rattle.std.proofs.Common.{drop, [], ◌∷◌}
-use Rattle.directory_rules.specs.Show.{range_line}
+use Rattle.script_rules.specs.Show.{range_line}
 use Rattle.script_output.specs.Spaced.{BeginsWith}
 use Rattle.console_play.proofs.Rows.{Shows}
 use Rattle.console_play.proofs.showing.show_each_range.Given as goal

@@ -1,5 +1,5 @@
 use Rattle.std.proofs.Common.{[], ◌∷◌}
-use Rattle.directory_rules.specs.Show.{held_line}
+use Rattle.script_rules.specs.Show.{held_line}
 use Rattle.script_output.specs.Spaced.{BeginsWith}
 use Rattle.console_play.proofs.Rows.{Shows}
 use Rattle.console_play.proofs.showing.show_held.Given as goal

@@ -1,5 +1,5 @@
 use Rattle.std.proofs.Common.{◌≡◌, ◌++◌, ℕ, List, OnOk, subst, sym, ◌∙◌}
-use Rattle.directory_rules.specs.Output.{text_of_lines}
+use Rattle.texts.specs.Printed.{text_of_lines}
 use Rattle.console_play.proofs.Rows.{ranges_are}
 use Rattle.console_play.proofs.showing.show_ranges.Goals as goal
 

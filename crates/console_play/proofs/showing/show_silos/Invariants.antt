@@ -1,6 +1,7 @@
 use Rattle.std.proofs.Common.{drop}
 use Rattle.directory_rules.specs.Happens.{node_of}
-use Rattle.directory_rules.specs.Show.{current_view, silo_lines}
+use Rattle.script_rules.specs.Show.{silo_lines}
+use Rattle.directory_rules.specs.World.{current_view}
 use Rattle.script_output.specs.Spaced.{BeginsWith}
 use Rattle.console_play.proofs.Rows.{Shows}
 use Rattle.console_play.proofs.showing.show_silos.Given as goal

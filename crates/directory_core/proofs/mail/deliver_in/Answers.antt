@@ -3,7 +3,7 @@ use Rattle.directory_rules.specs.Letter.{Letter}
 use Rattle.directory_rules.specs.Receive.{received}
 use Rattle.directory_core.specs.declared.mail.Slot.{Slot}
 use Rattle.directory_core.specs.Mail.{fresh_slot, letter_in}
-use Rattle.directory_core.specs.MailView.{mail_in}
+use Rattle.directory_core.specs.MailModel.{mail_in}
 use Rattle.directory_core.proofs.Entries.{none_not_some}
 use Rattle.directory_core.proofs.Kept.{found_of}
 use Rattle.directory_core.proofs.Posted.{delivered_is, letter_is, letter_none, mark_within, moved_mark}

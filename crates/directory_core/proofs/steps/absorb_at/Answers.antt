@@ -4,7 +4,7 @@ use Rattle.silo_address.proofs.Order.{silo_cmp_total}
 use Rattle.directory_rules.specs.Input.{step}
 use Rattle.directory_rules.specs.Node.{Node}
 use Rattle.directory_node.specs.Saying.{left_by}
-use Rattle.directory_core.specs.OwnView.{input_of_own}
+use Rattle.directory_core.specs.OwnModel.{input_of_own}
 use Rattle.directory_core.proofs.Entries.{put_at}
 use Rattle.directory_core.proofs.steps.absorb_at.Goals as goal
 

@@ -2,7 +2,7 @@ use Rattle.std.proofs.Common.{sym, ap, ◌∙◌, []}
 use Rattle.std.specs.Prelude.{flat_map, fold}
 use Rattle.silo_address.specs.Grain.{grain_cmp}
 use Rattle.membership_view.proofs.Entries.{sorted-nil}
-use Rattle.directory_rules.specs.Show.{settled_pieces}
+use Rattle.directory_rules.specs.Sight.{settled_pieces}
 use Rattle.directory_rules.specs.Table.{entries_of}
 use Rattle.grain_partition.specs.Within.{with_within}
 use Rattle.grain_partition.proofs.Within.{within-fold}

@@ -1,6 +1,6 @@
 use Rattle.std.proofs.Common.{◌≡◌, []}
 use Rattle.std.specs.Prelude.{fold, flat_map}
-use Rattle.directory_rules.specs.Show.{settled_pieces}
+use Rattle.directory_rules.specs.Sight.{settled_pieces}
 use Rattle.directory_rules.specs.Table.{entries_of}
 use Rattle.grain_partition.specs.Within.{with_within}
 use Rattle.grain_partition.proofs.entries.entries_within.Given as goal

@@ -1,8 +1,8 @@
-use Rattle.membership_view.proofs.Looking.{newest_is, standing_law}
+use Rattle.membership_view.proofs.Looking.{newest_is, occupant_law}
 use Rattle.membership_view.proofs.laws.joins_look_for.Goals as goal
 
 pub returns-clause-newest : goal.returns-clause-newest
 returns-clause-newest c = newest_is
 
-pub returns-clause-standing : goal.returns-clause-standing
-returns-clause-standing c = standing_law
+pub returns-clause-occupant : goal.returns-clause-occupant
+returns-clause-occupant c = occupant_law

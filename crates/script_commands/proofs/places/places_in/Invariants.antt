@@ -1,6 +1,6 @@
 use Rattle.std.proofs.Common.{◌≡◌, length}
-use Rattle.directory_rules.specs.Words.{words_in}
-use Rattle.directory_rules.specs.Script.{places_in}
+use Rattle.texts.specs.Words.{words_in}
+use Rattle.script_rules.specs.Script.{places_in}
 use Rattle.script_commands.proofs.Placed.{onto}
 use Rattle.script_commands.proofs.places.places_in.Given as goal
 

@@ -1,5 +1,5 @@
 use Rattle.std.proofs.Common.{◌∙◌, ◌++◌, ◌∷◌, []}
-use Rattle.directory_rules.specs.Words.{words_in}
+use Rattle.texts.specs.Words.{words_in}
 use Rattle.script_commands.proofs.Placed.{places_more}
 use Rattle.script_commands.proofs.places.without_memory.Goals as goal
 

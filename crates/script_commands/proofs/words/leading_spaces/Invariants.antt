@@ -1,5 +1,5 @@
 use Rattle.std.proofs.Common.{◌≡◌, ◌<◌, ℕ, get_or}
-use Rattle.directory_rules.specs.Words.{space}
+use Rattle.texts.specs.Words.{space}
 use Rattle.script_commands.proofs.words.leading_spaces.Given as goal
 
 abbrev pub invariant-loop-place : goal.invariant-loop-place

@@ -1,5 +1,5 @@
 use Rattle.std.proofs.Common.{◌++◌, [], ◌∷◌, ◌∙◌, append_assoc}
-use Rattle.directory_rules.specs.Words.{line_feed, sentence, space}
+use Rattle.texts.specs.Words.{line_feed, sentence, space}
 use Rattle.script_output.proofs.Spacing.{sentence_and_space}
 use Rattle.script_output.proofs.line.end_line.Goals as goal
 

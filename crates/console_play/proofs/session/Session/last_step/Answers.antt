@@ -1,6 +1,6 @@
 use Rattle.std.proofs.Common.{[], ap, ◌∙◌}
 use Rattle.std.specs.Io.BufRead.{strip_last}
-use Rattle.directory_rules.specs.Words.{carriage_return}
+use Rattle.texts.specs.Words.{carriage_return}
 use Rattle.console_play.specs.Sessions.{standing}
 use Rattle.console_play.proofs.Steps.{ends_by_fault, last_played, nothing_more}
 use Rattle.console_play.proofs.session.Session.last_step.Goals as goal

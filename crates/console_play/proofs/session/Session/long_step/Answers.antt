@@ -1,5 +1,5 @@
 use Rattle.std.proofs.Common.{ℕ, ◌++◌, Some, ap, refl, ◌∙◌}
-use Rattle.directory_rules.specs.Lines.{fault_line}
+use Rattle.script_rules.specs.Lines.{fault_line}
 use Rattle.script_output.specs.Printed.{printed}
 use Rattle.script_commands.specs.Known.{known_commands}
 use Rattle.script_commands.specs.declared.error.ScriptFault.TheVariants.{LineTooLong}

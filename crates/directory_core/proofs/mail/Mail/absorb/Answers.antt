@@ -1,6 +1,6 @@
 use Rattle.std.proofs.Common.{◌∙◌, ap}
 use Rattle.directory_core.specs.Mail.{MailValue, with_posted}
-use Rattle.directory_core.specs.MailView.{mail_in}
+use Rattle.directory_core.specs.MailModel.{mail_in}
 use Rattle.directory_core.proofs.Posted.{posted_is}
 use Rattle.directory_core.proofs.mail.Mail.absorb.Goals as goal
 

@@ -1,6 +1,6 @@
 use Rattle.std.proofs.Common.{sym, ◌∙◌, ap}
 use Rattle.directory_core.specs.Mail.{MailValue, letter_in}
-use Rattle.directory_core.specs.MailView.{mail_in}
+use Rattle.directory_core.specs.MailModel.{mail_in}
 use Rattle.directory_core.proofs.Posted.{letter_none, letter_some}
 use Rattle.directory_core.proofs.mail.Mail.letter.Goals as goal
 

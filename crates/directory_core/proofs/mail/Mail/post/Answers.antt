@@ -1,7 +1,7 @@
 use Rattle.std.proofs.Common.{◌∙◌, ap, ◌++◌, List, map}
 use Rattle.directory_core.specs.declared.mail.Slot.{Slot}
 use Rattle.directory_core.specs.Mail.{MailValue, fresh_slot, with_posted}
-use Rattle.directory_core.specs.MailView.{mail_in}
+use Rattle.directory_core.specs.MailModel.{mail_in}
 use Rattle.directory_core.proofs.Posted.{posted_is}
 use Rattle.directory_core.proofs.mail.Mail.post.Goals as goal
 

@@ -4,8 +4,8 @@ use Rattle.directory_rules.specs.Happens.{node_of}
 use Rattle.directory_rules.specs.Input.{step}
 use Rattle.directory_node.specs.Saying.{left_by}
 use Rattle.directory_core.specs.Mail.{MailValue}
-use Rattle.directory_core.specs.OwnView.{input_of_own}
-use Rattle.directory_core.specs.WorldView.{world_of}
+use Rattle.directory_core.specs.OwnModel.{input_of_own}
+use Rattle.directory_core.specs.WorldModel.{world_of}
 use Rattle.directory_core.proofs.Kept.{found_of, kept_changed}
 use Rattle.directory_core.proofs.world.World.absorb.Goals as goal
 

@@ -2,7 +2,7 @@ use Rattle.std.proofs.Common.{◌∙◌, ap}
 use Rattle.std.specs.BTreeMap.{insert_entry}
 use Rattle.silo_address.specs.Silo.{silo_cmp}
 use Rattle.directory_rules.specs.Node.{Node}
-use Rattle.directory_core.specs.WorldView.{world_of}
+use Rattle.directory_core.specs.WorldModel.{world_of}
 use Rattle.directory_core.proofs.Kept.{kept_admitted}
 use Rattle.directory_core.proofs.world.World.admit.Goals as goal
 

@@ -1,6 +1,6 @@
 use Rattle.std.proofs.Common.{◌≤◌, ◌<◌, sym, subst, ap, arith}
 use Rattle.directory_rules.specs.Settings.{Settings}
-use Rattle.cluster_events.specs.EventView.{event_of}
+use Rattle.cluster_events.specs.EventModel.{event_of}
 use Rattle.directory_core.specs.Applying.{Tells}
 use Rattle.directory_core.proofs.Happening.{full, has_room}
 use Rattle.directory_core.proofs.world.World.apply.Goals as goal

@@ -8,7 +8,7 @@ use Rattle.directory_rules.specs.World.{World}
 use Rattle.directory_rules.specs.Mail.{has_room_for, span_of, with_delivered}
 use Rattle.directory_rules.specs.Happens.{node_of}
 use Rattle.directory_rules.specs.Receive.{received}
-use Rattle.cluster_events.specs.OutcomeView.{span_of as code_span}
+use Rattle.cluster_events.specs.OutcomeModel.{span_of as code_span}
 use Rattle.directory_core.specs.Stepping.{after_step}
 use Rattle.directory_core.proofs.Happening.{delivered_told, open_delivery}
 use Rattle.directory_core.proofs.world.World.deliver.Goals as goal

@@ -1,5 +1,5 @@
 use Rattle.std.proofs.Common.{refl, ◌∙◌}
-use Rattle.cluster_events.specs.EventView.{event_of}
+use Rattle.cluster_events.specs.EventModel.{event_of}
 use Rattle.directory_rules.specs.Happens.{happens}
 use Rattle.directory_rules.specs.Run.{told_of}
 use Rattle.directory_core.proofs.Running.{further_told, further_world, none_told, none_world, on_err, stopped_at}

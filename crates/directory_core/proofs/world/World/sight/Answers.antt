@@ -1,4 +1,4 @@
-use Rattle.directory_core.specs.WorldView.{world_of}
+use Rattle.directory_core.specs.WorldModel.{world_of}
 use Rattle.directory_core.proofs.FirstSight.{first_sight_of}
 use Rattle.directory_core.proofs.world.World.sight.Goals as goal
 

@@ -6,7 +6,7 @@ use Rattle.ring_range.specs.Range.{Range}
 use Rattle.directory_rules.specs.Recovery.{Recovery}
 use Rattle.directory_rules.specs.Node.{Node}
 use Rattle.directory_rules.specs.Transfer.{reported, with_settled}
-use Rattle.directory_node.specs.NodeView.{node_of}
+use Rattle.directory_node.specs.NodeModel.{node_of}
 use Rattle.directory_node.proofs.Absorbing.{Takes, kept_by_taking, left_by_more, left_by_union}
 use Rattle.directory_node.proofs.node.Node.absorb_report.Goals as goal
 

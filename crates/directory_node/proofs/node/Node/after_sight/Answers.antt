@@ -9,7 +9,7 @@ use Rattle.directory_rules.specs.Node.{Node}
 use Rattle.directory_rules.specs.Sight.{pieces_after, sealed, shelf_after}
 use Rattle.directory_rules.specs.Step.{new_recoveries, node_after}
 use Rattle.directory_node.specs.Node.{HaveRecoveries}
-use Rattle.directory_node.specs.NodeView.{node_of}
+use Rattle.directory_node.specs.NodeModel.{node_of}
 use Rattle.directory_node.proofs.FirstSights.{all_recover, none_gathered, none_sealed}
 use Rattle.directory_node.proofs.PieceRecoveries.{new_have}
 use Rattle.directory_node.proofs.node.Node.after_sight.Goals as goal

@@ -6,7 +6,7 @@ use Rattle.std.specs.BTreeMap.{is_at}
 use Rattle.std.specs.Ordering.{nat_cmp}
 use Rattle.ring_range.specs.Range.{Range}
 use Rattle.directory_rules.specs.Transfer.{is_report_awaited}
-use Rattle.directory_node.specs.NodeView.{node_of}
+use Rattle.directory_node.specs.NodeModel.{node_of}
 use Rattle.directory_node.proofs.Reports.{report_recovers, its_recovery}
 use Rattle.directory_node.proofs.node.Node.report_does.Goals as goal
 

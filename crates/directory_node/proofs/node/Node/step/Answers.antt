@@ -3,7 +3,7 @@ use Rattle.std.specs.Prelude.{IsOk}
 use Rattle.directory_rules.specs.Input.{step}
 use Rattle.directory_rules.specs.Node.{Node}
 use Rattle.directory_node.specs.First.{IsFirstSight}
-use Rattle.directory_node.specs.InputView.{input_of}
+use Rattle.directory_node.specs.InputModel.{input_of}
 use Rattle.directory_node.proofs.Said.{made_if_said}
 use Rattle.directory_node.proofs.node.Node.step.Goals as goal
 

@@ -1,6 +1,6 @@
 use Rattle.std.proofs.Common.{sym, refl, ◌∙◌}
 use Rattle.std.proofs.lemmas.Bool.Decides.{not_from_Decides}
-use Rattle.silo_address.specs.WordsView.{words_view}
+use Rattle.silo_address.specs.WordsModel.{words_view}
 use Rattle.silo_address.proofs.SiloLaws.{silo_by_numerals, silo_by_words_other}
 use Rattle.silo_address.proofs.silo.SiloAddress.from_words.Goals as goal
 

@@ -1,5 +1,0 @@
-use Rattle.directory_rules.proofs.RightShapes.{Decides-is_dump}
-use Rattle.directory_rules.proofs.script_laws.dumps_have_their_shape.Goals as goal
-
-pub returns : goal.returns
-returns c = Decides-is_dump

@@ -1,5 +1,0 @@
-use Rattle.directory_rules.proofs.TurningHashes.{Decides-has_its_ranges}
-use Rattle.directory_rules.proofs.script_laws.turning_hashes_suffice.Goals as goal
-
-pub returns : goal.returns
-returns c = Decides-has_its_ranges

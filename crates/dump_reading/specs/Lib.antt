@@ -1,4 +1,0 @@
-pub mod Values
-pub mod DumpIn
-pub mod Judged
-pub mod Texts

@@ -1,0 +1,10 @@
+pub mod Dump
+pub mod Verdict
+pub mod RightDump
+pub mod DumpShape
+pub mod RightShape
+pub mod Judgement
+pub mod Values
+pub mod DumpIn
+pub mod Judged
+pub mod Texts

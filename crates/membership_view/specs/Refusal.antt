@@ -1,0 +1,23 @@
+-- The numbers of the refusals, and when each comes.
+use Rattle.std.specs.Prelude.{◌≡◌, ℕ, Option, Some, None, IsSomeAnd, IsOk, Err, MatchOption}
+use Rattle.membership_view.specs.declared.refusal.ViewsError.{ViewsError}
+use Rattle.membership_view.specs.declared.refusal.ViewsError.TheVariants.{OldGeneration, UnknownSilo, NotActive, AlreadyDead, RowsFull, OutOfMemory}
+use Rattle.membership_view.specs.Views.{ViewsValue}
+use Rattle.membership_view.specs.Changes.{Change, after}
+
+-- the stated number of a refusal; want of memory has none
+abbrev pub views_error_number : ViewsError → Option ℕ
+views_error_number OldGeneration = Some 201
+views_error_number UnknownSilo = Some 202
+views_error_number NotActive = Some 203
+views_error_number AlreadyDead = Some 204
+views_error_number RowsFull = Some 205
+views_error_number OutOfMemory = None
+
+-- a refusal that refuses a change by its number
+abbrev pub Refuses : ViewsValue → Change → ViewsError → Type 0
+Refuses views change refusal = IsSomeAnd (views_error_number refusal) (λ number. after views change ≡ Err number)
+
+-- the same, or want of memory for a change that nothing refuses
+abbrev pub RefusesOrLacksMemory : ViewsValue → Change → ViewsError → Type 0
+RefusesOrLacksMemory views change refusal = MatchOption (views_error_number refusal) (IsOk (after views change)) (λ number. after views change ≡ Err number)

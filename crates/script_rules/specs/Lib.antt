@@ -1,0 +1,4 @@
+pub mod Script
+pub mod Lines
+pub mod Show
+pub mod Output

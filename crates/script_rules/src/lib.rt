@@ -1,0 +1,5 @@
+//! Scripts: how their lines are read, what each makes of the world, and what it prints, as definitions in `specs/`. There is
+//! no behaviour here.
+#![tactic(auto)]
+
+pub mod laws;
