@@ -1,4 +1,4 @@
-//! The ring of a cluster: where silos stand on the circle of hashes, and which of them owns a hash.
+//! The ring of a cluster: where the silos' points are on the circle of hashes, and which silo owns a hash.
 #![tactic(auto)]
 
 mod advance;

@@ -177,7 +177,7 @@ fn every_version_stays(rt: HostRuntime) -> Result<(), Fail> {
 }
 
 #[test]
-fn rows_stand_by_address(rt: HostRuntime) -> Result<(), Fail> {
+fn rows_are_in_order(rt: HostRuntime) -> Result<(), Fail> {
     let mut views = Views::new(rt.alloc(), 8);
     for text in [B, C, A2, "9.255.255.255:65535@1"] {
         assert!(rt; views.join(silo(text)?).is_ok());
@@ -250,7 +250,7 @@ fn copies_are_equal(rt: HostRuntime) -> Result<(), Fail> {
     assert_eq!(rt; row.status(1), Some(Status::Active));
     laws::changes_are_steps();
     laws::rows_stay();
-    laws::one_stands();
+    laws::one_is_live();
     laws::joins_look_for();
     laws::steps_are_changes();
     laws::changes_compute();

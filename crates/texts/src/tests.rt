@@ -1,4 +1,4 @@
-use crate::{NumberError, after_last_place, first_place, is_numeral, number_up_to, value_up_to};
+use crate::{NumberError, after_last, first_position, is_numeral, number_up_to, value_up_to};
 
 #[test]
 fn numbers(rt: HostRuntime) {
@@ -36,9 +36,9 @@ fn numerals(rt: HostRuntime) {
 }
 
 #[test]
-fn places(rt: HostRuntime) {
-    assert_eq!(rt; first_place(b"a/b/c", b'/'), 1);
-    assert_eq!(rt; first_place(b"abc", b'/'), 3);
-    assert_eq!(rt; after_last_place(b"a/b/c", b'/'), Some(4));
-    assert_eq!(rt; after_last_place(b"abc", b'/'), None);
+fn positions(rt: HostRuntime) {
+    assert_eq!(rt; first_position(b"a/b/c", b'/'), 1);
+    assert_eq!(rt; first_position(b"abc", b'/'), 3);
+    assert_eq!(rt; after_last(b"a/b/c", b'/'), Some(4));
+    assert_eq!(rt; after_last(b"abc", b'/'), None);
 }
