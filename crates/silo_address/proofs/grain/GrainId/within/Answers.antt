@@ -1,4 +1,5 @@
 use Rattle.std.proofs.Common.{arith, refl, sym}
+use Rattle.std.proofs.lemmas.Grind.{common_steps}
 use Rattle.std.proofs.lemmas.Bool.Decides.{not_from_Decides}
 use Rattle.silo_address.proofs.GrainCases.{within_unseen}
 use Rattle.silo_address.proofs.GrainStored.{IsStored, cut_within, short_sides, stored_holds, stored_within}
@@ -26,3 +27,6 @@ invariant_of-result c = stored_holds _ _ _ (is_stored c)
 
 pub returns : goal.returns
 returns c = stored_within _ _ _ (is_stored c)
+
+pub returns-then-kind_len-gt-MOST_KIND : goal.returns-then-kind_len-gt-MOST_KIND
+returns-then-kind_len-gt-MOST_KIND c = grind (arith, common_steps)
