@@ -17,6 +17,3 @@ pub use hashing::{Hashing, hash_text};
 pub use places::{MOST_POINTS, Places};
 pub use point::Point;
 pub use ring::Ring;
-
-#[cfg(test)]
-mod tests;

@@ -67,6 +67,3 @@ pub fn keep_hint(
     hints.put(grain, activation)?;
     Ok(())
 }
-
-#[cfg(test)]
-mod tests;

@@ -7,6 +7,3 @@ mod position;
 
 pub use number::{NumberError, is_numeral, number_up_to, value_up_to};
 pub use position::{after_last, first_position};
-
-#[cfg(test)]
-mod tests;

@@ -1,24 +1,21 @@
-use crate::{RangeError, RangeTextError, RingRange, laws};
-use std::test::Fail;
-
-fn range(text: &str) -> Result<RingRange, Fail> {
-    Ok(RingRange::parse(text.as_bytes())?)
-}
+use crate::samples::range;
+use ring_range::{RangeError, RangeTextError, RingRange, laws};
+use std::alloc::Global;
+use std::process::Abort;
 
 #[test]
-fn sizes_up_to_the_circle(rt: HostRuntime) -> Result<(), Fail> {
-    let full = RingRange::new(7, 4294967296)?;
+fn sizes_up_to_the_circle(rt: HostRuntime) {
+    let full = RingRange::new(7, 4294967296).expect(&rt, "a range");
     assert_eq!(rt; full.start(), 7);
     assert_eq!(rt; full.size(), 4294967296);
     assert_eq!(rt; RingRange::new(0, 4294967297), Err(RangeError::TooLarge));
     assert_eq!(rt; RingRange::new(0, u64::MAX), Err(RangeError::TooLarge));
     assert_eq!(rt; RangeError::TooLarge.number(), 301);
     full.in_range();
-    Ok(())
 }
 
 #[test]
-fn members(rt: HostRuntime) -> Result<(), Fail> {
+fn members(rt: HostRuntime) {
     let table: [(&str, u32, bool); 12] = [
         ("10+5", 9, false),
         ("10+5", 10, true),
@@ -34,13 +31,12 @@ fn members(rt: HostRuntime) -> Result<(), Fail> {
         ("7+4294967295", 6, false),
     ];
     for (text, hash, held) in table {
-        assert_eq!(rt; range(text)?.contains(hash), held, "{text} {hash}");
+        assert_eq!(rt; range(&rt, text).contains(hash), held, "{text} {hash}");
     }
-    Ok(())
 }
 
 #[test]
-fn inclusions(rt: HostRuntime) -> Result<(), Fail> {
+fn inclusions(rt: HostRuntime) {
     let table: [(&str, &str, bool); 14] = [
         ("10+5", "10+5", true),
         ("10+5", "9+6", true),
@@ -58,17 +54,19 @@ fn inclusions(rt: HostRuntime) -> Result<(), Fail> {
         ("9+4294967295", "5+4294967296", true),
     ];
     for (inner, outer, within) in table {
-        assert_eq!(rt;
-            range(inner)?.is_within(&range(outer)?),
-            within,
-            "{inner} {outer}"
-        );
+        let is_within = range(&rt, inner).is_within(&range(&rt, outer));
+        assert_eq!(rt; is_within, within, "{inner} {outer}");
     }
-    Ok(())
+}
+
+fn check_meeting(rt: &impl Abort, this: &str, other: &str, parts: [&str; 2]) {
+    let [first, second] = range(rt, this).meet(&range(rt, other));
+    assert_eq!(rt; first, range(rt, parts[0]), "{this} {other}");
+    assert_eq!(rt; second, range(rt, parts[1]), "{this} {other}");
 }
 
 #[test]
-fn meetings(rt: HostRuntime) -> Result<(), Fail> {
+fn meetings(rt: HostRuntime) {
     let table: [(&str, &str, [&str; 2]); 14] = [
         (
             "0+4000000000",
@@ -94,15 +92,20 @@ fn meetings(rt: HostRuntime) -> Result<(), Fail> {
         ("9+4294967295", "5+4294967295", ["9+4294967291", "5+3"]),
     ];
     for (this, other, parts) in table {
-        let [first, second] = range(this)?.meet(&range(other)?);
-        assert_eq!(rt; first, range(parts[0])?, "{this} {other}");
-        assert_eq!(rt; second, range(parts[1])?, "{this} {other}");
+        check_meeting(&rt, this, other, parts);
     }
-    Ok(())
+}
+
+fn check_cut(rt: &impl Abort, alloc: Global, text: &str, places: &[u32], parts: &[&str]) {
+    let cut = range(rt, text).cut_at(alloc, places).expect(rt, "memory");
+    assert_eq!(rt; cut.len(), parts.len(), "{text}");
+    for (part, wanted) in cut.iter().zip(parts) {
+        assert!(rt; part.same(&range(rt, wanted)), "{text} {wanted}");
+    }
 }
 
 #[test]
-fn cuts(rt: HostRuntime) -> Result<(), Fail> {
+fn cuts(rt: HostRuntime) {
     let table: [(&str, &[u32], &[&str]); 9] = [
         (
             "3000000000+2000000000",
@@ -127,20 +130,20 @@ fn cuts(rt: HostRuntime) -> Result<(), Fail> {
         ),
     ];
     for (text, places, parts) in table {
-        let cut = range(text)?.cut_at(rt.alloc(), places)?;
-        assert_eq!(rt; cut.len(), parts.len(), "{text}");
-        for (part, wanted) in cut.iter().zip(parts) {
-            assert!(rt; part.same(&range(wanted)?), "{text} {wanted}");
-        }
+        check_cut(&rt, rt.alloc(), text, places, parts);
     }
-    Ok(())
 }
 
 #[test]
-fn texts(rt: HostRuntime) -> Result<(), Fail> {
+fn texts(rt: HostRuntime) {
     for text in ["0+0", "0+4294967296", "4294967295+1", "10+100"] {
-        assert_eq!(rt; range(text)?.text(rt.alloc())?.as_str(), text);
+        let printed = range(&rt, text).text(rt.alloc()).expect(&rt, "memory");
+        assert_eq!(rt; printed.as_str(), text);
     }
+}
+
+#[test]
+fn texts_refused(rt: HostRuntime) {
     let bad: [(&str, RangeTextError); 17] = [
         ("", RangeTextError::Shape),
         ("5", RangeTextError::Shape),
@@ -163,15 +166,13 @@ fn texts(rt: HostRuntime) -> Result<(), Fail> {
     for (text, fault) in bad {
         assert_eq!(rt; RingRange::parse(text.as_bytes()), Err(fault), "{text}");
     }
-    Ok(())
 }
 
 // By start, then size.
 #[test]
-fn ranges_in_order(rt: HostRuntime) -> Result<(), Fail> {
-    assert!(rt; range("2+9")? < range("10+1")?);
-    assert!(rt; range("10+1")? < range("10+2")?);
-    Ok(())
+fn ranges_in_order(rt: HostRuntime) {
+    assert!(rt; range(&rt, "2+9") < range(&rt, "10+1"));
+    assert!(rt; range(&rt, "10+1") < range(&rt, "10+2"));
 }
 
 #[test]

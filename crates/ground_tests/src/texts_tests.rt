@@ -1,4 +1,4 @@
-use crate::{NumberError, after_last, first_position, is_numeral, number_up_to, value_up_to};
+use texts::{NumberError, after_last, first_position, is_numeral, number_up_to, value_up_to};
 
 #[test]
 fn numbers(rt: HostRuntime) {
