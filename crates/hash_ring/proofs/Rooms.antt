@@ -1,5 +1,5 @@
 -- How much room a point has up to the next place, and whether it owns its own place, in points that stand in order.
-use Rattle.std.proofs.Common.{◌≡◌, ◌≢◌, ◌⊎◌, ℕ, ◌+◌, ◌-◌, ◌<◌, ◌≤◌, ◌==◌, ◌&&◌, min, List, [], ◌∷◌, ◌++◌, length, get_or, take, map, fold, Bool, true, false, cond, if◌then◌else◌, Option, Some, None, refl, sym, ◌∙◌, ap, subst, inl, inr, arith}
+use Rattle.std.proofs.Common.{◌≡◌, ◌≢◌, ◌⊎◌, ℕ, ◌+◌, ◌-◌, ◌<◌, ◌≤◌, ◌==◌, min, List, [], ◌∷◌, ◌++◌, length, get_or, take, map, fold, Bool, true, false, cond, if◌then◌else◌, Option, Some, None, refl, sym, ◌∙◌, ap, subst, inl, inr, arith}
 use Rattle.std.specs.List.{All, filter}
 use Rattle.std.specs.List.Sorted.{IsStrictlySortedBy, IsPartitionPoint}
 use Rattle.std.specs.Ordering.{is_gt, nat_cmp, ordering_then, ordering_reverse}
@@ -11,12 +11,12 @@ use Rattle.std.proofs.lemmas.Bool.Decides.{Decides-eqb}
 use Rattle.std.proofs.lemmas.List.{get_or_default}
 use Rattle.std.proofs.lemmas.List.Elements.{Contains-get_or}
 use Rattle.std.proofs.lemmas.Map.Keys.{Less-from_sorted}
-use Rattle.silo_address.specs.Silo.{Silo, silo_cmp, silo_eq}
-use Rattle.ring_range.specs.Range.{circle, Range, distance}
+use Rattle.silo_address.specs.Silo.{silo_cmp}
+use Rattle.ring_range.specs.Range.{circle, distance}
 use Rattle.hash_ring.specs.declared.point.Point.{Point}
 use Rattle.hash_ring.specs.Point.{back, point_cmp, point_eq, IsOnCircle}
 use Rattle.hash_ring.specs.Owner.{owner_of, IsOwner}
-use Rattle.hash_ring.specs.Ranges.{steps_to, room, range_of, is_point, owns_its_place}
+use Rattle.hash_ring.specs.Ranges.{steps_to, room, is_point, owns_its_place}
 use Rattle.hash_ring.specs.Search.{PlacesRise}
 use Rattle.hash_ring.proofs.Members.{In, In-from_Contains, Contains-from_In}
 use Rattle.hash_ring.proofs.Order.{point_cmp_total, Decides-point}

@@ -3,7 +3,7 @@ use Rattle.std.specs.Prelude.{ℕ, Option, Some, None}
 use Rattle.hash_ring.specs.declared.error.RingError.{RingError}
 use Rattle.hash_ring.specs.declared.error.RingError.TheVariants.{NotNextView, PointCount, PointsMissing, AlreadyAdded, OutOfMemory}
 
--- the stated number of a refusal; want of memory has none
+-- the stated number of a refusal; out of memory has none
 abbrev pub ring_error_number : RingError → Option ℕ
 ring_error_number NotNextView = Some 401
 ring_error_number PointCount = Some 402

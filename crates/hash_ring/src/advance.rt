@@ -17,10 +17,10 @@ use silo_address::SiloAddress;
 use std::alloc::{AllocError, Global};
 
 impl Ring {
-    /// Goes on to the ring of the next view, in place: takes out the points of silos that are no longer Active, and puts in those
-    /// of each silo that is new, at their places in the order. Needs memory only where a silo is new. Asks of its caller that
-    /// this is the ring of some view, by these places. Refused by 401 where the view's version isn't one above the ring's, then
-    /// by 403 where a silo that is Active there was not added to the places.
+    /// Changes the ring into that of the next view: removes the points of silos that are no longer Active, and inserts those of
+    /// each new silo. Needs memory only where a silo is new. The ring has to be that of some view, by these places. Refused by
+    /// 401 where the view's version isn't one above the ring's, then by 403 where a silo that is Active there was not added to
+    /// the places.
     pub fn advance(&mut self, view: &View, places: &Places) -> Result<(), RingError>
         requires { IsRingBy self.old places.now }
         ensures advanced { OnOk result (self.new ≡ ring_of view.now places.now) }
@@ -57,7 +57,7 @@ fn follows(version: u64, earlier: u64) -> bool
     version > earlier && version - earlier == 1
 }
 
-// Makes the points of one view those of another. All room is made before the first change.
+// Makes the points of one view those of another. All memory is reserved before the first change.
 fn change(points: &mut Vec<Point>, view: &View, places: &Places) -> Result<(), AllocError>
     requires { HasWholeSilos places.now points.old.items }
     ensures changed { OnOk result (points.new.items ≡ fold (insert_key point_cmp) (filter (λ p. is_active_in view.now p.silo) points.old.items) (flat_map (silo_points places.now) (new_silos (record { version = 0; points = points.old.items }) view.now))) }
@@ -134,7 +134,7 @@ fn first_point(silo: &SiloAddress, places: &Places) -> Option<Point>
     })
 }
 
-// Takes out the points of the silos that aren't Active in the view.
+// Removes the points of the silos that aren't Active in the view.
 fn take_out(points: &mut Vec<Point>, view: &View, places: &Places)
     requires { HasWholeSilos places.now points.old.items }
     ensures kept { points.new.items ≡ filter (λ p. is_active_in view.now p.silo) points.old.items }
@@ -156,7 +156,7 @@ fn is_gone(points: &[Point], silo: &SiloAddress, view: &View, places: &Places) -
     !is_active_in(view, silo) && has_silo(points, silo, places)
 }
 
-// Takes out the points of one silo.
+// Removes the points of one silo.
 fn take_out_of(points: &mut Vec<Point>, silo: &SiloAddress)
     ensures kept { points.new.items ≡ filter (λ p. not (silo_eq p.silo silo.now)) points.old.items }
     ensures len { vec_len points.new ≤ vec_len points.old }
@@ -165,7 +165,7 @@ fn take_out_of(points: &mut Vec<Point>, silo: &SiloAddress)
     points.retain(|point| is_of_other(point, silo));
 }
 
-// Whether the point is of another silo.
+// Whether the point belongs to another silo.
 fn is_of_other(point: &Point, silo: &SiloAddress) -> bool
     ensures { result ≡ not (silo_eq point.now.silo silo.now) }
 {
@@ -182,7 +182,7 @@ fn is_active_in(view: &View, silo: &SiloAddress) -> bool
     }
 }
 
-// Puts in points at their places in the order, where there is room for them.
+// Inserts points, keeping the order. There has to be room for them.
 fn put_in(points: &mut Vec<Point>, new: &[Point])
     requires in_order { IsStrictlySortedBy point_cmp points.old.items }
     requires room { vec_len points.old + length new.now ≤ vec_capacity points.old }
@@ -193,7 +193,7 @@ fn put_in(points: &mut Vec<Point>, new: &[Point])
     }
 }
 
-// Puts in a point at its place in the order, where there is room for it.
+// Inserts a point, keeping the order. There has to be room for it.
 fn put_in_one(points: &mut Vec<Point>, point: &Point)
     requires in_order { IsStrictlySortedBy point_cmp points.old.items }
     requires room { vec_len points.old < vec_capacity points.old }
@@ -201,7 +201,7 @@ fn put_in_one(points: &mut Vec<Point>, point: &Point)
     ensures len { vec_len points.new ≤ vec_len points.old + 1 }
     ensures room { vec_capacity points.old ≤ vec_capacity points.new }
 {
-    if let Err(place) = points.binary_search(point) {
-        points.insert(place, *point).unwrap();
+    if let Err(index) = points.binary_search(point) {
+        points.insert(index, *point).unwrap();
     }
 }

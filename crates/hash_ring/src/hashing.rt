@@ -4,12 +4,12 @@ ghost use Rattle.hash_ring.specs.Hash.{hash_text, hash_grain};
 use sha2::{Digest, Sha256};
 use silo_address::GrainId;
 
-/// How a cluster hashes: where its points stand, and which hash a grain has (`docs/RULES.md#hashes`).
+/// How a cluster hashes: where its points are, and which hash a grain has (`docs/RULES.md#hashes`).
 #[derive(Clone, Copy, Debug, PartialEq, Eq)]
 pub enum Hashing {
     /// Points and grains are hashed by their texts.
     Sha256,
-    /// Points stand at the places given with them, and a grain's key may state the grain's hash.
+    /// Points are at the places given for them, and a grain's key may state the grain's hash.
     Stated,
 }
 
@@ -27,7 +27,7 @@ impl Hashing {
         }
     }
 
-    /// Whether the two are one way of hashing.
+    /// Whether the two are the same way of hashing.
     pub fn same(&self, other: &Hashing) -> bool
         ensures { IsTrue result ↔ (self.now ≡ other.now) }
     {

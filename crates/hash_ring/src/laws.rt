@@ -1,4 +1,4 @@
-//! Laws of the definitions, for whoever reasons on rings without a program: each function is the law that its clauses state.
+//! Laws of the definitions, for proofs about rings: each function does nothing, and its clauses state a law.
 
 ghost use Rattle.std.specs.Prelude.{◌≡◌, ◌↔◌, ◌+◌, ◌%◌, ◌<◌, ℕ, List, [], ◌∷◌, All, IsTrue, Some, None, Ok, Err, codes, true, false};
 ghost use Rattle.silo_address.specs.Silo.{Silo};
@@ -12,7 +12,7 @@ ghost use Rattle.hash_ring.specs.Ranges.{ranges_of};
 ghost use Rattle.hash_ring.specs.Laws.{IsPoint, RingsStay, OwnerIsNearest, OneOwner, NobodyOwns, OwnsIsOwned, OneList, SortedAnew, RingsAreRings, a, b, two_places, two_view};
 ghost use Rattle.hash_ring.specs.declared.point.Point.{Point as PointSeen};
 
-/// How far back a place lies is the difference round the circle: so many steps forward from the place is the hash.
+/// How far back a place lies is the difference round the circle: that many steps forward from the place is the hash.
 pub fn distances_back()
     ensures below { EachHash (λ hash. EachHash (λ place. back hash place < circle)) }
     ensures there { EachHash (λ hash. EachHash (λ place. (place + back hash place) % circle ≡ hash)) }
@@ -25,7 +25,7 @@ pub fn points_of_views()
     ensures stay { RingsStay }
 {}
 
-/// The ring sorted anew has just the points of the view, in order and each once; no other list has. Its places are hashes.
+/// The ring sorted anew has exactly the points of the view, in order and each once, and no other list has. Its places are hashes.
 pub fn rings_sorted_anew()
     ensures sorted { SortedAnew }
     ensures only { OneList }

@@ -1,4 +1,4 @@
-//! The ring of a cluster: where silos stand on the circle of hashes, and which of them owns a hash.
+//! The ring of a cluster: where the silos' points are on the circle of hashes, and which silo owns a hash.
 #![tactic(auto)]
 
 mod advance;
@@ -17,6 +17,3 @@ pub use hashing::{Hashing, hash_text};
 pub use places::{MOST_POINTS, Places};
 pub use point::Point;
 pub use ring::Ring;
-
-#[cfg(test)]
-mod tests;

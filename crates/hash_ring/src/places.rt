@@ -43,7 +43,7 @@ impl Model for Places {
 }
 
 impl Places {
-    /// No silo yet, for a cluster that hashes so, where under `Sha256` a silo has `points` points. Refuses by 402 where `points`
+    /// No silos yet, for a cluster that hashes this way; under `Sha256` each silo has `points` points. Refused by 402 where `points`
     /// is not from 1 to 128.
     pub fn new(alloc: Global, hashing: Hashing, points: usize) -> Result<Places, RingError>
         ensures made { IfOk result (λ places. places ≡ record { hashing = hashing; points = points; entries = [] }) }
@@ -61,13 +61,13 @@ impl Places {
         })
     }
 
-    /// Adds a silo, with these places under `Stated`; under `Sha256` none are given, and the places are hashed here, once.
+    /// Adds a silo, under `Stated` with these places; under `Sha256` none are given, and the places are hashed here, once.
     /// Refused by 402 where more than 128 places are given, or any under `Sha256`, then by 403 where none is given under
     /// `Stated`, then by 404 where the silo was added before.
     pub fn add(&mut self, silo: SiloAddress, given: &[u32]) -> Result<(), RingError>
         ensures added { OnOk result (after_add self.old silo given.now ≡ Ok self.new) }
 
-        // Memory is wanted last, for a silo that may be added otherwise.
+        // Memory runs out only for a silo that nothing else refuses.
         ensures refused { IfErr result (λ refusal. IfSome (ring_error_number refusal) (λ number. after_add self.old silo given.now ≡ Err number)) }
         ensures memory { IsErrOf result RingError.OutOfMemory → IsOk (after_add self.old silo given.now) }
         ensures unchanged { OnErr result (self.new ≡ self.old) }
@@ -100,8 +100,7 @@ impl Places {
         Ok(())
     }
 
-    /// Takes a silo out, with its places; one that was not added changes nothing. A join that fails later takes back so what it
-    /// added.
+    /// Removes a silo and its places; nothing changes if it was not added. A join that fails later undoes by it what it added.
     pub fn remove(&mut self, silo: &SiloAddress)
         ensures { self.new ≡ record self.old { entries = remove_entry (is_at (silo_cmp silo.now)) self.old.entries } }
     {
@@ -150,7 +149,7 @@ impl Places {
         self.are_ready_for(view.rows())
     }
 
-    // Whether the silos of a view's rows were added, those that have to be.
+    // Whether every silo of these rows that has to be added was added.
     fn are_ready_for(&self, rows: &[(SiloAddress, Status)]) -> bool
         ensures { result ≡ list_all (λ row. not (is_active row.1) || is_added self.now row.0) rows.now }
     {
@@ -164,14 +163,14 @@ impl Places {
         !row.1.is_active() || self.is_added(&row.0)
     }
 
-    /// A law: what all places keep.
+    /// A law: the invariant of all places.
     pub fn whole(&self)
         ensures { IsPlaces self.now }
     {
         let _points = self.points;
     }
 
-    /// Equal places.
+    /// An equal copy.
     pub fn copy(&self) -> Result<Places, AllocError>
         ensures { IfOk result (λ places. places ≡ self.now) }
     {
@@ -184,7 +183,7 @@ impl Places {
         })
     }
 
-    /// Whether both hash alike and have the same places.
+    /// Whether both hash the same way and have the same places.
     pub fn same(&self, other: &Places) -> bool
         ensures { IsTrue result ↔ (self.now ≡ other.now) }
     {
@@ -194,7 +193,7 @@ impl Places {
     }
 }
 
-// Whether a silo may be given so many places.
+// Whether a silo may be given that many places.
 fn may_be_given(hashing: Hashing, given: usize) -> bool
     ensures { result ≡ is_point_count hashing given }
 {
@@ -204,7 +203,7 @@ fn may_be_given(hashing: Hashing, given: usize) -> bool
     }
 }
 
-// Whether the places that have to be given are there.
+// Whether places are given, if they have to be.
 fn has_points(hashing: Hashing, given: usize) -> bool
     ensures { result ≡ has_points hashing given }
 {

@@ -14,7 +14,7 @@ pub struct Point {
 }
 
 impl Point {
-    /// Whether the two are one point.
+    /// Whether the two are the same point.
     pub fn same(&self, other: &Point) -> bool
         ensures { IsTrue result ↔ (self.now ≡ other.now) }
     {

@@ -23,7 +23,7 @@ pub(crate) fn points_of(
     Ok(points)
 }
 
-/// Puts the points of a silo at the end.
+/// Appends the points of a silo.
 pub(crate) fn push_points(
     points: &mut Vec<Point>,
     silo: &SiloAddress,

@@ -49,7 +49,7 @@ impl Ring {
         }
     }
 
-    /// The ring of the view before the first change: version 0, without a point.
+    /// The ring of the view before the first change: version 0, without points.
     pub fn empty(alloc: Global) -> Ring
         ensures { result ≡ record { version = 0; points = [] } }
     {
@@ -83,14 +83,14 @@ impl Ring {
         owner_in(&self.points, hash)
     }
 
-    /// A law: what all rings keep.
+    /// A law: the invariant of all rings.
     pub fn whole(&self)
         ensures { IsRing self.now }
     {
         let _version = self.version;
     }
 
-    /// An equal ring.
+    /// An equal copy.
     pub fn copy(&self) -> Result<Ring, AllocError>
         ensures { IfOk result (λ ring. ring ≡ self.now) }
     {
@@ -122,7 +122,7 @@ fn owner_in(points: &[Point], hash: u32) -> Option<Point>
     Some(points[first])
 }
 
-// Where the last of the points at the owner's place stands, if there is a point.
+// The index of the last point at the owner's place, if there is a point.
 fn last_met(points: &[Point], hash: u32) -> Option<usize>
     requires rise { PlacesRise points.now }
     requires on_circle { All IsOnCircle points.now }
@@ -136,8 +136,8 @@ fn last_met(points: &[Point], hash: u32) -> Option<usize>
     points.len().checked_sub(1)
 }
 
-// How many points stand up to a place. Hashes lie anywhere, so a branch on a comparison would be guessed wrong every other time;
-// a step by thirds adds up two comparisons, and branches on neither.
+// How many points are at or before a place. Hashes are random, so a branch on a comparison would be mispredicted every other
+// time; a step by thirds adds up two comparisons, and branches on neither.
 pub(crate) fn up_to(points: &[Point], place: u32) -> usize
     requires { PlacesRise points.now }
     ensures bound { result ≤ length points.now }
@@ -155,7 +155,7 @@ pub(crate) fn up_to(points: &[Point], place: u32) -> usize
     start + usize::from(points[start].place <= place)
 }
 
-// Over none, one or two thirds: those that end at a point up to the place.
+// Over none, one or two thirds: those that end with a point at or before the place.
 fn step_by_thirds(points: &[Point], start: usize, third: usize, place: u32) -> usize
     requires rise { PlacesRise points.now }
     requires some { 0 < third }
@@ -167,7 +167,7 @@ fn step_by_thirds(points: &[Point], start: usize, third: usize, place: u32) -> u
     third * (usize::from(near) + usize::from(far))
 }
 
-// How many points stand before a place.
+// How many points are before a place.
 fn before(points: &[Point], place: u32) -> usize
     requires { PlacesRise points.now }
     ensures bound { result ≤ length points.now }
@@ -176,7 +176,7 @@ fn before(points: &[Point], place: u32) -> usize
     points.partition_point(|point| point.place < place)
 }
 
-// Where the first of the points stands that are at one place with this one. Mostly there is no other.
+// The index of the first of the points that share this one's place. Mostly there is no other.
 fn first_there(points: &[Point], last: usize) -> usize
     requires rise { PlacesRise points.now }
     requires within { last < length points.now }

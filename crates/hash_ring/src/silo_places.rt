@@ -35,7 +35,7 @@ impl SiloPlaces {
         Ok(SiloPlaces { list })
     }
 
-    /// So many places of a silo, each the hash of its point's text.
+    /// That many places of a silo, each the hash of its point's text.
     pub(crate) fn hashed(
         alloc: Global,
         points: usize,

@@ -18,7 +18,7 @@ use silo_address::{ActivationId, Entry, GrainId, SiloAddress};
 use std::alloc::AllocError;
 use std::collections::{BTreeMap, HashMap};
 
-/// Puts an entry into a table ordered by grain. Fails for want of memory alone, and then changes nothing.
+/// Puts an entry into a table that is ordered by grain. Fails only when memory runs out, and then changes nothing.
 pub fn put_entry(table: &mut BTreeMap<GrainId, Entry>, entry: Entry) -> Result<(), AllocError>
     ensures put { OnOk result (tree.get grain_cmp table.new entry.grain ≡ Some entry) }
     ensures others { OnOk result ((grain : Grain) → grain ≢ entry.grain → tree.get grain_cmp table.new grain ≡ tree.get grain_cmp table.old grain) }
@@ -28,7 +28,7 @@ pub fn put_entry(table: &mut BTreeMap<GrainId, Entry>, entry: Entry) -> Result<(
     Ok(())
 }
 
-/// Notes a number for a silo. Fails for want of memory alone, and then changes nothing.
+/// Notes a number for a silo. Fails only when memory runs out, and then changes nothing.
 pub fn note_number(
     numbers: &mut HashMap<SiloAddress, u64>,
     silo: SiloAddress,
@@ -42,7 +42,7 @@ pub fn note_number(
     Ok(())
 }
 
-/// Notes the grain of an activation, in order of first notes. Fails for want of memory alone, and then changes nothing.
+/// Notes the grain of an activation, in order of first notes. Fails only when memory runs out, and then changes nothing.
 pub fn note_grain(
     grains: &mut IndexMap<ActivationId, GrainId>,
     activation: ActivationId,
@@ -55,7 +55,7 @@ pub fn note_grain(
     Ok(())
 }
 
-/// Keeps a hint of where a grain is. Fails for want of memory alone, and then changes nothing.
+/// Keeps a hint of where a grain is. Fails only when memory runs out, and then changes nothing.
 pub fn keep_hint(
     hints: &mut LruCache<GrainId, ActivationId>,
     grain: GrainId,
@@ -67,6 +67,3 @@ pub fn keep_hint(
     hints.put(grain, activation)?;
     Ok(())
 }
-
-#[cfg(test)]
-mod tests;

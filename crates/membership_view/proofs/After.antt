@@ -96,10 +96,10 @@ same-joined version made silo rows s newest h = by (occupant silo rows) refl
     by : (o : Option Silo) → occupant silo rows ≡ o → SaysSame version (without o made (put_in silo made rows)) rows
     by None is q = same-put_in version made silo rows newest h q
     by (Some old) is q =
-        let stands = occupant_is silo rows s old is in
-        let before : has_come stands.row.dead version ≡ false = ap (λ c. has_come c version) stands.not_dead in
-        same-changed version (dying made) old (put_in silo made rows) stands.row (found_occupant silo made rows newest old stands)
-        (status_before_dying version made stands.row h before) q
+        let occupies = occupant_is silo rows s old is in
+        let before : has_come occupies.row.dead version ≡ false = ap (λ c. has_come c version) occupies.not_dead in
+        same-changed version (dying made) old (put_in silo made rows) occupies.row (found_occupant silo made rows newest old occupies)
+        (status_before_dying version made occupies.row h before) q
         ∙ same-put_in version made silo rows newest h q
 
 -- rows that say the same of a version make one view of it

@@ -16,7 +16,7 @@ use Rattle.membership_view.proofs.Entries.{Equal-from, lookup-changed, keys-chan
 use Rattle.membership_view.proofs.SameEndpoint.{found_row}
 use Rattle.silo_address.proofs.Order.{silo_cmp_exact, silo_cmp_total}
 
--- what stands in the changed rows for a silo that is found there: its row, changed if it is the one
+-- the changed rows have for each silo its row, changed if it is the one
 pub record IsFoundChanged (change : Row → Row) (silo : Silo) (rows : List (Silo × Row)) (other : Silo) (after : Row) : Type 0 where
   pub row : Row
   pub found : found_row rows other ≡ Some row

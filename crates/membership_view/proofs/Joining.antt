@@ -46,7 +46,7 @@ found_put_in silo version rows q x found = by (is_at (silo_cmp q) silo) refl (sy
     by true at is = inl (silo_cmp_exact q silo (Equal-from (silo_cmp q silo) at), sym (same_Some (joining version) x is))
     by false at is = inr (at, is)
 
--- the one that is occupant is not the one that joins
+-- the occupant is not the silo that joins
 pub not_itself : (silo : Silo) (rows : List (Silo × Row)) → is_newest silo rows ≡ true → (old : Silo) → IsOccupant silo rows old → old ≡ silo → ⊥
 not_itself silo rows newest old is same =
     let e : Some is.row ≡ None = sym is.found ∙ ap (λ k. found_row rows k) same ∙ new_row silo rows newest in
@@ -77,7 +77,7 @@ found_after silo version rows s newest q after found = by (occupant silo rows) r
             let same : is.row ≡ f.row = same_Some is.row f.row (sym is.found ∙ ap (λ j. found_row rows j) k.0 ∙ e.1) in
             inr (record { row = f.row; found = e.1; is = inl (h ∙ ap (λ j. Some j) k.0, ap (λ (x : Row). x.dead) (sym same) ∙ is.not_dead, k.1) })
         | inr k ↦
-            inr (record { row = f.row; found = e.1; is = inr (λ stands. apart old stands h k.0, k.1) })
+            inr (record { row = f.row; found = e.1; is = inr (λ occupies. apart old occupies h k.0, k.1) })
       ]
     ]
       where
@@ -91,7 +91,7 @@ found_after silo version rows s newest q after found = by (occupant silo rows) r
         → IsAfterJoin silo version rows q after
     none_case h f = elim f [
       | inl e ↦ inl e
-      | inr e ↦ inr (record { row = after; found = e.1; is = inr (λ stands. absurd (nothing q stands h), refl) })
+      | inr e ↦ inr (record { row = after; found = e.1; is = inr (λ occupies. absurd (nothing q occupies h), refl) })
     ]
       where
         nothing : (q : Silo) → occupant silo rows ≡ Some q → occupant silo rows ≡ None → ⊥
@@ -142,14 +142,14 @@ sum-put_in silo version rows s newest =
     let none : unwrap_or (option_map changes_of (found_row rows silo)) 0 ≡ 0 = ap (λ o. unwrap_or (option_map changes_of o) 0) (new_row silo rows newest) in
     omega (arith, e, none)
 
--- the one that is occupant keeps its row when the other is put in
-pub found_occupant : (silo : Silo) (version : ℕ) (rows : List (Silo × Row)) → is_newest silo rows ≡ true → (old : Silo) → (stands : IsOccupant silo rows old)
-    → found_row (put_in silo version rows) old ≡ Some stands.row
-found_occupant silo version rows newest old stands =
-    lookup-insert_entry silo_cmp_total silo (joining version) old rows ∙ other (is_at (silo_cmp old) silo) refl ∙ stands.found
+-- the occupant keeps its row when the other silo is put in
+pub found_occupant : (silo : Silo) (version : ℕ) (rows : List (Silo × Row)) → is_newest silo rows ≡ true → (old : Silo) → (occupies : IsOccupant silo rows old)
+    → found_row (put_in silo version rows) old ≡ Some occupies.row
+found_occupant silo version rows newest old occupies =
+    lookup-insert_entry silo_cmp_total silo (joining version) old rows ∙ other (is_at (silo_cmp old) silo) refl ∙ occupies.found
   where
     other : (b : Bool) → is_at (silo_cmp old) silo ≡ b → cond b (Some (joining version)) (found_row rows old) ≡ found_row rows old
-    other true at = absurd (not_itself silo rows newest old stands (silo_cmp_exact old silo (Equal-from (silo_cmp old silo) at)))
+    other true at = absurd (not_itself silo rows newest old occupies (silo_cmp_exact old silo (Equal-from (silo_cmp old silo) at)))
     other false at = refl
 
 -- one change more at least
@@ -158,8 +158,8 @@ counted-joined : (silo : Silo) (version : ℕ) (rows : List (Silo × Row)) → I
     → sum_by changes_of (values_of rows) + 1 ≤ sum_by changes_of (values_of (without o version (put_in silo version rows)))
 counted-joined silo version rows s newest None is = omega (arith, sum-put_in silo version rows s newest)
 counted-joined silo version rows s newest (Some old) is =
-    let stands = occupant_is silo rows s old is in
-    let e = sum-changed (dying version) old (put_in silo version rows) stands.row (sorted-insert_entry silo_cmp_total silo (joining version) rows s) (found_occupant silo version rows newest old stands) (changes_dying version stands.row stands.not_dead) in
+    let occupies = occupant_is silo rows s old is in
+    let e = sum-changed (dying version) old (put_in silo version rows) occupies.row (sorted-insert_entry silo_cmp_total silo (joining version) rows s) (found_occupant silo version rows newest old occupies) (changes_dying version occupies.row occupies.not_dead) in
     omega (arith, e, sum-put_in silo version rows s newest)
 
 -- after a join every row is in time

@@ -24,8 +24,8 @@ newest_is views whole silo = (λ newest other same there. lower newest other sam
     lower newest other same (Some row) is there = lower_generation silo views.rows newest other row is ((Decides-shares silo other).1 same)
 
 -- a silo whose row is not dead is there and isn't Dead in the current view
-stands_now : (views : ViewsValue) → IsViews views → (silo : Silo) (row : Row) → row_of views silo ≡ Some row → row.dead ≡ None → IsLiveIn views views.version silo
-stands_now views whole silo row found none =
+live_now : (views : ViewsValue) → IsViews views → (silo : Silo) (row : Row) → row_of views silo ≡ Some row → row.dead ≡ None → IsLiveIn views views.version silo
+live_now views whole silo row found none =
     let says : status_at views views.version silo ≡ status_in views.version row =
     status_at-made views whole.in_order views.version silo (omega arith) ∙ ap (λ o. option_and_then (status_in views.version) o) found in (
       subst (λ o. IsSome o) (sym says) (there_from views.version row (whole.in_time silo row found).joined_by),
@@ -48,7 +48,7 @@ occupant_law views whole silo old = (there, back)
     there : occupant silo views.rows ≡ Some old → IsSameEndpoint silo old × IsLiveIn views views.version old
     there h =
         let is = occupant_is silo views.rows whole.in_order old h in
-        ((Decides-shares silo old).0 is.shares, stands_now views whole old is.row is.found is.not_dead)
+        ((Decides-shares silo old).0 is.shares, live_now views whole old is.row is.found is.not_dead)
 
     back_by : (o : Option Row) → row_of views old ≡ o → IsSameEndpoint silo old → IsSome (option_and_then (status_in views.version) o)
         → option_and_then (status_in views.version) o ≢ Some Dead → occupant silo views.rows ≡ Some old

@@ -1,4 +1,4 @@
--- The rows next to a silo's place tell of its whole endpoint.
+-- The rows next to where a silo is, or would be, tell of its whole endpoint.
 use Rattle.std.proofs.Common.{◌≡◌, inl, inr, ℕ, ◌<◌, Bool, true, false, not, ◌&&◌, List, Option, Some, None, IsSome, is_some, is_none, refl, sym, ◌∙◌, ap, arith, if◌then◌else◌}
 use Rattle.std.proofs.lemmas.Bool.{cases_lt, cases_order, and_from}
 use Rattle.std.proofs.lemmas.Bool.Decides.{nat_tests}
@@ -23,7 +23,7 @@ above a b h = grind (arith, nat_tests)
 less : (a b : ℕ) → a < b → nat_cmp a b ≡ Less
 less a b h = grind (arith, nat_tests)
 
--- where no row is at a silo's place or after it, it is the newest
+-- where no row is the silo's or after it, the silo is the newest
 pub newest_none : (silo : Silo) (rows : List (Silo × Row)) → IsStrictlySortedBy silo_cmp (keys_of rows)
     → ((q : Silo) → is_gt (silo_cmp silo q) ≡ false → found_row rows q ≡ None) → is_newest silo rows ≡ true
 newest_none silo rows s none = newest_from silo rows s lower
@@ -37,7 +37,7 @@ newest_none silo rows s none = newest_from silo rows s lower
           cc
     ]
 
--- what the first row at a silo's place or after it tells
+-- what the first row that isn't before the silo tells
 pub newest_next : (silo : Silo) (rows : List (Silo × Row)) → IsStrictlySortedBy silo_cmp (keys_of rows) → (next : Silo) (row : Row)
     → found_row rows next ≡ Some row → is_gt (silo_cmp silo next) ≡ false
     → ((q : Silo) → is_gt (silo_cmp silo q) ≡ false → IsSome (found_row rows q) → is_gt (silo_cmp next q) ≡ false)
@@ -70,25 +70,25 @@ upto_from Less h = cc
 upto_from Equal h = refl
 upto_from Greater h = refl
 
--- a silo that is occupant stands before the place of a newer one of its endpoint
-stands_before : (silo : Silo) (rows : List (Silo × Row)) → is_newest silo rows ≡ true → (old : Silo) → IsOccupant silo rows old → silo_cmp old silo ≡ Less
-stands_before silo rows newest old is =
+-- an endpoint's occupant is before a newer silo of that endpoint
+occupant_before : (silo : Silo) (rows : List (Silo × Row)) → is_newest silo rows ≡ true → (old : Silo) → IsOccupant silo rows old → silo_cmp old silo ≡ Less
+occupant_before silo rows newest old is =
     by_generation old silo (shares_back silo old is.shares)
     ∙ less old.generation silo.generation (lower_generation silo rows newest old is.row is.found is.shares)
 
--- where no row is before a silo's place, nobody of its endpoint is occupant
+-- where no row is before a silo, its endpoint has no occupant
 pub occupant_first : (silo : Silo) (rows : List (Silo × Row)) → IsStrictlySortedBy silo_cmp (keys_of rows) → is_newest silo rows ≡ true
     → ((q : Silo) → silo_cmp q silo ≡ Less → found_row rows q ≡ None) → None ≡ occupant silo rows
 occupant_first silo rows s newest none = by (occupant silo rows) refl
   where
     never : (old : Silo) → IsOccupant silo rows old → ⊥
-    never old is = let e : Some is.row ≡ None = sym is.found ∙ none old (stands_before silo rows newest old is) in cc
+    never old is = let e : Some is.row ≡ None = sym is.found ∙ none old (occupant_before silo rows newest old is) in cc
 
     by : (o : Option Silo) → occupant silo rows ≡ o → None ≡ o
     by None h = refl
     by (Some old) h = absurd (never old (occupant_is silo rows s old h))
 
--- what the last row before the place of a silo that is the newest tells
+-- what the last row before the newest silo tells
 pub occupant_last : (silo : Silo) (rows : List (Silo × Row)) → IsStrictlySortedBy silo_cmp (keys_of rows) → is_newest silo rows ≡ true → OlderAreDead rows
     → (last : Silo) (row : Row) → found_row rows last ≡ Some row → silo_cmp last silo ≡ Less
     → ((q : Silo) → silo_cmp q silo ≡ Less → IsSome (found_row rows q) → is_lt (silo_cmp last q) ≡ false)
@@ -97,8 +97,8 @@ occupant_last silo rows s newest older_dead last row found before greatest = by 
   where
     shares_last : (old : Silo) → IsOccupant silo rows old → shares_endpoint old last ≡ true
     shares_last old is =
-        let stands = stands_before silo rows newest old is in
-        let upto : is_gt (silo_cmp old last) ≡ false = ap is_gt (silo_cmp_total.antisymm old last) ∙ upto_from (silo_cmp last old) (greatest old stands (ap is_some is.found)) in
+        let earlier = occupant_before silo rows newest old is in
+        let upto : is_gt (silo_cmp old last) ≡ false = ap is_gt (silo_cmp_total.antisymm old last) ∙ upto_from (silo_cmp last old) (greatest old earlier (ap is_some is.found)) in
         shares_between old last silo upto (ap is_gt before) (shares_back silo old is.shares)
 
     dead_before : (old : Silo) (is : IsOccupant silo rows old) → old.generation < last.generation → ⊥
@@ -110,7 +110,7 @@ occupant_last silo rows s newest older_dead last row found before greatest = by 
     not_behind : (old : Silo) (is : IsOccupant silo rows old) → last.generation < old.generation → ⊥
     not_behind old is higher =
         let lt : silo_cmp last old ≡ Less = by_generation last old (shares_back old last (shares_last old is)) ∙ less last.generation old.generation higher in
-        let e : is_lt (silo_cmp last old) ≡ false = greatest old (stands_before silo rows newest old is) (ap is_some is.found) in
+        let e : is_lt (silo_cmp last old) ≡ false = greatest old (occupant_before silo rows newest old is) (ap is_some is.found) in
         let f : is_lt (silo_cmp last old) ≡ true = ap is_lt lt in
         cc
 

@@ -1,4 +1,4 @@
--- Silos by address: endpoint first, then generation. So the silos of one endpoint stand together.
+-- Silos by address: endpoint first, then generation. So the silos of one endpoint are neighbours.
 use Rattle.std.proofs.Common.{◌≡◌, ℕ, ◌≤◌, Bool, true, false, refl, sym, ◌∙◌, ap, arith}
 use Rattle.std.specs.Bool.{Decides}
 use Rattle.std.proofs.lemmas.Bool.Decides.{Decides-and, Decides-eqb, nat_tests, same_from_decides}
@@ -62,7 +62,7 @@ then_assoc Greater s t = refl
 by_endpoint : (a b : Silo) → silo_cmp a b ≡ ordering_then (endpoint_cmp a b) (nat_cmp a.generation b.generation)
 by_endpoint a b = then_assoc (slice_cmp nat_cmp a.ip b.ip) (nat_cmp a.port b.port) (nat_cmp a.generation b.generation)
 
--- silos of one endpoint stand by generation
+-- silos of one endpoint are in order of generation
 pub by_generation : (a b : Silo) → shares_endpoint a b ≡ true → silo_cmp a b ≡ nat_cmp a.generation b.generation
 by_generation a b h = by_endpoint a b ∙ ap (λ r. ordering_then r (nat_cmp a.generation b.generation)) (tied_endpoint a b h)
 
@@ -79,7 +79,7 @@ level Less h k = cc
 level Equal h k = refl
 level Greater h k = cc
 
--- what stands between two silos of one endpoint is of that endpoint
+-- what is between two silos of one endpoint is of that endpoint
 pub shares_between : (a b c : Silo) → is_gt (silo_cmp a b) ≡ false → is_gt (silo_cmp b c) ≡ false → shares_endpoint a c ≡ true → shares_endpoint a b ≡ true
 shares_between a b c ab bc ac =
     let back : endpoint_cmp b a ≡ endpoint_cmp b c = alike_right endpoint_total a c b (tied_endpoint a c ac) in

@@ -45,7 +45,7 @@ none_is : {A : Type 0} (o : Option A) → is_none o ≡ true → o ≡ None
 none_is None h = refl
 none_is (Some x) h = cc
 
--- the silo that is occupant has a row, shares the endpoint and is not Dead
+-- the occupant has a row, shares the endpoint and is not Dead
 pub record IsOccupant (silo : Silo) (rows : List (Silo × Row)) (old : Silo) : Type 0 where
   pub row : Row
   pub found : found_row rows old ≡ Some row
@@ -69,21 +69,21 @@ occupant_is silo rows s old is = by (find (λ e. shares_endpoint silo e.0 && is_
         }
 
 -- of two silos of one endpoint that are not Dead each is the other
-pub one_stands : (rows : List (Silo × Row)) → OlderAreDead rows → (a b : Silo) (row next : Row) → found_row rows a ≡ Some row → found_row rows b ≡ Some next
+pub one_occupant : (rows : List (Silo × Row)) → OlderAreDead rows → (a b : Silo) (row next : Row) → found_row rows a ≡ Some row → found_row rows b ≡ Some next
     → shares_endpoint a b ≡ true → row.dead ≡ None → next.dead ≡ None → a ≡ b
-one_stands rows older_dead a b row next at_a at_b shares a_stands b_stands =
+one_occupant rows older_dead a b row next at_a at_b shares a_lives b_lives =
     elim (cases_order a.generation b.generation) [
       | inl same ↦ same_generation a b shares same
       | inr k ↦ elim k [
-        | inl lower ↦ absurd (no row next.joined a_stands (older_dead a b row next at_a at_b ((Decides-shares b a).0 (shares_back a b shares)) lower))
-        | inr higher ↦ absurd (no next row.joined b_stands (older_dead b a next row at_b at_a ((Decides-shares a b).0 shares) higher))
+        | inl lower ↦ absurd (no row next.joined a_lives (older_dead a b row next at_a at_b ((Decides-shares b a).0 (shares_back a b shares)) lower))
+        | inr higher ↦ absurd (no next row.joined b_lives (older_dead b a next row at_b at_a ((Decides-shares a b).0 shares) higher))
       ]
     ]
   where
     no : (row : Row) (version : ℕ) → row.dead ≡ None → has_come row.dead version ≡ true → ⊥
     no row version none come = let e : has_come row.dead version ≡ false = ap (λ c. has_come c version) none in cc
 
--- where none is occupant, no silo of the endpoint is not Dead
+-- without an occupant, every silo of the endpoint is Dead
 pub occupant_none : (rows : List (Silo × Row)) (silo : Silo) → occupant silo rows ≡ None → (q : Silo) (row : Row) → found_row rows q ≡ Some row
     → (shares_endpoint silo q && is_none row.dead) ≡ false
 occupant_none rows silo none q row found =
@@ -94,19 +94,19 @@ occupant_none rows silo none q row found =
     nothing None h = refl
     nothing (Some e) h = cc
 
--- a silo of the endpoint that is not Dead is the one that is occupant
+-- a silo of the endpoint that is not Dead is the occupant
 pub occupant_some : (rows : List (Silo × Row)) → IsStrictlySortedBy silo_cmp (keys_of rows) → OlderAreDead rows → (silo q : Silo) (row : Row)
     → found_row rows q ≡ Some row → shares_endpoint silo q ≡ true → row.dead ≡ None → occupant silo rows ≡ Some q
-occupant_some rows s older_dead silo q row found shares stands = by (occupant silo rows) refl
+occupant_some rows s older_dead silo q row found shares not_dead = by (occupant silo rows) refl
   where
     at_none : occupant silo rows ≡ None → ⊥
     at_none none =
         let no : (shares_endpoint silo q && is_none row.dead) ≡ false = occupant_none rows silo none q row found in
-        let yes : (shares_endpoint silo q && is_none row.dead) ≡ true = and_from (shares_endpoint silo q) (is_none row.dead) shares (ap is_none stands) in
+        let yes : (shares_endpoint silo q && is_none row.dead) ≡ true = and_from (shares_endpoint silo q) (is_none row.dead) shares (ap is_none not_dead) in
         cc
 
     by : (o : Option Silo) → occupant silo rows ≡ o → occupant silo rows ≡ Some q
     by None h = absurd (at_none h)
     by (Some old) h =
         let is = occupant_is silo rows s old h in
-        h ∙ ap (λ k. Some k) (one_stands rows older_dead old q is.row row is.found found (shares_along old silo q (shares_back silo old is.shares) shares) is.not_dead stands)
+        h ∙ ap (λ k. Some k) (one_occupant rows older_dead old q is.row row is.found found (shares_along old silo q (shares_back silo old is.shares) shares) is.not_dead not_dead)

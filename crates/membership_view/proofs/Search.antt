@@ -17,13 +17,13 @@ use Rattle.silo_address.specs.Silo.{Silo, silo_cmp}
 use Rattle.silo_address.proofs.Order.{silo_cmp_exact, silo_cmp_total}
 
 -- where the search hits
-pub lookup_hit : {Y : Type 0} (es : List (Silo × Y)) → IsStrictlySortedBy silo_cmp (keys_of es) → (silo : Silo) (place : ℕ) (e : Silo × Y) → place < length es
-    → HoldsAt (λ y. silo_cmp y.0 silo ≡ Equal) es place → e ≡ get_or es place e → lookup (is_at (silo_cmp silo)) es ≡ Some e.1
-lookup_hit es s silo place e inside hit read =
+pub lookup_hit : {Y : Type 0} (es : List (Silo × Y)) → IsStrictlySortedBy silo_cmp (keys_of es) → (silo : Silo) (index : ℕ) (e : Silo × Y) → index < length es
+    → HoldsAt (λ y. silo_cmp y.0 silo ≡ Equal) es index → e ≡ get_or es index e → lookup (is_at (silo_cmp silo)) es ≡ Some e.1
+lookup_hit es s silo index e inside hit read =
     let same : e.0 ≡ silo = silo_cmp_exact e.0 silo (ap (λ y. silo_cmp y.0 silo) read ∙ hit e) in
     ap (λ k. lookup (is_at (silo_cmp k)) es) (sym same)
-    ∙ lookup_from_place (eq_by_cmp_equiv silo_cmp_total) es place e.0 e.1 (IsDistinct-from_sorted silo_cmp (keys_of es) s)
-    (slice_get_read es (length es) place e refl inside read)
+    ∙ lookup_from_place (eq_by_cmp_equiv silo_cmp_total) es index e.0 e.1 (IsDistinct-from_sorted silo_cmp (keys_of es) s)
+    (slice_get_read es (length es) index e refl inside read)
 
 rising : (silo a b : Silo) → silo_cmp a b ≡ Less → ordering_index (silo_cmp a silo) ≤ ordering_index (silo_cmp b silo)
 rising silo a b below = by (silo_cmp b silo) refl (silo_cmp a silo) refl
@@ -54,12 +54,12 @@ turned : (a b : Silo) (r : Ordering) → silo_cmp b a ≡ r → silo_cmp a b ≡
 turned a b r h = silo_cmp_total.antisymm a b ∙ ap ordering_reverse h
 
 -- where it misses
-pub lookup_miss : {Y : Type 0} (es : List (Silo × Y)) → IsStrictlySortedBy silo_cmp (keys_of es) → (silo : Silo) (place : ℕ)
-    → (IsNonDecreasingBy (λ y. ordering_index (silo_cmp y.0 silo)) es → IsPartitionPoint (λ y. silo_cmp y.0 silo ≡ Less) (λ y. silo_cmp y.0 silo ≡ Greater) es place)
+pub lookup_miss : {Y : Type 0} (es : List (Silo × Y)) → IsStrictlySortedBy silo_cmp (keys_of es) → (silo : Silo) (index : ℕ)
+    → (IsNonDecreasingBy (λ y. ordering_index (silo_cmp y.0 silo)) es → IsPartitionPoint (λ y. silo_cmp y.0 silo ≡ Less) (λ y. silo_cmp y.0 silo ≡ Greater) es index)
     → lookup (is_at (silo_cmp silo)) es ≡ None
-lookup_miss es s silo place parts =
+lookup_miss es s silo index parts =
     let point = parts (rises es s silo) in
-    lookup_at_gap silo_cmp_total silo es place s
+    lookup_at_gap silo_cmp_total silo es index s
     (λ j e below at. turned silo e.0 Less (ap (λ y. silo_cmp y.0 silo) (sym (get_or_from_slice_get es j e e at)) ∙ point.0 j e (omega arith) below))
-    (λ e at. let inside : place < length es = slice_get_within es place e at in
-    turned silo e.0 Greater (ap (λ y. silo_cmp y.0 silo) (sym (get_or_from_slice_get es place e e at)) ∙ point.1 place e (omega arith) inside))
+    (λ e at. let inside : index < length es = slice_get_within es index e at in
+    turned silo e.0 Greater (ap (λ y. silo_cmp y.0 silo) (sym (get_or_from_slice_get es index e e at)) ∙ point.1 index e (omega arith) inside))

@@ -10,7 +10,7 @@ use Rattle.membership_view.specs.Row.{has_come, status_in, leaving, dying}
 use Rattle.membership_view.specs.Views.{ViewsValue, row_of, view_at, rows_in, status_at}
 use Rattle.membership_view.specs.Changes.{Change, Join, Leave, Die, changed, next_views, joined_rows}
 use Rattle.membership_view.specs.Whole.{IsViews}
-use Rattle.membership_view.specs.Laws.{Accepts, VersionsRise, ViewsStart, ViewsStay, ViewsAreKept, FirstIsEmpty, DeadStaysDead, RowsStay, JoinedFrom, OneStands}
+use Rattle.membership_view.specs.Laws.{Accepts, VersionsRise, ViewsStart, ViewsStay, ViewsAreKept, FirstIsEmpty, DeadStaysDead, RowsStay, JoinedFrom, OneIsLive}
 use Rattle.membership_view.proofs.Entries.{sorted-nil}
 use Rattle.membership_view.proofs.Order.{Decides-shares, same_generation}
 use Rattle.membership_view.proofs.Statuses.{has_come_later, joined_since, there_from, nothing_before, dead_later, there_later, status_before_leaving, status_before_dying}
@@ -145,15 +145,15 @@ first_is_empty views whole =
     nothing q None is = refl
     nothing q (Some row) is = let in' = whole.in_time q row is in nothing_before views.version 0 row in' in'.joined_above
 
-pub one_stands : OneStands
-one_stands views whole version a b same a_stands b_stands =
-    let of_a = is_there views whole version a a_stands.0 in
-    let of_b = is_there views whole version b b_stands.0 in
+pub one_is_live : OneIsLive
+one_is_live views whole version a b same a_lives b_lives =
+    let of_a = is_there views whole version a a_lives.0 in
+    let of_b = is_there views whole version b b_lives.0 in
     elim (cases_order a.generation b.generation) [
       | inl level ↦ same_generation a b ((Decides-shares a b).1 same) level
       | inr k ↦ elim k [
-        | inl lower ↦ absurd (a_stands.1 (dead a b of_a of_b (sym same.0, sym same.1) lower b_stands.0))
-        | inr higher ↦ absurd (b_stands.1 (dead b a of_b of_a same higher a_stands.0))
+        | inl lower ↦ absurd (a_lives.1 (dead a b of_a of_b (sym same.0, sym same.1) lower b_lives.0))
+        | inr higher ↦ absurd (b_lives.1 (dead b a of_b of_a same higher a_lives.0))
       ]
     ]
   where

@@ -101,7 +101,7 @@ death_step views whole silo was there not_dead kept =
 joined_says : (made : ℕ) (silo : Silo) (rows : List (Silo × Row)) → is_newest silo rows ≡ true → (o : Option Silo) → ((old : Silo) → o ≡ Some old → occupant silo rows ≡ Some old)
     → IsStrictlySortedBy silo_cmp (keys_of rows)
     → row_status made (without o made (put_in silo made rows)) silo ≡ Some Active
-joined_says made silo rows newest o stands s = by o stands
+joined_says made silo rows newest o occupies s = by o occupies
   where
     put : row_status made (put_in silo made rows) silo ≡ Some Active
     put =
@@ -110,14 +110,14 @@ joined_says made silo rows newest o stands s = by o stands
         ∙ ap (λ b. if b then Some Active else None) (le-leb made made (omega arith))
 
     by : (o : Option Silo) → ((old : Silo) → o ≡ Some old → occupant silo rows ≡ Some old) → row_status made (without o made (put_in silo made rows)) silo ≡ Some Active
-    by None stands = put
-    by (Some old) stands =
-        let is = occupant_is silo rows s old (stands old refl) in
+    by None occupies = put
+    by (Some old) occupies =
+        let is = occupant_is silo rows s old (occupies old refl) in
         row_status-changed made (dying made) old (put_in silo made rows) is.row (found_occupant silo made rows newest old is) silo
         ∙ ap (λ b. if b then status_in made (dying made is.row) else row_status made (put_in silo made rows) silo) (apart old silo (not_itself silo rows newest old is))
         ∙ put
 
--- what stands after a join for a silo that isn't the one that joined: nothing, where it has no row, or its row as it was or dying
+-- what a silo other than the one that joined has after the join: nothing, where it has no row, or its row as it was or dying
 abbrev IsOther : Silo → ℕ → List (Silo × Row) → Silo → Type 0
 IsOther silo made rows q =
     ((found_row (joined_rows silo made rows) q ≡ None) × (found_row rows q ≡ None))

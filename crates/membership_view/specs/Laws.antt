@@ -54,13 +54,13 @@ abbrev pub JoinedFrom : Type 0
 JoinedFrom = (views : ViewsValue) → IsViews views → (silo : Silo) (joined : ℕ) → joining_version views silo ≡ Some joined
     → (version : ℕ) → version ≤ views.version → IsSome (status_at views version silo) ↔ (joined ≤ version)
 
--- a silo that is there and isn't Dead in a view
+-- a silo that is in a view and isn't Dead there
 abbrev pub IsLiveIn : ViewsValue → ℕ → Silo → Type 0
 IsLiveIn views version silo = IsSome (status_at views version silo) × (status_at views version silo ≢ Some Dead)
 
--- in no view two silos of one endpoint are there that aren't Dead
-abbrev pub OneStands : Type 0
-OneStands = (views : ViewsValue) → IsViews views → (version : ℕ) (a b : Silo) → IsSameEndpoint a b
+-- in each view, at most one silo of an endpoint isn't Dead
+abbrev pub OneIsLive : Type 0
+OneIsLive = (views : ViewsValue) → IsViews views → (version : ℕ) (a b : Silo) → IsSameEndpoint a b
     → IsLiveIn views version a → IsLiveIn views version b → a ≡ b
 
 -- a silo is the newest of its endpoint where every silo of it that ever joined has a lower generation
@@ -69,7 +69,7 @@ NewestIs = (views : ViewsValue) → IsViews views → (silo : Silo)
     → IsTrue (is_newest silo views.rows)
     ↔ ((other : Silo) → IsSameEndpoint silo other → IsSome (joining_version views other) → other.generation < silo.generation)
 
--- the silo that a join replaces is the one of its endpoint that is there in the current view and isn't Dead
+-- the silo that a join replaces is the one of its endpoint that is in the current view and isn't Dead
 abbrev pub OccupantIs : Type 0
 OccupantIs = (views : ViewsValue) → IsViews views → (silo old : Silo)
     → (occupant silo views.rows ≡ Some old) ↔ (IsSameEndpoint silo old × IsLiveIn views views.version old)

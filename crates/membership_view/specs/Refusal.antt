@@ -5,7 +5,7 @@ use Rattle.membership_view.specs.declared.refusal.ViewsError.TheVariants.{OldGen
 use Rattle.membership_view.specs.Views.{ViewsValue}
 use Rattle.membership_view.specs.Changes.{Change, after}
 
--- the stated number of a refusal; want of memory has none
+-- the stated number of a refusal; out of memory has none
 abbrev pub views_error_number : ViewsError → Option ℕ
 views_error_number OldGeneration = Some 201
 views_error_number UnknownSilo = Some 202
@@ -18,6 +18,6 @@ views_error_number OutOfMemory = None
 abbrev pub Refuses : ViewsValue → Change → ViewsError → Type 0
 Refuses views change refusal = IsSomeAnd (views_error_number refusal) (λ number. after views change ≡ Err number)
 
--- the same, or want of memory for a change that nothing refuses
+-- the same, or out of memory at a change that nothing refuses
 abbrev pub RefusesOrLacksMemory : ViewsValue → Change → ViewsError → Type 0
 RefusesOrLacksMemory views change refusal = MatchOption (views_error_number refusal) (IsOk (after views change)) (λ number. after views change ≡ Err number)

@@ -6,7 +6,7 @@ use Rattle.membership_view.specs.declared.status.Status.TheVariants.{Active, Lea
 use Rattle.membership_view.specs.View.{ViewValue, status_of}
 use Rattle.membership_view.specs.Changes.{Change, Join, Leave, Die}
 
--- a silo newer than all others of its endpoint is Active; an older one of its endpoint is Dead, if it wasn't before
+-- a silo newer than all others of its endpoint becomes Active; the older ones of its endpoint are Dead from then on
 pub record Joins (silo : Silo) (view next : ViewValue) : Type 0 where
   pub rises : next.version ≡ view.version + 1
   pub newest : (other : Silo) → IsSameEndpoint silo other → IsSome (status_of view other) → other.generation < silo.generation
@@ -14,14 +14,14 @@ pub record Joins (silo : Silo) (view next : ViewValue) : Type 0 where
   pub older : (other : Silo) → IsSameEndpoint silo other → other ≢ silo → status_of next other ≡ option_map (λ _. Dead) (status_of view other)
   pub others : (other : Silo) → ¬ (IsSameEndpoint silo other) → status_of next other ≡ status_of view other
 
--- a silo that is Active is Leaving
+-- a silo that is Active becomes Leaving
 pub record Leaves (silo : Silo) (view next : ViewValue) : Type 0 where
   pub rises : next.version ≡ view.version + 1
   pub was : status_of view silo ≡ Some Active
   pub left : status_of next silo ≡ Some Leaving
   pub others : (other : Silo) → other ≢ silo → status_of next other ≡ status_of view other
 
--- a silo that is there and isn't Dead is Dead
+-- a silo that is there and isn't Dead becomes Dead
 pub record Dies (silo : Silo) (view next : ViewValue) : Type 0 where
   pub rises : next.version ≡ view.version + 1
   pub was : IsSome (status_of view silo)

@@ -12,7 +12,7 @@ pub record ViewValue : Type 0 where
   pub version : ℕ
   pub rows : List (Silo × Status)
 
--- each silo stands once, by address
+-- each silo has one row, and the rows are in order of address
 abbrev pub IsByAddress : ViewValue → Type 0
 IsByAddress view = IsStrictlySortedBy silo_cmp (keys_of view.rows)
 

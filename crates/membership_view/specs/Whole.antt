@@ -29,7 +29,7 @@ pub record IsViews (views : ViewsValue) : Type 0 where
   pub limit_above : 0 < views.limit
   pub limit_below : views.limit ≤ 256
   pub within_limit : length views.rows ≤ views.limit
-  -- each silo has one row, and the rows stand by address
+  -- each silo has one row, and the rows are in order of address
   pub in_order : IsStrictlySortedBy silo_cmp (keys_of views.rows)
   pub in_time : (silo : Silo) (row : Row) → row_of views silo ≡ Some row → IsInTime views.version row
   pub older_dead : OlderAreDead views.rows

@@ -6,8 +6,8 @@ use crate::Row;
 use silo_address::SiloAddress;
 use std::collections::BTreeMap;
 
-// The silos of an endpoint stand together, by generation. So what matters of them stands next to the place where a silo of this
-// endpoint would be put in.
+// In rows by address the silos of one endpoint are neighbours, by generation. So the rows next to where a silo would be inserted
+// are all that has to be looked at.
 
 /// Whether every silo of this one's endpoint that has a row has a lower generation.
 pub(crate) fn is_newest(rows: &BTreeMap<SiloAddress, Row>, silo: &SiloAddress) -> bool

@@ -1,10 +1,10 @@
-//! What holds of all views. Each function here does nothing: its contract is a law on what the other contracts speak of, for the
-//! proofs of crates above.
-ghost use Rattle.membership_view.specs.Laws.{ChangesAreSteps, VersionsRise, ViewsStart, ViewsStay, ViewsAreKept, FirstIsEmpty, DeadStaysDead, RowsStay, JoinedFrom, OneStands, NewestIs, OccupantIs, StepsAreChanges};
+//! What holds of all views. Each function here does nothing: its contract is a law about the definitions that the other contracts
+//! use, for the proofs of crates above.
+ghost use Rattle.membership_view.specs.Laws.{ChangesAreSteps, VersionsRise, ViewsStart, ViewsStay, ViewsAreKept, FirstIsEmpty, DeadStaysDead, RowsStay, JoinedFrom, OneIsLive, NewestIs, OccupantIs, StepsAreChanges};
 ghost use Rattle.membership_view.specs.Worked.{WorkedChanges};
 
-/// Each accepted change makes one version, one higher, and is one membership step from the current view to the next one. Every
-/// earlier view stays as it was. What all views keep holds before any change, and after each.
+/// Each accepted change makes the next version, and is one membership step from the current view to the next one. Every earlier
+/// view stays as it was. The invariant of all views holds before any change, and after each.
 pub fn changes_are_steps()
     ensures rises { VersionsRise }
     ensures steps { ChangesAreSteps }
@@ -22,13 +22,13 @@ pub fn rows_stay()
     ensures dead { DeadStaysDead }
 {}
 
-/// In no view two silos of one endpoint are there that aren't Dead.
-pub fn one_stands()
-    ensures { OneStands }
+/// In each view, at most one silo of an endpoint isn't Dead.
+pub fn one_is_live()
+    ensures { OneIsLive }
 {}
 
-/// What a join looks for, told by silos and statuses: whether every silo of its endpoint that ever joined has a lower generation,
-/// and which silo of its endpoint is there in the current view and isn't Dead.
+/// What a join looks for, in terms of silos and statuses: whether every silo of its endpoint that ever joined has a lower
+/// generation, and which silo of its endpoint is in the current view and isn't Dead.
 pub fn joins_look_for()
     ensures newest { NewestIs }
     ensures occupant { OccupantIs }

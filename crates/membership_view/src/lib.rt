@@ -14,6 +14,3 @@ pub use row::Row;
 pub use status::Status;
 pub use view::View;
 pub use views::{Joined, MAX_SILOS, Views};
-
-#[cfg(test)]
-mod tests;

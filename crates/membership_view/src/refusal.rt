@@ -27,7 +27,7 @@ pub enum ViewsError {
 }
 
 impl ViewsError {
-    /// The number of the refusal; want of memory has none.
+    /// The number of the refusal; out of memory has none.
     pub fn number(self) -> Option<u16>
         ensures { result ≡ views_error_number self }
     {

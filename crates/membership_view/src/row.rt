@@ -3,7 +3,7 @@ ghost use Rattle.membership_view.specs.Row.{has_come, status_in};
 
 use crate::Status;
 
-/// What is kept of a silo for good: the versions in which it joined, began to leave and became dead.
+/// What is kept of a silo forever: the versions in which it joined, began to leave and became Dead.
 #[derive(Clone, Copy, Debug, PartialEq, Eq)]
 pub struct Row {
     /// The version in which the silo joined, above 0.
@@ -32,7 +32,7 @@ impl Row {
     }
 }
 
-// Whether a change that was made in a version, if it was made, had been made by another one.
+// Whether a change, made in that version if at all, had been made by another version.
 fn has_come(change: Option<u64>, version: u64) -> bool
     ensures { result ≡ has_come change version }
 {

@@ -8,7 +8,7 @@ use std::alloc::{AllocError, Global};
 use std::collections::BTreeMap;
 use std::marker::Model;
 
-/// A view: one version of membership, each silo that has joined by it with its status there (`docs/RULES.md#membership`).
+/// A view: one version of the membership, with the status of each silo that has joined by then (`docs/RULES.md#membership`).
 #[derive(Drop)]
 pub struct View {
     version: u64,
@@ -28,7 +28,7 @@ impl Model for View {
 }
 
 impl View {
-    // What the rows say of one version.
+    // The view of one version, as the rows tell it.
     pub(crate) fn read(
         alloc: Global,
         version: u64,
@@ -48,7 +48,7 @@ impl View {
         })
     }
 
-    /// The view before the first change: version 0, in which nobody is.
+    /// The view before the first change: version 0, without silos.
     pub fn empty(alloc: Global) -> View
         ensures { result ≡ record { version = 0; rows = [] } }
     {
@@ -65,24 +65,24 @@ impl View {
         self.version
     }
 
-    /// Each silo that has joined by this version with its status, by address.
+    /// Each silo that has joined by this version, with its status, in order of address.
     pub fn rows(&self) -> &[(SiloAddress, Status)]
         ensures { result.now ≡ self.now.rows }
     {
         &self.rows
     }
 
-    /// The status of a silo here; `None` where it has not joined by this version.
+    /// The status of a silo in this view; `None` if it had not joined by this version.
     pub fn status(&self, silo: &SiloAddress) -> Option<Status>
         ensures { result ≡ status_of self.now silo.now }
     {
         match self.rows.binary_search_by_key(silo, |row| row.0) {
-            Ok(place) => Some(self.rows[place].1),
+            Ok(index) => Some(self.rows[index].1),
             Err(_) => None,
         }
     }
 
-    /// The silos that are Active here, by address. Fails only for want of memory.
+    /// The silos that are Active in this view, in order of address. Fails only when memory runs out.
     pub fn active(&self, alloc: Global) -> Result<Vec<SiloAddress>, AllocError>
         ensures { IfOk result (λ silos. silos.items ≡ active_silos self.now) }
     {
@@ -93,14 +93,14 @@ impl View {
             .collect(alloc)
     }
 
-    /// Each silo stands once, by address.
+    /// A law: each silo has one row, and the rows are in order of address.
     pub fn in_order(&self)
         ensures { IsByAddress self.now }
     {
         let _version = self.version;
     }
 
-    /// An equal view. Fails only for want of memory.
+    /// An equal copy. Fails only when memory runs out.
     pub fn copy(&self) -> Result<View, AllocError>
         ensures { IfOk result (λ view. view ≡ self.now) }
     {

@@ -39,17 +39,17 @@ impl Model for Views {
     ghost invariant = { λ v. IsViews (record { limit = v.limit; version = v.version; rows = v.rows.entries }) };
 }
 
-/// What a join has done.
+/// The outcome of a join.
 #[derive(Clone, Copy, Debug, PartialEq, Eq)]
 pub struct Joined {
     /// The version that the join made.
     pub version: u64,
-    /// The older silo of the same endpoint that became Dead in that version, if one had not been Dead.
+    /// The older silo of the same endpoint that became Dead in that version, if there was one that wasn't Dead.
     pub replaced: Option<SiloAddress>,
 }
 
 impl Views {
-    /// Only version 0, the empty view, for at most `limit` silos ever (1 to 256).
+    /// Version 0 alone, the empty view. At most `limit` silos (1 to 256) may ever join.
     pub fn new(alloc: Global, limit: usize) -> Views
         requires limit_above { 0 < limit }
         requires limit_below { limit ≤ MAX_SILOS }
@@ -119,7 +119,7 @@ impl Views {
         self.row(silo)?.dead
     }
 
-    /// The status of a silo in the view of a version; `None` where it has not joined by it, or that version has not been made.
+    /// The status of a silo in the view of a version; `None` if it had not joined by then, or that version has not been made.
     pub fn status(&self, version: u64, silo: &SiloAddress) -> Option<Status>
         ensures { result ≡ status_at self.now version silo.now }
     {
@@ -136,7 +136,7 @@ impl Views {
         self.status(version, silo) == Some(Status::Dead)
     }
 
-    /// The view of a version; `None` where that version has not been made. Fails only for want of memory.
+    /// The view of a version; `None` where that version has not been made. Fails only when memory runs out.
     pub fn view(&self, alloc: Global, version: u64) -> Result<Option<View>, AllocError>
         ensures made { IfOk result (λ view. IsSome view ↔ (version ≤ self.now.version)) }
         ensures exact { IfOk result (λ view. IfSome view (λ view. view ≡ view_at self.now version)) }
@@ -148,7 +148,7 @@ impl Views {
         Ok(Some(view))
     }
 
-    /// A silo joins, and an older one of its endpoint that isn't Dead becomes Dead in the same version. Refused by 201 where a
+    /// A silo joins; an older one of its endpoint that isn't Dead becomes Dead in the same version. Refused by 201 where a
     /// silo of its endpoint with this generation or a higher one has ever joined, then by 205 where as many silos have joined
     /// as ever may (`docs/RULES.md#membership`).
     pub fn join(&mut self, silo: SiloAddress) -> Result<Joined, ViewsError>
@@ -156,7 +156,7 @@ impl Views {
         ensures version { IfOk result (λ joined. joined.version ≡ self.new.version) }
         ensures replaced { IfOk result (λ joined. joined.replaced ≡ occupant silo self.old.rows) }
 
-        // Memory is wanted last, by a join that nothing refuses.
+        // Memory runs out only at a join that nothing refuses.
         ensures refused { IfErr result (RefusesOrLacksMemory self.old (Join silo)) }
         ensures unchanged { OnErr result (self.new ≡ self.old) }
     {
@@ -167,7 +167,7 @@ impl Views {
         }
     }
 
-    /// Whether a silo may join: refused as a join of it would be (`docs/RULES.md#membership`). Takes no memory.
+    /// Whether a silo may join: fails as `join` would (`docs/RULES.md#membership`). Needs no memory.
     pub fn may_join(&self, silo: &SiloAddress) -> Result<(), ViewsError>
         ensures joins { OnOk result (after self.now (Join silo.now) ≡ Ok (with_join self.now silo.now)) }
         ensures newest { OnOk result (is_newest silo.now self.now.rows ≡ true) }
@@ -183,7 +183,7 @@ impl Views {
         Ok(())
     }
 
-    /// An Active silo becomes Leaving; answers the version that this makes. Refused by 202 where the silo has never joined, by
+    /// An Active silo becomes Leaving. Returns the version that this makes. Refused by 202 where the silo has never joined, by
     /// 203 where it is Leaving or Dead (`docs/RULES.md#membership`).
     pub fn leave(&mut self, silo: &SiloAddress) -> Result<u64, ViewsError>
         ensures left { OnOk result (after self.old (Leave silo.now) ≡ Ok self.new) }
@@ -198,7 +198,7 @@ impl Views {
         }
     }
 
-    /// An Active or Leaving silo becomes Dead; answers the version that this makes. Refused by 202 where the silo has never
+    /// An Active or Leaving silo becomes Dead. Returns the version that this makes. Refused by 202 where the silo has never
     /// joined, by 204 where it is Dead (`docs/RULES.md#membership`).
     pub fn declare_dead(&mut self, silo: &SiloAddress) -> Result<u64, ViewsError>
         ensures dead { OnOk result (after self.old (Die silo.now) ≡ Ok self.new) }
@@ -240,7 +240,7 @@ impl Views {
         version
     }
 
-    // A silo that is there and isn't Dead dies.
+    // A silo that has joined and isn't Dead becomes Dead.
     fn die(&mut self, silo: &SiloAddress) -> u64
         requires there { IsSome (status_at self.old self.old.version silo.now) }
         requires not_dead { status_at self.old self.old.version silo.now ≢ Some Dead }
@@ -253,14 +253,14 @@ impl Views {
         version
     }
 
-    /// What all views keep holds of these.
+    /// A law: the invariant of all views.
     pub fn whole(&self)
         ensures { IsViews self.now }
     {
         let _version = self.version;
     }
 
-    /// Equal views. Fails only for want of memory.
+    /// An equal copy. Fails only when memory runs out.
     pub fn copy(&self) -> Result<Views, AllocError>
         ensures { IfOk result (λ views. views ≡ self.now) }
     {
@@ -282,7 +282,7 @@ impl Views {
     }
 }
 
-// The row of a silo that joins is put in, and that of the silo that it replaces, if there is one, is dead from then on.
+// Inserts the row of a silo that joins, and marks the silo that it replaces, if there is one, as Dead from that version on.
 fn put_in(
     rows: &mut BTreeMap<SiloAddress, Row>,
     silo: SiloAddress,
@@ -308,7 +308,7 @@ fn put_in(
     Ok(Joined { version, replaced })
 }
 
-// The silo's row, if it has one, is left in this version.
+// Marks the silo's row, if it has one, as Leaving from this version on.
 fn set_left(rows: &mut BTreeMap<SiloAddress, Row>, silo: &SiloAddress, version: u64)
     ensures { rows.new.entries ≡ changed (leaving version) silo.now rows.old.entries }
 {
@@ -317,7 +317,7 @@ fn set_left(rows: &mut BTreeMap<SiloAddress, Row>, silo: &SiloAddress, version: 
     }
 }
 
-// The silo's row, if it has one, is dead from this version on.
+// Marks the silo's row, if it has one, as Dead from this version on.
 fn set_dead(rows: &mut BTreeMap<SiloAddress, Row>, silo: &SiloAddress, version: u64)
     ensures { rows.new.entries ≡ changed (dying version) silo.now rows.old.entries }
 {

@@ -15,7 +15,7 @@ pub struct Arc {
     pub to: Option<SiloAddress>,
 }
 
-/// An arc that goes to another silo than it was owned by.
+/// An arc that another silo owns after than before.
 #[derive(Clone, Copy, Debug, PartialEq, Eq)]
 pub struct Move {
     /// The hashes that move.
@@ -27,14 +27,14 @@ pub struct Move {
 }
 
 impl Arc {
-    /// Whether the two are one arc.
+    /// Whether the two are the same arc.
     pub fn same(&self, other: &Arc) -> bool
         ensures { IsTrue result ↔ (self.now ≡ other.now) }
     {
         self == other
     }
 
-    /// The move of the arc: where it has an owner after, of another silo than before.
+    /// The arc as a move, if it has an owner after that is another silo than before.
     pub fn moved(&self) -> Option<Move>
         ensures { result ≡ move_of self.now }
     {
@@ -58,7 +58,7 @@ impl Arc {
 }
 
 impl Move {
-    /// Whether the two are one move.
+    /// Whether the two are the same move.
     pub fn same(&self, other: &Move) -> bool
         ensures { IsTrue result ↔ (self.now ≡ other.now) }
     {

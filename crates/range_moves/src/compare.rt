@@ -15,7 +15,7 @@ const CIRCLE: u64 = 1 << 32;
 /// The arcs between two rings, by start: the circle cut at every place of either, each part with its owner before and its
 /// owner after. Where the rings have one place in all the arc is the full circle; where they have none there is no arc.
 ///
-/// One walk over the points of both. Fails only for want of memory (`docs/RULES.md#arcs-and-moves`).
+/// One walk over the points of both. Fails only when memory runs out (`docs/RULES.md#arcs-and-moves`).
 pub fn arcs(alloc: Global, old: &Ring, new: &Ring) -> Result<Vec<Arc>, AllocError>
     ensures exact { IfOk result (λ arcs. arcs.items ≡ arcs_of old.now.points new.now.points) }
     ensures whole { IfOk result (λ arcs. AreArcs old.now.points new.now.points arcs.items) }
@@ -43,7 +43,7 @@ pub fn arcs(alloc: Global, old: &Ring, new: &Ring) -> Result<Vec<Arc>, AllocErro
 /// The moves between two rings, by start: the arcs whose owners before and after are of different silos, and that have an
 /// owner after. A hash is in one of them exactly where it moved.
 ///
-/// One walk over the points of both. Fails only for want of memory (`docs/RULES.md#arcs-and-moves`).
+/// One walk over the points of both. Fails only when memory runs out (`docs/RULES.md#arcs-and-moves`).
 pub fn moves(alloc: Global, old: &Ring, new: &Ring) -> Result<Vec<Move>, AllocError>
     ensures exact { IfOk result (λ moves. moves.items ≡ moves_of old.now.points new.now.points) }
     ensures whole { IfOk result (λ moves. AreMoves old.now.points new.now.points moves.items) }

@@ -1,4 +1,4 @@
-//! Laws of the definitions, for whoever reasons on moves without a program: each function is the law that its clauses state.
+//! Laws of the definitions, for proofs about moves: each function does nothing, and its clauses state a law.
 
 ghost use Rattle.std.specs.Prelude.{◌≡◌, ℕ, ◌<◌, List, [], ◌∷◌, All, Contains};
 ghost use Rattle.ring_range.specs.Range.{circle};

@@ -10,6 +10,3 @@ mod walk;
 
 pub use arc::{Arc, Move};
 pub use compare::{arcs, moves};
-
-#[cfg(test)]
-mod tests;

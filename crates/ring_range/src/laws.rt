@@ -1,4 +1,4 @@
-//! Laws of the definitions, for whoever reasons on ranges without a program: each function is the law that its clauses state.
+//! Laws of the definitions, for proofs about ranges: each function does nothing, and its clauses state a law.
 
 ghost use Rattle.std.specs.Prelude.{◌≡◌, ℕ, ◌+◌, ◌-◌, ◌%◌, ◌<◌, ◌≤◌, ◌&&◌, ◌↔◌, IsTrue, All, List, [], ◌∷◌, codes, true, false, Ok, Err};
 ghost use Rattle.std.specs.List.{list_any};

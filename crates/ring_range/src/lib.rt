@@ -11,6 +11,3 @@ mod text;
 
 pub use range::{RangeError, RingRange};
 pub use text::RangeTextError;
-
-#[cfg(test)]
-mod tests;

@@ -11,7 +11,7 @@ use thiserror::Error;
 /// How many hashes the circle has.
 const CIRCLE: u64 = 1 << 32;
 
-/// Why there is no range of a start and a size.
+/// Why there is no range with a start and a size.
 #[derive(Clone, Copy, Debug, PartialEq, Eq, Error)]
 pub enum RangeError {
     /// 301: the size is above 4294967296.
@@ -64,7 +64,7 @@ impl RingRange {
         Ok(RingRange { start, size })
     }
 
-    /// The first hash, or of an empty range the place where it is told.
+    /// The first hash; of an empty range, the place at which it is written.
     pub fn start(&self) -> u32
         ensures { result ≡ self.now.start }
     {
@@ -86,7 +86,7 @@ impl RingRange {
         let _start = self.start;
     }
 
-    /// Whether the two have one start and one size.
+    /// Whether the two have the same start and size.
     pub fn same(&self, other: &RingRange) -> bool
         ensures { IsTrue result ↔ (self.now ≡ other.now) }
     {
@@ -114,7 +114,7 @@ impl RingRange {
         u64::from(distance(other.start, self.start)) + self.size <= other.size
     }
 
-    // Of the hashes those from `from` steps after the start to before `to` steps.
+    // The hashes from `from` steps after the start up to, but not including, `to` steps after it.
     fn part(&self, from: u64, to: u64) -> RingRange
         requires { to ≤ self.now.size }
         ensures { result ≡ part_of self.now from to }

@@ -7,7 +7,7 @@ ghost use Rattle.ring_range.specs.Text.{range_text, read_range, if_range, IsInSh
 use crate::range::RingRange;
 use std::alloc::{AllocError, Global};
 use std::fmt;
-use texts::{first_place, is_numeral, value_up_to};
+use texts::{first_position, is_numeral, value_up_to};
 use thiserror::Error;
 
 /// Why a text tells no range: the first fault that holds, in this order.
@@ -34,7 +34,7 @@ impl fmt::Display for RingRange {
 }
 
 impl RingRange {
-    /// The range's text, `start+size` in decimal. Fails only for want of memory.
+    /// The range's text, `start+size` in decimal. Fails only when memory runs out.
     pub fn text(&self, alloc: Global) -> Result<String, AllocError>
         ensures { IfOk result (λ text. string_bytes text ≡ range_text self.now) }
     {
@@ -63,7 +63,7 @@ impl RingRange {
 fn read(text: &[u8]) -> Result<RingRange, RangeTextError>
     ensures { result ≡ read_range text.now }
 {
-    let plus = first_place(text, b'+');
+    let plus = first_position(text, b'+');
     if plus == 0 || plus + 1 >= text.len() {
         return Err(RangeTextError::Shape);
     }

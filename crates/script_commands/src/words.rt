@@ -5,7 +5,7 @@ ghost use Rattle.std.specs.Prelude.{◌≡◌, ◌≢◌, ◌<◌, ◌≤◌, �
 ghost use Rattle.texts.specs.Words.{space, words_in};
 ghost use Rattle.script_commands.specs.WordCounts.{only_two_words, only_word, two_copied};
 
-use texts::first_place;
+use texts::first_position;
 
 /// The first word of a line, and what follows it, where there is a word.
 pub(crate) fn split_word(line: &[u8]) -> Option<(&[u8], &[u8])>
@@ -17,7 +17,7 @@ pub(crate) fn split_word(line: &[u8]) -> Option<(&[u8], &[u8])>
         return None;
     }
     let from_word = &line[start..];
-    let end = first_place(from_word, b' ');
+    let end = first_position(from_word, b' ');
     Some((&from_word[..end], &from_word[end..]))
 }
 

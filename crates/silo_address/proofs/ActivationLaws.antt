@@ -64,7 +64,7 @@ activation_only text activation silo small spelled =
     let back = decimal activation.count in
     let cut : IsCutAt is_exclamation_mark front exclamation_mark =
     record { fails = free_words (words_of activation.silo) (words_are_numerals activation.silo silo); ends = refl } in
-    let place : position_or_len is_exclamation_mark text ≡ length front = ap (position_or_len is_exclamation_mark) spelled ∙ position-cut is_exclamation_mark front exclamation_mark back cut in
+    let position : position_or_len is_exclamation_mark text ≡ length front = ap (position_or_len is_exclamation_mark) spelled ∙ position-cut is_exclamation_mark front exclamation_mark back cut in
     let before : before_first is_exclamation_mark text ≡ front = ap (before_first is_exclamation_mark) spelled ∙ before_first-cut is_exclamation_mark front exclamation_mark back cut in
     let after : after_first is_exclamation_mark text ≡ back = ap (after_first is_exclamation_mark) spelled ∙ after_first-cut is_exclamation_mark front exclamation_mark back cut in
     let long : length text ≡ length front + length (exclamation_mark ∷ back) = ap length spelled ∙ length-append front (exclamation_mark ∷ back) in

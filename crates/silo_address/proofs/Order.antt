@@ -56,6 +56,6 @@ by_ordering Less exact apart = refl
 by_ordering Equal exact apart = absurd (apart (exact refl))
 by_ordering Greater exact apart = refl
 
--- what is apart is at another place of the order
+-- two that differ are not equal in the order
 pub apart_in_order : {K : Type 0} (R : K → K → Ordering) → CmpEqualImpliesEq R → (a b : K) → a ≢ b → is_eq (R a b) ≡ false
 apart_in_order R exact a b apart = by_ordering (R a b) (exact a b) apart

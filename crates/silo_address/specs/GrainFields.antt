@@ -16,4 +16,4 @@ fields_of grain = record {
 -- the fields are just those of a grain
 pub record HoldsGrain (fields : Inside) : Type 0 where
   pub is_grain : IsGrain (grain_in fields)
-  pub in_place : fields_of (grain_in fields) ≡ fields
+  pub exact : fields_of (grain_in fields) ≡ fields

@@ -8,10 +8,10 @@ ghost use Rattle.silo_address.specs.SiloReading.{read_silo};
 use crate::{NumberError, SiloAddress, SiloError};
 use std::alloc::{AllocError, Global};
 use std::fmt;
-use texts::{first_place, number_up_to};
+use texts::{first_position, number_up_to};
 use thiserror::Error;
 
-/// Why a text names no activation: the first fault that holds, in this order.
+/// Why a text is no activation: the first fault, in this order.
 #[derive(Clone, Copy, Debug, PartialEq, Eq, Error)]
 pub enum ActivationError {
     #[error("an activation is written SILO!COUNT")]
@@ -22,7 +22,7 @@ pub enum ActivationError {
     Count(NumberError),
 }
 
-/// One life of a grain on a silo: the silo, and the silo's count of activations when it began.
+/// One activation of a grain: the silo that it is on, and that silo's count of activations when it began.
 #[derive(Clone, Copy, Debug, PartialEq, Eq, PartialOrd, Ord, Hash)]
 pub struct ActivationId {
     pub silo: SiloAddress,
@@ -39,7 +39,7 @@ impl ActivationId {
         ensures shape { IsErrOf result ActivationError.Shape ↔ All (λ byte. byte ≢ exclamation_mark) text.now }
         ensures only { (activation : ActivationId) → IsSilo activation.silo → activation.count < 2 ^ 64 → text.now ≡ activation_text activation → result ≡ Ok activation }
     {
-        let end = first_place(text, b'!');
+        let end = first_position(text, b'!');
         if end < text.len() {
             ActivationId::from_parts(&text[..end], &text[end + 1..])
         } else {
@@ -67,14 +67,14 @@ impl ActivationId {
         self.to_string(alloc)
     }
 
-    /// Whether the two are one activation.
+    /// Whether the two are the same activation.
     pub fn same(&self, other: &ActivationId) -> bool
         ensures { IsTrue result ↔ (self.now ≡ other.now) }
     {
         self == other
     }
 
-    /// The activation itself: ids are copied and not cloned.
+    /// The same activation. Ids are copied, never cloned.
     pub fn copy(&self) -> ActivationId
         ensures { result ≡ self.now }
     {

@@ -2,7 +2,7 @@ ghost use Rattle.std.specs.Prelude.{◌≡◌, ◌↔◌, IsTrue};
 
 use crate::{ActivationId, GrainId};
 
-/// A grain and its activation, as a directory keeps them.
+/// A directory entry: a grain and its activation.
 #[derive(Clone, Copy, Debug, PartialEq, Eq, PartialOrd, Ord, Hash)]
 pub struct Entry {
     pub grain: GrainId,
@@ -10,14 +10,14 @@ pub struct Entry {
 }
 
 impl Entry {
-    /// Whether the two are one entry.
+    /// Whether the two are the same entry.
     pub fn same(&self, other: &Entry) -> bool
         ensures { IsTrue result ↔ (self.now ≡ other.now) }
     {
         self == other
     }
 
-    /// The entry itself: ids are copied and not cloned.
+    /// The same entry. Ids are copied, never cloned.
     pub fn copy(&self) -> Entry
         ensures { result ≡ self.now }
     {

@@ -18,10 +18,10 @@ use std::cmp::Ordering;
 use std::fmt;
 use std::hash::{Hash, Hasher};
 use std::marker::Model;
-use texts::{after_last_place, first_place, number_up_to};
+use texts::{after_last, first_position, number_up_to};
 use thiserror::Error;
 
-/// Why a text names no grain: the first of these that holds (`docs/RULES.md#refusals-and-their-numbers`).
+/// Why a text is no grain: the first fault, in this order (`docs/RULES.md#refusals-and-their-numbers`).
 #[derive(Clone, Copy, Debug, PartialEq, Eq, Error)]
 pub enum GrainError {
     #[error("a grain is written kind/key, neither of them empty")]
@@ -51,8 +51,8 @@ const MOST_KIND: usize = 64;
 /// The most bytes of a key.
 const MOST_KEY: usize = 128;
 
-/// A grain: one virtual actor, told by its kind and by its key within the kind. Grains are ordered by kind, then key, byte
-/// by byte, which is not the order of their texts. Kept in place, so it is copied.
+/// A grain: one virtual actor, identified by its kind and its key within the kind. Grains are ordered by kind, then key, byte
+/// by byte, which is not the order of their texts. Stored inline, so it is `Copy`.
 #[derive(Clone, Copy)]
 pub struct GrainId {
     kind_len: u8,
@@ -74,11 +74,11 @@ impl Model for GrainId {
 
     ghost inverse = { fields_of };
 
-    ghost inverse_ok = { λ _ holds. holds.in_place };
+    ghost inverse_ok = { λ _ holds. holds.exact };
 }
 
 impl GrainId {
-    /// Reads the text `kind/key`, cut at the first slash: a kind of 1 to 64 bytes, a key of 1 to 128, all of them visible
+    /// Reads the text `kind/key`, split at the first slash: a kind of 1 to 64 bytes and a key of 1 to 128, all of them visible
     /// ASCII.
     pub fn parse(text: &[u8]) -> Result<GrainId, GrainError>
         ensures reads { result ≡ read_grain text.now }
@@ -113,11 +113,11 @@ impl GrainId {
         Ok(GrainId {
             kind_len: kind_len as u8,
             text_len: text.len() as u8,
-            text: in_place(text),
+            text: padded(text),
         })
     }
 
-    /// The grain's one spelling, `kind/key`, lent.
+    /// The grain's one spelling, `kind/key`, borrowed.
     pub fn as_bytes(&self) -> &[u8]
         ensures text { result.now ≡ grain_text self.now }
         ensures visible { All IsVisible result.now }
@@ -125,7 +125,7 @@ impl GrainId {
         &self.text[..usize::from(self.text_len)]
     }
 
-    /// The grain's one spelling, `kind/key`, lent as text.
+    /// The grain's one spelling, `kind/key`, borrowed as text.
     pub fn as_str(&self) -> &str
         ensures { result.now ≡ grain_text self.now }
     {
@@ -153,35 +153,35 @@ impl GrainId {
         &self.text[usize::from(self.kind_len) + 1..usize::from(self.text_len)]
     }
 
-    /// The number from 0 to 2^32 - 1 that is all of the key after its last `#`, if the key ends so.
+    /// The hash that the key states: the number from 0 to 2^32 - 1 after its last `#`, if the key ends with one.
     pub fn stated_hash(&self) -> Option<u32>
         ensures reads { result ≡ stated_hash self.now.key }
         ensures found { IfSome result (λ hash. (before : List ℕ) × (self.now.key ≡ before ++ number_sign ∷ decimal hash)) }
         ensures only { (hash : ℕ) (before : List ℕ) → hash < 2 ^ 32 → self.now.key ≡ before ++ number_sign ∷ decimal hash → result ≡ Some hash }
     {
         let key = self.key();
-        let start = after_last_place(key, b'#')?;
+        let start = after_last(key, b'#')?;
         match number_up_to(&key[start..], 4_294_967_295) {
             Ok(hash) => Some(hash as u32),
             Err(_) => None,
         }
     }
 
-    /// Whether the two are one grain.
+    /// Whether the two are the same grain.
     pub fn same(&self, other: &GrainId) -> bool
         ensures { IsTrue result ↔ (self.now ≡ other.now) }
     {
         self == other
     }
 
-    /// The grain itself: ids are copied and not cloned.
+    /// The same grain. Ids are copied, never cloned.
     pub fn copy(&self) -> GrainId
         ensures { result ≡ self.now }
     {
         *self
     }
 
-    /// Every grain is in range.
+    /// A law: the kind and key of every grain are in range.
     pub fn in_range(&self)
         ensures { IsGrain self.now }
     {
@@ -189,11 +189,11 @@ impl GrainId {
     }
 }
 
-/// Where the kind ends, in a text whose first slash has something on both sides.
+/// The position of the first slash, if there is something on both sides of it.
 fn kind_end(text: &[u8]) -> Option<usize>
     ensures { SomeIff result (IsTrue (is_cut text.now)) (position_or_len is_slash text.now) }
 {
-    let end = first_place(text, b'/');
+    let end = first_position(text, b'/');
     if end == 0 || end == text.len() || end + 1 == text.len() {
         return None;
     }
@@ -208,13 +208,13 @@ fn are_visible(text: &[u8]) -> bool
 }
 
 /// The text at the front of an array, with zeros behind it.
-fn in_place(text: &[u8]) -> [u8; 193]
+fn padded(text: &[u8]) -> [u8; 193]
     requires { length text.now ≤ 193 }
     ensures { result ≡ text.now ++ replicate (193 - length text.now) 0 }
 {
     let mut array = [0; 193];
-    for (place, byte) in text.iter().enumerate() {
-        array[place] = *byte;
+    for (position, byte) in text.iter().enumerate() {
+        array[position] = *byte;
     }
     array
 }

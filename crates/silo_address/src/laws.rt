@@ -14,7 +14,7 @@ ghost use Rattle.silo_address.specs.StatedHash.{stated_hash};
 
 use crate::{ActivationError, ActivationId, GrainError, NumberError, SiloError};
 
-/// What is written is read again, as the value that was written.
+/// What is written is read back as the value that was written.
 pub fn round_trips()
     ensures silo { (silo : Silo) → IsSilo silo → read_silo (silo_text silo) ≡ Ok silo }
     ensures grain { (grain : Grain) → IsGrain grain → read_grain (grain_text grain) ≡ Ok grain }
@@ -23,7 +23,7 @@ pub fn round_trips()
     ensures hash { (hash : ℕ) (before : List ℕ) → hash < 2 ^ 32 → stated_hash (before ++ number_sign ∷ decimal hash) ≡ Some hash }
 {}
 
-/// The readings compute: a text of a silo, and one for each refusal.
+/// The readings compute: the text of a silo, and one text for each refusal.
 pub fn silo_readings()
     ensures silo { read_silo (codes "10.0.0.1:1000@1") ≡ Ok (record { ip = 10 ∷ 0 ∷ 0 ∷ 1 ∷ []; port = 1000; generation = 1 }) }
     ensures shape { read_silo (codes "10.0.0.1@1") ≡ Err SiloError.Shape }
@@ -31,7 +31,7 @@ pub fn silo_readings()
     ensures out_of_range { read_silo (codes "10.0.0.256:1@1") ≡ Err SiloError.OutOfRange }
 {}
 
-/// The readings compute: a text of a grain, and one for each refusal.
+/// The readings compute: the text of a grain, and one text for each refusal.
 pub fn grain_readings()
     ensures grain { read_grain (codes "user/a/b") ≡ Ok (record { kind = codes "user"; key = codes "a/b" }) }
     ensures shape { read_grain (codes "user/") ≡ Err GrainError.Shape }
@@ -39,7 +39,7 @@ pub fn grain_readings()
     ensures byte { read_grain (codes "user/a b") ≡ Err GrainError.Byte }
 {}
 
-/// The readings compute: a text of an activation, and one for each kind of refusal.
+/// The readings compute: the text of an activation, and one text for each kind of refusal.
 pub fn activation_readings()
     ensures activation { read_activation (codes "10.0.0.1:1000@1!7") ≡ Ok (record { silo = record { ip = 10 ∷ 0 ∷ 0 ∷ 1 ∷ []; port = 1000; generation = 1 }; count = 7 }) }
     ensures shape { read_activation (codes "10.0.0.1:1000@1") ≡ Err ActivationError.Shape }
@@ -47,7 +47,7 @@ pub fn activation_readings()
     ensures count { read_activation (codes "10.0.0.1:1000@1!07") ≡ Err (ActivationError.Count NumberError.NotANumber) }
 {}
 
-/// The stated hash computes: it is what stands behind the last `#`, where that is a number below 2^32.
+/// The stated hash computes: it is what follows the last `#`, if that is a number below 2^32.
 pub fn stated_hashes()
     ensures stated { stated_hash (codes "a#1#4294967295") ≡ Some 4294967295 }
     ensures none { stated_hash (codes "ann") ≡ None }

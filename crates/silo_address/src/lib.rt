@@ -13,6 +13,3 @@ pub use entry::Entry;
 pub use grain::{GrainError, GrainId};
 pub use silo::{SiloAddress, SiloError};
 pub use texts::NumberError;
-
-#[cfg(test)]
-mod tests;

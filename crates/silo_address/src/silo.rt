@@ -13,7 +13,7 @@ use std::marker::Model;
 use texts::value_up_to;
 use thiserror::Error;
 
-/// Why a text names no silo: the first of these that holds (`docs/RULES.md#refusals-and-their-numbers`).
+/// Why a text is no silo: the first fault, in this order (`docs/RULES.md#refusals-and-their-numbers`).
 #[derive(Clone, Copy, Debug, PartialEq, Eq, Error)]
 pub enum SiloError {
     #[error("a silo is written a.b.c.d:port@generation")]
@@ -37,8 +37,8 @@ impl SiloError {
     }
 }
 
-/// A silo: a server process, told by the IPv4 address and port where it listens, and by its generation from the processes
-/// that ran there before it. Silos are ordered by address, then port, then generation. Kept in place, so it is copied.
+/// A silo: a server process, identified by the IPv4 address and port where it listens, and by its generation, which tells it
+/// apart from earlier processes there. Silos are ordered by address, then port, then generation. Stored inline, so it is `Copy`.
 #[derive(Clone, Copy, Debug, PartialEq, Eq, PartialOrd, Ord, Hash)]
 pub struct SiloAddress {
     ip: [u8; 4],
@@ -89,7 +89,7 @@ impl SiloAddress {
         }
     }
 
-    /// The silo whose numbers the words write, where they are in range.
+    /// The silo of these numerals, if they are in range.
     fn from_numerals(words: &SiloWords<'_>) -> Option<SiloAddress>
         requires { AreNumerals (words_view words.now) }
         ensures { SomeIff result (IsSilo (silo_of (words_view words.now))) (silo_of (words_view words.now)) }
@@ -132,35 +132,35 @@ impl SiloAddress {
         self.port
     }
 
-    /// The generation, from 1 to 2147483647: a process that starts at an endpoint has a higher one than those before it.
+    /// The generation, from 1 to 2147483647. Each process that starts at an endpoint has a higher one than those before it.
     pub fn generation(&self) -> u32
         ensures { result ≡ self.now.generation }
     {
         self.generation
     }
 
-    /// Whether the two silos are processes at one endpoint, be it at different times.
+    /// Whether the two silos have the same endpoint, whatever their generations.
     pub fn same_endpoint(&self, other: &SiloAddress) -> bool
         ensures { IsTrue result ↔ IsSameEndpoint self.now other.now }
     {
         (self.ip, self.port) == (other.ip, other.port)
     }
 
-    /// Whether the two are one silo.
+    /// Whether the two are the same silo.
     pub fn same(&self, other: &SiloAddress) -> bool
         ensures { IsTrue result ↔ (self.now ≡ other.now) }
     {
         self == other
     }
 
-    /// The silo itself: ids are copied and not cloned.
+    /// The same silo. Ids are copied, never cloned.
     pub fn copy(&self) -> SiloAddress
         ensures { result ≡ self.now }
     {
         *self
     }
 
-    /// Every silo is in range.
+    /// A law: the parts of every silo are in range.
     pub fn in_range(&self)
         ensures { IsSilo self.now }
     {

@@ -20,7 +20,7 @@ pub(crate) struct SiloWords<'a> {
     pub(crate) generation: &'a [u8],
 }
 
-/// The words of a text `w.w.w.w:w@w`, each some bytes free of `.`, `:` and `@`.
+/// The words of a text `w.w.w.w:w@w`, each of one byte or more, none of them `.`, `:` or `@`.
 #[tactic(auto, unfolding(crate::specs::SiloReading::silo_words))]
 pub(crate) fn words(text: &[u8]) -> Option<SiloWords<'_>>
     ensures { option_map words_view result ≡ silo_words text.now }
@@ -41,7 +41,7 @@ pub(crate) fn words(text: &[u8]) -> Option<SiloWords<'_>>
     })
 }
 
-/// The word before the first mark, which has to be this one, and the bytes after the mark.
+/// The word before the first mark, and the bytes after it, if that mark is this one.
 fn word_before(bytes: &[u8], mark: u8) -> Option<(&[u8], &[u8])>
     ensures { option_map cut_view result ≡ word_before mark bytes.now }
 {
@@ -58,7 +58,7 @@ fn word_before(bytes: &[u8], mark: u8) -> Option<(&[u8], &[u8])>
     Some((&bytes[..end], &bytes[end + 1..]))
 }
 
-/// The bytes, where they are one word.
+/// The bytes, if they are one word.
 fn only_word(bytes: &[u8]) -> Option<&[u8]>
     ensures { option_map slice_view result ≡ only_word bytes.now }
 {
@@ -72,14 +72,14 @@ fn only_word(bytes: &[u8]) -> Option<&[u8]>
     }
 }
 
-/// The place of the first mark, or the length where there is none.
+/// The position of the first mark, or the length if there is none.
 fn first_mark(bytes: &[u8]) -> usize
     ensures first { result ≡ position_or_len is_mark bytes.now }
     ensures within { result ≤ length bytes.now }
 {
-    for (place, byte) in bytes.iter().enumerate() {
+    for (position, byte) in bytes.iter().enumerate() {
         if is_mark(*byte) {
-            return place;
+            return position;
         }
     }
     bytes.len()

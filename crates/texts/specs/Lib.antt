@@ -1,4 +1,4 @@
 pub mod Numeral
-pub mod Place
+pub mod Position
 pub mod Words
 pub mod Printed

@@ -7,8 +7,8 @@ ghost use Rattle.texts.specs.Numeral.{IsNumeral, is_numeral, numeral_value, read
 
 use crate::NumberError;
 
-/// What is written is read again; the test that computes is that for a numeral; and a numeral below 2^64 is what its
-/// number is written as.
+/// A number that is written is read back; `is_numeral` decides whether a word is a numeral; and a numeral below 2^64 is the one
+/// spelling of its number.
 pub fn numerals()
     ensures round_trip { (most number : ℕ) → most < 2 ^ 64 → number ≤ most → read_number most (decimal number) ≡ Ok number }
     ensures test { (word : List ℕ) → Decides (is_numeral word) (IsNumeral word) }

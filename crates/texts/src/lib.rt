@@ -1,12 +1,9 @@
-//! What all readings of texts share: numbers, written in decimal in one way each, and the places of a byte.
+//! What every reading of a text needs: decimal numbers, each with one spelling, and the position of a byte.
 #![tactic(auto)]
 
 pub mod laws;
 mod number;
-mod place;
+mod position;
 
 pub use number::{NumberError, is_numeral, number_up_to, value_up_to};
-pub use place::{after_last_place, first_place};
-
-#[cfg(test)]
-mod tests;
+pub use position::{after_last, first_position};

@@ -6,7 +6,7 @@ ghost use Rattle.texts.specs.Numeral.{IsDigit, IsNumeral, numeral_value, read_nu
 
 use thiserror::Error;
 
-/// Why a word does not write a number of the wanted range.
+/// Why a word is not a number in the wanted range.
 #[derive(Clone, Copy, Debug, PartialEq, Eq, Error)]
 pub enum NumberError {
     #[error("a number is written in decimal digits, without a leading zero")]
@@ -15,7 +15,8 @@ pub enum NumberError {
     OutOfRange,
 }
 
-/// Reads a number from 0 to `most`: decimal digits without a leading zero, however many (`docs/RULES.md#identities-and-their-texts`).
+/// Reads a number from 0 to `most`: any number of decimal digits, without a leading zero
+/// (`docs/RULES.md#identities-and-their-texts`).
 #[tactic(auto, using(crate::proofs::NumeralLaws::reading))]
 pub fn number_up_to(word: &[u8], most: u64) -> Result<u64, NumberError>
     ensures reads { result ≡ read_number most word.now }
@@ -35,7 +36,7 @@ pub fn number_up_to(word: &[u8], most: u64) -> Result<u64, NumberError>
     }
 }
 
-/// Whether a word is a numeral: decimal digits, one at least, without a leading zero.
+/// Whether a word is a numeral: at least one decimal digit, and no leading zero.
 pub fn is_numeral(word: &[u8]) -> bool
     ensures { IsTrue result ↔ IsNumeral word.now }
 {
@@ -48,7 +49,7 @@ pub fn is_numeral(word: &[u8]) -> bool
     word.iter().all(|byte| b'0' <= *byte && *byte <= b'9')
 }
 
-/// The number that a numeral writes, where it is at most `most`. The word has to be a numeral, which `is_numeral` tells.
+/// The value of a numeral, if it is at most `most`. `is_numeral` tells whether a word is a numeral.
 pub fn value_up_to(numeral: &[u8], most: u64) -> Option<u64>
     requires { IsNumeral numeral.now }
     ensures { SomeIff result (numeral_value numeral.now ≤ most) (numeral_value numeral.now) }
@@ -60,7 +61,7 @@ pub fn value_up_to(numeral: &[u8], most: u64) -> Option<u64>
     if value <= most { Some(value) } else { None }
 }
 
-/// The number with one more digit at its end, where it is below 2^64.
+/// The number with one more digit at its end, if that is below 2^64.
 fn with_digit(value: u64, digit: u8) -> Option<u64>
     requires { IsDigit digit }
     ensures { SomeIff result (value * 10 + digit_value digit < 2 ^ 64) (value * 10 + digit_value digit) }

@@ -6,11 +6,10 @@ use std::alloc::{AllocError, Global};
 use std::collections::BTreeSet;
 
 impl RingRange {
-    /// The parts of the range that is cut at the places, going forward from its start.
+    /// The parts of the range when it is cut at these places, going forward from its start.
     ///
-    /// A place outside the range, one that comes again, or one at the range's start cuts nothing.
-    /// A range of size 0 has no parts. The places may come in any order, and the time is that of
-    /// putting them in order. Fails only for want of memory (`docs/RULES.md#the-circle`).
+    /// A place outside the range, a repeated one, or the range's start cuts nothing. A range of size 0
+    /// has no parts. The places may be in any order; the time is that of sorting them. Fails only when memory runs out (`docs/RULES.md#the-circle`).
     #[tactic(auto, unfolding(crate::specs::Cut::cut_parts))]
     pub fn cut_at(&self, alloc: Global, places: &[u32]) -> Result<Vec<RingRange>, AllocError>
         ensures exact { IfOk result (λ parts. parts.items ≡ cut_parts self.now places.now) }

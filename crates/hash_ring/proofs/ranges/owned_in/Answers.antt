@@ -1,8 +1,7 @@
-use Rattle.std.proofs.Common.{◌≡◌, ◌∙◌, ◌<◌, ◌++◌, ◌∷◌, [], Bool, cond, take, ap, sym, get_or, length, append-nil}
+use Rattle.std.proofs.Common.{◌≡◌, ◌∙◌, ◌<◌, ◌++◌, ◌∷◌, [], cond, take, ap, sym, get_or, length, append-nil}
 use Rattle.std.proofs.lemmas.List.{get_or_default}
-use Rattle.silo_address.specs.Silo.{Silo}
 use Rattle.hash_ring.specs.declared.point.Point.{Point}
-use Rattle.hash_ring.specs.Ranges.{owned_range, range_of, owns_its_place}
+use Rattle.hash_ring.specs.Ranges.{owned_range, owns_its_place}
 use Rattle.hash_ring.proofs.Rooms.{picked, one_picked_more}
 use Rattle.hash_ring.proofs.ranges.owned_in.Goals as goal
 use Rattle.hash_ring.proofs.ranges.owned_in.Goals.{then-is_first_there+in_ok-push, else-is_first_there}

@@ -22,22 +22,22 @@ pub returns-then-is_none : goal.returns-then-is_none
 returns-then-is_none c =
     let last = c.in_ok-last.last.now in
     let row = c.in_ok-last.row.now in
-    let place = c.range.ensures.in_range tt in
-    let entry = place.3 (last, row) c.next_back.new.self c.in_ok-last.ensures.steps in
-    let stands : (shares_endpoint c.args.silo.now last && is_none row.dead) ≡ true =
+    let found = c.range.ensures.in_range tt in
+    let entry = found.3 (last, row) c.next_back.new.self c.in_ok-last.ensures.steps in
+    let passes : (shares_endpoint c.args.silo.now last && is_none row.dead) ≡ true =
     and_from (shares_endpoint c.args.silo.now last) (is_none row.dead)
     (sym (shares_is c.args.silo.now last c.same_endpoint.result c.same_endpoint.ensures) ∙ c.if-same_endpoint.true)
     (not_some row.dead true c.if-is_none.ensures) in
-    ap (λ b. if b then Some last else None) (sym stands)
+    ap (λ b. if b then Some last else None) (sym passes)
     ∙ occupant_last c.args.silo.now c.args.rows.now.entries c.range.ensures.ordered c.requires.newest c.requires.older_dead last row entry.1 entry.0.1
-    (λ q at there. place.4 (last, row) c.next_back.new.self c.in_ok-last.ensures.steps q (tt, at) there)
+    (λ q at there. found.4 (last, row) c.next_back.new.self c.in_ok-last.ensures.steps q (tt, at) there)
 
 pub returns : goal.returns
 returns c =
     let last = c.in_ok-last.last.now in
     let row = c.in_ok-last.row.now in
-    let place = c.range.ensures.in_range tt in
-    let entry = place.3 (last, row) c.next_back.new.self c.in_ok-last.ensures.steps in
+    let found = c.range.ensures.in_range tt in
+    let entry = found.3 (last, row) c.next_back.new.self c.in_ok-last.ensures.steps in
     let shares = shares_is c.args.silo.now last c.same_endpoint.result c.same_endpoint.ensures in
     let no : (shares_endpoint c.args.silo.now last && is_none row.dead) ≡ false =
     elim c.else-same_endpoint.branch [
@@ -46,4 +46,4 @@ returns c =
     ] in
     ap (λ b. if b then Some last else None) (sym no)
     ∙ occupant_last c.args.silo.now c.args.rows.now.entries c.range.ensures.ordered c.requires.newest c.requires.older_dead last row entry.1 entry.0.1
-    (λ q at there. place.4 (last, row) c.next_back.new.self c.in_ok-last.ensures.steps q (tt, at) there)
+    (λ q at there. found.4 (last, row) c.next_back.new.self c.in_ok-last.ensures.steps q (tt, at) there)

@@ -8,5 +8,5 @@ returns-then-start-line-clause-words c =
 
 pub returns-clause-words : goal.returns-clause-words
 returns-clause-words c =
-    words_in-from c.args.line.now c.leading_spaces-start.result c.first_place-end.result (omega arith) c.leading_spaces-start.ensures.before
-    (c.leading_spaces-start.ensures.stops (omega arith)) c.first_place-end.ensures.first
+    words_in-from c.args.line.now c.leading_spaces-start.result c.first_position-end.result (omega arith) c.leading_spaces-start.ensures.before
+    (c.leading_spaces-start.ensures.stops (omega arith)) c.first_position-end.ensures.first

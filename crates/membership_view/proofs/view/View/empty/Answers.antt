@@ -4,7 +4,7 @@ use Rattle.std.specs.Map.{keys_of}
 use Rattle.silo_address.specs.Silo.{silo_cmp}
 use Rattle.membership_view.proofs.view.View.empty.Goals as goal
 
--- no row stands out of order
+-- no row is out of order
 pub invariant_of-result : goal.invariant_of-result
 unfolding IsStrictlySortedBy
 invariant_of-result c = subst (λ rows. IsStrictlySortedBy silo_cmp (keys_of rows)) (sym c.new.ensures.items) tt

@@ -8,7 +8,7 @@ use Rattle.membership_view.proofs.Entries.{sorted-picked}
 use Rattle.membership_view.proofs.view.View.read.Goals as goal
 use Rattle.silo_address.proofs.Order.{silo_cmp_total}
 
--- all rows are shown, so they stand in the order of the rows
+-- all rows are shown, so they are in the order of the rows
 pub invariant_of-result : goal.invariant_of-result
 invariant_of-result c =
     let shown = c.loop-silo.shown.items in
