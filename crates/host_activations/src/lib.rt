@@ -1,4 +1,4 @@
-//! A silo as the place of activations: the activations that it holds, the finds that it has outstanding, and the numbers
+//! A silo as the host of activations: the activations that it holds, the finds that it has outstanding, and the numbers
 //! of its requests (`docs/RULES.md#phases`).
 #![tactic(auto)]
 

@@ -14,7 +14,7 @@ use Rattle.directory_rules.specs.Recovery.{is_among}
 use Rattle.directory_rules.proofs.Cases.{on_bool}
 use Rattle.range_recovery.specs.contracts.awaited.AwaitedPartialEq as awaited_eq
 use Rattle.range_recovery.specs.declared.awaited.Awaited.{Awaited}
-use Rattle.range_recovery.specs.Silos.{awaiting_of, reported_of, silos_of, has_reported, IsByAddress, StandsAt}
+use Rattle.range_recovery.specs.Silos.{awaiting_of, reported_of, silos_of, has_reported, IsByAddress, IsSiloAt}
 use Rattle.range_recovery.proofs.Marks.{In-from_kept}
 
 abbrev row_of : Silo → Bool → Awaited
@@ -108,10 +108,10 @@ has_reported-stranger silos silo absent =
     no : ¬ (In silo (silos_of silos))
     no there = absent (Contains-from_In silo (silos_of silos) there)
 
--- the row at a place tells of the silo that stands there
-pub has_reported-at : (silos : List Awaited) → IsByAddress silos → (silo : Silo) (place : ℕ) (a : Awaited) → StandsAt silos silo place → a ≡ get_or silos place a
+-- the row at an index tells of the silo that stands there
+pub has_reported-at : (silos : List Awaited) → IsByAddress silos → (silo : Silo) (index : ℕ) (a : Awaited) → IsSiloAt silos silo index → a ≡ get_or silos index a
     → has_reported (record { awaiting = awaiting_of silos; reported = reported_of silos }) silo ≡ Some a.has_reported
-has_reported-at silos sorted silo place a stands read =
+has_reported-at silos sorted silo index a stands read =
     let same : a.silo ≡ silo = ap (λ (x : Awaited). x.silo) read ∙ stands.there a in
     ap (λ s. has_reported (record { awaiting = awaiting_of silos; reported = reported_of silos }) s) (sym same)
-    ∙ has_reported-there silos (Rising-from_sorted silo_cmp (silos_of silos) sorted) a (In-from_place a silos place stands.within (sym read))
+    ∙ has_reported-there silos (Rising-from_sorted silo_cmp (silos_of silos) sorted) a (In-from_place a silos index stands.within (sym read))

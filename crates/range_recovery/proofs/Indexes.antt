@@ -13,11 +13,11 @@ use Rattle.silo_address.specs.Silo.{Silo, silo_cmp}
 use Rattle.silo_address.proofs.Order.{silo_cmp_exact, silo_cmp_total}
 use Rattle.hash_ring.proofs.Members.{In, In-from_Contains, Contains-from_In, In-from_map}
 use Rattle.range_recovery.specs.declared.awaited.Awaited.{Awaited}
-use Rattle.range_recovery.specs.Silos.{IsByAddress, StandsAt, silos_of}
+use Rattle.range_recovery.specs.Silos.{IsByAddress, IsSiloAt, silos_of}
 
 -- where it hits
-pub found_at : (silos : List Awaited) (silo : Silo) (place : ℕ) → place < length silos → HoldsAt (λ a. silo_cmp a.silo silo ≡ Equal) silos place → StandsAt silos silo place
-found_at silos silo place within hit = record { within = within; there = λ default. silo_cmp_exact (get_or silos place default).silo silo (hit default) }
+pub found_at : (silos : List Awaited) (silo : Silo) (index : ℕ) → index < length silos → HoldsAt (λ a. silo_cmp a.silo silo ≡ Equal) silos index → IsSiloAt silos silo index
+found_at silos silo index within hit = record { within = within; there = λ default. silo_cmp_exact (get_or silos index default).silo silo (hit default) }
 
 -- what the search needs
 searchable : (silos : List Awaited) (silo : Silo) → IsByAddress silos → IsNonDecreasingBy (λ a. ordering_index (silo_cmp a.silo silo)) silos
@@ -32,12 +32,12 @@ searchable silos silo sorted =
     ap is_lt (silo_cmp_total.antisymm (get_or silos (k + 1) d).silo (get_or silos k d).silo ∙ ap ordering_reverse below))
 
 -- where it misses nobody is
-pub nobody_there : (silos : List Awaited) (silo : Silo) (place : ℕ) → IsByAddress silos
-    → (IsNonDecreasingBy (λ a. ordering_index (silo_cmp a.silo silo)) silos → IsPartitionPoint (λ a. silo_cmp a.silo silo ≡ Less) (λ a. silo_cmp a.silo silo ≡ Greater) silos place)
+pub nobody_there : (silos : List Awaited) (silo : Silo) (index : ℕ) → IsByAddress silos
+    → (IsNonDecreasingBy (λ a. ordering_index (silo_cmp a.silo silo)) silos → IsPartitionPoint (λ a. silo_cmp a.silo silo ≡ Less) (λ a. silo_cmp a.silo silo ≡ Greater) silos index)
     → Contains (silos_of silos) silo → ⊥
-nobody_there silos silo place sorted position there = by (cases_lt at.0 place)
+nobody_there silos silo index sorted position there = by (cases_lt at.0 index)
   where
-    split : IsPartitionPoint (λ a. silo_cmp a.silo silo ≡ Less) (λ a. silo_cmp a.silo silo ≡ Greater) silos place
+    split : IsPartitionPoint (λ a. silo_cmp a.silo silo ≡ Less) (λ a. silo_cmp a.silo silo ≡ Greater) silos index
     split = position (searchable silos silo sorted)
 
     one : (a : Awaited) × In a silos × (a.silo ≡ silo)
@@ -49,6 +49,6 @@ nobody_there silos silo place sorted position there = by (cases_lt at.0 place)
     tied : silo_cmp (get_or silos at.0 one.0).silo silo ≡ Equal
     tied = ap (λ a. silo_cmp a.silo silo) at.2 ∙ ap (λ s. silo_cmp s silo) one.2 ∙ tied_itself silo_cmp_total silo
 
-    by : (at.0 < place) ⊎ (place ≤ at.0) → ⊥
+    by : (at.0 < index) ⊎ (index ≤ at.0) → ⊥
     by (inl before) = let e : Less ≡ Equal = sym (split.0 at.0 one.0 (omega arith) before) ∙ tied in cc
     by (inr after) = let e : Greater ≡ Equal = sym (split.1 at.0 one.0 after at.1) ∙ tied in cc
