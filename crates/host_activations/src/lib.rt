@@ -7,6 +7,3 @@ mod held_map;
 mod host;
 
 pub use host::Host;
-
-#[cfg(test)]
-mod tests;

@@ -1,34 +1,34 @@
-use crate::{
+//! The types of the rule, and the settings.
+use directory_rules::{
     Act, Effect, Held, LetterKind, Phase, PieceState, Policy, Reply, Request, Settings, Why,
 };
 use hash_ring::Hashing;
 use silo_address::{ActivationId, Entry, GrainId, SiloAddress};
-use std::test::Fail;
+use std::process::Abort;
 
-fn silo(text: &str) -> Result<SiloAddress, Fail> {
-    Ok(SiloAddress::parse(text.as_bytes())?)
+fn silo(rt: &impl Abort, text: &str) -> SiloAddress {
+    SiloAddress::parse(text.as_bytes()).expect(rt, text)
 }
 
-fn grain(text: &str) -> Result<GrainId, Fail> {
-    Ok(GrainId::parse(text.as_bytes())?)
+fn grain(rt: &impl Abort, text: &str) -> GrainId {
+    GrainId::parse(text.as_bytes()).expect(rt, text)
+}
+
+// The first activation on a silo.
+fn activation(rt: &impl Abort, on: &str) -> ActivationId {
+    let silo = silo(rt, on);
+    ActivationId { silo, count: 1 }
 }
 
 // The entry of a grain that has its first activation on a silo.
-fn entry(name: &str, on: &str) -> Result<Entry, Fail> {
-    Ok(Entry {
-        grain: grain(name)?,
-        activation: ActivationId {
-            silo: silo(on)?,
-            count: 1,
-        },
-    })
+fn entry(rt: &impl Abort, name: &str, on: &str) -> Entry {
+    let grain = grain(rt, name);
+    let activation = activation(rt, on);
+    Entry { grain, activation }
 }
 
-fn settings(points: usize, cache: usize) -> Result<Settings, Fail> {
-    match Settings::of_directory(Hashing::Stated, points, cache) {
-        Some(settings) => Ok(settings),
-        None => Err(Fail::new("these settings are out of their ranges")),
-    }
+fn settings(rt: &impl Abort) -> Settings {
+    Settings::of_directory(Hashing::Stated, 30, 1024).expect(rt, "settings in their ranges")
 }
 
 #[test]
@@ -45,22 +45,18 @@ fn settings_in_their_ranges(rt: HostRuntime) {
     ];
     for (points, cache, accepted) in table {
         let stated = Settings::of_directory(Hashing::Stated, points, cache);
-        assert_eq!(rt;
-            stated.is_some(),
-            accepted,
-            "{points} points, {cache} in a cache"
-        );
         let hashed = Settings::of_directory(Hashing::Sha256, points, cache);
+        let both = (stated.is_some(), hashed.is_some());
         assert_eq!(rt;
-            hashed.is_some(),
-            accepted,
-            "{points} hashed points, {cache} in a cache"
+            both,
+            (accepted, accepted),
+            "{points} points, {cache} in a cache"
         );
     }
 }
 
 #[test]
-fn silos_in_their_range(rt: HostRuntime) -> Result<(), Fail> {
+fn silos_in_their_range(rt: HostRuntime) {
     let table: [(usize, bool); 5] = [
         (0, false),
         (1, true),
@@ -69,18 +65,14 @@ fn silos_in_their_range(rt: HostRuntime) -> Result<(), Fail> {
         (usize::MAX, false),
     ];
     for (silos, accepted) in table {
-        assert_eq!(rt;
-            settings(30, 1024)?.with_silos(silos).is_some(),
-            accepted,
-            "{silos} silos"
-        );
+        let fewer = settings(&rt).with_silos(silos);
+        assert_eq!(rt; fewer.is_some(), accepted, "{silos} silos");
     }
-    Ok(())
 }
 
 #[test]
-fn settings_are_told(rt: HostRuntime) -> Result<(), Fail> {
-    let settings = settings(30, 1024)?;
+fn settings_are_told(rt: HostRuntime) {
+    let settings = settings(&rt);
     settings.in_range();
     assert!(rt; settings.hashing() == Hashing::Stated);
     let table: [(&str, u64, u64); 9] = [
@@ -101,20 +93,15 @@ fn settings_are_told(rt: HostRuntime) -> Result<(), Fail> {
     for (name, told, wanted) in table {
         assert_eq!(rt; told, wanted, "{name}");
     }
-    Ok(())
 }
 
 #[test]
-fn fewer_silos(rt: HostRuntime) -> Result<(), Fail> {
-    let whole = settings(30, 1024)?;
-    let Some(small) = whole.with_silos(2) else {
-        return Err(Fail::new("two silos are in range"));
-    };
-    assert_eq!(rt; small.silos(), 2);
-    assert_eq!(rt; small.places(), 128);
+fn fewer_silos(rt: HostRuntime) {
+    let whole = settings(&rt);
+    let small = whole.with_silos(2).expect(&rt, "two silos are in range");
+    assert_eq!(rt; (small.silos(), small.places()), (2, 128));
     assert!(rt; whole.same(&whole.copy()));
     assert!(rt; !whole.same(&small));
-    Ok(())
 }
 
 #[test]
@@ -133,64 +120,72 @@ fn reasons_have_numbers(rt: HostRuntime) {
 }
 
 #[test]
-fn requests_and_replies(rt: HostRuntime) -> Result<(), Fail> {
-    let first = entry("user/a#1", "10.0.0.1:1000@1")?;
-    let other = entry("user/b#2", "10.0.0.1:1000@1")?;
+fn acts_are_compared(rt: HostRuntime) {
+    let first = &entry(&rt, "user/a#1", "10.0.0.1:1000@1");
     let asked = Act::Register {
-        entry: first,
+        entry: *first,
         previous: None,
     };
     assert!(rt; asked.same(&asked.copy()));
-    assert!(rt;
-        !asked.same(&Act::Register {
-            entry: first,
-            previous: Some(other.activation)
-        })
-    );
-    assert!(rt; !asked.same(&Act::Deregister { entry: first }));
-    assert!(rt; !asked.same(&Act::Find { grain: first.grain }));
-    let request = Request {
-        sender: silo("10.0.0.1:1000@1")?,
-        version: 1,
-        number: 1,
-        hash: 1,
-        act: asked,
-    };
-    assert!(rt; request.same(&request.copy()));
-    assert!(rt;
-        !request.same(&Request {
-            number: 2,
-            ..request
-        })
-    );
-    let reply = Reply::Taken(first);
-    assert!(rt; reply.same(&reply.copy()));
-    assert!(rt; !reply.same(&Reply::Taken(other)));
-    assert!(rt; !reply.same(&Reply::Registered(first)));
-    Ok(())
+    let others: [Act; 3] = [
+        Act::Register {
+            entry: *first,
+            previous: Some(activation(&rt, "10.0.0.1:1000@1")),
+        },
+        Act::Deregister { entry: *first },
+        Act::Find {
+            grain: grain(&rt, "user/a#1"),
+        },
+    ];
+    for other in others {
+        assert!(rt; !asked.same(&other));
+    }
 }
 
 #[test]
-fn activations_and_pieces(rt: HostRuntime) -> Result<(), Fail> {
-    let before = entry("user/a#1", "10.0.0.1:1000@1")?.activation;
+fn requests_and_replies_are_compared(rt: HostRuntime) {
+    let first = &entry(&rt, "user/a#1", "10.0.0.1:1000@1");
+    let other = entry(&rt, "user/b#2", "10.0.0.1:1000@1");
+    let request = Request {
+        sender: silo(&rt, "10.0.0.1:1000@1"),
+        version: 1,
+        number: 1,
+        hash: 1,
+        act: Act::Find {
+            grain: grain(&rt, "user/a#1"),
+        },
+    };
+    assert!(rt; request.same(&request.copy()));
+    let next = Request {
+        number: 2,
+        ..request
+    };
+    assert!(rt; !request.same(&next));
+    let reply = Reply::Taken(*first);
+    assert!(rt; reply.same(&reply.copy()));
+    assert!(rt; !reply.same(&Reply::Taken(other)));
+    assert!(rt; !reply.same(&Reply::Registered(*first)));
+}
+
+#[test]
+fn activations_and_pieces(rt: HostRuntime) {
+    let silo = silo(&rt, "10.0.0.1:1000@1");
     assert!(rt; Phase::Asking(1).same(&Phase::Asking(1).copy()));
     assert!(rt; !Phase::Asking(1).same(&Phase::Closing(1)));
     let held = Held {
         count: 1,
         phase: Phase::Asking(1),
-        previous: Some(before),
+        previous: Some(ActivationId { silo, count: 1 }),
+    };
+    let first = Held {
+        previous: None,
+        ..held
     };
     assert!(rt; held.same(&held.copy()));
-    assert!(rt;
-        !held.same(&Held {
-            previous: None,
-            ..held
-        })
-    );
-    let state = PieceState::Awaiting(before.silo);
+    assert!(rt; !held.same(&first));
+    let state = PieceState::Awaiting(silo);
     assert!(rt; state.same(&state.copy()));
     assert!(rt; !state.same(&PieceState::Recovering));
-    Ok(())
 }
 
 #[test]

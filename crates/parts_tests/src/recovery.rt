@@ -1,5 +1,6 @@
-use crate::{Progress, Recovery, RecoveryError, Report};
+//! A recovery of a range, and the reports that it takes.
 use membership_view::{View, Views};
+use range_recovery::{Progress, Recovery, RecoveryError, Report};
 use ring_range::RingRange;
 use silo_address::{ActivationId, Entry, GrainId, SiloAddress};
 use std::alloc::Global;
