@@ -1,4 +1,4 @@
--- A host: a silo as the place of activations. It has the activations that it holds and the finds that it has outstanding.
+-- A silo as the host of activations. It has the activations that it holds and the finds that it has outstanding.
 use Rattle.std.specs.Prelude.{ℕ, ◌+◌, ◌==◌, ◌&&◌, nat_lt, nat_le, is_some, Bool, true, false, List, [], ◌∷◌, ◌++◌, Option, Some, None, length, map, fold, filter, count_by, find}
 use Rattle.std.specs.Ordering.{nat_cmp}
 use Rattle.std.specs.List.{filter_map}
@@ -34,13 +34,13 @@ pub record Host : Type 0 where
 abbrev pub new_host : Silo → Host
 new_host silo = record { silo = silo; next_number = 1; next_count = 1; held = []; finds = [] }
 
--- the host's activation of that count
-abbrev pub activation_of : Host → ℕ → ActivationId
-activation_of host count = record { silo = host.silo; count = count }
+-- the entry of an activation on a silo
+abbrev pub entry_on : Silo → Grain → Held → Entry
+entry_on silo grain held = record { grain = grain; activation = record { silo = silo; count = held.count } }
 
 -- the entry of an activation that the host holds
 abbrev pub entry_of : Host → Grain → Held → Entry
-entry_of host grain held = record { grain = grain; activation = activation_of host held.count }
+entry_of host grain held = entry_on host.silo grain held
 
 -- what the host holds of the grain
 abbrev pub held_of : Host → Grain → Option Held

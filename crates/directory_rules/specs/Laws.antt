@@ -177,8 +177,8 @@ abbrev pub NumbersAreDistinct : Type 0
 NumbersAreDistinct = (settings : Settings) (events : List Event) (silo : Silo) (node : Node) → node_of (run_from_start settings events).world silo ≡ Some node → AreNumbered node.host
 
 -- a piece that isn't settled serves no request
-abbrev pub UnsettledPiecesRetry : Type 0
-UnsettledPiecesRetry = (holding : Holding) (request : Request) (piece : Piece) → piece_with request.hash holding.pieces ≡ Some piece → ¬ (piece.state ≡ Settled)
+abbrev pub UnsettledPieceServesNothing : Type 0
+UnsettledPieceServesNothing = (holding : Holding) (request : Request) (piece : Piece) → piece_with request.hash holding.pieces ≡ Some piece → ¬ (piece.state ≡ Settled)
     → (why : Why) × ((answered holding request).reply ≡ Retry why)
 
 -- whether the hash lies in a settled piece

@@ -14,7 +14,7 @@ use Rattle.directory_rules.specs.declared.piece_state.PieceState.TheVariants.{Se
 use Rattle.directory_rules.specs.Table.{entries_of}
 use Rattle.directory_rules.specs.Piece.{Piece}
 use Rattle.directory_rules.specs.Answer.{piece_with}
-use Rattle.directory_rules.specs.Host.{held_of}
+use Rattle.directory_rules.specs.Host.{entry_on, held_of}
 use Rattle.directory_rules.specs.Node.{Node}
 use Rattle.directory_rules.specs.World.{World}
 use Rattle.directory_rules.specs.Happens.{node_of}
@@ -55,10 +55,6 @@ pub record IsFirmOn (world : World) (grain : Grain) (silo : Silo) (held : Held) 
   pub live : HasNode world silo node
   pub found : held_of node.host grain ≡ Some held
   pub firm : held.phase ≡ Firm
-
--- the entry of an activation on a silo
-abbrev pub entry_on : Silo → Grain → Held → Entry
-entry_on silo grain held = record { grain = grain; activation = record { silo = silo; count = held.count } }
 
 -- the entries have each firm activation of a grain with that hash
 abbrev pub AreComplete : World → (hash : ℕ) → List Entry → Type 0

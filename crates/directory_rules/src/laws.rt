@@ -1,6 +1,6 @@
 //! What holds of the rule. Each function here does nothing: its contract is a law on the definitions, for the proofs of
 //! crates above.
-ghost use Rattle.directory_rules.specs.Laws.{RefusalsChangeNothing, AcceptedChange, PiecesAreOwned, PiecesOfSightsAreOwned, NodesHoldOnce, SightsOfRunsAreOwned, SealedWasSettled, ServedLeavesOthers, MailIsNumbered, LostIsLost, LiveHaveNodes, NodesAreOfOneVersion, NumbersAreDistinct, UnsettledPiecesRetry, WasSettledThroughout};
+ghost use Rattle.directory_rules.specs.Laws.{RefusalsChangeNothing, AcceptedChange, PiecesAreOwned, PiecesOfSightsAreOwned, NodesHoldOnce, SightsOfRunsAreOwned, SealedWasSettled, ServedLeavesOthers, MailIsNumbered, LostIsLost, LiveHaveNodes, NodesAreOfOneVersion, NumbersAreDistinct, UnsettledPieceServesNothing, WasSettledThroughout};
 ghost use Rattle.directory_rules.specs.Worked.{RefusalsCompute};
 
 /// A refused event leaves the world as it was, and an accepted one leaves the world that it made.
@@ -64,8 +64,8 @@ pub fn numbers_are_distinct()
 {}
 
 /// A piece that isn't settled serves no request, of any version.
-pub fn unsettled_pieces_retry()
-    ensures { UnsettledPiecesRetry }
+pub fn unsettled_piece_serves_nothing()
+    ensures { UnsettledPieceServesNothing }
 {}
 
 /// A range that was settled has each of its hashes in a settled piece.

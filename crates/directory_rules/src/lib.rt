@@ -20,6 +20,3 @@ pub use piece_state::PieceState;
 pub use policy::Policy;
 pub use reply::{Reply, Why};
 pub use settings::Settings;
-
-#[cfg(test)]
-mod tests;

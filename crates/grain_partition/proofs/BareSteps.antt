@@ -13,7 +13,8 @@ use Rattle.range_moves.specs.declared.Arc.{Arc}
 use Rattle.directory_rules.specs.declared.PieceState.{PieceState}
 use Rattle.directory_rules.specs.Piece.{Piece}
 use Rattle.directory_rules.specs.Sight.{is_owner}
-use Rattle.grain_partition.specs.Sight.{AreOfRings, bare_piece, bare_pieces}
+use Rattle.grain_partition.specs.Sight.{AreOfRings}
+use Rattle.grain_partition.proofs.Bare.{bare_piece, bare_pieces}
 use Rattle.grain_partition.proofs.FromArcs.{sorted_made}
 use Rattle.grain_partition.proofs.AtTheEnd.{insert_entry-end}
 

@@ -24,9 +24,9 @@ use Rattle.directory_rules.specs.Sight.{is_settled, is_kept}
 use Rattle.directory_rules.specs.Laws.{lies_settled}
 use Rattle.directory_rules.proofs.Cases.{on_bool}
 use Rattle.grain_partition.specs.Holding.{ArePieces}
-use Rattle.grain_partition.specs.Settled.{SettlesAt}
+use Rattle.grain_partition.specs.Search.{SettlesAt}
 use Rattle.grain_partition.specs.Entering.{Enters, entered}
-use Rattle.grain_partition.specs.Sight.{handed_out, with_handed}
+use Rattle.grain_partition.specs.HandingOut.{handed_out, with_handed}
 use Rattle.grain_partition.proofs.OnePiece.{passing, found_counts}
 use Rattle.grain_partition.proofs.SettledHashes.{both_are, settles}
 

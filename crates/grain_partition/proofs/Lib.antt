@@ -10,6 +10,7 @@ pub mod SettledParts
 pub mod Walking
 pub mod FromArcs
 pub mod AtTheEnd
+pub mod Bare
 pub mod BareSteps
 pub mod Handing
 pub mod Sighted

@@ -111,7 +111,7 @@ answer_after holding new are request piece serves numbered start at (Ok reply) t
     ∙ ap (λ h. replied reply h) (sym noted)
 answer_after holding new are request piece serves numbered start at (Err fault) turn noted = tt
 
--- the pieces after a turn, or want of memory
+-- the pieces after a turn, or out of memory
 pub pieces_after_turn : {E : Type 0} (act : Act) (start : ℕ) (old new : List (ℕ × Piece)) → ArePieces old → (result : Result Reply E)
     → IfOk result (IsTurnOf act start old new) → OnErr result (new ≡ old) → ArePieces new
 pieces_after_turn act start old new are (Ok reply) turn stay =

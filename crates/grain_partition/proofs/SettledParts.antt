@@ -41,7 +41,7 @@ starts_below pieces are =
     (λ k d lt. subst (λ n. n < circle) (are.under_start k d lt) (are.ranges k d lt).start_below)
 
 module _ (pieces : List (ℕ × Piece)) (are : ArePieces pieces) (part : Range) (ok : IsRange part) (some : 0 < part.size)
-    (uncut : All (λ place. ¬ (IsInside part place)) (keys_of pieces)) (lies : LiesSettled pieces part) where
+    (uncut : All (λ key. ¬ (IsInside part key)) (keys_of pieces)) (lies : LiesSettled pieces part) where
   -- the piece of the part's first hash
   first_has : holds part part.start ≡ true
   first_has = holds-below part part.start (subst (λ n. n < part.size) (sym (distance-itself part.start)) some)
@@ -120,8 +120,8 @@ module _ (pieces : List (ℕ × Piece)) (are : ArePieces pieces) (part : Range) 
         let under : next.value.range.start ≡ next.key = at_lookup (λ e. e.1.range.start ≡ e.0) pieces are.under_start next.key next.value next.there in
         let key : Contains (keys_of pieces) next.key = Contains-keys_from_lookup (tells_apart exact_unsigned) next.key pieces (ap is_some next.there) in
         let inside : IsInside part next.key =
-        subst (λ place. IsInside part place) (sym start ∙ under) (omega (arith, steps_to), omega (arith, steps_to)) in
-        All-contains (λ place. ¬ (IsInside part place)) (keys_of pieces) next.key uncut key inside
+        subst (λ key. IsInside part key) (sym start ∙ under) (omega (arith, steps_to), omega (arith, steps_to)) in
+        All-contains (λ key. ¬ (IsInside part key)) (keys_of pieces) next.key uncut key inside
 
   -- so it has all of the part
   ends_too_early : here.range.size < circle → here.range.size < before + part.size → ⊥
@@ -183,7 +183,7 @@ Decides-was_settled pieces are range ok = (
       part_in_settled pieces are part
       (All-contains IsRange (cut_parts range (keys_of pieces)) part (ranges range (keys_of pieces) ok) there)
       (All-contains (λ part. 0 < part.size) (cut_parts range (keys_of pieces)) part cut.present there)
-      (All-contains (λ part. All (λ place. ¬ (IsInside part place)) (keys_of pieces)) (cut_parts range (keys_of pieces)) part cut.uncut there)
+      (All-contains (λ part. All (λ key. ¬ (IsInside part key)) (keys_of pieces)) (cut_parts range (keys_of pieces)) part cut.uncut there)
       (λ hash below held. lies hash below (part_lies range part (cut_parts range (keys_of pieces)) hash there (cut.once hash below) held))),
 )
   where

@@ -23,7 +23,9 @@ use Rattle.directory_rules.specs.Table.{Table, with_entry, entries_of}
 use Rattle.directory_rules.specs.Sight.{all_entries, is_kept, is_owner, is_settled, kept_entries, missing_state, piece_of, pieces_after, state_from, was_settled}
 use Rattle.directory_rules.proofs.Cases.{on_bool}
 use Rattle.grain_partition.specs.Holding.{ArePieces}
-use Rattle.grain_partition.specs.Sight.{AreOfRings, bare_piece, bare_pieces, handed_out, with_handed}
+use Rattle.grain_partition.specs.Sight.{AreOfRings}
+use Rattle.grain_partition.proofs.Bare.{bare_piece, bare_pieces}
+use Rattle.grain_partition.specs.HandingOut.{handed_out, with_handed}
 use Rattle.grain_partition.proofs.AtTheEnd.{insert_entry-end}
 use Rattle.grain_partition.proofs.FromArcs.{pieces-made}
 

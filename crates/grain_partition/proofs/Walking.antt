@@ -4,7 +4,7 @@ use Rattle.std.specs.Prelude.{true, false, ◌&&◌}
 use Rattle.std.proofs.lemmas.Bool.{cases_lt}
 use Rattle.std.proofs.lemmas.Bool.Decides.{nat_tests, same_from_decides}
 use Rattle.texts.proofs.Decided.{false_from_not, both}
-use Rattle.ring_range.specs.Range.{circle, Range, IsRange, distance, holds}
+use Rattle.ring_range.specs.Range.{circle, Range, IsRange, distance, holds, part_of}
 use Rattle.ring_range.specs.Cut as cut
 use Rattle.ring_range.proofs.Circle.{distance-itself}
 use Rattle.ring_range.proofs.Parts.{holds-part, IsRange-part}
@@ -12,11 +12,16 @@ use Rattle.directory_rules.specs.Piece.{Piece}
 use Rattle.directory_rules.specs.Sight.{was_settled}
 use Rattle.directory_rules.specs.Laws.{lies_settled}
 use Rattle.grain_partition.specs.Holding.{ArePieces}
-use Rattle.grain_partition.specs.Settled.{LiesSettled, SettlesAt, part_behind}
+use Rattle.grain_partition.specs.Settled.{LiesSettled}
+use Rattle.grain_partition.specs.Search.{SettlesAt}
 use Rattle.grain_partition.proofs.Around.{distance-over, holds-below, below-holds}
 use Rattle.grain_partition.proofs.OnePiece.{at_lookup}
 use Rattle.grain_partition.proofs.SettledHashes.{lies_by}
 use Rattle.grain_partition.proofs.SettledParts.{Decides-was_settled}
+
+-- what of a range lies behind another one that has its first hash
+abbrev pub part_behind : Range → Range → Range
+part_behind range first = part_of range (first.size - distance first.start range.start) range.size
 
 -- a range without a hash is settled
 pub settled-nothing : (pieces : List (ℕ × Piece)) (range : Range) → range.size ≡ 0 → was_settled pieces range ≡ true

@@ -1,4 +1,4 @@
--- An entry put into a piece.
+-- Steps of private functions: an entry put into a piece.
 use Rattle.std.specs.Prelude.{◌≡◌, ℕ, List, Some}
 use Rattle.std.specs.Ordering.{nat_cmp}
 use Rattle.std.specs.Map.{lookup, set_value}

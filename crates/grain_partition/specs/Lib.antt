@@ -4,5 +4,6 @@ pub mod Turn
 pub mod Serving
 pub mod Settled
 pub mod Sight
+pub mod HandingOut
 pub mod Entering
 pub mod Within

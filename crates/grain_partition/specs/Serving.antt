@@ -1,4 +1,4 @@
--- What serving a numbered request does to the pieces and to the numbers.
+-- Steps of private functions: what serving a numbered request does to the pieces and to the numbers.
 use Rattle.std.specs.Prelude.{◌≡◌, ℕ, List, Option, Some, None}
 use Rattle.std.specs.Ordering.{nat_cmp}
 use Rattle.std.specs.Map.{lookup, remove_entry, set_value}

@@ -1,4 +1,4 @@
--- What a register and a deregister do to the table, by the grain's entry there.
+-- Steps of private functions: what a register and a deregister do to the table, by the grain's entry there.
 use Rattle.std.specs.Prelude.{◌&&◌, not, Bool, true, false, Option, Some, None}
 use Rattle.silo_address.specs.Activation.{activation_eq}
 use Rattle.silo_address.specs.declared.ActivationId.{ActivationId}

@@ -1,4 +1,4 @@
--- The entries of settled pieces that are hashed into a range.
+-- Steps of private functions: the entries of settled pieces that are hashed into a range.
 use Rattle.std.specs.Prelude.{Bool, if◌then◌else◌}
 use Rattle.silo_address.specs.Grain.{Grain}
 use Rattle.silo_address.specs.declared.Entry.{Entry}

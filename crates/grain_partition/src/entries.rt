@@ -3,7 +3,9 @@ ghost use Rattle.std.specs.Prelude.{◌≡◌, filter, fold, IfOk, OnOk};
 ghost use Rattle.directory_rules.specs.Sight.{settled_pieces};
 ghost use Rattle.directory_rules.specs.Sight.{all_entries};
 ghost use Rattle.directory_rules.specs.Table.{entries_of, with_entry};
-ghost use Rattle.grain_partition.specs.Within.{with_within, within_range};
+ghost use Rattle.hash_ring.specs.Hash.{hash_grain};
+ghost use Rattle.ring_range.specs.Range.{holds};
+ghost use Rattle.grain_partition.specs.Within.{with_within};
 
 use crate::Piece;
 use hash_ring::Hashing;
@@ -12,7 +14,7 @@ use silo_address::{Entry, GrainId};
 use std::alloc::{AllocError, Global};
 use std::collections::BTreeMap;
 
-/// All entries of the pieces, in the order of their grains. Fails only for want of memory.
+/// All entries of the pieces, in the order of their grains. Fails only when memory runs out.
 pub(crate) fn all_entries(
     alloc: Global,
     pieces: &BTreeMap<u32, Piece>,
@@ -26,14 +28,14 @@ pub(crate) fn all_entries(
     Ok(all)
 }
 
-/// Those entries of the settled pieces whose grains are hashed into the range. Fails only for want of memory.
+/// Those entries of the settled pieces whose grains are hashed into the range. Fails only when memory runs out.
 pub(crate) fn entries_within(
     alloc: Global,
     pieces: &BTreeMap<u32, Piece>,
     hashing: Hashing,
     range: &RingRange,
 ) -> Result<BTreeMap<GrainId, Entry>, AllocError>
-    ensures { IfOk result (λ within. within.entries ≡ filter (λ e. within_range hashing range.now e.0) (all_entries (settled_pieces pieces.now.entries))) }
+    ensures { IfOk result (λ within. within.entries ≡ filter (λ e. holds range.now (hash_grain hashing e.0)) (all_entries (settled_pieces pieces.now.entries))) }
 {
     let mut within = BTreeMap::new(alloc);
     'pieces: for (_, piece) in pieces {

@@ -104,7 +104,7 @@ impl Holding {
     }
 
     /// Serves a request: answers it, and makes its change. A sender's Registers and Deregisters are served by rising numbers,
-    /// so that a late copy of one changes nothing. Fails only for want of memory, and then changes nothing; a Find and a retry
+    /// so that a late copy of one changes nothing. Fails only when memory runs out, and then changes nothing; a Find and a retry
     /// need none (`docs/RULES.md#requests`).
     pub fn serve(&mut self, request: &Request) -> Result<Reply, AllocError>
         ensures served { IfOk result (λ reply. answered self.old request.now ≡ record { reply = reply; holding = self.new }) }
@@ -181,7 +181,7 @@ impl Holding {
     /// What the silo keeps once it sees the view: one piece for each of the arcs that it owns there, which is settled where it
     /// was, and else awaits its entries where this view is the `next` one after that seen before. The arcs are those from the
     /// ring of the version seen before to the ring of the view, under the cluster's hashing. Costs what the holding has,
-    /// times a logarithm. Fails only for want of memory (`docs/RULES.md#pieces`).
+    /// times a logarithm. Fails only when memory runs out (`docs/RULES.md#pieces`).
     pub fn sight(
         &self,
         alloc: Global,
@@ -211,7 +211,7 @@ impl Holding {
         are_settled(&self.pieces, range)
     }
 
-    /// How many entries of settled pieces have grains that are hashed into the range. Fails only for want of memory.
+    /// How many entries of settled pieces have grains that are hashed into the range. Fails only when memory runs out.
     pub fn count_within(
         &self,
         alloc: Global,
@@ -231,7 +231,7 @@ impl Holding {
         let _seen = self.seen;
     }
 
-    /// An equal holding. Fails only for want of memory.
+    /// An equal holding. Fails only when memory runs out.
     pub fn copy(&self) -> Result<Holding, AllocError>
         ensures { IfOk result (λ holding. holding ≡ self.now) }
     {
@@ -294,6 +294,6 @@ fn replace(pieces: &mut BTreeMap<u32, Piece>, piece: Piece)
     ensures { pieces.new.entries ≡ with_piece piece pieces.old.entries }
 {
     let start = piece.range().start();
-    let place = pieces.get_mut(&start).unwrap();
-    *place = piece;
+    let kept = pieces.get_mut(&start).unwrap();
+    *kept = piece;
 }

@@ -13,6 +13,3 @@ mod table;
 
 pub use holding::Holding;
 pub use piece::Piece;
-
-#[cfg(test)]
-mod tests;

@@ -98,7 +98,7 @@ impl Piece {
         table::reply_to(&self.entries, act)
     }
 
-    // Puts the entry in under the grain. Fails only for want of memory.
+    // Puts the entry in under the grain. Fails only when memory runs out.
     pub(crate) fn enter(&mut self, grain: &GrainId, entry: &Entry) -> Result<(), AllocError>
         ensures { OnOk result (self.new ≡ entered grain.now entry.now self.old) }
     {
@@ -106,7 +106,7 @@ impl Piece {
         Ok(())
     }
 
-    // Answers an act, and makes its change. Fails only for want of memory, and then changes nothing.
+    // Answers an act, and makes its change. Fails only when memory runs out, and then changes nothing.
     pub(crate) fn turn(&mut self, act: &Act) -> Result<Reply, AllocError>
         ensures reply { IfOk result (λ reply. reply ≡ (turned act.now self.old.entries).reply) }
         ensures table { OnOk result (self.new ≡ record self.old { entries = (turned act.now self.old.entries).table }) }
@@ -115,7 +115,7 @@ impl Piece {
         table::turn(&mut self.entries, act)
     }
 
-    /// An equal piece. Fails only for want of memory.
+    /// An equal piece. Fails only when memory runs out.
     pub fn copy(&self) -> Result<Piece, AllocError>
         ensures { IfOk result (λ piece. piece ≡ self.now) }
     {

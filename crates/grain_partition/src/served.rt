@@ -15,7 +15,7 @@ use silo_address::SiloAddress;
 use std::alloc::AllocError;
 use std::collections::BTreeMap;
 
-/// Serves a numbered request from the piece that begins at the start. Fails only for want of memory, and then changes
+/// Serves a numbered request from the piece that begins at the start. Fails only when memory runs out, and then changes
 /// nothing.
 pub(crate) fn serve_numbered(
     pieces: &mut BTreeMap<u32, Piece>,

@@ -1,10 +1,10 @@
 //! Whether a range is settled throughout: a walk from piece to piece.
-ghost use Rattle.std.specs.Prelude.{◌≡◌, ◌<◌, MatchOption, false, true};
+ghost use Rattle.std.specs.Prelude.{◌≡◌, ◌-◌, ◌<◌, MatchOption, false, true};
 ghost use Rattle.ring_range.specs.Range.{circle, distance, holds, part_of};
 ghost use Rattle.directory_rules.specs.Laws.{lies_settled};
 ghost use Rattle.directory_rules.specs.Sight.{was_settled};
 ghost use Rattle.grain_partition.specs.Holding.{ArePieces};
-ghost use Rattle.grain_partition.specs.Settled.{SettlesAt, part_behind};
+ghost use Rattle.grain_partition.specs.Search.{SettlesAt};
 
 use crate::Piece;
 use crate::search::piece_with;
@@ -42,7 +42,7 @@ pub(crate) fn settled_at(pieces: &BTreeMap<u32, Piece>, hash: u32) -> Option<Rin
 // What of the range lies behind another one that has its first hash.
 fn part_behind(range: &RingRange, first: &RingRange) -> RingRange
     requires { holds first.now range.now.start ≡ true }
-    ensures { result ≡ part_behind range.now first.now }
+    ensures { result ≡ part_of range.now (first.now.size - distance first.now.start range.now.start) range.now.size }
 {
     let covered = first.size() - u64::from(distance(first.start(), range.start()));
     if covered >= range.size() {
@@ -68,9 +68,9 @@ fn behind(range: &RingRange, steps: u64) -> RingRange
     RingRange::new(start, range.size() - steps).unwrap()
 }
 
-// How many steps forward from the place the hash comes.
-fn distance(place: u32, hash: u32) -> u32
-    ensures { result ≡ distance place hash }
+// How many steps forward from the start the hash comes.
+fn distance(start: u32, hash: u32) -> u32
+    ensures { result ≡ distance start hash }
 {
-    hash.wrapping_sub(place)
+    hash.wrapping_sub(start)
 }

@@ -1,13 +1,15 @@
 //! A sight: the pieces of the arcs that the silo owns in a newer view, and the entries that they keep.
-ghost use Rattle.std.specs.Prelude.{◌≡◌, [], ◌∷◌, IfOk, OnOk, IsSome};
+ghost use Rattle.std.specs.Prelude.{◌≡◌, [], ◌∷◌, filter, map, IfOk, OnOk, IsSome, if◌then◌else◌};
 ghost use Rattle.std.specs.Map.{lookup};
 ghost use Rattle.std.specs.BTreeMap.{insert_entry, is_at};
 ghost use Rattle.std.specs.Ordering.{nat_cmp};
+ghost use Rattle.directory_rules.specs.declared.PieceState.TheVariants.{Settled};
 ghost use Rattle.directory_rules.specs.Membership.{is_dead_in};
-ghost use Rattle.directory_rules.specs.Sight.{is_owner, missing_state, pieces_after};
+ghost use Rattle.directory_rules.specs.Sight.{is_owner, missing_state, pieces_after, was_settled};
 ghost use Rattle.grain_partition.specs.Holding.{ArePieces};
 ghost use Rattle.grain_partition.specs.Entering.{Enters};
-ghost use Rattle.grain_partition.specs.Sight.{AreOfRings, bare_pieces, handed_out, state_of};
+ghost use Rattle.grain_partition.specs.Sight.{AreOfRings};
+ghost use Rattle.grain_partition.specs.HandingOut.{handed_out};
 
 use crate::Piece;
 use crate::entries::all_entries;
@@ -20,7 +22,7 @@ use silo_address::{Entry, GrainId, SiloAddress};
 use std::alloc::{AllocError, Global};
 use std::collections::BTreeMap;
 
-/// The pieces after the sight of the view. Costs what the pieces before have, times a logarithm. Fails only for want of memory.
+/// The pieces after the sight of the view. Costs what the pieces before have, times a logarithm. Fails only when memory runs out.
 pub(crate) fn pieces_after(
     alloc: Global,
     pieces: &BTreeMap<u32, Piece>,
@@ -51,7 +53,7 @@ fn bare_pieces(
 ) -> Result<BTreeMap<u32, Piece>, AllocError>
     requires pieces { ArePieces pieces.now.entries }
     requires arcs { AreOfRings arcs.now }
-    ensures { IfOk result (λ bare. bare.entries ≡ bare_pieces next view.now silo.now pieces.now.entries arcs.now) }
+    ensures { IfOk result (λ bare. bare.entries ≡ map (λ arc. (arc.range.start, record { range = arc.range; state = if was_settled pieces.now.entries arc.range then Settled else missing_state next view.now silo.now arc.from; entries = [] })) (filter (λ arc. is_owner silo.now arc.to) arcs.now)) }
 {
     let mut bare = BTreeMap::new(alloc);
     'arcs: for arc in arcs {
@@ -144,7 +146,7 @@ fn state_of(
     arc: &Arc,
 ) -> PieceState
     requires { ArePieces pieces.now.entries }
-    ensures { result ≡ state_of next view.now silo.now pieces.now.entries arc.now }
+    ensures { result ≡ (if was_settled pieces.now.entries arc.now.range then Settled else missing_state next view.now silo.now arc.now.from) }
 {
     if are_settled(pieces, &arc.range) {
         return PieceState::Settled;

@@ -23,7 +23,7 @@ pub(crate) fn reply_to(table: &BTreeMap<GrainId, Entry>, act: &Act) -> Reply
     }
 }
 
-/// Answers an act, and makes its change of the table. Fails only for want of memory, and then changes nothing.
+/// Answers an act, and makes its change of the table. Fails only when memory runs out, and then changes nothing.
 pub(crate) fn turn(table: &mut BTreeMap<GrainId, Entry>, act: &Act) -> Result<Reply, AllocError>
     ensures reply { IfOk result (λ reply. reply ≡ (turned act.now table.old.entries).reply) }
     ensures table { OnOk result (table.new.entries ≡ (turned act.now table.old.entries).table) }

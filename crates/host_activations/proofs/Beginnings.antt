@@ -15,7 +15,7 @@ use Rattle.host_activations.specs.declared.host.Host.TheInside.{Inside}
 use Rattle.host_activations.specs.Numbers.{number_in, number_of}
 use Rattle.host_activations.specs.Asked.{asked_under, finds_in}
 use Rattle.host_activations.specs.IsHost.{AreHeld, IsHost}
-use Rattle.host_activations.specs.Fields.{IsWhole, host_of}
+use Rattle.host_activations.specs.HostModel.{IsWhole, host_of}
 use Rattle.host_activations.proofs.Numbers.{begun, changed}
 use Rattle.host_activations.proofs.Kept.{free, asking_more, finding_more}
 use Rattle.host_activations.proofs.Finds.{finds_put, finds_stay, find_more}

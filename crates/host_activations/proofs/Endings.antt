@@ -12,9 +12,10 @@ use Rattle.host_activations.specs.declared.asked.Asked.{Asked}
 use Rattle.host_activations.specs.declared.asked.Asked.TheVariants.{Activation, Find}
 use Rattle.host_activations.specs.declared.host.Host.TheInside.{Inside}
 use Rattle.host_activations.specs.Numbers.{number_in, number_of}
-use Rattle.host_activations.specs.Asked.{asked_under, find_in, finds_in, without_number}
+use Rattle.host_activations.specs.Asked.{asked_under, find_in, finds_in}
+use Rattle.host_activations.specs.Replying.{without_number}
 use Rattle.host_activations.specs.IsHost.{AreHeld, IsHost}
-use Rattle.host_activations.specs.Fields.{IsWhole, host_of}
+use Rattle.host_activations.specs.HostModel.{IsWhole, host_of}
 use Rattle.host_activations.proofs.Numbers.{GivesNumber, changed, gone}
 use Rattle.host_activations.proofs.Found.{each_found, found_by_search}
 use Rattle.host_activations.proofs.Kept.{asking_less, resting, finding_less}

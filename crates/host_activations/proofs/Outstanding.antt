@@ -24,7 +24,8 @@ use Rattle.host_activations.specs.declared.asked.Asked.{Asked}
 use Rattle.host_activations.specs.declared.asked.Asked.TheVariants.{Activation, Find}
 use Rattle.host_activations.specs.Numbers.{number_in}
 use Rattle.host_activations.specs.Asked.{asked_under, find_in, finds_in}
-use Rattle.host_activations.specs.Acts.{entry_on, act_in_phase, act_for, acts_in}
+use Rattle.host_activations.specs.Acts.{act_in_phase, act_for, acts_in}
+use Rattle.directory_rules.specs.Host.{entry_on}
 use Rattle.host_activations.specs.IsHost.{AreHeld}
 use Rattle.host_activations.proofs.Numbers.{on_grain, on_number, number_at_itself}
 use Rattle.host_activations.proofs.Asking.{same_activation, no_find, nothing}

@@ -26,7 +26,7 @@ use Rattle.host_activations.specs.Numbers.{number_in, number_of}
 use Rattle.host_activations.specs.Asked.{asked_under, finds_in, AreAsked}
 use Rattle.host_activations.specs.Renewal.{phase_under, is_request_of, with_numbers}
 use Rattle.host_activations.specs.IsHost.{AreHeld, IsHost}
-use Rattle.host_activations.specs.Fields.{IsWhole, host_of}
+use Rattle.host_activations.specs.HostModel.{IsWhole, host_of}
 use Rattle.host_activations.proofs.Asking.{nothing}
 use Rattle.host_activations.proofs.Entries.{keys-map, lookup-map}
 use Rattle.host_activations.proofs.Found.{IsFoundIn, all_map, each_found}

@@ -10,8 +10,10 @@ use Rattle.directory_rules.specs.declared.Phase.TheVariants.{Asking, Firm, Closi
 use Rattle.directory_rules.specs.Host.{is_asking_under, is_closing_under}
 use Rattle.host_activations.specs.declared.asked.Asked.{Asked}
 use Rattle.host_activations.specs.declared.asked.Asked.TheVariants.{Activation, Find}
-use Rattle.host_activations.specs.Numbers.{number_in, is_phase}
-use Rattle.host_activations.specs.Asked.{asked_under, activation_in, held_under}
+use Rattle.host_activations.specs.Numbers.{number_in}
+use Rattle.host_activations.specs.Replying.{is_phase}
+use Rattle.host_activations.specs.Asked.{asked_under}
+use Rattle.host_activations.specs.Replying.{activation_in, held_under}
 use Rattle.host_activations.specs.IsHost.{AreHeld}
 use Rattle.host_activations.proofs.Asking.{same_activation, no_find, nothing}
 use Rattle.host_activations.proofs.Fields.{asking_has, closing_has}

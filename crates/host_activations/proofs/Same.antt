@@ -28,7 +28,7 @@ use Rattle.host_activations.specs.IsHost.{AreHeld}
 use Rattle.host_activations.proofs.Asking.{nothing}
 use Rattle.host_activations.proofs.Finds.{find_under, is_find}
 use Rattle.host_activations.specs.declared.host.Host.TheInside.{Inside}
-use Rattle.host_activations.specs.Fields.{IsWhole, host_of}
+use Rattle.host_activations.specs.HostModel.{IsWhole, host_of}
 use Rattle.host_activations.proofs.Fields.{meant}
 
 -- ---- Tests of equality.

@@ -9,7 +9,7 @@ use Rattle.hash_ring.specs.Hash.{hash_grain}
 use Rattle.directory_rules.specs.declared.Held.{Held}
 use Rattle.directory_rules.specs.Host.{Host, firm_entries, is_firm}
 use Rattle.directory_rules.specs.Table.{Table, with_entry}
-use Rattle.host_activations.specs.Acts.{entry_on}
+use Rattle.directory_rules.specs.Host.{entry_on}
 use Rattle.host_activations.specs.FirmTable.{firm_table}
 
 -- to keep some and put them in is to put in those that are to be kept

@@ -1,4 +1,4 @@
--- What is outstanding, as acts: what each request asks of the owner of its grain's hash.
+-- Steps of private functions: what is outstanding, as acts, which each request asks of the owner of its grain's hash.
 use Rattle.std.specs.Prelude.{ℕ, List, Option, Some, None, option_and_then}
 use Rattle.std.specs.List.{filter_map}
 use Rattle.std.specs.Option.{option_map}
@@ -6,18 +6,14 @@ use Rattle.std.specs.Map.{lookup}
 use Rattle.std.specs.BTreeMap.{is_at}
 use Rattle.silo_address.specs.Silo.{Silo}
 use Rattle.silo_address.specs.Grain.{Grain, grain_cmp}
-use Rattle.silo_address.specs.declared.Entry.{Entry}
 use Rattle.directory_rules.specs.declared.Act.{Act}
 use Rattle.directory_rules.specs.declared.Act.TheVariants as act
 use Rattle.directory_rules.specs.declared.Held.{Held}
 use Rattle.directory_rules.specs.declared.Phase.{Phase}
 use Rattle.directory_rules.specs.declared.Phase.TheVariants.{Asking, Firm, Closing}
+use Rattle.directory_rules.specs.Host.{entry_on}
 use Rattle.host_activations.specs.declared.asked.Asked.{Asked}
 use Rattle.host_activations.specs.declared.asked.Asked.TheVariants.{Activation, Find}
-
--- the entry of an activation on the silo
-abbrev pub entry_on : Silo → Grain → Held → Entry
-entry_on silo grain held = record { grain = grain; activation = record { silo = silo; count = held.count } }
 
 -- what an activation asks in the phase
 abbrev pub act_in_phase : Phase → Silo → Grain → Held → Option Act

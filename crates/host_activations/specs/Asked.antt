@@ -1,16 +1,15 @@
 -- What is outstanding, by number: the one list of a host's requests, beside the list of its activations.
-use Rattle.std.specs.Prelude.{◌≡◌, ℕ, List, Option, Some, None, option_and_then}
+use Rattle.std.specs.Prelude.{◌≡◌, ℕ, List, Option, Some, None}
 use Rattle.std.specs.List.{filter_map}
-use Rattle.std.specs.Map.{lookup, remove_entry}
+use Rattle.std.specs.Map.{lookup}
 use Rattle.std.specs.BTreeMap.{is_at}
 use Rattle.std.specs.Ordering.{nat_cmp}
 use Rattle.std.specs.Option.{option_map}
 use Rattle.silo_address.specs.Grain.{Grain}
 use Rattle.directory_rules.specs.declared.Held.{Held}
-use Rattle.directory_rules.specs.declared.Phase.{Phase}
 use Rattle.host_activations.specs.declared.asked.Asked.{Asked}
 use Rattle.host_activations.specs.declared.asked.Asked.TheVariants.{Activation, Find}
-use Rattle.host_activations.specs.Numbers.{number_of, held_in}
+use Rattle.host_activations.specs.Numbers.{number_of}
 
 -- what is outstanding under the number
 abbrev pub asked_under : ℕ → List (ℕ × Asked) → Option Asked
@@ -24,20 +23,6 @@ find_in (Find grain) = Some grain
 -- the finds, under their numbers
 abbrev pub finds_in : List (ℕ × Asked) → List (ℕ × Grain)
 finds_in outstanding = filter_map (λ e. option_map (λ grain. (e.0, grain)) (find_in e.1)) outstanding
-
--- without what is outstanding under the number, if there is one
-abbrev pub without_number : Option ℕ → List (ℕ × Asked) → List (ℕ × Asked)
-without_number None outstanding = outstanding
-without_number (Some number) outstanding = remove_entry (is_at (nat_cmp number)) outstanding
-
--- the activation whose request is outstanding there
-abbrev pub activation_in : Asked → Option Grain
-activation_in (Activation grain) = Some grain
-activation_in (Find grain) = None
-
--- the activation whose request is outstanding under the number, if it is in the phase
-abbrev pub held_under : Phase → ℕ → List (Grain × Held) → List (ℕ × Asked) → Option (Grain × Held)
-held_under phase number held outstanding = option_and_then (λ grain. held_in phase grain held) (option_and_then activation_in (asked_under number outstanding))
 
 -- the request of each activation stands under its number, and no other one of an activation stands there
 pub record AreAsked (held : List (Grain × Held)) (outstanding : List (ℕ × Asked)) : Type 0 where

@@ -1,4 +1,4 @@
--- The entries of a silo's firm activations that are hashed into a range.
+-- Steps of private functions: the entries of a silo's firm activations that are hashed into a range.
 use Rattle.std.specs.Prelude.{◌&&◌, List, [], fold, if◌then◌else◌}
 use Rattle.silo_address.specs.Silo.{Silo}
 use Rattle.silo_address.specs.Grain.{Grain}
@@ -8,7 +8,7 @@ use Rattle.hash_ring.specs.Hash.{hash_grain}
 use Rattle.directory_rules.specs.declared.Held.{Held}
 use Rattle.directory_rules.specs.Host.{is_firm}
 use Rattle.directory_rules.specs.Table.{Table, with_entry}
-use Rattle.host_activations.specs.Acts.{entry_on}
+use Rattle.directory_rules.specs.Host.{entry_on}
 
 -- the table with the activation's entry, if it is firm and hashed into the range
 abbrev pub with_firm : Silo → Hashing → Range → Table → Grain × Held → Table

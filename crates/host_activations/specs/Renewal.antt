@@ -1,4 +1,4 @@
--- New numbers for the requests that activations have outstanding.
+-- Steps of private functions: new numbers for the requests that activations have outstanding.
 use Rattle.std.specs.Prelude.{ℕ, Bool, false, List, map, fold, if◌then◌else◌}
 use Rattle.std.specs.BTreeMap.{is_at}
 use Rattle.silo_address.specs.Grain.{Grain, grain_cmp}

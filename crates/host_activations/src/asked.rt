@@ -1,5 +1,6 @@
 ghost use Rattle.std.specs.Prelude.{◌≡◌};
-ghost use Rattle.host_activations.specs.Asked.{activation_in, find_in};
+ghost use Rattle.host_activations.specs.Asked.{find_in};
+ghost use Rattle.host_activations.specs.Replying.{activation_in};
 ghost use Rattle.host_activations.specs.Numbers.{number_in};
 
 use directory_rules::Phase;

@@ -57,8 +57,8 @@ pub fn put(map: &mut HeldMap, grain: &GrainId, held: Held)
     ensures entries { map.new.entries ≡ set_value (is_at (grain_cmp grain.now)) map.old.entries held }
     ensures apart { IsDistinct grain_eq (keys_of map.new.entries) }
 {
-    if let Some(place) = map.get_mut(grain) {
-        *place = held;
+    if let Some(kept) = map.get_mut(grain) {
+        *kept = held;
     }
 }
 

@@ -22,7 +22,7 @@ use std::alloc::Global;
 use std::collections::BTreeMap;
 use std::marker::Model;
 
-/// A silo as the place of activations: the activations that it holds, in the order in which they began, and the requests
+/// A silo as the host of activations: the activations that it holds, in the order in which they began, and the requests
 /// that it has outstanding, each under a number of its own (`docs/RULES.md#phases`).
 #[derive(Drop)]
 pub struct Host {
@@ -42,7 +42,7 @@ impl Model for Host {
 
     ghost Value = { Host };
 
-    ghost use Rattle.host_activations.specs.Fields.{host_of, IsWhole};
+    ghost use Rattle.host_activations.specs.HostModel.{host_of, IsWhole};
 
     ghost view = { host_of };
 

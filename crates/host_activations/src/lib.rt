@@ -1,4 +1,4 @@
-//! A silo as the place of activations: the activations that it holds, the finds that it has outstanding, and the numbers
+//! A silo as the host of activations: the activations that it holds, the finds that it has outstanding, and the numbers
 //! of its requests (`docs/RULES.md#phases`).
 #![tactic(auto)]
 
@@ -7,6 +7,3 @@ mod held_map;
 mod host;
 
 pub use host::Host;
-
-#[cfg(test)]
-mod tests;

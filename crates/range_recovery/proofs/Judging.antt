@@ -12,15 +12,19 @@ use Rattle.directory_rules.proofs.Cases.{on_bool}
 use Rattle.directory_rules.specs.Recovery.{Recovery, Report, Recovered, Rejects, recovered, with_report, awaits_still, is_among}
 use Rattle.range_recovery.specs.declared.progress.Progress.{Progress}
 use Rattle.range_recovery.specs.declared.progress.Progress.TheVariants.{More, Complete}
-use Rattle.range_recovery.specs.Progress.{after_one_more, progress_of}
+use Rattle.range_recovery.specs.Progress.{progress_of}
 use Rattle.range_recovery.specs.Silos.{AwaitedValue, has_reported}
-use Rattle.range_recovery.proofs.Standing.{Decides-among}
+use Rattle.range_recovery.proofs.Reported.{Decides-among}
 use Rattle.range_recovery.proofs.Lists.{filter_all}
 use Rattle.range_recovery.proofs.Marks.{apart, apart_back}
 
 -- the silos of a recovery
 abbrev pub silos_in : Recovery → AwaitedValue
 silos_in recovery = record { awaiting = recovery.awaiting; reported = recovery.reported }
+
+-- how far the recovery is when one more of the silos that it awaits has reported
+abbrev pub after_one_more : Recovery → Progress
+after_one_more recovery = if length recovery.awaiting == 1 then Complete else More
 
 -- the report is of this version and range
 abbrev pub is_asked_for : Recovery → Report → Bool

@@ -1,7 +1,7 @@
 pub mod Gathering
 pub mod Lists
-pub mod Places
+pub mod Indexes
 pub mod Marks
-pub mod Standing
+pub mod Reported
 pub mod Told
 pub mod Judging

@@ -11,10 +11,11 @@ use Rattle.membership_view.specs.declared.status.Status.{Status}
 use Rattle.hash_ring.proofs.Members.{In, In-from_Contains}
 use Rattle.hash_ring.proofs.Rising.{Rising, Rising-from_sorted, sorted-from_Rising, same_rising}
 use Rattle.range_recovery.specs.declared.awaited.Awaited.{Awaited}
-use Rattle.range_recovery.specs.Silos.{AreAwaited, AwaitedValue, IsByAddress, awaiting_of, reported_of, silos_of, unreported, has_reported, marked, with_mark, IsCounted, StandsAt}
+use Rattle.range_recovery.specs.Silos.{AreAwaited, AwaitedValue, IsByAddress, awaiting_of, reported_of, silos_of, has_reported, marked, IsCounted, IsSiloAt}
+use Rattle.range_recovery.proofs.Marks.{with_mark}
 use Rattle.range_recovery.proofs.Lists.{Rising-by, Rising-kept}
 use Rattle.range_recovery.proofs.Marks.{awaiting-mark, fewer-mark, reported-mark, silos_of-mark}
-use Rattle.range_recovery.proofs.Standing.{Row, has_reported-at, same_row, one_mark, row_awaited, row_reported, In-awaiting, In-reported}
+use Rattle.range_recovery.proofs.Reported.{Row, has_reported-at, same_row, one_mark, row_awaited, row_reported, In-awaiting, In-reported}
 
 -- those that are awaited and those that have reported, as one value
 abbrev pub told : List Awaited → AwaitedValue
@@ -50,6 +51,10 @@ same_rows xs ys sorted other_sorted same =
     (Rising-by silo_cmp (λ a. a.silo) ys (Rising-from_sorted silo_cmp (silos_of ys) other_sorted))
     (λ a there. goes_over xs ys same a there) (λ a there. goes_over ys xs (sym same) a there)
 
+-- the silo of a view's row, before any has reported
+abbrev pub unreported : Silo × Status → Awaited
+unreported row = record { silo = row.0; has_reported = false }
+
 -- ---- before any has reported
 pub silos_of-unreported : (rows : List (Silo × Status)) → silos_of (map unreported rows) ≡ keys_of rows
 silos_of-unreported [] = refl
@@ -81,10 +86,10 @@ counted-unreported [] = refl
 counted-unreported (row ∷ rows) = ap (λ n. suc n) (counted-unreported rows)
 
 -- ---- after one has reported
-pub told-mark : (silos : List Awaited) (place : ℕ) (a : Awaited) → IsByAddress silos → place < length silos → get_or silos place a ≡ a → a.has_reported ≡ false
-    → told (with_mark silos place) ≡ marked (told silos) a.silo
-told-mark silos place a sorted within at waits =
-    λ i. value (awaiting-mark silos place a rising within at waits i) (reported-mark silos place a rising within at waits i)
+pub told-mark : (silos : List Awaited) (index : ℕ) (a : Awaited) → IsByAddress silos → index < length silos → get_or silos index a ≡ a → a.has_reported ≡ false
+    → told (with_mark silos index) ≡ marked (told silos) a.silo
+told-mark silos index a sorted within at waits =
+    λ i. value (awaiting-mark silos index a rising within at waits i) (reported-mark silos index a rising within at waits i)
   where
     rising : Rising silo_cmp (silos_of silos)
     rising = Rising-from_sorted silo_cmp (silos_of silos) sorted
@@ -92,32 +97,32 @@ told-mark silos place a sorted within at waits =
     value : List Silo → List Silo → AwaitedValue
     value awaiting reported = record { awaiting = awaiting; reported = reported }
 
--- a row stands at each place
-row_at : (silos : List Awaited) (place : ℕ) → place < length silos → (a : Awaited) × (get_or silos place a ≡ a)
-row_at [] place within = absurd (omega arith)
+-- a row stands at each index
+row_at : (silos : List Awaited) (index : ℕ) → index < length silos → (a : Awaited) × (get_or silos index a ≡ a)
+row_at [] index within = absurd (omega arith)
 row_at (x ∷ silos) zero within = (x, refl)
-row_at (x ∷ silos) (suc place) within = row_at silos place (omega arith)
+row_at (x ∷ silos) (suc index) within = row_at silos index (omega arith)
 
 -- the mark of an awaited silo keeps the order and the count, and is what it is said to be
-pub record IsMarked (silos : List Awaited) (missing : ℕ) (silo : Silo) (place : ℕ) : Type 0 where
-  pub kept : IsCounted (with_mark silos place) (missing - 1)
-  pub is : told (with_mark silos place) ≡ marked (told silos) silo
+pub record IsMarked (silos : List Awaited) (missing : ℕ) (silo : Silo) (index : ℕ) : Type 0 where
+  pub kept : IsCounted (with_mark silos index) (missing - 1)
+  pub is : told (with_mark silos index) ≡ marked (told silos) silo
 
-pub is_marked : (silos : List Awaited) (missing : ℕ) → IsCounted silos missing → (silo : Silo) (place : ℕ) → StandsAt silos silo place → has_reported (told silos) silo ≡ Some false
-    → IsMarked silos missing silo place
-is_marked silos missing counted silo place stands waits = record {
+pub is_marked : (silos : List Awaited) (missing : ℕ) → IsCounted silos missing → (silo : Silo) (index : ℕ) → IsSiloAt silos silo index → has_reported (told silos) silo ≡ Some false
+    → IsMarked silos missing silo index
+is_marked silos missing counted silo index stands waits = record {
   kept = record {
-    by_address = subst (λ (l : List Silo). IsStrictlySortedBy silo_cmp l) (sym (silos_of-mark silos place)) counted.by_address;
-    counted = let fewer : length (awaiting_of (with_mark silos place)) + 1 ≡ length (awaiting_of silos) = fewer-mark silos place row.0 stands.within row.1 unmarked in omega (arith, fewer, counted.counted);
+    by_address = subst (λ (l : List Silo). IsStrictlySortedBy silo_cmp l) (sym (silos_of-mark silos index)) counted.by_address;
+    counted = let fewer : length (awaiting_of (with_mark silos index)) + 1 ≡ length (awaiting_of silos) = fewer-mark silos index row.0 stands.within row.1 unmarked in omega (arith, fewer, counted.counted);
   };
-  is = told-mark silos place row.0 counted.by_address stands.within row.1 unmarked ∙ ap (λ s. marked (told silos) s) same;
+  is = told-mark silos index row.0 counted.by_address stands.within row.1 unmarked ∙ ap (λ s. marked (told silos) s) same;
 }
   where
-    row : (a : Awaited) × (get_or silos place a ≡ a)
-    row = row_at silos place stands.within
+    row : (a : Awaited) × (get_or silos index a ≡ a)
+    row = row_at silos index stands.within
 
     unmarked : row.0.has_reported ≡ false
-    unmarked = same_Some row.0.has_reported false (sym (has_reported-at silos counted.by_address silo place row.0 stands (sym row.1)) ∙ waits)
+    unmarked = same_Some row.0.has_reported false (sym (has_reported-at silos counted.by_address silo index row.0 stands (sym row.1)) ∙ waits)
 
     same : row.0.silo ≡ silo
     same = ap (λ (a : Awaited). a.silo) (sym row.1) ∙ stands.there row.0

@@ -1,4 +1,4 @@
--- Grains that are taken out of a table again.
+-- Steps of private functions: grains that are taken out of a table again.
 use Rattle.std.specs.Prelude.{List, [], ◌∷◌}
 use Rattle.silo_address.specs.Grain.{Grain}
 use Rattle.directory_rules.specs.Table.{Table, without_grain}

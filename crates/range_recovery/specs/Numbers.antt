@@ -3,7 +3,7 @@ use Rattle.std.specs.Prelude.{ℕ, Option, Some, None}
 use Rattle.range_recovery.specs.declared.error.RecoveryError.{RecoveryError}
 use Rattle.range_recovery.specs.declared.error.RecoveryError.TheVariants.{WrongVersion, Stranger, Twice, OutOfMemory}
 
--- the stated number of a refusal; want of memory has none
+-- the stated number of a refusal; out of memory has none
 abbrev pub recovery_error_number : RecoveryError → Option ℕ
 recovery_error_number WrongVersion = Some 751
 recovery_error_number Stranger = Some 752

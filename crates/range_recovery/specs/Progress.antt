@@ -1,5 +1,5 @@
 -- What comes of a report, as its taker is told.
-use Rattle.std.specs.Prelude.{◌≡◌, ◌==◌, ℕ, length, if◌then◌else◌, Result, Ok, Err, IsSomeAnd, IsOk, MatchOption}
+use Rattle.std.specs.Prelude.{◌≡◌, ℕ, Result, Ok, Err, IsSomeAnd, IsOk, MatchOption}
 use Rattle.directory_rules.specs.Recovery.{Recovery, Report, Recovered, Awaits_more, Has_union, Rejects, recovered}
 use Rattle.range_recovery.specs.declared.error.RecoveryError.{RecoveryError}
 use Rattle.range_recovery.specs.declared.progress.Progress.{Progress}
@@ -21,11 +21,7 @@ Reaches Complete recovery outcome = outcome ≡ Has_union recovery.gathered
 abbrev pub Refuses : Recovery → Report → RecoveryError → Type 0
 Refuses recovery report fault = IsSomeAnd (recovery_error_number fault) (λ number. recovered recovery report ≡ Rejects number)
 
--- the same, or want of memory for a report that nothing refuses
+-- the same, or out of memory at a report that nothing refuses
 abbrev pub RefusesOrLacksMemory : Recovery → Report → RecoveryError → Type 0
 RefusesOrLacksMemory recovery report fault =
     MatchOption (recovery_error_number fault) (IsOk (progress_of (recovered recovery report))) (λ number. recovered recovery report ≡ Rejects number)
-
--- how far the recovery is when one more of the silos that it awaits has reported
-abbrev pub after_one_more : Recovery → Progress
-after_one_more recovery = if length recovery.awaiting == 1 then Complete else More

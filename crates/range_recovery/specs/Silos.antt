@@ -1,9 +1,8 @@
 -- The silos that a recovery asks for their reports: those that it awaits still, and those that have reported.
-use Rattle.std.specs.Prelude.{◌≡◌, ℕ, zero, suc, ◌<◌, Bool, true, false, not, if◌then◌else◌, List, [], ◌∷◌, slice_index_or, length, map, filter, Option, Some, None, Contains}
+use Rattle.std.specs.Prelude.{◌≡◌, ℕ, ◌<◌, Bool, true, false, not, if◌then◌else◌, List, slice_index_or, length, map, filter, Option, Some, None, Contains}
 use Rattle.std.specs.BTreeSet.{insert_key}
 use Rattle.std.specs.List.Sorted.{IsStrictlySortedBy}
 use Rattle.silo_address.specs.Silo.{Silo, silo_eq, silo_cmp}
-use Rattle.membership_view.specs.declared.status.Status.{Status}
 use Rattle.directory_rules.specs.Recovery.{is_among}
 use Rattle.range_recovery.specs.declared.awaited.Awaited.{Awaited}
 
@@ -53,17 +52,7 @@ pub record IsCounted (silos : List Awaited) (missing : ℕ) : Type 0 where
   pub by_address : IsByAddress silos
   pub counted : missing ≡ length (awaiting_of silos)
 
--- the silo of a view's row, before any has reported
-abbrev pub unreported : Silo × Status → Awaited
-unreported row = record { silo = row.0; has_reported = false }
-
--- the silo stands at this place
-pub record StandsAt (silos : List Awaited) (silo : Silo) (place : ℕ) : Type 0 where
-  pub within : place < length silos
-  pub there : (default : Awaited) → (slice_index_or silos place default).silo ≡ silo
-
--- the silo that stands at a place has reported
-abbrev pub with_mark : List Awaited → ℕ → List Awaited
-with_mark [] place = []
-with_mark (a ∷ silos) zero = record a { has_reported = true } ∷ silos
-with_mark (a ∷ silos) (suc place) = a ∷ with_mark silos place
+-- the silo stands at this index
+pub record IsSiloAt (silos : List Awaited) (silo : Silo) (index : ℕ) : Type 0 where
+  pub within : index < length silos
+  pub there : (default : Awaited) → (slice_index_or silos index default).silo ≡ silo

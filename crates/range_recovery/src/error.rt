@@ -21,7 +21,7 @@ pub enum RecoveryError {
 }
 
 impl RecoveryError {
-    /// The number of the refusal, 751 to 753; want of memory has none.
+    /// The number of the refusal, 751 to 753; out of memory has none.
     pub fn number(self) -> Option<u16>
         ensures { result ≡ recovery_error_number self }
     {

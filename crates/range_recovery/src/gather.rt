@@ -6,7 +6,7 @@ use silo_address::{Entry, GrainId};
 use std::alloc::{AllocError, Global};
 use std::collections::BTreeMap;
 
-/// Puts in the entries of a report, each whose grain has none yet. What was put in is taken out again where memory is wanting.
+/// Puts in the entries of a report, each whose grain has none yet. What was put in is taken out again when memory runs out.
 pub(crate) fn gather(
     alloc: Global,
     gathered: &mut BTreeMap<GrainId, Entry>,

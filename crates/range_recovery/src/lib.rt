@@ -13,6 +13,3 @@ pub use error::RecoveryError;
 pub use progress::Progress;
 pub use recovery::Recovery;
 pub use report::Report;
-
-#[cfg(test)]
-mod tests;

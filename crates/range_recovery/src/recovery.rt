@@ -1,8 +1,9 @@
-ghost use Rattle.std.specs.Prelude.{◌≡◌, ◌↔◌, ◌==◌, ◌&&◌, IsTrue, IfOk, IfErr, OnOk, OnErr, Ok};
+ghost use Rattle.std.specs.Prelude.{◌≡◌, ◌↔◌, ◌==◌, ◌&&◌, length, IsTrue, IfOk, IfErr, OnOk, OnErr, Ok, if◌then◌else◌};
 ghost use Rattle.ring_range.specs.Range.{range_eq};
 ghost use Rattle.directory_rules.specs.Recovery.{new_recovery, recovered, with_report};
 ghost use Rattle.range_recovery.specs.Kept.{IsRecovery};
-ghost use Rattle.range_recovery.specs.Progress.{Reaches, Refuses, RefusesOrLacksMemory, after_one_more, progress_of};
+ghost use Rattle.range_recovery.specs.declared.progress.Progress.TheVariants.{Complete, More};
+ghost use Rattle.range_recovery.specs.Progress.{Reaches, Refuses, RefusesOrLacksMemory, progress_of};
 
 use crate::gather::gather;
 use crate::silos::AwaitedSilos;
@@ -33,7 +34,7 @@ impl Model for Recovery {
 }
 
 impl Recovery {
-    /// Awaits each silo of the view that isn't Dead there; nothing is reported yet. Fails only for want of memory.
+    /// Awaits each silo of the view that isn't Dead there; nothing is reported yet. Fails only when memory runs out.
     pub fn new(alloc: Global, view: &View, range: RingRange) -> Result<Recovery, AllocError>
         ensures { IfOk result (λ recovery. recovery ≡ new_recovery view.now range) }
     {
@@ -61,7 +62,7 @@ impl Recovery {
         self.range
     }
 
-    /// The silos that haven't reported yet, by address. Fails only for want of memory.
+    /// The silos that haven't reported yet, by address. Fails only when memory runs out.
     pub fn awaiting(&self, alloc: Global) -> Result<Vec<SiloAddress>, AllocError>
         ensures { IfOk result (λ silos. silos.items ≡ self.now.awaiting) }
     {
@@ -102,7 +103,7 @@ impl Recovery {
 
     // How far the recovery is when one more silo has reported.
     fn after_one_more(&self) -> Progress
-        ensures { result ≡ after_one_more self.now }
+        ensures { result ≡ (if length self.now.awaiting == 1 then Complete else More) }
     {
         if self.silos.missing() == 1 {
             Progress::Complete
@@ -117,7 +118,7 @@ impl Recovery {
         ensures reached { IfOk result (λ progress. Reaches progress self.new (recovered self.old report.now)) }
         ensures taken { OnOk result (self.new ≡ with_report self.old report.now) }
 
-        // Memory is wanted last, for a report that nothing refuses.
+        // Only a report that nothing refuses can run out of memory.
         ensures refused { IfErr result (RefusesOrLacksMemory self.old report.now) }
         ensures unchanged { OnErr result (self.new ≡ self.old) }
     {
@@ -146,7 +147,7 @@ impl Recovery {
         let _len = self.gathered.len();
     }
 
-    /// An equal recovery. Fails only for want of memory.
+    /// An equal recovery. Fails only when memory runs out.
     pub fn copy(&self) -> Result<Recovery, AllocError>
         ensures { IfOk result (λ recovery. recovery ≡ self.now) }
     {

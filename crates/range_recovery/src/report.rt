@@ -64,7 +64,7 @@ impl Report {
         &self.entries
     }
 
-    /// An equal report. Fails only for want of memory.
+    /// An equal report. Fails only when memory runs out.
     pub fn copy(&self) -> Result<Report, AllocError>
         ensures { IfOk result (λ report. report ≡ self.now) }
     {

@@ -1,6 +1,6 @@
 ghost use Rattle.std.specs.Prelude.{◌≡◌, ◌↔◌, ◌<◌, ℕ, [], map, filter, not, length, Contains, IsTrue, IfOk, IfNone, IfSome, Some, false};
 ghost use Rattle.directory_rules.specs.Membership.{is_dead_status, members_of};
-ghost use Rattle.range_recovery.specs.Silos.{AreAwaited, IsByAddress, StandsAt, awaiting_of, has_reported, marked, silos_of, unreported, with_mark};
+ghost use Rattle.range_recovery.specs.Silos.{AreAwaited, IsByAddress, IsSiloAt, awaiting_of, has_reported, marked, silos_of};
 
 use crate::awaited::Awaited;
 use membership_view::{Status, View};
@@ -41,8 +41,8 @@ impl AwaitedSilos {
     pub(crate) fn has_reported(&self, silo: &SiloAddress) -> Option<bool>
         ensures { result ≡ has_reported self.now silo.now }
     {
-        match place_of(&self.silos, silo) {
-            Some(place) => Some(self.silos[place].has_reported),
+        match index_of(&self.silos, silo) {
+            Some(index) => Some(self.silos[index].has_reported),
             None => None,
         }
     }
@@ -66,8 +66,8 @@ impl AwaitedSilos {
         requires { has_reported self.old silo.now ≡ Some false }
         ensures { self.new ≡ marked self.old silo.now }
     {
-        if let Some(place) = place_of(&self.silos, silo) {
-            set_reported(&mut self.silos, place);
+        if let Some(index) = index_of(&self.silos, silo) {
+            self.silos[index].has_reported = true;
             self.missing -= 1;
         }
     }
@@ -100,7 +100,7 @@ impl AwaitedSilos {
 
 // The silos of a view's rows that aren't Dead.
 fn awaited_of(alloc: Global, rows: &[(SiloAddress, Status)]) -> Result<Vec<Awaited>, AllocError>
-    ensures { IfOk result (λ silos. silos.items ≡ map unreported (filter (λ row. not (is_dead_status row.1)) rows.now)) }
+    ensures { IfOk result (λ silos. silos.items ≡ map (λ row. record { silo = row.0; has_reported = false }) (filter (λ row. not (is_dead_status row.1)) rows.now)) }
 {
     rows.iter()
         .filter(|row| !is_dead(row.1))
@@ -133,23 +133,15 @@ fn awaiting_in(alloc: Global, silos: &[Awaited]) -> Result<Vec<SiloAddress>, All
 }
 
 // Where the silo stands.
-fn place_of(silos: &[Awaited], silo: &SiloAddress) -> Option<usize>
+fn index_of(silos: &[Awaited], silo: &SiloAddress) -> Option<usize>
     requires { IsByAddress silos.now }
-    ensures found { IfSome result (λ place. StandsAt silos.now silo.now place) }
+    ensures found { IfSome result (λ index. IsSiloAt silos.now silo.now index) }
     ensures absent { IfNone result (¬ (Contains (silos_of silos.now) silo.now)) }
 {
     match silos.binary_search_by_key(silo, |awaited| awaited.silo) {
-        Ok(place) => Some(place),
+        Ok(index) => Some(index),
         Err(_) => None,
     }
-}
-
-// The silo that stands there has reported.
-fn set_reported(silos: &mut Vec<Awaited>, place: usize)
-    requires { place < length silos.old.items }
-    ensures { silos.new.items ≡ with_mark silos.old.items place }
-{
-    silos[place].has_reported = true;
 }
 
 fn same_silos(one: &[Awaited], other: &[Awaited]) -> bool

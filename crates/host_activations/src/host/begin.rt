@@ -10,7 +10,7 @@ use std::alloc::AllocError;
 
 impl Host {
     /// An activation of the grain begins, in the place of a previous one if one is named, and asks to be entered. Fails only
-    /// for want of memory.
+    /// when memory runs out.
     pub fn start(
         &mut self,
         grain: GrainId,
@@ -37,7 +37,7 @@ impl Host {
         Ok(())
     }
 
-    /// The grain's firm activation asks to be taken out. Fails only for want of memory.
+    /// The grain's firm activation asks to be taken out. Fails only when memory runs out.
     pub fn begin_to_close(&mut self, grain: &GrainId) -> Result<(), AllocError>
         requires firm { IsSomeAnd (held_of self.old grain.now) (λ held. IsTrue (is_firm held.phase)) }
         requires number { self.old.next_number ≤ 2 ^ 60 }
@@ -56,7 +56,7 @@ impl Host {
         Ok(())
     }
 
-    /// The host asks where the grain is. Fails only for want of memory.
+    /// The host asks where the grain is. Fails only when memory runs out.
     pub fn ask(&mut self, grain: GrainId) -> Result<(), AllocError>
         requires number { self.old.next_number ≤ 2 ^ 60 }
         ensures asking { OnOk result (self.new ≡ with_find self.old grain) }

@@ -1,6 +1,6 @@
 ghost use Rattle.std.specs.Prelude.{◌≡◌, MatchOption};
 ghost use Rattle.directory_rules.specs.Host.{asking_under, confirmed, without_find, without_held};
-ghost use Rattle.host_activations.specs.Asked.{without_number};
+ghost use Rattle.host_activations.specs.Replying.{without_number};
 
 use super::Host;
 use super::replies::find_under;

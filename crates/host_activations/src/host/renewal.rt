@@ -14,7 +14,7 @@ use std::alloc::{AllocError, Global};
 use std::collections::BTreeMap;
 
 impl Host {
-    /// Every outstanding request gets a new number, in the order of the old ones. Fails only for want of memory.
+    /// Every outstanding request gets a new number, in the order of the old ones. Fails only when memory runs out.
     pub fn renew(&mut self) -> Result<(), AllocError>
         requires { self.old.next_number + length (outstanding self.old) ≤ 2 ^ 60 + 1 }
         ensures renewed { OnOk result (self.new ≡ renewed self.old) }

@@ -1,7 +1,8 @@
 ghost use Rattle.std.specs.Prelude.{◌≡◌, Option, option_and_then};
 ghost use Rattle.directory_rules.specs.Host.{asking_under, closing_under, is_finding, is_outstanding};
-ghost use Rattle.host_activations.specs.Asked.{asked_under, activation_in, find_in, held_under};
-ghost use Rattle.host_activations.specs.Numbers.{held_in};
+ghost use Rattle.host_activations.specs.Asked.{asked_under, find_in};
+ghost use Rattle.host_activations.specs.Replying.{activation_in, held_under};
+ghost use Rattle.host_activations.specs.Replying.{held_in};
 
 use super::Host;
 use crate::asked::{Asked, activation_in, find_in};

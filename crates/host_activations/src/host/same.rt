@@ -25,7 +25,7 @@ impl Host {
         let _next_number = self.next_number;
     }
 
-    /// An equal host. Fails only for want of memory.
+    /// An equal host. Fails only when memory runs out.
     pub fn copy(&self) -> Result<Host, AllocError>
         ensures { IfOk result (λ host. host ≡ self.now) }
     {

@@ -1,7 +1,8 @@
 ghost use Rattle.std.specs.Prelude.{◌≡◌, IfOk, OnOk};
 ghost use Rattle.directory_rules.specs.Host.{firm_entries, is_firm, outstanding};
 ghost use Rattle.directory_rules.specs.Table.{entries_of};
-ghost use Rattle.host_activations.specs.Acts.{act_for, act_in_phase, acts_in, entry_on};
+ghost use Rattle.host_activations.specs.Acts.{act_for, act_in_phase, acts_in};
+ghost use Rattle.directory_rules.specs.Host.{entry_on};
 ghost use Rattle.host_activations.specs.FirmTable.{firm_table, with_firm};
 
 use super::Host;
@@ -15,8 +16,8 @@ use std::alloc::{AllocError, Global};
 use std::collections::BTreeMap;
 
 impl Host {
-    /// The entries of the firm activations that are hashed into the range, in the order of their grains. Fails only for want
-    /// of memory.
+    /// The entries of the firm activations that are hashed into the range, in the order of their grains. Fails only when
+    /// memory runs out.
     pub fn firm_entries(
         &self,
         alloc: Global,
@@ -29,7 +30,7 @@ impl Host {
         entries_of(alloc, &table)
     }
 
-    /// What is outstanding, under its numbers in their order. Fails only for want of memory.
+    /// What is outstanding, under its numbers in their order. Fails only when memory runs out.
     pub fn requests(&self, alloc: Global) -> Result<Vec<(u64, Act)>, AllocError>
         ensures { IfOk result (λ requests. requests.items ≡ outstanding self.now) }
     {

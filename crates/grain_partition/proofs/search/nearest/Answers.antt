@@ -11,19 +11,19 @@ pub returns-in-Some : goal.returns-in-Some
 returns-in-Some c =
     let start : ℕ = c.in-Some.field-0-0.now in
     let piece : Piece = c.in-Some.piece.now in
-    let place = c.range.ensures.in_range tt in
-    let entry = place.3 (start, piece) c.next_back.new.self c.in-Some.ensures.steps in
+    let shown = c.range.ensures.in_range tt in
+    let entry = shown.3 (start, piece) c.next_back.new.self c.in-Some.ensures.steps in
     nearest_before c.args.pieces.now.entries c.requires c.args.hash start piece entry.1 (le_from_not_gt start c.args.hash entry.0.1)
-    (λ other le there. ge_from_not_lt start other (place.4 (start, piece) c.next_back.new.self c.in-Some.ensures.steps other (tt, not_gt_from_le other c.args.hash le) there))
+    (λ other le there. ge_from_not_lt start other (shown.4 (start, piece) c.next_back.new.self c.in-Some.ensures.steps other (tt, not_gt_from_le other c.args.hash le) there))
 
 pub returns : goal.returns
 returns c =
     let start : ℕ = c.in_ok-piece.field-0-0.now in
     let piece : Piece = c.in_ok-piece.piece.now in
-    let place = c.range.ensures.in_range tt in
+    let shown = c.range.ensures.in_range tt in
     nearest_round c.args.pieces.now.entries c.requires c.args.hash start piece c.in_ok-piece.ensures.value
     (λ other there. (
       past_where c.args.hash other (lookup (is_at (nat_cmp other)) c.args.pieces.now.entries)
-          (λ le. place.5 c.in_default.ensures.steps.0 other (tt, not_gt_from_le other c.args.hash le)) there,
+          (λ le. shown.5 c.in_default.ensures.steps.0 other (tt, not_gt_from_le other c.args.hash le)) there,
       ge_from_not_lt start other (c.in_ok-piece.ensures.greatest other there),
     ))

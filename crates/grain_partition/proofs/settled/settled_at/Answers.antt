@@ -4,7 +4,7 @@ use Rattle.directory_rules.specs.Laws.{lies_settled}
 use Rattle.directory_rules.specs.Piece.{Piece}
 use Rattle.directory_rules.specs.Sight.{is_settled}
 use Rattle.directory_rules.proofs.Cases.{on_bool}
-use Rattle.grain_partition.specs.Settled.{SettlesAt}
+use Rattle.grain_partition.specs.Search.{SettlesAt}
 use Rattle.grain_partition.proofs.ServedFrom.{found_with}
 use Rattle.grain_partition.proofs.SettledHashes.{none_settles, with_settles, with_has}
 use Rattle.grain_partition.proofs.settled.settled_at.Goals as goal

@@ -1,5 +1,5 @@
 use Rattle.std.proofs.Common.{◌≡◌, sym, ap, ◌∙◌}
-use Rattle.grain_partition.specs.Sight.{bare_piece}
+use Rattle.grain_partition.proofs.Bare.{bare_piece}
 use Rattle.grain_partition.proofs.BareSteps.{bare_with, one_more}
 use Rattle.grain_partition.proofs.sight.bare_pieces.Goals as goal
 

@@ -1,5 +1,5 @@
 use Rattle.std.proofs.Common.{◌≡◌, ◌++◌, drop}
-use Rattle.grain_partition.specs.Sight.{bare_pieces}
+use Rattle.grain_partition.proofs.Bare.{bare_pieces}
 use Rattle.grain_partition.proofs.sight.bare_pieces.Given as goal
 
 -- the pieces so far, and then those of the arcs to come

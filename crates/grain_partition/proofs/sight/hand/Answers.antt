@@ -4,7 +4,7 @@ use Rattle.ring_range.specs.Range.{circle, Range}
 use Rattle.hash_ring.specs.Hash.{hash_grain}
 use Rattle.directory_rules.specs.Laws.{lies_settled}
 use Rattle.grain_partition.specs.Entering.{Enters}
-use Rattle.grain_partition.specs.Settled.{SettlesAt}
+use Rattle.grain_partition.specs.Search.{SettlesAt}
 use Rattle.grain_partition.proofs.Handing.{handed-dead, handed-nowhere, handed-there}
 use Rattle.grain_partition.proofs.sight.hand.Goals as goal
 

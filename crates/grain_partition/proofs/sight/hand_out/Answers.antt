@@ -2,7 +2,7 @@ use Rattle.std.proofs.Common.{sym, ap, ◌∙◌, subst}
 use Rattle.silo_address.specs.Grain.{Grain}
 use Rattle.silo_address.specs.declared.Entry.{Entry}
 use Rattle.grain_partition.specs.Holding.{ArePieces}
-use Rattle.grain_partition.specs.Sight.{handed_out}
+use Rattle.grain_partition.specs.HandingOut.{handed_out}
 use Rattle.grain_partition.proofs.Handing.{handed-more, handed-nothing, pieces-handed}
 use Rattle.grain_partition.proofs.sight.hand_out.Goals as goal
 

@@ -1,6 +1,6 @@
 use Rattle.std.proofs.Common.{◌≡◌}
 use Rattle.grain_partition.specs.Holding.{ArePieces}
-use Rattle.grain_partition.specs.Sight.{handed_out}
+use Rattle.grain_partition.specs.HandingOut.{handed_out}
 use Rattle.grain_partition.proofs.sight.hand_out.Given as goal
 
 -- the rest handed out gives the whole

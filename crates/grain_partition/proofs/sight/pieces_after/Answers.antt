@@ -1,7 +1,7 @@
 use Rattle.std.proofs.Common.{sym, ap, ◌∙◌, subst}
 use Rattle.grain_partition.specs.Holding.{ArePieces}
 use Rattle.directory_rules.specs.Sight.{all_entries}
-use Rattle.grain_partition.specs.Sight.{handed_out}
+use Rattle.grain_partition.specs.HandingOut.{handed_out}
 use Rattle.grain_partition.proofs.Sighted.{handed-all, pieces-bare}
 use Rattle.grain_partition.proofs.sight.pieces_after.Goals as goal
 

@@ -1,4 +1,4 @@
-use Rattle.std.proofs.Common.{◌≡◌, ◌++◌, ◌∷◌, [], cond, Option, Some, None, false, refl, ◌∙◌, ap, sym}
+use Rattle.std.proofs.Common.{◌≡◌, ◌++◌, ◌∷◌, [], cond, Option, Some, None, false, refl, ◌∙◌, ap, sym, rules}
 use Rattle.std.specs.Option.{is_some}
 use Rattle.std.specs.Result.{is_ok}
 use Rattle.silo_address.proofs.Order.{grain_cmp_total}
@@ -21,3 +21,6 @@ returns-clause-noted c =
     (ap (λ t. without_grain c.args.entry.now.grain t) c.in_ok-insert.ensures.entries
     ∙ taken_out-put_in grain_cmp_total c.args.entry.now.grain c.args.entry.now c.args.gathered.now.entries
     (nothing (entry_at c.args.entry.now.grain c.args.gathered.now.entries) (sym c.contains_key.ensures ∙ c.if-contains_key.false)))
+
+pub returns-clause-gathered : goal.returns-clause-gathered
+returns-clause-gathered c = search rules

@@ -1,5 +1,5 @@
 use Rattle.std.proofs.lemmas.Slice.Eq.{slice_eq-Decides}
-use Rattle.range_recovery.proofs.Standing.{Decides-awaited}
+use Rattle.range_recovery.proofs.Reported.{Decides-awaited}
 use Rattle.range_recovery.proofs.silos.same_silos.Goals as goal
 
 pub returns : goal.returns

@@ -1,7 +1,7 @@
 use Rattle.std.proofs.Common.{◌≡◌, sym, ap, subst, ◌∙◌, ◌+◌, Some}
 use Rattle.std.specs.Prelude.{IsSomeAnd, IfSome, IsTrue}
 use Rattle.directory_rules.specs.Host.{Host, held_of, is_firm, with_closing}
-use Rattle.host_activations.specs.Fields.{host_of}
+use Rattle.host_activations.specs.HostModel.{host_of}
 use Rattle.host_activations.proofs.Fields.{meant}
 use Rattle.host_activations.proofs.Beginnings.{closing_is, closing_means}
 use Rattle.host_activations.proofs.host.Host.begin_to_close.Goals as goal

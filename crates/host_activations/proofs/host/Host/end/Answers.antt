@@ -1,5 +1,5 @@
 use Rattle.std.proofs.Common.{ap, ◌∙◌}
-use Rattle.host_activations.specs.Asked.{without_number}
+use Rattle.host_activations.specs.Replying.{without_number}
 use Rattle.host_activations.proofs.Endings.{ended_is, ended_means}
 use Rattle.host_activations.proofs.host.Host.end.Goals as goal
 

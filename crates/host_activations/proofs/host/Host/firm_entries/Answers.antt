@@ -2,7 +2,7 @@ use Rattle.std.proofs.Common.{ap, subst, ◌≡◌, ◌∙◌}
 use Rattle.std.specs.Prelude.{IfOk}
 use Rattle.directory_rules.specs.Host.{Host, firm_entries}
 use Rattle.directory_rules.specs.Table.{entries_of}
-use Rattle.host_activations.specs.Fields.{host_of}
+use Rattle.host_activations.specs.HostModel.{host_of}
 use Rattle.host_activations.proofs.Tables.{firm_entries_are}
 use Rattle.host_activations.proofs.host.Host.firm_entries.Goals as goal
 

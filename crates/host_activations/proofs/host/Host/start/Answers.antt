@@ -1,6 +1,6 @@
 use Rattle.std.proofs.Common.{ap, ◌∙◌, ◌++◌, ◌∷◌, []}
 use Rattle.directory_rules.specs.Host.{next_held}
-use Rattle.host_activations.specs.Fields.{host_of}
+use Rattle.host_activations.specs.HostModel.{host_of}
 use Rattle.host_activations.proofs.Beginnings.{started_is, started_means}
 use Rattle.host_activations.proofs.host.Host.start.Goals as goal
 

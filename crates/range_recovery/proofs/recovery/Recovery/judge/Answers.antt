@@ -16,3 +16,9 @@ returns-in-Some-false-clause-judged c =
     (subst (λ (v : Recovery). IsStrictlySortedBy silo_cmp v.awaiting) c.self.view_is c.whole.ensures.awaiting_in_order)
     (sym c.is_asked_for.ensures ∙ c.if-not-is_asked_for.false) waits
     ∙ ap (λ p. Ok p) (sym c.after_one_more.ensures)
+
+pub returns-in-None-clause-judged : goal.returns-in-None-clause-judged
+returns-in-None-clause-judged c = tt
+
+pub returns-in-Some-true-clause-judged : goal.returns-in-Some-true-clause-judged
+returns-in-Some-true-clause-judged c = tt

@@ -4,8 +4,8 @@ use Rattle.silo_address.specs.Silo.{Silo}
 use Rattle.membership_view.specs.declared.status.Status.{Status}
 use Rattle.directory_rules.specs.Membership.{is_dead_status}
 use Rattle.range_recovery.specs.declared.awaited.Awaited.{Awaited}
-use Rattle.range_recovery.specs.Silos.{IsCounted, unreported}
-use Rattle.range_recovery.proofs.Told.{told, told-unreported, by_address-unreported, counted-unreported}
+use Rattle.range_recovery.specs.Silos.{IsCounted}
+use Rattle.range_recovery.proofs.Told.{told, unreported, told-unreported, by_address-unreported, counted-unreported}
 use Rattle.range_recovery.proofs.silos.AwaitedSilos.of.Goals as goal
 
 pub invariant_of-result : goal.invariant_of-result

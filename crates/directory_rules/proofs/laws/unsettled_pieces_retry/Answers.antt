@@ -1,5 +1,0 @@
-use Rattle.directory_rules.proofs.Retried.{unsettled_retries}
-use Rattle.directory_rules.proofs.laws.unsettled_pieces_retry.Goals as goal
-
-pub returns : goal.returns
-returns c = unsettled_retries

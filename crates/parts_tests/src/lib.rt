@@ -1,0 +1,12 @@
+//! Tests of the parts of a directory node over their public calls: the types of the rule, what a silo keeps for others, its
+//! activations, and its recoveries. They stand in a crate of their own, since a crate with tests is proved twice.
+#![tactic(auto)]
+
+#[cfg(test)]
+mod activations;
+#[cfg(test)]
+mod partition;
+#[cfg(test)]
+mod recovery;
+#[cfg(test)]
+mod rules;
