@@ -1,6 +1,7 @@
 pub mod Numbers
 pub mod LetterModel
 pub mod InputModel
+pub mod Follows
 pub mod Saying
 pub mod Node
 pub mod NodeModel

@@ -2,7 +2,7 @@ ghost use Rattle.std.specs.BTreeMap.{is_at};
 ghost use Rattle.std.specs.List.Sorted.{IsStrictlySortedBy};
 ghost use Rattle.std.specs.Map.{keys_of, lookup};
 ghost use Rattle.std.specs.Ordering.{nat_cmp};
-ghost use Rattle.std.specs.Prelude.{◌≡◌, IsTrue, IfOk, OnOk, OnErr, Some, []};
+ghost use Rattle.std.specs.Prelude.{◌≡◌, IsTrue, IfOk, OnOk, OnErr, Some, [], length};
 ghost use Rattle.std.specs.List.{list_all};
 ghost use Rattle.silo_address.specs.Silo.{silo_eq};
 ghost use Rattle.directory_rules.specs.Recovery.{Recovery as RecoveryValue, recovered};
@@ -28,7 +28,8 @@ impl Node {
         letter: &Letter,
         range: RingRange,
     ) -> Result<Response, AllocError>
-        ensures { IfOk result (λ response. response_of response ≡ said_of (queried self.now letter.now range)) }
+        ensures says { IfOk result (λ response. response_of response ≡ said_of (queried self.now letter.now range)) }
+        ensures one { length (queried self.now letter.now range).letters ≡ 1 }
     {
         if self.view.version() < letter.version() {
             return self.answer(alloc, letter, Body::Behind(range), Effect::Behind);
