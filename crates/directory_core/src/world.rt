@@ -124,7 +124,7 @@ impl World {
         self.mail.least_fresh_to(&self.nodes)
     }
 
-    /// The ring of the current view. Fails only for want of memory.
+    /// The ring of the current view. Fails only when memory runs out.
     pub fn current_ring(&self, alloc: Global) -> Result<Ring, AllocError>
         ensures { IfOk result (λ ring. ring.points ≡ current_ring self.now) }
     {
@@ -137,7 +137,7 @@ impl World {
         }
     }
 
-    /// The point that owns a hash by the current view, `None` where nobody does. Fails only for want of memory.
+    /// The point that owns a hash by the current view, `None` where nobody does. Fails only when memory runs out.
     pub fn owner(&self, alloc: Global, hash: u32) -> Result<Option<Point>, AllocError>
         ensures { IfOk result (λ owner. owner ≡ owner_of (current_ring self.now) hash) }
     {
