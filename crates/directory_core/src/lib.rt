@@ -15,6 +15,3 @@ mod world;
 pub use refusal::EventRefusal;
 pub use told::Told;
 pub use world::World;
-
-#[cfg(test)]
-mod tests;

@@ -14,8 +14,6 @@ mod response;
 mod sending;
 mod sight;
 mod step;
-#[cfg(test)]
-mod tests;
 
 pub use refusal::StepRefusal;
 pub use input::Input;

@@ -1,6 +1,6 @@
-use crate::{EventRefusal, World};
 use cluster_events::{Event, Happening, Outcome, Span};
-use directory_rules::{Effect, LetterKind};
+use directory_core::{EventRefusal, World};
+use directory_rules::{Effect, LetterKind, Settings};
 use hash_ring::{Hashing, RingError};
 use silo_address::{ActivationId, Entry, GrainId, SiloAddress};
 use std::alloc::Global;
@@ -222,6 +222,52 @@ fn owner_of_a_hash(rt: HostRuntime) {
     assert_eq!(rt; ring.points().len(), 1);
     let owner = world.owner(rt.alloc(), 0).expect(&rt, "memory");
     assert_eq!(rt; owner.expect(&rt, "an owner").place, 7);
+}
+
+// A world in which one letter may ever be sent.
+fn of_one_letter(rt: &impl Abort, alloc: Global) -> World {
+    let settings = Settings::of_directory(Hashing::Stated, 30, 0).expect(rt, "30 points");
+    let settings = settings.with_silos(1).expect(rt, "one silo");
+    let settings = settings.with_letters(1).expect(rt, "one letter");
+    World::new(alloc, settings).expect(rt, "one silo and no cache")
+}
+
+// It is the query of the silo's sight; what would send a second one is refused, and the query may come again.
+#[test]
+fn no_room_for_a_second_letter(rt: HostRuntime) {
+    let mut world = of_one_letter(&rt, rt.alloc());
+    let join = join_with(&rt, rt.alloc(), 1);
+    assert!(rt; world.apply(&join).is_ok());
+    assert!(rt; world.apply(&see(&rt, 1)).is_ok());
+    is_refused(&rt, &mut world, &wake(&rt), EventRefusal::MailFull, 909);
+    is_refused(&rt, &mut world, &find(&rt), EventRefusal::MailFull, 909);
+    let deliver = Event::Deliver { number: 1 };
+    is_refused(&rt, &mut world, &deliver, EventRefusal::MailFull, 909);
+    assert_eq!(rt; world.least_deliverable(), Some(1));
+    assert_eq!(rt; world.accepted(), 2);
+}
+
+// A sight of two pieces would send two queries.
+#[test]
+fn no_room_for_a_sight(rt: HostRuntime) {
+    let mut world = of_one_letter(&rt, rt.alloc());
+    let event = Event::Join {
+        silo: silo(&rt),
+        places: vec![in rt.alloc(); 7, 8].expect(&rt, "memory"),
+    };
+    assert!(rt; world.apply(&event).is_ok());
+    is_refused(&rt, &mut world, &see(&rt, 1), EventRefusal::MailFull, 909);
+    assert_eq!(rt; world.sent(), 0);
+}
+
+// Neither two silos nor a cache can be yet.
+#[test]
+fn worlds_that_cannot_be_yet(rt: HostRuntime) {
+    let settings = Settings::of_directory(Hashing::Stated, 30, 0).expect(&rt, "30 points");
+    assert!(rt; World::new(rt.alloc(), settings).is_none());
+    let cached = Settings::of_directory(Hashing::Stated, 30, 1).expect(&rt, "30 points");
+    let cached = cached.with_silos(1).expect(&rt, "one silo");
+    assert!(rt; World::new(rt.alloc(), cached).is_none());
 }
 
 // How many points a world may be asked for.

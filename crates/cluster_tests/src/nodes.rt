@@ -1,7 +1,7 @@
 ghost use Rattle.directory_node.specs.First.{IsFirstSight};
 ghost use Rattle.directory_node.specs.InputModel.{input_of};
 
-use crate::{Body, Input, Letter, Node, StepRefusal, Response, Stepped};
+use directory_node::{Body, Input, Letter, Node, Response, StepRefusal, Stepped};
 use directory_rules::{Effect, LetterKind, Phase, Reply, Settings, Why};
 use hash_ring::{Hashing, Places};
 use membership_view::{View, Views};
@@ -139,7 +139,7 @@ fn settled(rt: &impl Abort, alloc: Global) -> Node {
     node
 }
 
-#[tactic(auto, using(crate::proofs::Said::made_if_said))]
+#[tactic(auto, using(directory_node::proofs::Said::made_if_said))]
 fn wakes(alloc: Global, node: &mut Node, grain: GrainId) -> Result<Response, StepRefusal> {
     let response = node.respond_wake(alloc, grain)?;
     match node.absorb_wake(grain) {
@@ -148,7 +148,7 @@ fn wakes(alloc: Global, node: &mut Node, grain: GrainId) -> Result<Response, Ste
     }
 }
 
-#[tactic(auto, using(crate::proofs::Said::made_if_said))]
+#[tactic(auto, using(directory_node::proofs::Said::made_if_said))]
 fn finds(alloc: Global, node: &mut Node, grain: GrainId) -> Result<Response, StepRefusal> {
     let response = node.respond_find(alloc, grain)?;
     match node.absorb_find(grain) {
@@ -212,7 +212,7 @@ fn an_activation_is_found(rt: HostRuntime) {
 }
 
 // The step beside the node and its two parts say and leave the same.
-#[tactic(auto, using(crate::proofs::Said::made_if_said))]
+#[tactic(auto, using(directory_node::proofs::Said::made_if_said))]
 fn check_parts(rt: &impl Abort, alloc: Global, node: &mut Node, input: &Input<'_>)
     requires { IsFirstSight node.old (input_of input.now) }
 {
