@@ -42,8 +42,8 @@ recovered_is recovery report =
     (still (with_report recovery report).awaiting (with_report recovery report))
 
 not_true : (b : Bool) → (b ≡ true → ⊥) → b ≡ false
-not_true true no = absurd (no refl)
-not_true false no = refl
+not_true true never = absurd (never refl)
+not_true false never = refl
 
 -- whether it is complete now, and the recoveries after it, tell all that came of it
 taken_by : (outcome : Recovered) (recovery : Recovery) (report : Report) (old new : List (ℕ × Recovery)) (complete : Bool) → IsOf (with_report recovery report) outcome
