@@ -23,7 +23,7 @@ pub none_not_some : {X : Type 0} (found : Option X) → found ≡ None → IsSom
 none_not_some None none there = cc (there)
 none_not_some (Some x) none there = cc (none)
 
--- an entry put in at a key that is there takes that one's place
+-- an entry put in at a key that is there replaces that one
 pub put_there : {K X : Type 0} (R : K → K → Ordering) (o : IsTotalOrder R) (k : K) (v : X) (es : List (K × X)) → IsStrictlySortedBy R (keys_of es) → IsSome (lookup (is_at (R k)) es)
     → insert_entry R es k v ≡ set_value (is_at (R k)) es v
 put_there R o k v [] sorted there = absurd (cc (there))
@@ -38,7 +38,7 @@ put_there {K} {X} R o k v (e ∷ es) sorted there =
     by Equal h later none there = refl
     by Greater h later none there = ap (λ (l : List (K × X)). e ∷ l) (later there)
 
--- the value that was lent, changed, is written back: it is put in in its own place
+-- the value that was lent, changed, is written back: it is put in under its own key
 pub put_at : {K X : Type 0} (R : K → K → Ordering) (o : IsTotalOrder R) (k : K) (es : List (K × X)) → IsStrictlySortedBy R (keys_of es) → (lent found left : X) (change : X → X)
     → Some lent ≡ lookup (is_at (R k)) es → lookup (is_at (R k)) es ≡ Some found → left ≡ change lent → set_value (is_at (R k)) es left ≡ insert_entry R es k (change found)
 put_at R o k es sorted lent found left change there is left_is =

@@ -1,5 +1,7 @@
--- What happens at an event: the journal first, and what want of memory leaves open.
-use Rattle.std.proofs.Common.{◌≡◌, inr, ℕ, ◌<◌, ◌≤◌, cond, not, Bool, true, false, List, [], ◌∷◌, Option, Some, Result, Ok, Err, ◌∙◌, refl, sym, ap, subst}
+-- What happens at an event: the journal first, and what refuses it where memory runs out.
+use Rattle.std.proofs.Common.{◌≡◌, ℕ, ◌+◌, ◌<◌, ◌≤◌, cond, not, Bool, true, false, List, [], ◌∷◌, length, Option, Some, None, Result, Ok, Err, ◌∙◌, refl, sym, ap, subst, arith}
+use Rattle.std.specs.Prelude.{IsOk, nat_le}
+use Rattle.std.specs.Option.{option_or}
 use Rattle.std.proofs.lemmas.Bool.{le-ltb, lt-ltb}
 use Rattle.silo_address.specs.Silo.{Silo}
 use Rattle.directory_rules.specs.Event.{Event, Happening, Delivered, Span}
@@ -8,12 +10,13 @@ use Rattle.directory_rules.specs.Node.{Node}
 use Rattle.directory_rules.specs.Step.{Stepped}
 use Rattle.directory_rules.specs.World.{World, Accepted}
 use Rattle.directory_rules.specs.Mail.{has_room_for, letter_of, span_of, with_delivered}
-use Rattle.directory_rules.specs.Happens.{attempted, deliver, delivers, delivers_to, happens, node_of, taken}
+use Rattle.directory_rules.specs.Input.{Input, step}
+use Rattle.directory_rules.specs.Happens.{attempted, deliver, delivers, delivers_to, does, does_at, done_by, happens, node_of, taken}
 use Rattle.directory_rules.specs.Receive.{received}
 use Rattle.directory_rules.specs.declared.Effect.{Effect}
-use Rattle.directory_node.specs.Saying.{Said, said_of}
-use Rattle.directory_core.specs.Stepping.{after_step}
-use Rattle.directory_core.specs.Applying.{IsLeftOpen}
+use Rattle.directory_node.specs.Follows.{RefusesBy}
+use Rattle.directory_node.specs.Saying.{Said, SendsOne, said, said_of}
+use Rattle.directory_core.specs.Stepping.{after_step, one_letter_number}
 
 pub full : (world : World) (event : Event) → world.settings.events ≤ world.accepted → happens world event ≡ Err 908
 unfolding happens
@@ -23,14 +26,36 @@ pub has_room : (world : World) (event : Event) → world.accepted < world.settin
 unfolding happens
 has_room world event room = ap (λ b. cond b (attempted world event) (Err 908)) (lt-ltb world.accepted world.settings.events room)
 
-open_if : (b : Bool) (accepted : Accepted) → IsLeftOpen (cond (not b) (Err 909) (Ok accepted))
-open_if true accepted = tt
-open_if false accepted = inr refl
+-- ---- an event that sends one letter, where memory runs out
+one_decided : (world : World) (letters : List Letter) (accepted : Accepted) → length letters ≡ 1
+    → RefusesBy IsOk (one_letter_number world) (cond (not (has_room_for world letters)) (Err 909) (Ok accepted))
+one_decided world [] accepted one = absurd (omega arith)
+one_decided world (letter ∷ []) accepted one = by (nat_le (world.sent + 1) world.settings.letters)
+  where
+    by : (b : Bool) → RefusesBy IsOk (cond b None (Some 909)) (cond (not b) (Err 909) (Ok accepted))
+    by true = refl
+    by false = refl
+one_decided world (letter ∷ next ∷ letters) accepted one = absurd (omega arith)
 
-pub open_delivery : (world : World) (number : ℕ) (letter : Letter) (node : Node) → letter_of world number ≡ Some letter → node_of world letter.to ≡ Some node → IsLeftOpen (deliver world number)
-open_delivery world number letter node is there =
-    subst (λ o. IsLeftOpen (delivers o world number)) (sym is)
-    (subst (λ n. IsLeftOpen (delivers_to n world number letter)) (sym there) (open_if (has_room_for (with_delivered world number letter) _) _))
+-- a step of the silo's own is refused by the step's number, or by the letter's
+pub refused_told : (world : World) (silo : Silo) (input : Input) (node : Node) (number : Option ℕ) → node_of world silo ≡ Some node
+    → RefusesBy SendsOne number (said (step node input)) → RefusesBy IsOk (option_or number (one_letter_number world)) (does world silo input)
+refused_told world silo input node number there refuses =
+    subst (λ n. RefusesBy IsOk (option_or number (one_letter_number world)) (does_at n world silo input)) (sym there) (by (step node input) number refuses)
+  where
+    by : (outcome : Result Stepped ℕ) (number : Option ℕ) → RefusesBy SendsOne number (said outcome) → RefusesBy IsOk (option_or number (one_letter_number world)) (done_by outcome world silo)
+    by (Ok stepped) (Some number) refuses = absurd (cc (refuses))
+    by (Ok stepped) None one = one_decided world stepped.letters _ one
+    by (Err refusal) (Some number) refuses = cc (refuses)
+    by (Err refusal) None one = absurd one
+
+-- so is a delivery
+pub delivery_refused : (world : World) (number : ℕ) (letter : Letter) (node : Node) → letter_of world number ≡ Some letter → node_of world letter.to ≡ Some node
+    → length (received node letter).letters ≡ 1 → RefusesBy IsOk (one_letter_number world) (deliver world number)
+delivery_refused world number letter node is there one =
+    subst (λ o. RefusesBy IsOk (one_letter_number world) (delivers o world number)) (sym is)
+    (subst (λ n. RefusesBy IsOk (one_letter_number world) (delivers_to n world number letter)) (sym there)
+    (one_decided (with_delivered world number letter) (received node letter).letters _ one))
 
 -- ---- a step that is taken
 taken_told : (world : World) (silo : Silo) (happening : Happening) (stepped : Stepped) → has_room_for world stepped.letters ≡ true

@@ -54,7 +54,7 @@ pub none_told : (world : World) → [] ≡ (run world []).told
 unfolding run
 none_told world = refl
 
--- where want of memory ends the run: before the event, or after it has happened
+-- where the run ends, out of memory: before the event, or after it has happened
 pub stopped_at : (world now next : World) (events : List Event) (i : ℕ) (event : Event) → i < length events → event ≡ get_or events i event
     → now ≡ (run world (map event_of (take i events))).world → (next ≡ now) ⊎ (next ≡ world_after (happens now (event_of event)) now)
     → (count : ℕ) × (next ≡ (run world (map event_of (take count events))).world)

@@ -1,23 +1,25 @@
 -- An event applied by the code, in the rule's words.
-use Rattle.std.specs.Prelude.{◌≡◌, ◌⊎◌, ℕ, Option, Some, None, Result, Ok, Err}
+use Rattle.std.specs.Prelude.{◌≡◌, ℕ, IsOk, Result, Ok, Err}
 use Rattle.directory_rules.specs.World.{World, Accepted}
+use Rattle.cluster_events.specs.declared.Event.{Event}
+use Rattle.cluster_events.specs.declared.Event.TheVariants.{Join, See, Wake, Find, Deliver}
 use Rattle.cluster_events.specs.declared.Outcome.{Outcome}
 use Rattle.cluster_events.specs.OutcomeModel.{outcome_of}
-use Rattle.directory_core.specs.declared.refusal.EventRefusal.{EventRefusal}
-use Rattle.directory_core.specs.Numbers.{event_refusal_number}
 
--- what want of memory leaves open: the event would have been accepted, or refused by one of the two numbers that only the
--- whole step tells, 805 by the requests that it makes and 909 by the letters
-abbrev pub IsLeftOpen : Result Accepted ℕ → Type 0
-IsLeftOpen (Ok accepted) = Unit {0}
-IsLeftOpen (Err number) = (number ≡ 805) ⊎ (number ≡ 909)
+-- an event that tells this outcome and leaves that world
+abbrev pub accepted_as : World → Outcome → Accepted
+accepted_as after outcome = record { outcome = outcome_of outcome; world = after }
 
--- a refusal by its number; want of memory comes only where nothing that it left open would refuse
-abbrev pub RefusesBy : Option ℕ → Result Accepted ℕ → Type 0
-RefusesBy (Some number) happened = happened ≡ Err number
-RefusesBy None happened = IsLeftOpen happened
+-- accepted, or refused by 909 alone
+abbrev pub IsOkOrFull : Result Accepted ℕ → Type 0
+IsOkOrFull (Ok accepted) = Unit {0}
+IsOkOrFull (Err number) = number ≡ 909
 
--- what happened is told, and leaves that world; or the event is refused
-abbrev pub Tells : Result Accepted ℕ → World → Result Outcome EventRefusal → Type 0
-Tells happened after (Ok outcome) = happened ≡ Ok (record { outcome = outcome_of outcome; world = after })
-Tells happened after (Err refusal) = RefusesBy (event_refusal_number refusal) happened
+-- out of memory is excused where the rule accepts the event; at a sight, whose letters are known only when they are made, also
+-- where they would be more than may ever be sent
+abbrev pub excused : Event → Result Accepted ℕ → Type 0
+excused (Join silo places) happened = IsOk happened
+excused (See silo version) happened = IsOkOrFull happened
+excused (Wake silo grain) happened = IsOk happened
+excused (Find silo grain) happened = IsOk happened
+excused (Deliver number) happened = IsOk happened

@@ -35,7 +35,7 @@ with_stale mail number letter = record mail { letters = set_value (is_at (nat_cm
 -- no slot before the mark has a fresh letter
 pub record AreStaleBefore (slots : List Slot) (mark : ℕ) : Type 0 where
   pub within : mark ≤ length slots
-  pub stale : (place : ℕ) (d : Slot) → place < mark → (slice_index_or slots place d).fresh ≡ false
+  pub stale : (index : ℕ) (d : Slot) → index < mark → (slice_index_or slots index d).fresh ≡ false
 
 -- a letter in its slot as it is sent
 abbrev pub fresh_slot : Letter → Slot

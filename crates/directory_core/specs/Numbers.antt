@@ -6,7 +6,7 @@ use Rattle.directory_node.specs.Numbers.{step_refusal_number}
 use Rattle.directory_core.specs.declared.refusal.EventRefusal.{EventRefusal}
 use Rattle.directory_core.specs.declared.refusal.EventRefusal.TheVariants.{NoSuchSilo, DeadSilo, NoSuchVersion, NoSuchLetter, JournalFull, MailFull, Views, Ring, Node, OutOfMemory}
 
--- a refusal's number; want of memory has none
+-- a refusal's number; out of memory has none
 abbrev pub event_refusal_number : EventRefusal → Option ℕ
 event_refusal_number NoSuchSilo = Some 901
 event_refusal_number DeadSilo = Some 902

@@ -7,7 +7,7 @@ use Rattle.cluster_events.specs.OutcomeModel.{outcome_of}
 use Rattle.directory_core.specs.declared.refusal.EventRefusal.{EventRefusal}
 use Rattle.directory_core.specs.Numbers.{event_refusal_number}
 
--- the rule's outcome, or the number; want of memory is not told but ends the run
+-- the rule's outcome, or the number; out of memory is not told but ends the run
 abbrev pub told_as : Result Outcome EventRefusal → Result rule.Outcome ℕ
 told_as (Ok outcome) = Ok (outcome_of outcome)
 told_as (Err refusal) = Err (unwrap_or (event_refusal_number refusal) 0)

@@ -1,7 +1,9 @@
 ghost use Rattle.std.specs.Prelude.{◌≡◌, ◌<◌, OnErr};
 ghost use Rattle.cluster_events.specs.EventModel.{event_of};
 ghost use Rattle.directory_rules.specs.Happens.{attempted, happens};
-ghost use Rattle.directory_core.specs.Applying.{Tells};
+ghost use Rattle.directory_node.specs.Follows.{Follows};
+ghost use Rattle.directory_core.specs.Applying.{accepted_as, excused};
+ghost use Rattle.directory_core.specs.Numbers.{event_refusal_number};
 
 use crate::own::Own;
 use crate::{EventRefusal, World};
@@ -9,10 +11,10 @@ use cluster_events::{Event, Outcome};
 
 impl World {
     /// An event happens. It is accepted, with what it tells, or refused by a refusal with its number, and then nothing changes
-    /// (`docs/RULES.md#the-world`). Want of memory changes nothing either; it comes only where no number refuses the event, but
-    /// for 805 and 909, which only the whole step tells.
+    /// (`docs/RULES.md#the-world`). Out of memory changes nothing either, and comes only where no number refuses the event; but
+    /// at a sight, whose letters are known only when they are made, it may come before 909.
     pub fn apply(&mut self, event: &Event) -> Result<Outcome, EventRefusal>
-        ensures told { Tells (happens self.old (event_of event.now)) self.new result }
+        ensures told { Follows (accepted_as self.new) event_refusal_number (excused event.now) (happens self.old (event_of event.now)) result }
         ensures unchanged { OnErr result (self.new ≡ self.old) }
     {
         if self.accepted() >= self.settings().events() {
@@ -24,7 +26,7 @@ impl World {
     // An event happens while there is room for one more.
     fn attempt(&mut self, event: &Event) -> Result<Outcome, EventRefusal>
         requires room { self.old.accepted < self.old.settings.events }
-        ensures told { Tells (attempted self.old (event_of event.now)) self.new result }
+        ensures told { Follows (accepted_as self.new) event_refusal_number (excused event.now) (attempted self.old (event_of event.now)) result }
         ensures unchanged { OnErr result (self.new ≡ self.old) }
     {
         match event {

@@ -1,12 +1,14 @@
-ghost use Rattle.std.specs.Prelude.{◌≡◌, ◌<◌, IfErr, IfOk, None, Ok, OnErr, OnOk, length};
+ghost use Rattle.std.specs.Prelude.{◌≡◌, ◌<◌, IfOk, IsOk, None, Ok, OnErr, OnOk, length};
 ghost use Rattle.std.specs.Map.{lookup};
 ghost use Rattle.std.specs.BTreeMap.{is_at, insert_entry};
 ghost use Rattle.silo_address.specs.Silo.{silo_cmp};
 ghost use Rattle.membership_view.specs.Changes.{after_join, occupant, with_join};
 ghost use Rattle.hash_ring.specs.Places.{after_add};
 ghost use Rattle.directory_rules.specs.Happens.{join};
-ghost use Rattle.directory_core.specs.Applying.{Tells};
-ghost use Rattle.directory_core.specs.Joining.{RefusesPlaces, with_admitted};
+ghost use Rattle.directory_node.specs.Follows.{Follows};
+ghost use Rattle.directory_core.specs.Applying.{accepted_as};
+ghost use Rattle.directory_core.specs.Joining.{with_admitted};
+ghost use Rattle.directory_core.specs.Numbers.{event_refusal_number};
 
 use crate::{EventRefusal, World};
 use cluster_events::{Happening, Outcome};
@@ -21,7 +23,7 @@ impl World {
     // A silo joins: 201, 205, then 402, 403.
     pub(crate) fn join(&mut self, silo: SiloAddress, given: &[u32]) -> Result<Outcome, EventRefusal>
         requires room { self.old.accepted < self.old.settings.events }
-        ensures told { Tells (join self.old silo given.now) self.new result }
+        ensures told { Follows (accepted_as self.new) event_refusal_number IsOk (join self.old silo given.now) result }
         ensures unchanged { OnErr result (self.new ≡ self.old) }
     {
         if let Err(refusal) = self.views.may_join(&silo) {
@@ -46,11 +48,10 @@ impl World {
         requires may { after_join self.old.views silo ≡ Ok (with_join self.old.views silo) }
         requires first { length self.old.views.rows < self.old.views.limit }
         requires room { self.old.accepted < self.old.settings.events }
-        ensures places { OnOk result (after_add self.old.places silo given.now ≡ Ok self.new.places) }
+        ensures places { Follows (λ _. self.new.places) event_refusal_number IsOk (after_add self.old.places silo given.now) result }
         ensures made { OnOk result (self.new ≡ with_admitted self.old silo self.new.places) }
         ensures version { IfOk result (λ joined. joined.version ≡ self.new.views.version) }
         ensures replaced { IfOk result (λ joined. joined.replaced ≡ occupant silo self.old.views.rows) }
-        ensures refused { IfErr result (λ refusal. RefusesPlaces refusal (after_add self.old.places silo given.now)) }
         ensures unchanged { OnErr result (self.new ≡ self.old) }
     {
         let node = Node::new(self.alloc, self.settings, silo);
@@ -67,7 +68,7 @@ impl World {
     }
 }
 
-// The silo gets its places, its node and its row; where one fails for want of memory, what it got is taken out again.
+// The silo gets its places, its node and its row; where memory runs out, what it got is taken out again.
 fn put_in(
     views: &mut Views,
     places: &mut Places,
@@ -79,11 +80,10 @@ fn put_in(
     requires may { after_join views.old silo ≡ Ok (with_join views.old silo) }
     requires absent { lookup (is_at (silo_cmp silo)) nodes.old.entries ≡ None }
     ensures views { OnOk result (views.new ≡ with_join views.old silo) }
-    ensures places { OnOk result (after_add places.old silo given.now ≡ Ok places.new) }
+    ensures places { Follows (λ _. places.new) event_refusal_number IsOk (after_add places.old silo given.now) result }
     ensures nodes { OnOk result (nodes.new.entries ≡ insert_entry silo_cmp nodes.old.entries silo node) }
     ensures version { IfOk result (λ joined. joined.version ≡ views.new.version) }
     ensures replaced { IfOk result (λ joined. joined.replaced ≡ occupant silo views.old.rows) }
-    ensures refused { IfErr result (λ refusal. RefusesPlaces refusal (after_add places.old silo given.now)) }
     ensures views_unchanged { OnErr result (views.new ≡ views.old) }
     ensures places_unchanged { OnErr result (places.new ≡ places.old) }
     ensures nodes_unchanged { OnErr result (nodes.new.entries ≡ nodes.old.entries) }

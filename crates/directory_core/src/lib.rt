@@ -2,10 +2,10 @@
 #![tactic(auto)]
 
 mod apply;
-mod refusal;
 mod join;
 mod mail;
 mod own;
+mod refusal;
 mod run;
 mod sight;
 mod steps;
@@ -15,6 +15,3 @@ mod world;
 pub use refusal::EventRefusal;
 pub use told::Told;
 pub use world::World;
-
-#[cfg(test)]
-mod tests;

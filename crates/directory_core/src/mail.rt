@@ -67,8 +67,8 @@ impl Mail {
         ensures { option_copied result ≡ letter_in self.now number }
     {
         let slots: &[Slot] = &self.slots;
-        match place_of(slots, number) {
-            Some(place) => Some(&slots[place].letter),
+        match index_of(slots, number) {
+            Some(index) => Some(&slots[index].letter),
             None => None,
         }
     }
@@ -83,7 +83,7 @@ impl Mail {
         }
     }
 
-    /// Letters are sent, under the next numbers. Fails only for want of memory.
+    /// Letters are sent, under the next numbers. Fails only when memory runs out.
     pub(crate) fn post(&mut self, letters: Vec<Letter>) -> Result<(), AllocError>
         ensures posted { OnOk result (self.new ≡ with_posted self.old letters.items) }
         ensures unchanged { OnErr result (self.new ≡ self.old) }
@@ -93,7 +93,7 @@ impl Mail {
         Ok(())
     }
 
-    /// A node makes its step in place, and the step's letters are sent. Fails only for want of memory.
+    /// A node makes its step in place, and the step's letters are sent. Fails only when memory runs out.
     pub(crate) fn absorb(
         &mut self,
         node: &mut Node,
@@ -110,8 +110,8 @@ impl Mail {
         Ok(())
     }
 
-    /// A node receives the letter of a number, which is fresh no more, and what it answers is sent. Fails only for want of
-    /// memory.
+    /// A node receives the letter of a number, which is fresh no more, and what it answers is sent. Fails only when memory runs
+    /// out.
     pub(crate) fn deliver(
         &mut self,
         node: &mut Node,
@@ -145,33 +145,33 @@ fn deliver_in(
     ensures unchanged { OnErr result (slots.new.items ≡ slots.old.items) }
     ensures node_unchanged { OnErr result (node.new ≡ node.old) }
 {
-    match place_of(slots, number) {
-        Some(place) => {
-            receive_and_post(node, place, slots, letters)?;
-            Ok(moved(slots, mark, place))
+    match index_of(slots, number) {
+        Some(index) => {
+            receive_and_post(node, index, slots, letters)?;
+            Ok(moved(slots, mark, index))
         }
         None => unreachable!(),
     }
 }
 
 // Where the letter of that number stands.
-fn place_of(slots: &[Slot], number: u64) -> Option<usize>
-    ensures { MatchOption result ((number ≡ 0) ⊎ (length slots.now < number)) (λ place. (place < length slots.now) × (number ≡ 1 + place)) }
+fn index_of(slots: &[Slot], number: u64) -> Option<usize>
+    ensures { MatchOption result ((number ≡ 0) ⊎ (length slots.now < number)) (λ index. (index < length slots.now) × (number ≡ 1 + index)) }
 {
     if number == 0 {
         return None;
     }
-    let place = (number - 1) as usize;
-    if place >= slots.len() {
+    let index = (number - 1) as usize;
+    if index >= slots.len() {
         return None;
     }
-    Some(place)
+    Some(index)
 }
 
 // How many slots stand before the first fresh letter to a silo with a node.
 fn first_fresh_to(slots: &[Slot], nodes: &BTreeMap<SiloAddress, Node>) -> Option<usize>
     ensures found { result ≡ position (λ slot. is_fresh_to nodes.now.entries (posted_in slot)) slots.now }
-    ensures within { IfSome result (λ place. place < length slots.now) }
+    ensures within { IfSome result (λ index. index < length slots.now) }
 {
     slots
         .iter()
@@ -183,7 +183,7 @@ fn moved(slots: &[Slot], mark: usize, delivered: usize) -> usize
     requires { mark ≤ length slots.now }
     ensures from { mark ≤ result }
     ensures within { result ≤ length slots.now }
-    ensures stale { (place : ℕ) (d : SlotSeen) → mark ≤ place → place < result → (slice_index_or slots.now place d).fresh ≡ false }
+    ensures stale { (index : ℕ) (d : SlotSeen) → mark ≤ index → index < result → (slice_index_or slots.now index d).fresh ≡ false }
 {
     if delivered != mark {
         return mark;
@@ -191,12 +191,12 @@ fn moved(slots: &[Slot], mark: usize, delivered: usize) -> usize
     next_fresh(slots, mark)
 }
 
-// Where the first fresh letter stands from a place on; behind the last one where there is none.
+// Where the first fresh letter stands from an index on; behind the last one where there is none.
 fn next_fresh(slots: &[Slot], from: usize) -> usize
     requires { from ≤ length slots.now }
     ensures from { from ≤ result }
     ensures within { result ≤ length slots.now }
-    ensures stale { (place : ℕ) (d : SlotSeen) → from ≤ place → place < result → (slice_index_or slots.now place d).fresh ≡ false }
+    ensures stale { (index : ℕ) (d : SlotSeen) → from ≤ index → index < result → (slice_index_or slots.now index d).fresh ≡ false }
 {
     match first_fresh(&slots[from..]) {
         Some(ahead) => from + ahead,
@@ -207,7 +207,7 @@ fn next_fresh(slots: &[Slot], from: usize) -> usize
 // How many slots stand before the first fresh letter.
 fn first_fresh(slots: &[Slot]) -> Option<usize>
     ensures found { result ≡ position (λ slot. slot.fresh) slots.now }
-    ensures within { IfSome result (λ place. place < length slots.now) }
+    ensures within { IfSome result (λ index. index < length slots.now) }
 {
     slots.iter().position(|slot| slot.fresh)
 }
@@ -245,22 +245,22 @@ fn absorb_and_post(
     Ok(())
 }
 
-// The letter that stands at the place is received where there is room for what is answered.
+// The letter that stands at the index is received where there is room for what is answered.
 fn receive_and_post(
     node: &mut Node,
-    place: usize,
+    index: usize,
     slots: &mut Vec<Slot>,
     letters: Vec<Letter>,
 ) -> Result<(), AllocError>
-    requires within { place < length slots.old.items }
-    ensures left { OnOk result ((d : SlotSeen) → node.new ≡ (received node.old (slice_index_or slots.old.items place d).letter).node) }
-    ensures posted { OnOk result ((d : SlotSeen) → slots.new.items ≡ set slots.old.items place (stale_slot (slice_index_or slots.old.items place d)) ++ map fresh_slot letters.items) }
+    requires within { index < length slots.old.items }
+    ensures left { OnOk result ((d : SlotSeen) → node.new ≡ (received node.old (slice_index_or slots.old.items index d).letter).node) }
+    ensures posted { OnOk result ((d : SlotSeen) → slots.new.items ≡ set slots.old.items index (stale_slot (slice_index_or slots.old.items index d)) ++ map fresh_slot letters.items) }
     ensures unchanged { OnErr result (slots.new.items ≡ slots.old.items) }
     ensures node_unchanged { OnErr result (node.new ≡ node.old) }
 {
     slots.reserve(letters.len())?;
-    node.absorb_letter(&slots[place].letter)?;
-    slots[place].fresh = false;
+    node.absorb_letter(&slots[index].letter)?;
+    slots[index].fresh = false;
     push_fresh(slots, letters);
     Ok(())
 }

@@ -1,11 +1,11 @@
 ghost use Rattle.std.specs.Prelude.{◌≡◌, IsOk, OnErr, OnOk};
 ghost use Rattle.directory_rules.specs.Input.{step};
-ghost use Rattle.directory_node.specs.Saying.{left_by};
+ghost use Rattle.directory_node.specs.Follows.{Follows};
+ghost use Rattle.directory_node.specs.Numbers.{step_refusal_number};
+ghost use Rattle.directory_node.specs.Saying.{SendsOne, left_by, response_of, said};
 ghost use Rattle.directory_core.specs.OwnModel.{input_of_own};
-ghost use Rattle.directory_core.specs.Stepping.{Says};
 
-use crate::EventRefusal;
-use directory_node::{Node, Response};
+use directory_node::{Node, Response, StepRefusal};
 use silo_address::GrainId;
 use std::alloc::{AllocError, Global};
 
@@ -19,16 +19,12 @@ pub(crate) enum Own {
 }
 
 // What a node says as it does so.
-pub(crate) fn said(alloc: Global, node: &Node, own: &Own) -> Result<Response, EventRefusal>
-    ensures { Says (step node.now (input_of_own own.now)) result }
+pub(crate) fn respond(alloc: Global, node: &Node, own: &Own) -> Result<Response, StepRefusal>
+    ensures { Follows response_of step_refusal_number SendsOne (said (step node.now (input_of_own own.now))) result }
 {
-    let response = match own {
+    match own {
         Own::Wake(grain) => node.respond_wake(alloc, *grain),
         Own::Find(grain) => node.respond_find(alloc, *grain),
-    };
-    match response {
-        Ok(response) => Ok(response),
-        Err(refusal) => Err(EventRefusal::of_node(refusal)),
     }
 }
 

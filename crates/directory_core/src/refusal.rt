@@ -45,7 +45,7 @@ pub enum EventRefusal {
 }
 
 impl EventRefusal {
-    /// The number by which users know the refusal; want of memory has none.
+    /// The number by which users know the refusal; out of memory has none.
     pub fn number(self) -> Option<u16>
         ensures { result ≡ event_refusal_number self }
     {
@@ -63,7 +63,7 @@ impl EventRefusal {
         }
     }
 
-    // A refusal of membership. Want of memory is one refusal, wherever it was met.
+    // A refusal of membership. Out of memory is one refusal, wherever it was met.
     pub(crate) fn of_views(refusal: ViewsError) -> EventRefusal
         ensures { event_refusal_number result ≡ views_error_number refusal }
     {

@@ -1,7 +1,7 @@
 ghost use Rattle.std.specs.Prelude.{◌≡◌, ◌⊎◌, ◌++◌, ◌∷◌, [], ℕ, IfOk, OnErr, OnOk, map, take};
 ghost use Rattle.cluster_events.specs.EventModel.{event_of};
 ghost use Rattle.directory_rules.specs.Happens.{happens};
-ghost use Rattle.directory_core.specs.Applying.{IsLeftOpen};
+ghost use Rattle.directory_core.specs.Applying.{excused};
 ghost use Rattle.directory_rules.specs.Run.{run, told_of, world_after};
 
 use crate::{Told, World};
@@ -10,7 +10,7 @@ use std::alloc::{AllocError, Global};
 
 impl World {
     /// Events happen, one after the other; a refused one changes nothing, and the run goes on behind it. Answers what each event
-    /// told, or why it was refused (`docs/RULES.md#the-world`). Want of memory ends the run, and what was applied stands.
+    /// told, or why it was refused (`docs/RULES.md#the-world`). Out of memory ends the run, and what was applied stands.
     pub fn run(&mut self, alloc: Global, events: &[Event]) -> Result<Vec<Told>, AllocError>
         ensures told { IfOk result (λ told. told.items ≡ (run self.old (map event_of events.now)).told) }
         ensures world { OnOk result (self.new ≡ (run self.old (map event_of events.now)).world) }
@@ -23,7 +23,7 @@ impl World {
         Ok(told)
     }
 
-    // The next event of a run happens, and is told. Fails only for want of memory; then the event has happened or not.
+    // The next event of a run happens, and is told. Fails only when memory runs out; then the event has happened or not.
     fn tell_next(&mut self, event: &Event, told: &mut Vec<Told>) -> Result<(), AllocError>
         ensures told { OnOk result (told.new.items ≡ told.old.items ++ told_of (happens self.old (event_of event.now)) ∷ []) }
         ensures world { OnOk result (self.new ≡ world_after (happens self.old (event_of event.now)) self.old) }
@@ -34,12 +34,12 @@ impl World {
         Ok(())
     }
 
-    // The next event of a run happens: what it told, or why it was refused. Fails only for want of memory.
+    // The next event of a run happens: what it told, or why it was refused. Fails only when memory runs out.
     fn apply_next(&mut self, event: &Event) -> Result<Told, AllocError>
         ensures told { IfOk result (λ told. told ≡ told_of (happens self.old (event_of event.now))) }
         ensures world { OnOk result (self.new ≡ world_after (happens self.old (event_of event.now)) self.old) }
         ensures unchanged { OnErr result (self.new ≡ self.old) }
-        ensures open { OnErr result (IsLeftOpen (happens self.old (event_of event.now))) }
+        ensures memory { OnErr result (excused event.now (happens self.old (event_of event.now))) }
     {
         match self.apply(event) {
             Ok(outcome) => Ok(Told::new(Ok(outcome))),

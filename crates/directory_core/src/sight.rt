@@ -1,4 +1,4 @@
-ghost use Rattle.std.specs.Prelude.{◌≡◌, ◌<◌, ◌≤◌, IfErr, IfOk, IsSome, OnErr, OnOk, Some, true};
+ghost use Rattle.std.specs.Prelude.{◌≡◌, ◌<◌, ◌≤◌, IfErr, IfOk, IsOk, IsSome, OnErr, OnOk, true};
 ghost use Rattle.std.specs.Map.{lookup};
 ghost use Rattle.std.specs.BTreeMap.{is_at, insert_entry};
 ghost use Rattle.silo_address.specs.Silo.{silo_cmp};
@@ -6,9 +6,12 @@ ghost use Rattle.membership_view.specs.Views.{view_at};
 ghost use Rattle.directory_rules.specs.Happens.{is_seeable, node_of, sees, sight_of};
 ghost use Rattle.directory_rules.specs.Input.{step};
 ghost use Rattle.directory_rules.specs.Mail.{has_room_for};
-ghost use Rattle.directory_core.specs.Applying.{Tells};
+ghost use Rattle.directory_node.specs.Follows.{Follows};
+ghost use Rattle.directory_node.specs.Saying.{stepped_of};
+ghost use Rattle.directory_core.specs.Applying.{IsOkOrFull, accepted_as};
 ghost use Rattle.directory_core.specs.Mail.{with_posted};
-ghost use Rattle.directory_core.specs.Stepping.{MakesOrStops, after_step};
+ghost use Rattle.directory_core.specs.Numbers.{event_refusal_number};
+ghost use Rattle.directory_core.specs.Stepping.{after_step};
 
 use crate::mail::Mail;
 use crate::{EventRefusal, World};
@@ -23,7 +26,7 @@ impl World {
     // A silo sees a version: 901, 902, 903, 904, 805, then 909.
     pub(crate) fn sees(&mut self, silo: &SiloAddress, version: u64) -> Result<Outcome, EventRefusal>
         requires room { self.old.accepted < self.old.settings.events }
-        ensures told { Tells (sees self.old silo.now version) self.new result }
+        ensures told { Follows (accepted_as self.new) event_refusal_number IsOkOrFull (sees self.old silo.now version) result }
         ensures unchanged { OnErr result (self.new ≡ self.old) }
     {
         let Some(node) = self.node(silo) else {
@@ -61,12 +64,16 @@ impl World {
         version <= self.views.current() && joined <= version
     }
 
-    // What a node's sight of a newer version makes.
+    // What a node's sight of a newer version makes. Where its requests can get no new numbers, that is told before memory is
+    // needed.
     fn sight(&self, node: &Node, version: u64) -> Result<Stepped, EventRefusal>
         requires newer { node.now.view.version < version }
         requires made { version ≤ self.now.views.version }
-        ensures { MakesOrStops (step node.now (sight_of self.now version)) result }
+        ensures { Follows stepped_of event_refusal_number IsOk (step node.now (sight_of self.now version)) result }
     {
+        if !node.can_renew() {
+            return Err(EventRefusal::Node(StepRefusal::NumbersSpent));
+        }
         let before = self.view(version - 1)?;
         let view = self.view(version)?;
         let input = Input::Sees {

@@ -1,4 +1,4 @@
-ghost use Rattle.std.specs.Prelude.{◌≡◌, ◌<◌, true, IsOk, IsSome, OnOk, OnErr, Some};
+ghost use Rattle.std.specs.Prelude.{◌≡◌, ◌<◌, ◌+◌, nat_le, true, IsOk, IsSome, OnOk, OnErr, Some};
 ghost use Rattle.std.specs.Map.{lookup};
 ghost use Rattle.std.specs.BTreeMap.{is_at, insert_entry};
 ghost use Rattle.silo_address.specs.Silo.{silo_cmp};
@@ -8,20 +8,22 @@ ghost use Rattle.directory_rules.specs.Letter.{Letter as LetterValue};
 ghost use Rattle.directory_rules.specs.Mail.{has_room_for, letter_of, span_of, with_delivered};
 ghost use Rattle.directory_rules.specs.Node.{Node as NodeValue};
 ghost use Rattle.directory_rules.specs.Receive.{received};
+ghost use Rattle.directory_node.specs.Follows.{Follows};
+ghost use Rattle.directory_node.specs.Numbers.{step_refusal_number};
 ghost use Rattle.directory_node.specs.Saying.{left_by};
 ghost use Rattle.cluster_events.specs.OutcomeModel.{span_of as code_span};
-ghost use Rattle.std.specs.Option.{option_map};
-ghost use Rattle.directory_core.specs.Applying.{Tells};
+ghost use Rattle.std.specs.Option.{option_map, option_or};
+ghost use Rattle.directory_core.specs.Applying.{accepted_as};
 ghost use Rattle.directory_core.specs.Mail.{letter_in, with_posted, with_stale};
 ghost use Rattle.directory_core.specs.OwnModel.{input_of_own};
 ghost use Rattle.directory_core.specs.Numbers.{event_refusal_number};
-ghost use Rattle.directory_core.specs.Stepping.{after_step};
+ghost use Rattle.directory_core.specs.Stepping.{after_step, one_letter_number};
 
 use crate::mail::Mail;
 use crate::own::{self, Own};
 use crate::{EventRefusal, World};
 use cluster_events::{Happening, Outcome, Span};
-use directory_node::{Letter, Node};
+use directory_node::{Letter, Node, StepRefusal};
 use silo_address::SiloAddress;
 use std::alloc::{AllocError, Global};
 use std::collections::BTreeMap;
@@ -31,13 +33,16 @@ impl World {
     // A silo takes a step of its own, which is no sight: 901, 902, then as the step refuses, then 909.
     pub(crate) fn does(&mut self, silo: &SiloAddress, own: &Own) -> Result<Outcome, EventRefusal>
         requires room { self.old.accepted < self.old.settings.events }
-        ensures told { Tells (does self.old silo.now (input_of_own own.now)) self.new result }
+        ensures told { Follows (accepted_as self.new) event_refusal_number IsOk (does self.old silo.now (input_of_own own.now)) result }
         ensures unchanged { OnErr result (self.new ≡ self.old) }
     {
         let Some(node) = self.node(silo) else {
             return Err(self.absent(silo));
         };
-        let response = own::said(self.alloc, node, own)?;
+        let response = match own::respond(self.alloc, node, own) {
+            Ok(response) => response,
+            Err(refusal) => return Err(self.refused(refusal)),
+        };
         if !self.has_room_for(&response.letters) {
             return Err(EventRefusal::MailFull);
         }
@@ -51,6 +56,27 @@ impl World {
         match self.absorb(silo, own, response.letters) {
             Ok(()) => Ok(outcome),
             Err(_) => Err(EventRefusal::OutOfMemory),
+        }
+    }
+
+    // Why a silo's step is refused. Out of memory is told only where there is room for the one letter that needed it.
+    fn refused(&self, refusal: StepRefusal) -> EventRefusal
+        ensures { event_refusal_number result ≡ option_or (step_refusal_number refusal) (one_letter_number self.now) }
+    {
+        match refusal {
+            StepRefusal::OutOfMemory => self.refused_one(),
+            refusal => EventRefusal::Node(refusal),
+        }
+    }
+
+    // Why an event is refused that had no memory for the one letter that it sends: room for it goes before.
+    fn refused_one(&self) -> EventRefusal
+        ensures { event_refusal_number result ≡ one_letter_number self.now }
+    {
+        if self.has_room(1) {
+            EventRefusal::OutOfMemory
+        } else {
+            EventRefusal::MailFull
         }
     }
 
@@ -69,14 +95,21 @@ impl World {
         }
     }
 
-    // Whether so many letters may still be sent; no letter may always be.
+    // Whether these letters may still be sent; no letter always may.
     pub(crate) fn has_room_for(&self, letters: &[Letter]) -> bool
         ensures { result ≡ has_room_for self.now letters.now }
     {
         match letters {
             [] => true,
-            _ => letters.len() as u64 <= self.settings.letters() - self.mail.sent(),
+            _ => self.has_room(letters.len()),
         }
+    }
+
+    // Whether that many letters may still be sent.
+    fn has_room(&self, count: usize) -> bool
+        ensures { result ≡ nat_le (self.now.sent + count) self.now.settings.letters }
+    {
+        count as u64 <= self.settings.letters() - self.mail.sent()
     }
 
     // The first and the last number of letters that are sent now.
@@ -97,7 +130,7 @@ impl World {
     // A letter comes to its receiver: 905, 902, then 909.
     pub(crate) fn deliver(&mut self, number: u64) -> Result<Outcome, EventRefusal>
         requires room { self.old.accepted < self.old.settings.events }
-        ensures told { Tells (deliver self.old number) self.new result }
+        ensures told { Follows (accepted_as self.new) event_refusal_number IsOk (deliver self.old number) result }
         ensures unchanged { OnErr result (self.new ≡ self.old) }
     {
         let Some(letter) = self.letter(number) else {
@@ -109,7 +142,7 @@ impl World {
             return Err(EventRefusal::DeadSilo);
         };
         let Ok(response) = node.respond_letter(self.allocator(), letter) else {
-            return Err(EventRefusal::OutOfMemory);
+            return Err(self.refused_one());
         };
         if !self.has_room_for(&response.letters) {
             return Err(EventRefusal::MailFull);

@@ -30,7 +30,7 @@ impl Told {
         Told { result: told }
     }
 
-    /// The outcome, or why the event was refused; never for want of memory.
+    /// The outcome, or why the event was refused; never out of memory.
     pub fn result(&self) -> &Result<Outcome, EventRefusal>
         ensures { told_as result.now ≡ self.now }
     {

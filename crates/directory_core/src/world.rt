@@ -46,25 +46,38 @@ impl Model for World {
 }
 
 impl World {
+    /// The world before the first event, as it is set up. `None` where more than one silo may join, or a cache is kept: neither
+    /// can be yet.
+    pub fn new(alloc: Global, settings: Settings) -> Option<World>
+        ensures made { IfSome result (λ world. world ≡ first_world settings) }
+        ensures in_range { IsSome result ↔ ((settings.silos ≡ 1) × (settings.cache ≡ 0)) }
+    {
+        if settings.silos() != 1 || settings.cache() != 0 {
+            return None;
+        }
+        settings.in_range();
+        let Ok(places) = Places::new(alloc, settings.hashing(), settings.points()) else {
+            unreachable!()
+        };
+        Some(World {
+            alloc,
+            settings,
+            accepted: 0,
+            views: Views::new(alloc, settings.silos()),
+            places,
+            nodes: BTreeMap::new(alloc),
+            mail: Mail::new(alloc),
+        })
+    }
+
     /// The world before the first event, for one silo that keeps no cache: how it hashes, and how many points the silo has
     /// where they are hashed, 1 to 128. `None` where that number is out of its range.
     pub fn for_one_silo(alloc: Global, hashing: Hashing, points: usize) -> Option<World>
         ensures made { IfSome result (λ world. world ≡ first_world (record (directory_settings hashing points 0) { silos = 1 })) }
         ensures in_range { IsSome result ↔ ((1 ≤ points) × (points ≤ 128)) }
     {
-        let settings = Settings::of_directory(hashing, points, 0)?.with_silos(1)?;
-        let Ok(places) = Places::new(alloc, hashing, points) else {
-            return None;
-        };
-        Some(World {
-            alloc,
-            settings,
-            accepted: 0,
-            views: Views::new(alloc, 1),
-            places,
-            nodes: BTreeMap::new(alloc),
-            mail: Mail::new(alloc),
-        })
+        let settings = Settings::of_directory(hashing, points, 0)?;
+        World::new(alloc, settings.with_silos(1)?)
     }
 
     /// What the directory was set up with.
@@ -124,7 +137,7 @@ impl World {
         self.mail.least_fresh_to(&self.nodes)
     }
 
-    /// The ring of the current view. Fails only for want of memory.
+    /// The ring of the current view. Fails only when memory runs out.
     pub fn current_ring(&self, alloc: Global) -> Result<Ring, AllocError>
         ensures { IfOk result (λ ring. ring.points ≡ current_ring self.now) }
     {
@@ -137,7 +150,7 @@ impl World {
         }
     }
 
-    /// The point that owns a hash by the current view, `None` where nobody does. Fails only for want of memory.
+    /// The point that owns a hash by the current view, `None` where nobody does. Fails only when memory runs out.
     pub fn owner(&self, alloc: Global, hash: u32) -> Result<Option<Point>, AllocError>
         ensures { IfOk result (λ owner. owner ≡ owner_of (current_ring self.now) hash) }
     {

@@ -3,7 +3,7 @@ use Rattle.std.specs.Prelude.{ℕ, Option, Some, None}
 use Rattle.directory_node.specs.declared.refusal.StepRefusal.{StepRefusal}
 use Rattle.directory_node.specs.declared.refusal.StepRefusal.TheVariants.{AlreadyHere, NotActiveSilo, NumbersSpent, HostFull, NotNewer, OutOfMemory}
 
--- a refusal's number; want of memory has none
+-- a refusal's number; out of memory has none
 abbrev pub step_refusal_number : StepRefusal → Option ℕ
 step_refusal_number AlreadyHere = Some 801
 step_refusal_number NotActiveSilo = Some 804

@@ -27,7 +27,7 @@ pub enum Body {
 }
 
 impl Body {
-    /// An equal body. Fails only for want of memory.
+    /// An equal body. Fails only when memory runs out.
     pub fn copy(&self) -> Result<Body, AllocError>
         ensures { IfOk result (λ body. body_of body ≡ body_of self.now) }
     {
@@ -141,7 +141,7 @@ impl Letter {
         }
     }
 
-    /// An equal letter. Fails only for want of memory.
+    /// An equal letter. Fails only when memory runs out.
     pub fn copy(&self) -> Result<Letter, AllocError>
         ensures { IfOk result (λ letter. letter ≡ self.now) }
     {

@@ -2,24 +2,22 @@
 //! `docs/RULES.md#the-world`.
 #![tactic(auto)]
 
-mod refusal;
 mod input;
 mod letter;
 mod node;
 mod own_steps;
 mod recoveries;
+mod refusal;
 mod replies;
 mod requests;
 mod response;
 mod sending;
 mod sight;
 mod step;
-#[cfg(test)]
-mod tests;
 
-pub use refusal::StepRefusal;
 pub use input::Input;
 pub use letter::{Body, Letter};
 pub use node::Node;
+pub use refusal::StepRefusal;
 pub use response::Response;
 pub use step::Stepped;

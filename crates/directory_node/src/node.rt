@@ -81,7 +81,7 @@ impl Node {
         let _settings = self.settings;
     }
 
-    /// An equal node. Fails only for want of memory.
+    /// An equal node. Fails only when memory runs out.
     pub fn copy(&self) -> Result<Node, AllocError>
         ensures { IfOk result (λ node. node ≡ self.now) }
     {

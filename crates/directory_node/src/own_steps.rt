@@ -1,17 +1,19 @@
-ghost use Rattle.std.specs.Prelude.{◌≡◌, ◌≤◌, IfOk, OnOk, OnErr, IsOk, None};
+ghost use Rattle.std.specs.Prelude.{◌≡◌, IfOk, OnOk, OnErr, IsOk, None, length};
 ghost use Rattle.directory_rules.specs.Step.{finding, find_grain, started, wake};
 ghost use Rattle.hash_ring.specs.Ring.{is_active_in};
-ghost use Rattle.directory_node.specs.Saying.{Tells, left_by, response_of, said, said_of};
+ghost use Rattle.directory_node.specs.Follows.{Follows};
+ghost use Rattle.directory_node.specs.Numbers.{step_refusal_number};
+ghost use Rattle.directory_node.specs.Saying.{SendsOne, left_by, response_of, said, said_of};
 
-use crate::{Letter, Node, StepRefusal, Response};
+use crate::{Letter, Node, Response, StepRefusal};
 use directory_rules::{Act, Effect};
 use silo_address::{ActivationId, Entry, GrainId};
 use std::alloc::{AllocError, Global};
 
 impl Node {
-    /// The silo is woken for a grain: what it says.
+    /// The silo is woken for a grain: what it says. Needs memory for the one letter that it sends, if it sends one.
     pub fn respond_wake(&self, alloc: Global, grain: GrainId) -> Result<Response, StepRefusal>
-        ensures { Tells (said (wake self.now grain)) result }
+        ensures { Follows response_of step_refusal_number SendsOne (said (wake self.now grain)) result }
     {
         if !self.is_active() {
             return Err(StepRefusal::NotActiveSilo);
@@ -38,7 +40,8 @@ impl Node {
         grain: GrainId,
         previous: Option<ActivationId>,
     ) -> Result<Response, AllocError>
-        ensures { IfOk result (λ response. response_of response ≡ said_of (started self.now grain previous)) }
+        ensures says { IfOk result (λ response. response_of response ≡ said_of (started self.now grain previous)) }
+        ensures one { OnErr result (length (started self.now grain previous).letters ≡ 1) }
     {
         let entry = Entry {
             grain,
@@ -63,9 +66,9 @@ impl Node {
         self.host.start(grain, None)
     }
 
-    /// The silo looks a grain up: what it says.
+    /// The silo looks a grain up: what it says. Needs memory for the one letter that it sends, if it sends one.
     pub fn respond_find(&self, alloc: Global, grain: GrainId) -> Result<Response, StepRefusal>
-        ensures { Tells (said (find_grain self.now grain)) result }
+        ensures { Follows response_of step_refusal_number SendsOne (said (find_grain self.now grain)) result }
     {
         if self.host.is_full_of_finds(&self.settings) {
             return Err(StepRefusal::HostFull);

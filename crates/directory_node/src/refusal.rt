@@ -21,7 +21,7 @@ pub enum StepRefusal {
 }
 
 impl StepRefusal {
-    /// The number by which users know the refusal: 801, 804, 805, 806 or 903. Want of memory has none.
+    /// The number by which users know the refusal: 801, 804, 805, 806 or 903. Out of memory has none.
     pub fn number(self) -> Option<u16>
         ensures { result ≡ step_refusal_number self }
     {

@@ -1,4 +1,4 @@
-ghost use Rattle.std.specs.Prelude.{◌≡◌, ◌&&◌, ◌==◌, IfOk, OnOk, OnErr};
+ghost use Rattle.std.specs.Prelude.{◌≡◌, ◌&&◌, ◌==◌, IfOk, OnOk, OnErr, length};
 ghost use Rattle.silo_address.specs.Silo.{silo_eq};
 ghost use Rattle.directory_rules.specs.Receive.{reply_effect, requested};
 ghost use Rattle.directory_node.specs.Saying.{response_of, said_of};
@@ -15,7 +15,8 @@ impl Node {
         letter: &Letter,
         request: &Request,
     ) -> Result<Response, AllocError>
-        ensures { IfOk result (λ response. response_of response ≡ said_of (requested self.now letter.now request.now)) }
+        ensures says { IfOk result (λ response. response_of response ≡ said_of (requested self.now letter.now request.now)) }
+        ensures one { OnErr result (length (requested self.now letter.now request.now).letters ≡ 1) }
     {
         if !is_senders(letter, request) {
             return Ok(Response::silent(alloc, Effect::Ignored));

@@ -31,8 +31,18 @@ impl Response {
     ) -> Result<Response, AllocError>
         ensures { IfOk result (λ response. response_of response ≡ record { letters = letter ∷ []; effect = effect }) }
     {
-        let mut letters = Vec::with_capacity(alloc, 1)?;
-        letters.push(letter)?;
-        Ok(Response { letters, effect })
+        Ok(Response {
+            letters: list_of(alloc, letter)?,
+            effect,
+        })
     }
+}
+
+// The letter alone, as a list.
+pub(crate) fn list_of(alloc: Global, letter: Letter) -> Result<Vec<Letter>, AllocError>
+    ensures { IfOk result (λ letters. letters.items ≡ letter ∷ []) }
+{
+    let mut letters = Vec::with_capacity(alloc, 1)?;
+    letters.push(letter)?;
+    Ok(letters)
 }

@@ -1,7 +1,9 @@
-ghost use Rattle.std.specs.Prelude.{◌≡◌, ◌++◌, IfOk, OnOk};
+ghost use Rattle.std.specs.List.{cons_option};
+ghost use Rattle.std.specs.Prelude.{◌≡◌, ◌++◌, [], IfOk, OnErr, OnOk, length};
 ghost use Rattle.directory_rules.specs.Sending.{grain_of, letter_to, owner_by, request_letters, request_of};
 ghost use Rattle.directory_node.specs.LetterModel.{body_of};
 
+use crate::response::list_of;
 use crate::{Body, Letter, Node};
 use directory_rules::{Act, Request};
 use silo_address::{GrainId, SiloAddress};
@@ -9,17 +11,30 @@ use std::alloc::{AllocError, Global};
 
 impl Node {
     // The letter of a request to the owner of its hash, by the ring of the view seen; none where nobody owns it.
+    fn request_letter(&self, number: u64, act: Act) -> Option<Letter>
+        ensures { cons_option result [] ≡ request_letters self.now number act }
+    {
+        let request = self.request_of(number, act);
+        match self.owner_of(request.hash) {
+            Some(owner) => Some(self.letter_to(owner, Body::Request(request))),
+            None => None,
+        }
+    }
+
+    // That letter, if there is one, as a list. Only a letter needs memory.
     pub(crate) fn request_letters(
         &self,
         alloc: Global,
         number: u64,
         act: Act,
     ) -> Result<Vec<Letter>, AllocError>
-        ensures { IfOk result (λ letters. letters.items ≡ request_letters self.now number act) }
+        ensures sent { IfOk result (λ letters. letters.items ≡ request_letters self.now number act) }
+        ensures one { OnErr result (length (request_letters self.now number act) ≡ 1) }
     {
-        let mut letters = Vec::with_capacity(alloc, 1)?;
-        self.send_request(&mut letters, number, act)?;
-        Ok(letters)
+        match self.request_letter(number, act) {
+            Some(letter) => list_of(alloc, letter),
+            None => Ok(Vec::new(alloc)),
+        }
     }
 
     // The same letter behind others.
@@ -31,9 +46,8 @@ impl Node {
     ) -> Result<(), AllocError>
         ensures { OnOk result (letters.new.items ≡ letters.old.items ++ request_letters self.now number act) }
     {
-        let request = self.request_of(number, act);
-        if let Some(owner) = self.owner_of(request.hash) {
-            letters.push(self.letter_to(owner, Body::Request(request)))?;
+        if let Some(letter) = self.request_letter(number, act) {
+            letters.push(letter)?;
         }
         Ok(())
     }

@@ -10,7 +10,9 @@ ghost use Rattle.hash_ring.specs.Places.{PlacesValue};
 ghost use Rattle.hash_ring.specs.Ring.{ring_of};
 ghost use Rattle.range_moves.specs.Arcs.{AreArcs, arcs_of};
 ghost use Rattle.directory_node.specs.First.{IsFirst};
-ghost use Rattle.directory_node.specs.Saying.{Makes, left_by, stepped_of};
+ghost use Rattle.directory_node.specs.Follows.{Follows};
+ghost use Rattle.directory_node.specs.Numbers.{step_refusal_number};
+ghost use Rattle.directory_node.specs.Saying.{left_by, stepped_of};
 
 use crate::recoveries::is_recovering;
 use crate::step::Stepped;
@@ -37,7 +39,7 @@ impl Node {
         places: &Places,
     ) -> Result<Stepped, StepRefusal>
         requires first { IsFirst self.now before.now view.now places.now }
-        ensures { Makes (see self.now before.now view.now places.now) result }
+        ensures { Follows stepped_of step_refusal_number IsOk (see self.now before.now view.now places.now) result }
     {
         if self.view.version() >= view.version() {
             return Err(StepRefusal::NotNewer);
@@ -73,8 +75,8 @@ impl Node {
         }
     }
 
-    // Whether every outstanding request may get a new number.
-    fn can_renew(&self) -> bool
+    /// Whether every outstanding request may get a new number: a sight, by which each gets one, is refused by 805 where not.
+    pub fn can_renew(&self) -> bool
         ensures { result ≡ has_numbers self.now.settings self.now.host (length (outstanding self.now.host)) }
     {
         let count = self.host.outstanding_count();

@@ -1,11 +1,13 @@
-ghost use Rattle.std.specs.Prelude.{◌≡◌, IfOk, IfErr, IfSome, OnOk, OnErr, IsOk, IsErrOf, Ok, Err};
+ghost use Rattle.std.specs.Prelude.{◌≡◌, IfOk, OnOk, OnErr, IsOk, length};
 ghost use Rattle.directory_rules.specs.Input.{step};
 ghost use Rattle.directory_rules.specs.Receive.{received};
 ghost use Rattle.directory_node.specs.First.{IsFirstSight};
 ghost use Rattle.directory_node.specs.InputModel.{input_of};
-ghost use Rattle.directory_node.specs.Saying.{Tells, left_by, response_of, said, said_of, Makes};
+ghost use Rattle.directory_node.specs.Follows.{Follows};
+ghost use Rattle.directory_node.specs.Numbers.{step_refusal_number};
+ghost use Rattle.directory_node.specs.Saying.{left_by, response_of, said, said_of, stepped_of};
 
-use crate::{Body, Input, Letter, Node, StepRefusal, Response};
+use crate::{Body, Input, Letter, Node, Response, StepRefusal};
 use directory_rules::Effect;
 use std::alloc::{AllocError, Global};
 
@@ -22,7 +24,7 @@ impl Node {
     /// (`docs/RULES.md#the-world`).
     pub fn step(&self, alloc: Global, input: &Input<'_>) -> Result<Stepped, StepRefusal>
         requires first { IsFirstSight self.now (input_of input.now) }
-        ensures { Makes (step self.now (input_of input.now)) result }
+        ensures { Follows stepped_of step_refusal_number IsOk (step self.now (input_of input.now)) result }
     {
         if let Input::Sees {
             before,
@@ -49,7 +51,7 @@ impl Node {
     /// What the silo says at an input: letters and effect of its step, or its refusal.
     pub fn respond(&self, alloc: Global, input: &Input<'_>) -> Result<Response, StepRefusal>
         requires first { IsFirstSight self.now (input_of input.now) }
-        ensures { Tells (said (step self.now (input_of input.now))) result }
+        ensures { Follows response_of step_refusal_number IsOk (said (step self.now (input_of input.now))) result }
     {
         match input {
             Input::Sees {
@@ -72,7 +74,7 @@ impl Node {
         }
     }
 
-    /// The step made in place, of an input that is not refused. Fails only for want of memory, and then nothing has changed.
+    /// The step made in place, of an input that is not refused. Fails only when memory runs out, and then nothing has changed.
     pub fn absorb(&mut self, alloc: Global, input: &Input<'_>) -> Result<(), AllocError>
         requires first { IsFirstSight self.old (input_of input.now) }
         requires taken { IsOk (step self.old (input_of input.now)) }
@@ -91,9 +93,10 @@ impl Node {
         }
     }
 
-    /// A letter comes: what the silo says.
+    /// A letter comes: what the silo says. Needs memory only where it sends a letter, which is one then.
     pub fn respond_letter(&self, alloc: Global, letter: &Letter) -> Result<Response, AllocError>
-        ensures { IfOk result (λ response. response_of response ≡ said_of (received self.now letter.now)) }
+        ensures says { IfOk result (λ response. response_of response ≡ said_of (received self.now letter.now)) }
+        ensures one { OnErr result (length (received self.now letter.now).letters ≡ 1) }
     {
         match letter.body() {
             Body::Request(request) => self.respond_request(alloc, letter, request),

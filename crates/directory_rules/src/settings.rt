@@ -7,6 +7,9 @@ use std::marker::Model;
 /// The greatest number of entries in a cache.
 const MOST_CACHED: usize = 65_536;
 
+/// The greatest number of letters ever sent.
+const MOST_LETTERS: u64 = 1_000_000;
+
 /// What a directory is set up with: how it hashes, and its limits (`docs/RULES.md#settings`).
 #[derive(Clone, Copy, Debug, PartialEq, Eq)]
 pub struct Settings {
@@ -53,7 +56,7 @@ impl Settings {
             silos: 256,
             places: 128,
             events: 1_000_000,
-            letters: 1_000_000,
+            letters: MOST_LETTERS,
             activations: 65_536,
             finds: 65_536,
             last_number: 1 << 60,
@@ -69,6 +72,17 @@ impl Settings {
             return None;
         }
         Some(Settings { silos, ..self })
+    }
+
+    /// The same settings, but for at most so many letters ever sent, 1 to 1000000. `None` where the number is out of its range.
+    pub fn with_letters(self, letters: u64) -> Option<Settings>
+        ensures exact { IfSome result (λ settings. settings ≡ record self { letters = letters }) }
+        ensures in_range { IsSome result ↔ ((1 ≤ letters) × (letters ≤ 1000000)) }
+    {
+        if letters == 0 || letters > MOST_LETTERS {
+            return None;
+        }
+        Some(Settings { letters, ..self })
     }
 
     /// How hashes are made.

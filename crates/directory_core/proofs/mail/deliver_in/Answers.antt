@@ -19,26 +19,26 @@ pub moved-requires : goal.moved-requires
 moved-requires c =
     let d : Slot = record { letter = (found_of (letter_in (mail_in c.args.slots.now.items) c.args.number) c.requires.there).0; fresh = false } in
     subst (λ (l : List Slot). c.args.mark ≤ length l) (sym c.deref-in-Some.ensures.value)
-    (mark_within c.args.slots.now.items c.receive_and_post.new.slots.items (map fresh_slot c.args.letters.items) c.args.mark c.in-Some.place _ c.requires.kept
+    (mark_within c.args.slots.now.items c.receive_and_post.new.slots.items (map fresh_slot c.args.letters.items) c.args.mark c.in-Some.index _ c.requires.kept
     (c.in_ok-receive_and_post-in-Some.ensures.posted d))
 
 pub returns-clause-left : goal.returns-clause-left
 returns-clause-left c = λ letter found.
     let d : Slot = record { letter = letter; fresh = false } in
-    let below : c.in-Some.place < length c.args.slots.now.items = subst (λ (l : List Slot). c.in-Some.place < length l) c.deref.ensures.value c.in-Some.ensures.0 in
+    let below : c.in-Some.index < length c.args.slots.now.items = subst (λ (l : List Slot). c.in-Some.index < length l) c.deref.ensures.value c.in-Some.ensures.0 in
     c.in_ok-receive_and_post-in-Some.ensures.left d
-    ∙ ap (λ (l : Letter). (received c.args.node.now l).node) (letter_is c.args.slots.now.items c.args.number c.in-Some.place d letter below c.in-Some.ensures.1 found)
+    ∙ ap (λ (l : Letter). (received c.args.node.now l).node) (letter_is c.args.slots.now.items c.args.number c.in-Some.index d letter below c.in-Some.ensures.1 found)
 
 pub returns-clause-posted : goal.returns-clause-posted
 returns-clause-posted c = λ letter found.
     let d : Slot = record { letter = letter; fresh = false } in
-    let below : c.in-Some.place < length c.args.slots.now.items = subst (λ (l : List Slot). c.in-Some.place < length l) c.deref.ensures.value c.in-Some.ensures.0 in
+    let below : c.in-Some.index < length c.args.slots.now.items = subst (λ (l : List Slot). c.in-Some.index < length l) c.deref.ensures.value c.in-Some.ensures.0 in
     ap mail_in (c.in_ok-receive_and_post-in-Some.ensures.posted d)
-    ∙ delivered_is c.args.slots.now.items c.args.number c.in-Some.place d letter c.args.letters.items below c.in-Some.ensures.1 found
+    ∙ delivered_is c.args.slots.now.items c.args.number c.in-Some.index d letter c.args.letters.items below c.in-Some.ensures.1 found
 
 pub returns-clause-kept : goal.returns-clause-kept
 returns-clause-kept c =
     let d : Slot = record { letter = (found_of (letter_in (mail_in c.args.slots.now.items) c.args.number) c.requires.there).0; fresh = false } in
-    let below : c.in-Some.place < length c.args.slots.now.items = subst (λ (l : List Slot). c.in-Some.place < length l) c.deref.ensures.value c.in-Some.ensures.0 in
-    moved_mark c.args.slots.now.items c.receive_and_post.new.slots.items c.deref-in-Some.result.now (map fresh_slot c.args.letters.items) c.args.mark c.moved.result c.in-Some.place d
+    let below : c.in-Some.index < length c.args.slots.now.items = subst (λ (l : List Slot). c.in-Some.index < length l) c.deref.ensures.value c.in-Some.ensures.0 in
+    moved_mark c.args.slots.now.items c.receive_and_post.new.slots.items c.deref-in-Some.result.now (map fresh_slot c.args.letters.items) c.args.mark c.moved.result c.in-Some.index d
     c.requires.kept below (c.in_ok-receive_and_post-in-Some.ensures.posted d) c.deref-in-Some.ensures.value c.moved.ensures.from c.moved.ensures.within c.moved.ensures.stale

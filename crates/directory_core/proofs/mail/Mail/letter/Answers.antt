@@ -7,7 +7,7 @@ use Rattle.directory_core.proofs.mail.Mail.letter.Goals as goal
 pub returns-in-Some : goal.returns-in-Some
 returns-in-Some c =
     sym (ap (λ (m : MailValue). letter_in m c.args.number) (sym (ap mail_in c.deref-slots.ensures.value ∙ c.self.view_is))
-    ∙ letter_some c.deref-slots.result.now c.args.number c.in-Some.place c.index-slots-place.result c.in-Some.ensures.0 c.in-Some.ensures.1)
+    ∙ letter_some c.deref-slots.result.now c.args.number c.in-Some.index c.index-slots-index.result c.in-Some.ensures.0 c.in-Some.ensures.1)
 
 pub returns-in-None : goal.returns-in-None
 returns-in-None c =

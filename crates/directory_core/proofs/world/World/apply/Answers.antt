@@ -1,7 +1,9 @@
 use Rattle.std.proofs.Common.{◌≤◌, ◌<◌, sym, subst, ap, arith}
 use Rattle.directory_rules.specs.Settings.{Settings}
 use Rattle.cluster_events.specs.EventModel.{event_of}
-use Rattle.directory_core.specs.Applying.{Tells}
+use Rattle.directory_node.specs.Follows.{Follows}
+use Rattle.directory_core.specs.Applying.{accepted_as, excused}
+use Rattle.directory_core.specs.Numbers.{event_refusal_number}
 use Rattle.directory_core.proofs.Happening.{full, has_room}
 use Rattle.directory_core.proofs.world.World.apply.Goals as goal
 
@@ -15,4 +17,4 @@ pub returns-clause-told : goal.returns-clause-told
 returns-clause-told c =
     let events_are = ap (λ (s : Settings). s.events) c.settings.ensures in
     let room : c.args.self.now.accepted < c.args.self.now.settings.events = omega (arith, c.if-accepted-events.false, c.accepted.ensures, c.events.ensures, events_are) in
-    subst (λ h. Tells h c.attempt.new.self c.attempt.result) (sym (has_room c.args.self.now (event_of c.args.event.now) room)) c.attempt.ensures.told
+    subst (λ h. Follows (accepted_as c.attempt.new.self) event_refusal_number (excused c.args.event.now) h c.attempt.result) (sym (has_room c.args.self.now (event_of c.args.event.now) room)) c.attempt.ensures.told

@@ -1,4 +1,5 @@
-use Rattle.std.proofs.Common.{◌≡◌, true, List, Ok, sym, ◌∙◌, ap, arith}
+use Rattle.std.proofs.Common.{◌≡◌, true, List, Ok, refl, sym, ◌∙◌, ap, subst, arith}
+use Rattle.std.specs.Prelude.{IsOk, is_ok}
 use Rattle.std.specs.Option.{option_map}
 use Rattle.silo_address.specs.Silo.{Silo}
 use Rattle.directory_rules.specs.declared.LetterKind.{LetterKind}
@@ -6,22 +7,30 @@ use Rattle.directory_rules.specs.Event.{Delivered}
 use Rattle.directory_rules.specs.Letter.{Letter}
 use Rattle.directory_rules.specs.World.{World}
 use Rattle.directory_rules.specs.Mail.{has_room_for, span_of, with_delivered}
-use Rattle.directory_rules.specs.Happens.{node_of}
+use Rattle.directory_rules.specs.Happens.{deliver, node_of}
 use Rattle.directory_rules.specs.Receive.{received}
 use Rattle.cluster_events.specs.OutcomeModel.{span_of as code_span}
+use Rattle.directory_node.specs.Follows.{RefusesBy}
 use Rattle.directory_core.specs.Stepping.{after_step}
-use Rattle.directory_core.proofs.Happening.{delivered_told, open_delivery}
+use Rattle.directory_core.proofs.Happening.{delivered_told, delivery_refused}
 use Rattle.directory_core.proofs.world.World.deliver.Goals as goal
 
 pub returns-in_default-respond_letter-clause-told : goal.returns-in_default-respond_letter-clause-told
 returns-in_default-respond_letter-clause-told c =
-    open_delivery c.args.self.now c.args.number c.in-Some.letter.now c.in-Some-node.node.now (sym c.in-Some.ensures)
-    (ap (λ (s : Silo). node_of c.args.self.now s) (sym c.to-to.ensures) ∙ sym c.in-Some-node.ensures)
+    subst (λ n. RefusesBy IsOk n (deliver c.args.self.now c.args.number)) (sym c.refused_one.ensures)
+    (delivery_refused c.args.self.now c.args.number c.in-Some.letter.now c.in-Some-node.node.now (sym c.in-Some.ensures)
+    (ap (λ (s : Silo). node_of c.args.self.now s) (sym c.to-to.ensures) ∙ sym c.in-Some-node.ensures) c.in_default-respond_letter.ensures.one)
 
 pub returns-in-Err-clause-told : goal.returns-in-Err-clause-told
 returns-in-Err-clause-told c =
-    open_delivery c.args.self.now c.args.number c.in-Some.letter.now c.in-Some-node.node.now (sym c.in-Some.ensures)
+    let letter = c.in-Some.letter.now in
+    let node = c.in-Some-node.node.now in
+    let letters = c.in-Ok.response.letters.items in
+    let room : has_room_for c.args.self.now c.deref.result.now ≡ true = grind arith in
+    ap is_ok (delivered_told c.args.self.now c.args.number letter node letters c.in-Ok.response.effect _ (sym c.in-Some.ensures)
     (ap (λ (s : Silo). node_of c.args.self.now s) (sym c.to-to.ensures) ∙ sym c.in-Some-node.ensures)
+    (sym c.in-Ok.ensures.says)
+    (ap (λ (l : List Letter). has_room_for c.args.self.now l) (sym c.deref.ensures.value) ∙ room) refl)
 
 pub returns-in-Ok-absorb_letter-clause-told : goal.returns-in-Ok-absorb_letter-clause-told
 returns-in-Ok-absorb_letter-clause-told c =
@@ -31,7 +40,7 @@ returns-in-Ok-absorb_letter-clause-told c =
     let room : has_room_for c.args.self.now c.deref.result.now ≡ true = grind arith in
     delivered_told c.args.self.now c.args.number letter node letters c.in-Ok.response.effect (option_map code_span c.span_of.result) (sym c.in-Some.ensures)
     (ap (λ (s : Silo). node_of c.args.self.now s) (sym c.to-to.ensures) ∙ sym c.in-Some-node.ensures)
-    (sym c.in-Ok.ensures)
+    (sym c.in-Ok.ensures.says)
     (ap (λ (l : List Letter). has_room_for c.args.self.now l) (sym c.deref.ensures.value) ∙ room)
     (c.span_of.ensures ∙ ap (λ (l : List Letter). span_of c.args.self.now l) c.deref-2.ensures.value)
     ∙ ap (λ (k : LetterKind). Ok (record {

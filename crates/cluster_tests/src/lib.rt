@@ -1,0 +1,8 @@
+//! Tests of a silo's node and of the cluster, over their public calls alone. They stand apart, so that the crates which they test
+//! are proved once.
+#![tactic(auto)]
+
+#[cfg(test)]
+mod nodes;
+#[cfg(test)]
+mod worlds;
