@@ -1,20 +1,21 @@
-//! The reader and the writer of a session.
+//! The source and the sink of a session.
 
-ghost use Rattle.std.specs.Prelude.{◌≡◌, ◌≤◌, ◌++◌, [], Contains, IfOk, false, take};
+ghost use Rattle.std.specs.Prelude.{◌≡◌, ◌≤◌, ◌++◌, [], Contains, IfOk, IfSome, false, take};
 ghost use Rattle.texts.specs.Words.{line_feed};
-ghost use Rattle.console_play.specs.Transfers.{Drains, Fills, Sends, TakesIn};
+ghost use Rattle.script_loop.specs.Calls.{WriteFailed};
+ghost use Rattle.script_loop.specs.Transfers.{Drains, Fills, ReadsOnce, Sends, TakesIn};
 
-use crate::Ended;
 use crate::session::{Session, tail};
+use crate::{Ended, Sink, Source};
 use std::alloc::{AllocError, Global};
-use std::io::{Read, Write};
 
 impl Session {
-    ghost use Rattle.console_play.specs.Sessions.{standing};
+    ghost use Rattle.script_loop.specs.Progress.{progress};
 
     /// Writes all that waits to be written; answers how the play ends where a write fails.
-    pub(crate) fn drain<W: Write>(&mut self, writer: &mut W) -> Option<Ended>
-        ensures { Drains (standing self.old) (W.contents writer.old) (standing self.new) (W.contents writer.new) result }
+    pub(crate) fn drain<W: Sink>(&mut self, writer: &mut W) -> Option<Ended>
+        ensures drains { Drains (progress self.old) (W.contents writer.old) (progress self.new) (W.contents writer.new) result }
+        ensures cause { IfSome result (λ _. WriteFailed W.writes writer.new) }
     {
         if !send(writer, &self.out) {
             return Some(Ended::Broken);
@@ -25,13 +26,14 @@ impl Session {
 
     /// Reads more of the script, where no line that is held can be played and nothing waits to be written; answers how the play
     /// ends where that fails.
-    pub(crate) fn fill<R: Read>(&mut self, reader: &mut R) -> Option<Ended>
+    pub(crate) fn fill<R: Source>(&mut self, reader: &mut R) -> Option<Ended>
         requires goes_on { self.old.ended ≡ false }
         requires written { self.old.out.items ≡ [] }
-        requires no_line { ¬ (Contains (standing self.old).held line_feed) }
-        ensures { Fills (standing self.old) (R.remaining reader.old) (standing self.new) (R.remaining reader.new) result }
+        requires no_line { ¬ (Contains (progress self.old).held line_feed) }
+        ensures fills { Fills (progress self.old) (R.remaining reader.old) (progress self.new) (R.remaining reader.new) result }
+        ensures once { ReadsOnce R.reads reader.old reader.new result }
     {
-        match reader.read(self.chunk.as_mut_slice()) {
+        match reader.read_chunk(self.chunk.as_mut_slice()) {
             Ok(count) => self.take_in(count),
             Err(_) => Some(Ended::Broken),
         }
@@ -41,7 +43,7 @@ impl Session {
     fn take_in(&mut self, count: usize) -> Option<Ended>
         requires within { count ≤ 65536 }
         requires goes_on { self.old.ended ≡ false }
-        ensures { TakesIn (standing self.old) (take count self.old.chunk.items) (standing self.new) result }
+        ensures { TakesIn (progress self.old) (take count self.old.chunk.items) (progress self.new) result }
     {
         if count == 0 {
             self.ended = true;
@@ -49,7 +51,7 @@ impl Session {
         }
         let read = count as u64;
         if read > self.left {
-            return Some(Ended::Broken);
+            return Some(Ended::TooLong);
         }
         let Ok(bytes) = joined(
             self.alloc,
@@ -74,12 +76,13 @@ fn joined(alloc: Global, front: &[u8], back: &[u8]) -> Result<Vec<u8>, AllocErro
 }
 
 // Writes all bytes; whether that was well.
-fn send<W: Write>(writer: &mut W, bytes: &Vec<u8>) -> bool
-    ensures { Sends bytes.now.items (W.contents writer.old) (W.contents writer.new) result }
+fn send<W: Sink>(writer: &mut W, bytes: &Vec<u8>) -> bool
+    ensures sends { Sends bytes.now.items (W.contents writer.old) (W.contents writer.new) result }
+    ensures cause { result ≡ false → WriteFailed W.writes writer.new }
 {
     let mut sent = 0;
     while sent < bytes.len() {
-        let count = match writer.write(tail(bytes, sent)) {
+        let count = match writer.write_front(tail(bytes, sent)) {
             Ok(count) => count,
             Err(_) => return false,
         };

@@ -5,10 +5,8 @@ ghost use Rattle.texts.specs.Words.{carriage_return, line_feed};
 ghost use Rattle.script_rules.specs.Script.{lines_of};
 ghost use Rattle.std.specs.Io.BufRead.{strip_last};
 
-use crate::line::play_line;
 use crate::step::Step;
-use crate::{Ended, LineFault};
-use directory_core::World;
+use crate::{Ended, LineFault, LinePlayer};
 use script_commands::{ScriptFault, first_line, laws, without_return};
 use script_output::write_fault;
 use std::alloc::{AllocError, Global};
@@ -22,11 +20,10 @@ const MOST_READ: u64 = 268_435_456;
 /// How many bytes without a line feed may begin a line: the longest line, and a carriage return.
 const LONGEST_BEGUN: usize = 8193;
 
-/// A script on its way: the world so far, what was read and not played yet, and what is printed and not written yet.
+/// A script on its way: what was read and not played yet, and what is printed and not written yet.
 #[derive(Drop)]
 pub(crate) struct Session {
     pub(crate) alloc: Global,
-    pub(crate) world: World,
     /// The number of the next line, from 1.
     pub(crate) line: u64,
     /// The bytes that were read last; those from `start` on are not played yet.
@@ -46,16 +43,15 @@ pub(crate) struct Session {
 }
 
 impl Session {
-    ghost use Rattle.console_play.specs.Sessions.{Steps, first_standing, standing};
+    ghost use Rattle.script_loop.specs.Progress.{Steps, first_progress, progress};
 
     /// Before the first line.
-    pub(crate) fn new(alloc: Global, world: World) -> Result<Session, AllocError>
-        ensures { IfOk result (λ session. standing session ≡ first_standing world) }
+    pub(crate) fn new(alloc: Global) -> Result<Session, AllocError>
+        ensures { IfOk result (λ session. progress session ≡ first_progress) }
     {
         let chunk = empty_chunk(alloc)?;
         Ok(Session {
             alloc,
-            world,
             line: 1,
             bytes: Vec::new(alloc),
             start: 0,
@@ -66,15 +62,15 @@ impl Session {
         })
     }
 
-    /// Plays the next line, if it is there.
-    pub(crate) fn step(&mut self) -> Step
-        ensures { Steps (standing self.old) (standing self.new) result }
+    /// Has the next line played, if it is there.
+    pub(crate) fn step<P: LinePlayer>(&mut self, player: &mut P) -> Step
+        ensures { Steps (P.output player.old) (progress self.old) (P.output player.new) (progress self.new) result }
     {
         let Some((line, rest)) = first_line(tail(&self.bytes, self.start)) else {
-            return self.step_without_line_feed();
+            return self.step_without_line_feed(player);
         };
         let start = self.bytes.len() - rest.len();
-        match play_line(self.alloc, &mut self.world, self.line, line, &mut self.out) {
+        match player.play_line(self.alloc, self.line, line, &mut self.out) {
             Ok(None) => {
                 self.start = start;
                 self.line += 1;
@@ -86,39 +82,39 @@ impl Session {
     }
 
     // The last line, or a line that is on its way: what more is read can't save it where it is too long.
-    fn step_without_line_feed(&mut self) -> Step
-        requires none { ¬ (Contains (standing self.old).held line_feed) }
-        requires only { lines_of (standing self.old).held ≡ strip_last carriage_return (standing self.old).held ∷ [] }
-        ensures { Steps (standing self.old) (standing self.new) result }
+    fn step_without_line_feed<P: LinePlayer>(&mut self, player: &mut P) -> Step
+        requires none { ¬ (Contains (progress self.old).held line_feed) }
+        requires only { lines_of (progress self.old).held ≡ strip_last carriage_return (progress self.old).held ∷ [] }
+        ensures { Steps (P.output player.old) (progress self.old) (P.output player.new) (progress self.new) result }
     {
         if self.ended {
-            return self.last_step();
+            return self.last_step(player);
         }
         if self.bytes.len() - self.start > LONGEST_BEGUN {
-            return self.long_step();
+            return self.long_step(player);
         }
         Step::Wants
     }
 
     // The last line of the script.
-    fn last_step(&mut self) -> Step
-        requires only { lines_of (standing self.old).held ≡ strip_last carriage_return (standing self.old).held ∷ [] }
+    fn last_step<P: LinePlayer>(&mut self, player: &mut P) -> Step
+        requires only { lines_of (progress self.old).held ≡ strip_last carriage_return (progress self.old).held ∷ [] }
         requires ended { self.old.ended ≡ true }
-        ensures { Steps (standing self.old) (standing self.new) result }
+        ensures { Steps (P.output player.old) (progress self.old) (P.output player.new) (progress self.new) result }
     {
         let line = without_return(tail(&self.bytes, self.start));
-        match play_line(self.alloc, &mut self.world, self.line, line, &mut self.out) {
+        match player.play_line(self.alloc, self.line, line, &mut self.out) {
             Ok(None) => Step::Ends(Ended::Played),
             Ok(Some(fault)) => Step::Ends(Ended::Faulted(fault)),
             Err(_) => Step::Ends(Ended::OutOfMemory),
         }
     }
 
-    // The line has too many bytes already.
-    fn long_step(&mut self) -> Step
-        requires none { ¬ (Contains (standing self.old).held line_feed) }
-        requires long { 8193 < length (standing self.old).held }
-        ensures { Steps (standing self.old) (standing self.new) result }
+    // The line has too many bytes already, which any player calls a fault.
+    fn long_step<P: LinePlayer>(&mut self, _player: &P) -> Step
+        requires none { ¬ (Contains (progress self.old).held line_feed) }
+        requires long { 8193 < length (progress self.old).held }
+        ensures { Steps (P.output _player.now) (progress self.old) (P.output _player.now) (progress self.new) result }
     {
         laws::long_lines();
         let fault = ScriptFault::LineTooLong;

@@ -1,5 +1,5 @@
 ghost use Rattle.std.specs.Prelude.{◌≡◌};
-ghost use Rattle.console_play.specs.Playing.{status_of};
+ghost use Rattle.script_loop.specs.Endings.{status_of};
 
 use script_commands::ScriptFault;
 
@@ -10,10 +10,11 @@ pub enum Ended {
     Played,
     /// A line has a fault, whose line is the last that is written.
     Faulted(LineFault),
-    /// Memory was wanting. What is written is a beginning of what the script prints.
+    /// The script has more than 268435456 bytes. What is written is a beginning of what it prints.
+    TooLong,
+    /// Memory ran out. What is written is a beginning of what the script prints.
     OutOfMemory,
-    /// A read or a write failed, or the input goes on behind 268435456 bytes. What is written is a beginning of what the
-    /// script prints.
+    /// A read or a write failed, or a write took nothing. What is written is a beginning of what the script prints.
     Broken,
 }
 
@@ -27,7 +28,8 @@ pub struct LineFault {
 }
 
 impl Ended {
-    /// The exit status: 0, 2 for a fault of the script, 3 for want of memory, 5 for a failing read or write.
+    /// The exit status: 0, 2 for a fault of the script, 3 when memory runs out, 5 for a script that is too long or a failing
+    /// read or write.
     pub fn status(self) -> u8
         ensures { result ≡ status_of self }
     {
@@ -35,7 +37,7 @@ impl Ended {
             Ended::Played => 0,
             Ended::Faulted(_) => 2,
             Ended::OutOfMemory => 3,
-            Ended::Broken => 5,
+            Ended::TooLong | Ended::Broken => 5,
         }
     }
 }

@@ -1,0 +1,4 @@
+mod Sending
+mod Stands
+mod Steps
+mod TurnsTaken

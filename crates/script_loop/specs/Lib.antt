@@ -1,0 +1,6 @@
+pub mod Calls
+pub mod Endings
+pub mod Lines
+pub mod Progress
+pub mod Transfers
+pub mod Turns
