@@ -1,4 +1,6 @@
-mod Sending
+mod Causes
+mod Filled
+mod Pieces
 mod Stands
 mod Steps
 mod TurnsTaken

@@ -11,7 +11,8 @@ use Rattle.script_loop.specs.declared.ended.Ended.TheVariants as ended
 use Rattle.script_loop.specs.Endings.{Concludes, Ends, EndsReading, HasRead, most_at_once, most_read}
 use Rattle.script_loop.specs.Lines.{Rule, behind, no_output}
 use Rattle.script_loop.specs.Progress.{EndsStep, HasEnded, HasPlayed, MayCome, Progress, first_progress, to_come}
-use Rattle.script_loop.specs.Transfers.{Fills, HasDrained, HasFilled, HasGot, WritesFront}
+use Rattle.script_loop.specs.Sending.{WritesFront}
+use Rattle.script_loop.specs.Transfers.{Fills, HasDrained, HasFilled, HasGot}
 use Rattle.script_loop.specs.Turns.{Stands}
 
 -- ---- What was read.
@@ -64,7 +65,7 @@ kept_read output script read rest text keeps old = record {
 }
 
 -- all lines that were played are written where nothing waits
-all_sent : (sent waiting : List ℕ) (output whole : Output) → waiting ≡ [] → output ≡ no_output → behind sent (behind waiting output) ≡ whole → sent ≡ whole.text ++ []
+pub all_sent : (sent waiting : List ℕ) (output whole : Output) → waiting ≡ [] → output ≡ no_output → behind sent (behind waiting output) ≡ whole → sent ≡ whole.text ++ []
 all_sent sent waiting output whole none nothing is =
     let text : sent ++ (waiting ++ output.text) ≡ whole.text = ap (λ (o : Output). o.text) is in
     let no_text : waiting ++ output.text ≡ [] = ap (λ (t : List ℕ). t ++ output.text) none ∙ ap (λ (o : Output). o.text) nothing in
@@ -237,22 +238,21 @@ ends_unread first script begun read rest written rule at new line ended.Broken n
     }
 
 -- memory ran out before the first line
-pub ends_at_once : (first : Rule) (read begun : Option (List ℕ)) (script : List ℕ) → read ≡ Some script → first 1 [] ≡ no_output
-    → Ends script (first 1) read begun begun ended.OutOfMemory
-ends_at_once first read begun script is nothing =
-    subst (λ (r : Option (List ℕ)). Ends script (first 1) r begun begun ended.OutOfMemory) (sym is) (record {
-      text = [];
-      writes = Appends-nil begun;
-      concludes = record { more = (first 1 (lines_of script)).text; joined = refl };
-      read = none_read first script nothing;
-      reads = tt;
-    })
+pub ends_at_once : (first : Rule) (script : List ℕ) (begun : Option (List ℕ)) → first 1 [] ≡ no_output
+    → Ends script (first 1) (Some script) begun begun ended.OutOfMemory
+ends_at_once first script begun nothing = record {
+  text = [];
+  writes = Appends-nil begun;
+  concludes = record { more = (first 1 (lines_of script)).text; joined = refl };
+  read = none_read first script nothing;
+  reads = tt;
+}
 
 -- a write failed
-pub ends_unwritten : (first : Rule) (script : List ℕ) (begun read before written : Option (List ℕ)) (rule : Rule) (at : Progress) (waiting : List ℕ) (ended : Ended) → ended ≡ ended.Broken
+pub ends_unwritten : (first : Rule) (script : List ℕ) (begun read before written : Option (List ℕ)) (rule : Rule) (at : Progress) (waiting : List ℕ) (ending : Ended) → ending ≡ ended.Broken
     → ((more : List ℕ) → MayCome at more → BeginsWith waiting (to_come rule at (lines_of (at.held ++ more))).text) → WritesFront waiting before written
-    → Stands first script begun rule at read before → Ends script (first 1) read begun written ended
-ends_unwritten first script begun read before written rule at waiting ended is begins front stands =
+    → Stands first script begun rule at read before → Ends script (first 1) read begun written ending
+ends_unwritten first script begun read before written rule at waiting ending is begins front stands =
     let h = stands.has_read in
     let left = rest_of script read (h.front ++ h.chunk) h.consumes in
     let next = begins left.0 (may_come first script begun rule at read before left.0 left.1 stands) in

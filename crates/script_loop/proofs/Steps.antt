@@ -1,9 +1,12 @@
 -- Steps of a script, over the lines that are to come.
 use Rattle.std.proofs.Common.{◌≡◌, ℕ, ◌+◌, ◌-◌, ◌<◌, ◌≤◌, ◌++◌, Bool, true, false, List, [], ◌∷◌, Option, None, Some, Result, Ok, Err, length, drop, ap, sym, refl, ◌∙◌, append-nil, subst, arith, if◌then◌else◌}
 use Rattle.std.proofs.lemmas.List.{drop-drop, length-drop}
-use Rattle.std.proofs.lemmas.Bool.{ltb-lt}
-use Rattle.script_rules.specs.Script.{Command, command_of_words, is_text, lines_of, longest_line, read_line}
+use Rattle.std.proofs.lemmas.Bool.{ltb-true}
+use Rattle.std.specs.Prelude.{eqb, nat_lt}
+use Rattle.std.specs.List.{list_all}
+use Rattle.script_rules.specs.Script.{Command, command_of_words, is_remark, is_text, lines_of, longest_line, read_line}
 use Rattle.script_rules.specs.Lines.{fault_line}
+use Rattle.texts.specs.Words.{words_in}
 use Rattle.texts.specs.Printed.{Output, text_of_lines}
 use Rattle.script_output.specs.Printed.{printed}
 use Rattle.script_loop.specs.declared.ended.Ended.TheVariants as ended
@@ -17,6 +20,12 @@ pub goes_on : (rule next : Rule) (number : ℕ) (start text line : List ℕ) (to
 goes_on rule next number start text line (Some fault) well plays lines = absurd (cc)
 goes_on rule next number start text line None well plays lines = plays lines
 
+-- its fault, if it has one, is told by its number
+pub fault_of : (rule next : Rule) (number : ℕ) (start text line : List ℕ) (told : Option LineFault) (fault : LineFault) → told ≡ Some fault
+    → PlaysLine rule next number line start text told → fault.line ≡ number
+fault_of rule next number start text line told fault faulted plays =
+    (subst (λ (t : Option LineFault). PlaysLine rule next number line start text t) faulted plays).0
+
 -- the last of them was
 pub last_played : (rule next : Rule) (number : ℕ) (start text line : List ℕ) (all : List (List ℕ)) (told : Option LineFault) → told ≡ None → all ≡ line ∷ []
     → next (number + 1) [] ≡ no_output → PlaysLine rule next number line start text told → behind start (rule number all) ≡ record { text = text; status = 0 }
@@ -27,10 +36,10 @@ last_played rule next number start text line all told well is nothing plays =
 
 -- the first of them has a fault
 pub ends_by_fault : (rule next : Rule) (number : ℕ) (start text line : List ℕ) (all lines : List (List ℕ)) (told : Option LineFault) (fault : LineFault) → told ≡ Some fault
-    → all ≡ line ∷ lines → PlaysLine rule next number line start text told → (fault.line ≡ number) × Concludes (behind start (rule number all)) text (ended.Faulted fault)
+    → all ≡ line ∷ lines → PlaysLine rule next number line start text told → Concludes (behind start (rule number all)) text (ended.Faulted fault)
 ends_by_fault rule next number start text line all lines told fault faulted is plays_it =
     let plays = subst (λ (t : Option LineFault). PlaysLine rule next number line start text t) faulted plays_it in
-    (plays.0, (ap (λ (ls : List (List ℕ)). behind start (rule number ls)) is ∙ plays.2 lines, (start, plays.1)))
+    (ap (λ (ls : List (List ℕ)). behind start (rule number ls)) is ∙ plays.2 lines, (start, plays.1))
 
 -- where nothing more comes, there is one line
 pub nothing_more : (held only more line : List ℕ) → more ≡ [] → lines_of held ≡ only ∷ [] → line ≡ only → lines_of (held ++ more) ≡ line ∷ []
@@ -53,18 +62,38 @@ first_of held slice new_held rest line more is rest_is later =
     ap (λ (bs : List ℕ). lines_of (bs ++ more)) (sym is) ∙ (later ∙ ap (λ (bs : List ℕ). line ∷ lines_of (bs ++ more)) (sym rest_is))
 
 -- where no command is known, a line with that fault is too long
-of_no_command : (words : List (List ℕ)) → command_of_words [] words ≡ Err 924 → ⊥
-of_no_command [] is = cc
-of_no_command (name ∷ words) is = elim words [ ]
+abbrev is_924 : Result (Option Command) ℕ → Bool
+is_924 (Ok command) = false
+is_924 (Err code) = eqb code 924
 
-not_text : (text : Bool) (words : List (List ℕ)) → (if text then command_of_words [] words else Err 925) ≡ Err 924 → ⊥
+unlike : false ≡ true → ⊥
+unlike is = cc
+
+of_name : (remark : Bool) → is_924 (if remark then Ok None else Err 921) ≡ true → ⊥
+of_name true is = unlike is
+of_name false is = unlike is
+
+of_no_command : (words : List (List ℕ)) → is_924 (command_of_words [] words) ≡ true → ⊥
+of_no_command [] is = unlike is
+of_no_command (name ∷ words) is = of_name (is_remark name) is
+
+not_text : (text : Bool) (words : List (List ℕ)) → is_924 (if text then command_of_words [] words else Err 925) ≡ true → ⊥
 not_text true words is = of_no_command words is
-not_text false words is = cc
+not_text false words is = unlike is
+
+long_by : (long : Bool) (line : List ℕ) → nat_lt longest_line (length line) ≡ long
+    → (if long then Err 924 else (if list_all is_text line then command_of_words [] (words_in line) else Err 925)) ≡ Err 924 → longest_line < length line
+long_by true line is fault = ltb-true _ _ is
+long_by false line is fault = absurd (not_text (list_all is_text line) (words_in line) (ap is_924 fault))
+
+pub long_by_fault : (line : List ℕ) → read_line [] line ≡ Err 924 → longest_line < length line
+unfolding read_line
+long_by_fault line is = long_by (nat_lt longest_line (length line)) line refl is
 
 -- the line is told to be too long
-pub long_told : (rule : Rule) (at : ℕ) (start text line : List ℕ) (all lines : List (List ℕ)) (fault : LineFault) (code : ℕ) → rule at (line ∷ lines) ≡ faulty_output at 924 → all ≡ line ∷ lines
-    → fault.line ≡ at → code ≡ 924 → text ≡ start ++ printed (fault_line at code) → (text ≡ start ++ text_of_lines (fault_line at 924 ∷ [])) × (behind start (rule at all) ≡ record { text = text; status = 2 })
-long_told rule at start text line all lines fault code is all_is its_line code_is written =
+pub long_told : (rule : Rule) (at : ℕ) (start text line : List ℕ) (lines all : List (List ℕ)) (code : ℕ) → rule at (line ∷ lines) ≡ faulty_output at 924 → all ≡ line ∷ lines
+    → code ≡ 924 → text ≡ start ++ printed (fault_line at code) → (text ≡ start ++ text_of_lines (fault_line at 924 ∷ [])) × (behind start (rule at all) ≡ record { text = text; status = 2 })
+long_told rule at start text line lines all code is all_is code_is written =
     let here : text ≡ start ++ text_of_lines (fault_line at 924 ∷ []) =
     written ∙ (ap (λ (n : ℕ). start ++ printed (fault_line at n)) code_is ∙ ap (λ (t : List ℕ). start ++ t) (sym (append-nil (printed (fault_line at 924))))) in
     (here, ap (λ (ls : List (List ℕ)). behind start (rule at ls)) all_is ∙ (ap (behind start) is ∙ ap (λ (t : List ℕ). let o : Output = record { text = t; status = 2 } in o) (sym here)))

@@ -1,13 +1,14 @@
 -- Turns, by what the step, the read and the write of each did.
-use Rattle.std.proofs.Common.{◌≡◌, ℕ, List, [], ◌∷◌, Option, Some, None, IfSome, ap, subst, sym, ◌∙◌}
+use Rattle.std.proofs.Common.{◌≡◌, ℕ, ◌++◌, List, [], ◌∷◌, Option, Some, None, IfSome, ap, subst, sym, ◌∙◌}
 use Rattle.script_rules.specs.Script.{lines_of}
 use Rattle.script_loop.specs.declared.ended.Ended.{Ended}
+use Rattle.script_loop.specs.declared.ended.Ended.TheVariants as ended
 use Rattle.script_loop.specs.Endings.{Ends}
 use Rattle.script_loop.specs.Lines.{Rule, no_output}
 use Rattle.script_loop.specs.Progress.{HasEnded, HasPlayed, NeedsMore, Progress, first_progress, to_come}
 use Rattle.script_loop.specs.Transfers.{Drains, Fills, HasDrained}
 use Rattle.script_loop.specs.Turns.{Stands, Turns}
-use Rattle.script_loop.proofs.Stands.{concluded_first, ends_unread, ends_unwritten, ends_written, stands_drained, stands_filled, stands_first, stands_played, waits_first}
+use Rattle.script_loop.proofs.Stands.{concluded_first, ends_at_once, ends_unread, ends_unwritten, ends_written, stands_drained, stands_filled, stands_first, stands_played, waits_first}
 
 -- a line was played
 pub played_on : (rule : Rule) (old : Progress) (next : Rule) (new : Progress) (read before : Option (List ℕ)) → HasPlayed rule old next new → Turns rule old read before next new read before None
@@ -67,3 +68,8 @@ pub begins_standing : (first : Rule) (read begun : Option (List ℕ)) (at : Prog
     → IfSome read (λ script. Stands first script begun first at read begun)
 begins_standing first None begun at nothing is = tt
 begins_standing first (Some script) begun at nothing is = stands_first first script begun at nothing is
+
+-- or memory runs out before it
+pub ends_at_first : (first : Rule) (read begun : Option (List ℕ)) → first 1 [] ≡ no_output → IfSome read (λ script. Ends script (first 1) read begun begun ended.OutOfMemory)
+ends_at_first first None begun nothing = tt
+ends_at_first first (Some script) begun nothing = ends_at_once first script begun nothing

@@ -6,7 +6,7 @@ use Rattle.script_commands.specs.Numbers.{script_fault_number}
 use Rattle.script_loop.specs.declared.ended.LineFault.{LineFault}
 
 -- a rule for lines: their output, by the number of the first
-abbrev pub Rule : Type 1
+abbrev pub Rule : Type 0
 Rule = (number : ℕ) → (lines : List (List ℕ)) → Output
 
 -- nothing is printed, and all is well

@@ -1,22 +1,11 @@
 -- What reads and writes make of a script's progress.
-use Rattle.std.specs.Prelude.{◌≡◌, ℕ, ◌+◌, ◌<◌, ◌≤◌, Bool, true, false, List, [], ◌++◌, length, Option, Some, None, ⊤}
+use Rattle.std.specs.Prelude.{◌≡◌, ℕ, ◌+◌, ◌<◌, ◌≤◌, true, List, [], ◌++◌, length, Option, Some, None, ⊤}
 use Rattle.std.specs.Io.KnownBytes.{Appends, Consumes, IsAtEnd, Keeps}
-use Rattle.script_output.specs.Spaced.{BeginsWith}
 use Rattle.script_loop.specs.declared.ended.Ended.{Ended}
 use Rattle.script_loop.specs.declared.ended.Ended.TheVariants as ended
 use Rattle.script_loop.specs.Endings.{most_at_once}
 use Rattle.script_loop.specs.Progress.{Progress, work}
-
--- a beginning of the bytes is written
-pub record WritesFront (bytes : List ℕ) (begun written : Option (List ℕ)) : Type 0 where
-  pub front : List ℕ
-  pub begins : BeginsWith front bytes
-  pub appends : Appends begun written front
-
--- the bytes are written, or a beginning of them
-abbrev pub Sends : List ℕ → Option (List ℕ) → Option (List ℕ) → Bool → Type 0
-Sends bytes begun written true = Appends begun written bytes
-Sends bytes begun written false = WritesFront bytes begun written
+use Rattle.script_loop.specs.Sending.{WritesFront}
 
 -- what waited is written, and nothing else has changed
 pub record HasDrained (old : Progress) (begun : Option (List ℕ)) (new : Progress) (written : Option (List ℕ)) : Type 0 where
@@ -25,7 +14,7 @@ pub record HasDrained (old : Progress) (begun : Option (List ℕ)) (new : Progre
 
 abbrev pub Drains : Progress → Option (List ℕ) → Progress → Option (List ℕ) → Option Ended → Type 0
 Drains old begun new written None = HasDrained old begun new written
-Drains old begun new written (Some ended) = WritesFront old.waiting begun written × (ended ≡ ended.Broken)
+Drains old begun new written (Some ending) = WritesFront old.waiting begun written × (ending ≡ ended.Broken)
 
 -- so many bytes are taken over from the chunk
 pub record HasTakenIn (old : Progress) (got : List ℕ) (new : Progress) : Type 0 where

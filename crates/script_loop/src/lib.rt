@@ -5,6 +5,7 @@
 mod ended;
 mod line_player;
 mod playing;
+mod sending;
 mod session;
 mod sink;
 mod source;
@@ -15,6 +16,7 @@ mod turn;
 pub use ended::{Ended, LineFault};
 pub use line_player::LinePlayer;
 pub use playing::play;
+pub use sending::send;
 pub use sink::Sink;
 pub use source::Source;
 

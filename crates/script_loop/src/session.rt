@@ -81,7 +81,8 @@ impl Session {
         }
     }
 
-    // The last line, or a line that is on its way: what more is read can't save it where it is too long.
+    // The last line, or a line that is on its way. What more is read can't save it where it is too long, which every player
+    // calls a fault.
     fn step_without_line_feed<P: LinePlayer>(&mut self, player: &mut P) -> Step
         requires none { ¬ (Contains (progress self.old).held line_feed) }
         requires only { lines_of (progress self.old).held ≡ strip_last carriage_return (progress self.old).held ∷ [] }
@@ -90,10 +91,18 @@ impl Session {
         if self.ended {
             return self.last_step(player);
         }
-        if self.bytes.len() - self.start > LONGEST_BEGUN {
-            return self.long_step(player);
+        if self.bytes.len() - self.start <= LONGEST_BEGUN {
+            return Step::Wants;
         }
-        Step::Wants
+        laws::long_lines();
+        let fault = ScriptFault::LineTooLong;
+        match write_fault(&mut self.out, self.line, fault.number()) {
+            Ok(()) => Step::Ends(Ended::Faulted(LineFault {
+                line: self.line,
+                fault,
+            })),
+            Err(_) => Step::Ends(Ended::OutOfMemory),
+        }
     }
 
     // The last line of the script.
@@ -106,23 +115,6 @@ impl Session {
         match player.play_line(self.alloc, self.line, line, &mut self.out) {
             Ok(None) => Step::Ends(Ended::Played),
             Ok(Some(fault)) => Step::Ends(Ended::Faulted(fault)),
-            Err(_) => Step::Ends(Ended::OutOfMemory),
-        }
-    }
-
-    // The line has too many bytes already, which any player calls a fault.
-    fn long_step<P: LinePlayer>(&mut self, _player: &P) -> Step
-        requires none { ¬ (Contains (progress self.old).held line_feed) }
-        requires long { 8193 < length (progress self.old).held }
-        ensures { Steps (P.output _player.now) (progress self.old) (P.output _player.now) (progress self.new) result }
-    {
-        laws::long_lines();
-        let fault = ScriptFault::LineTooLong;
-        match write_fault(&mut self.out, self.line, fault.number()) {
-            Ok(()) => Step::Ends(Ended::Faulted(LineFault {
-                line: self.line,
-                fault,
-            })),
             Err(_) => Step::Ends(Ended::OutOfMemory),
         }
     }

@@ -3,10 +3,10 @@
 ghost use Rattle.std.specs.Prelude.{◌≡◌, ◌≤◌, ◌++◌, [], Contains, IfOk, IfSome, false, take};
 ghost use Rattle.texts.specs.Words.{line_feed};
 ghost use Rattle.script_loop.specs.Calls.{WriteFailed};
-ghost use Rattle.script_loop.specs.Transfers.{Drains, Fills, ReadsOnce, Sends, TakesIn};
+ghost use Rattle.script_loop.specs.Transfers.{Drains, Fills, ReadsOnce, TakesIn};
 
 use crate::session::{Session, tail};
-use crate::{Ended, Sink, Source};
+use crate::{Ended, Sink, Source, send};
 use std::alloc::{AllocError, Global};
 
 impl Session {
@@ -73,23 +73,4 @@ fn joined(alloc: Global, front: &[u8], back: &[u8]) -> Result<Vec<u8>, AllocErro
     let mut bytes = Vec::from_slice(alloc, front)?;
     bytes.extend_from_slice(back)?;
     Ok(bytes)
-}
-
-// Writes all bytes; whether that was well.
-fn send<W: Sink>(writer: &mut W, bytes: &Vec<u8>) -> bool
-    ensures sends { Sends bytes.now.items (W.contents writer.old) (W.contents writer.new) result }
-    ensures cause { result ≡ false → WriteFailed W.writes writer.new }
-{
-    let mut sent = 0;
-    while sent < bytes.len() {
-        let count = match writer.write_front(tail(bytes, sent)) {
-            Ok(count) => count,
-            Err(_) => return false,
-        };
-        if count == 0 {
-            return false;
-        }
-        sent += count;
-    }
-    true
 }
