@@ -1,4 +1,5 @@
 mod Causes
+mod Echoed
 mod Filled
 mod Pieces
 mod Stands

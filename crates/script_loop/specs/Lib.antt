@@ -1,4 +1,5 @@
 pub mod Calls
+pub mod Echoes
 pub mod Endings
 pub mod Lines
 pub mod Progress

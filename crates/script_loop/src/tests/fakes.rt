@@ -117,3 +117,20 @@ impl Read for Remarks {
         Ok(count)
     }
 }
+
+/// Counts the bytes that it takes.
+#[derive(Drop)]
+pub(super) struct Counter {
+    pub(super) taken: u64,
+}
+
+impl Write for Counter {
+    fn write(&mut self, buf: &[u8]) -> io::Result<usize> {
+        self.taken = self.taken.saturating_add(buf.len() as u64);
+        Ok(buf.len())
+    }
+
+    fn flush(&mut self) -> io::Result<()> {
+        Ok(())
+    }
+}
