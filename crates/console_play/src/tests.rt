@@ -1,13 +1,12 @@
 mod cuts;
 mod endings;
 mod examples;
-mod fakes;
 mod faults;
 mod rows;
-mod transfers;
 
-use crate::{Ended, play_to_one_silo};
+use crate::play_to_one_silo;
 use hash_ring::Hashing;
+use script_loop::Ended;
 use std::alloc::{AllocError, Global};
 use std::io::{Read, Write};
 use std::process::Abort;

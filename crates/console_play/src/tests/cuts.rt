@@ -1,7 +1,7 @@
 //! The first run's script, cut at each of its bytes.
 
 use super::play_stated;
-use crate::{Ended, LineFault};
+use script_loop::{Ended, LineFault};
 use std::alloc::Global;
 use std::process::Abort;
 use std::test::Fail;
@@ -211,6 +211,7 @@ fn told(ended: Ended) -> Option<(u64, u16)> {
     match ended {
         Ended::Faulted(LineFault { line, fault }) => Some((line, fault.number())),
         Ended::Played => None,
+        Ended::TooLong => None,
         Ended::OutOfMemory => None,
         Ended::Broken => None,
     }

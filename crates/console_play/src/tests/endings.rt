@@ -1,24 +1,15 @@
 //! How plays end, and what they begin with.
 
-use crate::{Ended, LineFault, play, play_to_one_silo};
+use crate::{play, play_to_one_silo};
 use cluster_events::Event;
 use directory_core::World;
 use hash_ring::Hashing;
 use script_commands::ScriptFault;
+use script_loop::{Ended, LineFault};
 use silo_address::SiloAddress;
 use std::test::Fail;
 
 const A: &str = "10.0.0.1:1000@1";
-
-#[test]
-fn statuses(rt: HostRuntime) {
-    let fault = ScriptFault::WordCount;
-    let faulted = Ended::Faulted(LineFault { line: 7, fault });
-    assert_eq!(rt; Ended::Played.status(), 0);
-    assert_eq!(rt; faulted.status(), 2);
-    assert_eq!(rt; Ended::OutOfMemory.status(), 3);
-    assert_eq!(rt; Ended::Broken.status(), 5);
-}
 
 // Where the number of points is out of its range, nothing is read and nothing written.
 #[test]

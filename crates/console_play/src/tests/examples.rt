@@ -1,7 +1,7 @@
 //! The scripts of `examples/` and what they print, as the files there have it.
 
 use super::assert_prints;
-use crate::Ended;
+use script_loop::Ended;
 use std::test::Fail;
 
 const REFUSALS: &str =

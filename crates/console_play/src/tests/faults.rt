@@ -1,8 +1,8 @@
 //! Lines with faults. Each is told by its line, and ends the script.
 
 use super::{assert_prints, padded, play_stated};
-use crate::{Ended, LineFault};
 use script_commands::ScriptFault;
+use script_loop::{Ended, LineFault};
 use silo_address::{GrainError, SiloError};
 use std::alloc::Global;
 use std::process::Abort;

@@ -7,14 +7,14 @@ use std::test::Fail;
 
 // A script, what it prints, and its status.
 #[derive(Clone, Copy)]
-pub(super) struct Row {
+struct Row {
     name: &'static str,
-    pub(super) script: &'static str,
-    pub(super) out: &'static str,
+    script: &'static str,
+    out: &'static str,
     status: u8,
 }
 
-pub(super) const ONE_SILO: Row = Row {
+const ONE_SILO: Row = Row {
     name: "one silo",
     script: "join 10.0.0.1:1000@1 0
 see 10.0.0.1:1000@1 1

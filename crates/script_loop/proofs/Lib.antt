@@ -1,0 +1,7 @@
+mod Causes
+mod Echoed
+mod Filled
+mod Pieces
+mod Stands
+mod Steps
+mod TurnsTaken

@@ -1,0 +1,8 @@
+pub mod Calls
+pub mod Echoes
+pub mod Endings
+pub mod Lines
+pub mod Progress
+pub mod Sending
+pub mod Transfers
+pub mod Turns

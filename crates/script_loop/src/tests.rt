@@ -1,0 +1,4 @@
+mod echo;
+mod endings;
+mod fakes;
+mod transfers;
