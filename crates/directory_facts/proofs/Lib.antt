@@ -5,4 +5,6 @@ pub mod Ways
 pub mod Stepping
 pub mod Hosts
 pub mod Owning
+pub mod Placing
+pub mod Seeing
 pub mod Lawful

@@ -1,2 +1,3 @@
 pub mod Own
+pub mod Seen
 pub mod Laws
