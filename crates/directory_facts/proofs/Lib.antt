@@ -3,3 +3,8 @@ pub mod Carried
 pub mod Reached
 pub mod Ways
 pub mod Stepping
+pub mod Hosts
+pub mod Owning
+pub mod Placing
+pub mod Seeing
+pub mod Lawful

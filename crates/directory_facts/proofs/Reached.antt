@@ -42,14 +42,14 @@ found_node F world silo node all there =
     rw same found.2
 
 -- the fact of a letter, of what stands in the mail
-abbrev Says : Facts → Settings → (ℕ × Posted) → Type 0
+abbrev pub Says : Facts → Settings → (ℕ × Posted) → Type 0
 Says F settings e = F.letter settings e.1.letter
 
-abbrev HasLetter : Facts → Settings → Option Letter → Type 0
+abbrev pub HasLetter : Facts → Settings → Option Letter → Type 0
 HasLetter F settings found = IfSome found (F.letter settings)
 
 -- a letter that is found in the mail has its fact
-found_letter : (F : Facts) (settings : Settings) (test : ℕ → Bool) (mail : List (ℕ × Posted)) → All (Says F settings) mail → HasLetter F settings (option_map (λ posted. posted.letter) (lookup test mail))
+pub found_letter : (F : Facts) (settings : Settings) (test : ℕ → Bool) (mail : List (ℕ × Posted)) → All (Says F settings) mail → HasLetter F settings (option_map (λ posted. posted.letter) (lookup test mail))
 found_letter F settings test [] all = tt
 found_letter F settings test (e ∷ es) all =
     on_bool (λ b. HasLetter F settings (option_map (λ posted. posted.letter) (cond b (Some e.1) (lookup test es)))) (test e.0)
