@@ -1,7 +1,7 @@
 -- A step that moves as it should carries `Shown` on; and so it is for letters that are delivered or lost.
 use Rattle.std.proofs.Common.{arith, ◌≡◌, ◌≢◌, ℕ, ◌+◌, List, [], ◌∷◌, ◌++◌, inl, inr, sym, refl, ap, ◌∙◌, subst}
 use Rattle.std.specs.Prelude.{Bool, true, false, cond, All, IfSome, Option, Some, None}
-use Rattle.std.specs.Option.{option_map, option_and_then}
+use Rattle.std.specs.Option.{option_map}
 use Rattle.std.specs.Ordering.{nat_cmp}
 use Rattle.std.specs.List.{enumerate_from}
 use Rattle.std.specs.Map.{lookup}
@@ -9,9 +9,7 @@ use Rattle.std.specs.BTreeMap.{is_at}
 use Rattle.std.proofs.lemmas.List.Elements.{All-nil, All-cons, All-head, All-tail, All-append, All-map, All-weaker}
 use Rattle.silo_address.specs.Silo.{Silo, silo_cmp}
 use Rattle.silo_address.proofs.Order.{silo_cmp_total, silo_cmp_exact}
-use Rattle.membership_view.specs.Row.{status_in}
-use Rattle.membership_view.specs.Views.{row_of, status_at}
-use Rattle.membership_view.proofs.Known.{status_at-made}
+use Rattle.membership_view.specs.Views.{status_at}
 use Rattle.directory_protocol.specs.Setting.{Setting}
 use Rattle.directory_protocol.specs.World as protocol
 use Rattle.directory_protocol.specs.Effects.{run}
@@ -47,11 +45,10 @@ sent m w f letters mail all =
     All-append (Says m w) f.mail (numbered f letters) mail
     (All-map (Says m w) (λ e. (e.0, fresh_letter e.1)) (enumerate_from (f.sent + 1) letters) (numbered_from (IsShownLetter m.hash w) (f.sent + 1) letters all))
 
--- a silo that has a node has a row
-has_row : (m : Setting) (f : World) (w : protocol.World) (silo : Silo) (node : Node) → Here m f w silo node → (q : Silo) → row_of f.views q ≡ None → q ≢ silo
-has_row m f w silo node here q none same =
-    let status = status_at-made f.views here.facts.peopled.whole.in_order f.views.version silo (omega arith) in
-    let nothing : status_at f.views f.views.version silo ≡ None = status ∙ ap (λ s. option_and_then (status_in f.views.version) (row_of f.views s)) (sym same) ∙ ap (option_and_then (status_in f.views.version)) none in
+-- a silo that has a node is there
+is_there : (m : Setting) (f : World) (w : protocol.World) (silo : Silo) (node : Node) → Here m f w silo node → (q : Silo) → status_at f.views f.views.version q ≡ None → q ≢ silo
+is_there m f w silo node here q none same =
+    let nothing : status_at f.views f.views.version silo ≡ None = ap (status_at f.views f.views.version) (sym same) ∙ none in
     let live : is_live None ≡ true = ap is_live (sym nothing) ∙ live_now m f w silo node here in
     absurd (cc (live))
 
@@ -80,8 +77,8 @@ shown_step m f its w silo node stepped here views nodes mail moves =
               (node_still m w later left.grows its_node (state_of w q) (here.shown.live q its_node before))
           ];
       absent = λ q none.
-          let before : row_of f.views q ≡ None = ap (λ v. row_of v q) (sym views) ∙ none in
-          left.others q (has_row m f w silo node here q before) ∙ here.shown.absent q before;
+          let before : status_at f.views f.views.version q ≡ None = ap (λ v. status_at v v.version q) (sym views) ∙ none in
+          left.others q (is_there m f w silo node here q before) ∙ here.shown.absent q before;
       letters =
           sent m later its stepped.letters
           (All-weaker (Says m w) (Says m later) (λ e is. letter_still m w later left.grows e.1.letter is) its.mail mail) moves.letters;

@@ -5,3 +5,9 @@ pub mod Facts
 pub mod Frame
 pub mod Lookups
 pub mod Carrying
+pub mod Settings
+pub mod Going
+pub mod Viewed
+pub mod Starting
+pub mod Running
+pub mod Steps

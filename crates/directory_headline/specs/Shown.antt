@@ -6,7 +6,7 @@ use Rattle.silo_address.specs.Silo.{Silo}
 use Rattle.silo_address.specs.Grain.{Grain}
 use Rattle.silo_address.specs.declared.ActivationId.{ActivationId}
 use Rattle.silo_address.specs.declared.Entry.{Entry}
-use Rattle.membership_view.specs.Views.{row_of}
+use Rattle.membership_view.specs.Views.{status_at}
 use Rattle.ring_range.specs.Range.{circle, Range, holds}
 use Rattle.directory_protocol.specs.Setting.{Setting}
 use Rattle.directory_protocol.specs.Letters as letters
@@ -208,5 +208,5 @@ pub record IsShownNode (m : Setting) (w : protocol.World) (node : Node) (x : Sil
 pub record Shown (m : Setting) (f : World) (w : protocol.World) : Type 0 where
   pub now : w.now ≡ f.views.version
   pub live : (silo : Silo) (node : Node) → node_of f silo ≡ Some node → IsShownNode m w node (state_of w silo)
-  pub absent : (silo : Silo) → row_of f.views silo ≡ None → state_of w silo ≡ first_state
+  pub absent : (silo : Silo) → status_at f.views f.views.version silo ≡ None → state_of w silo ≡ first_state
   pub letters : All (λ e. IsShownLetter m.hash w e.1.letter) f.mail
