@@ -11,3 +11,7 @@ pub mod Viewed
 pub mod Starting
 pub mod Running
 pub mod Steps
+pub mod Hosts
+pub mod Staying
+pub mod Finding
+pub mod Beginning
