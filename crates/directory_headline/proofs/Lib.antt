@@ -15,3 +15,5 @@ pub mod Hosts
 pub mod Staying
 pub mod Finding
 pub mod Beginning
+pub mod Closing
+pub mod Replies

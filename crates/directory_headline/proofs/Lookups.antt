@@ -1,6 +1,9 @@
 -- What is found under a key after an entry was put in, set or taken out.
 use Rattle.std.proofs.Common.{arith, ◌≡◌, ◌≢◌, ℕ, suc, ◌<◌, List, [], ◌∷◌, ◌++◌, length, refl, sym, ap, subst, ◌∙◌}
 use Rattle.std.specs.Prelude.{Bool, true, false, cond, is_some, find, AllPairs, Contains, Option, Some, None}
+use Rattle.std.specs.Prelude.{All}
+use Rattle.std.specs.List.{slice_index_or}
+use Rattle.std.proofs.lemmas.List.Elements.{All-head, All-tail}
 use Rattle.std.specs.Cmp.{IsTotalOrder}
 use Rattle.std.specs.Ordering.{is_eq}
 use Rattle.std.specs.declared.cmp.Ordering.{Ordering}
@@ -87,3 +90,19 @@ module _ {K X : Type 0} (R : K → K → Ordering) (o : IsTotalOrder R) (exact :
 
   pub found_beside_end : (k : K) (x : X) (es : List (K × X)) (q : K) → q ≢ k → lookup (is_at (R q)) (es ++ (k, x) ∷ []) ≡ lookup (is_at (R q)) es
   found_beside_end k x es q apart = end_elsewhere (is_at (R q)) k x es (apart_in_order R exact q k apart)
+
+-- a list in which no key stands twice, after one was taken out
+absent_found : {K X : Type 0} (R : K → K → Ordering) → CmpEqualImpliesEq R → (k : K) (es : List (K × X)) → All (λ e. k ≢ e.0) es → lookup (is_at (R k)) es ≡ None
+absent_found R exact k [] all = refl
+absent_found R exact k (e ∷ es) all =
+    ap (λ b. cond b (Some e.1) (lookup (is_at (R k)) es)) (apart_in_order R exact k e.0 (All-head (λ x. k ≢ x.0) e es all)) ∙ absent_found R exact k es (All-tail (λ x. k ≢ x.0) e es all)
+
+pub once_removed : {K X : Type 0} (R : K → K → Ordering) → IsTotalOrder R → CmpEqualImpliesEq R → (k : K) (es : List (K × X)) → AllPairs (λ a later. a.0 ≢ later.0) es → lookup (is_at (R k)) (remove_entry (is_at (R k)) es) ≡ None
+once_removed R o exact k [] pairs = refl
+once_removed R o exact k (e ∷ es) pairs =
+    on_bool (λ b. is_at (R k) e.0 ≡ b → lookup (is_at (R k)) (cond b es (e ∷ remove_entry (is_at (R k)) es)) ≡ None) (is_at (R k) e.0)
+    (λ t is.
+    let same = same_key R exact k e.0 is in
+    absent_found R exact k es (λ i d below. subst (λ q. q ≢ (slice_index_or es i d).0) (sym same) (pairs 0 (suc i) d (omega arith) (omega (arith, below)))))
+    (λ f is. ap (λ b. cond b (Some e.1) (lookup (is_at (R k)) (remove_entry (is_at (R k)) es))) is ∙ once_removed R o exact k es (λ i j d lt below. pairs (suc i) (suc j) d (omega (arith, lt)) (omega (arith, below))))
+    refl
