@@ -7,4 +7,9 @@ pub mod Hosts
 pub mod Owning
 pub mod Placing
 pub mod Seeing
+pub mod Tabling
+pub mod Serving
+pub mod Collecting
+pub mod Piecing
+pub mod PiecesKept
 pub mod Lawful

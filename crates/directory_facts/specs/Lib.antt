@@ -1,3 +1,4 @@
 pub mod Own
 pub mod Seen
+pub mod Pieces
 pub mod Laws
