@@ -1,20 +1,18 @@
 -- What is carried through a run: a fact of the views and places, one of each node, and one of each letter. A step may use that
 -- the letter that comes has its fact, and owes it of the letters that it sends.
-use Rattle.std.proofs.Common.{◌≡◌, refl, ap, subst, ◌∙◌, ℕ, ◌+◌, ◌-◌, ◌≤◌, List, [], ◌∷◌, ◌++◌}
-use Rattle.std.specs.Prelude.{⊤, Bool, true, false, cond, not, nat_le, ◌&&◌, nat_lt, length, All, Option, Some, None, Result, Ok, Err, IfOk}
+use Rattle.std.proofs.Common.{◌≡◌, ℕ, ◌-◌, ◌≤◌, List}
+use Rattle.std.specs.Prelude.{⊤, All, Ok}
 use Rattle.std.specs.Option.{unwrap_or}
-use Rattle.std.specs.Map.{lookup, set_value}
-use Rattle.std.specs.BTreeMap.{is_at}
 use Rattle.silo_address.specs.Silo.{Silo}
 use Rattle.membership_view.specs.View.{ViewValue}
-use Rattle.membership_view.specs.Views.{ViewsValue, view_at, status_at, joining_version}
+use Rattle.membership_view.specs.Views.{ViewsValue, view_at, joining_version}
 use Rattle.membership_view.specs.Changes.{Change, after}
 use Rattle.membership_view.specs.Changes as change
 use Rattle.hash_ring.specs.Places.{PlacesValue, after_add}
 use Rattle.directory_rules.specs.Settings.{Settings}
 use Rattle.directory_rules.specs.Letter.{Letter}
 use Rattle.directory_rules.specs.Node.{Node, new_node}
-use Rattle.directory_rules.specs.Event.{Event, Join, Leave, Kill, See, Wake, Close, Find, Forget, Deliver, Lose, Nudge, Offer}
+use Rattle.directory_rules.specs.Event.{Event, Join, Wake, Close, Find, Forget, Nudge, Offer}
 use Rattle.directory_rules.specs.Step.{Stepped}
 use Rattle.directory_rules.specs.Input.{Input, Sees, Wakes, Closes, Finds, Forgets, Nudges, Offers, Receives, step}
 use Rattle.directory_rules.specs.World.{World, first_world}
@@ -142,11 +140,13 @@ both_keep G F g f = record {
   first = λ settings asked. (g.first settings asked.0, f.first settings asked.1);
   joining = λ settings views next places added silo given named shared viewed placed.
       let one = g.joining settings views next places added silo given named.0 shared.0 viewed placed in
-      let other = f.joining settings views next places added silo given named.1 shared.0 shared.1 viewed placed in
-      (record {
-        shared = (one.0.shared, other.0);
-        nodes = λ its node is. (one.0.nodes its node is.0, f.joined settings views next places added silo given named.1 shared.0 shared.1 viewed placed its node is.0 is.1);
-      }, (one.1, other.1));
+      let other = f.joining settings views next places added silo given named.1 shared.0 shared.1 viewed placed in (
+        record {
+          shared = (one.0.shared, other.0);
+          nodes = λ its node is. (one.0.nodes its node is.0, f.joined settings views next places added silo given named.1 shared.0 shared.1 viewed placed its node is.0 is.1);
+        },
+        (one.1, other.1),
+      );
   going = λ settings views next places change goes shared is.
       let one = g.going settings views next places change goes shared.0 is in
       record {

@@ -1,10 +1,10 @@
 -- What a node has of snapshots and reports is hashed into their ranges.
-use Rattle.std.proofs.Common.{◌≡◌, refl, sym, ap, subst, ◌∙◌, ℕ, ◌+◌, List, [], ◌∷◌, ◌++◌}
-use Rattle.std.specs.Prelude.{⊤, Bool, true, false, cond, not, nat_lt, ◌==◌, ◌&&◌, ◌||◌, All, Some}
+use Rattle.std.proofs.Common.{◌≡◌, refl, sym, subst, ℕ, ◌+◌, List, [], ◌∷◌, ◌++◌}
+use Rattle.std.specs.Prelude.{⊤, Bool, true, cond, not, nat_lt, ◌==◌, ◌&&◌, ◌||◌, All, Some}
 use Rattle.std.specs.Cmp.Lexicographic.{pointwise}
 use Rattle.std.specs.Map.{lookup}
 use Rattle.std.specs.Option.{unwrap_or}
-use Rattle.std.proofs.lemmas.List.Elements.{All-nil, All-cons, All-head, All-tail, All-append}
+use Rattle.std.proofs.lemmas.List.Elements.{All-nil, All-head, All-tail, All-append}
 use Rattle.texts.proofs.Decided.{both}
 use Rattle.silo_address.specs.Silo.{Silo}
 use Rattle.silo_address.specs.declared.Entry.{Entry}
@@ -13,7 +13,7 @@ use Rattle.ring_range.proofs.Same.{Decides-range}
 use Rattle.hash_ring.specs.declared.Hashing.{Hashing}
 use Rattle.hash_ring.specs.Hash.{hash_grain}
 use Rattle.directory_rules.specs.Snapshot.{Page, digest_of}
-use Rattle.directory_rules.specs.Table.{Table, lie_in}
+use Rattle.directory_rules.specs.Table.{lie_in}
 use Rattle.directory_rules.specs.Gathering.{Gathering, Gathered, Wants_page, Has_all, Refuses, new_gathering, with_page, is_in_turn, completed, gathered}
 use Rattle.directory_rules.specs.Recovery.{Report, Recovery, Recovered, Awaits_more, Has_union, Rejects, with_report, is_among, awaits_still, recovered}
 use Rattle.directory_rules.proofs.Cases.{on_bool}
@@ -41,7 +41,7 @@ gathered_into hashing gathering page is lie =
     (λ t at.
     let same = (Decides-range page.range gathering.range).0 (both (page.version == gathering.version) (range_eq page.range gathering.range) at).1 in
     let all : All (IsHashedInto hashing gathering.range) (gathering.entries ++ page.entries) =
-        All-append (IsHashedInto hashing gathering.range) gathering.entries page.entries is (subst (λ range. All (IsHashedInto hashing range) page.entries) same (all_from (λ (e : Entry). holds page.range (hash_grain hashing e.grain)) page.entries lie)) in
+    All-append (IsHashedInto hashing gathering.range) gathering.entries page.entries is (subst (λ range. All (IsHashedInto hashing range) page.entries) same (all_from (λ (e : Entry). holds page.range (hash_grain hashing e.grain)) page.entries lie)) in
     on_bool (λ b. Into (cond (not b) (Refuses 702 gathering) (cond more (Wants_page (with_page gathering page)) (completed gathering page)))) turn
     (λ u. on_bool (λ b. Into (cond b (Wants_page (with_page gathering page)) (completed gathering page))) more (λ v. all) (λ v.
     on_bool (λ b. Into (cond b (Has_all (gathering.entries ++ page.entries)) (Refuses 701 (new_gathering gathering.version gathering.range)))) (pointwise ◌==◌ (digest_of (gathering.entries ++ page.entries)) page.digest)
@@ -52,8 +52,10 @@ gathered_into hashing gathering page is lie =
   where
     turn : Bool
     turn = is_in_turn gathering page
+
     more : Bool
     more = nat_lt (page.page + 1) page.pages
+
     Into : Gathered → Type 0
     Into result = GatheredInto hashing page.range gathering page result
 
@@ -83,7 +85,9 @@ recovered_into hashing recovery report is lie =
   where
     known : Bool
     known = is_among report.silo recovery.awaiting || is_among report.silo recovery.reported
+
     done : Bool
     done = is_among report.silo recovery.reported
+
     taken : Recovered
     taken = awaits_still (with_report recovery report).awaiting (with_report recovery report)

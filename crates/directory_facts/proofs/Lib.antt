@@ -12,4 +12,7 @@ pub mod Serving
 pub mod Collecting
 pub mod Piecing
 pub mod PiecesKept
+pub mod Hashes
+pub mod Throughout
+pub mod Leaving
 pub mod Lawful

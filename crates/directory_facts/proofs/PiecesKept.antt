@@ -1,21 +1,17 @@
 -- Every step leaves a node's pieces pieces, each entry in the piece of its hash.
-use Rattle.std.proofs.Common.{◌≡◌, refl, sym, ap, subst, ◌∙◌, ℕ, List, [], ◌∷◌, ◌++◌}
-use Rattle.std.specs.Prelude.{⊤, Bool, true, false, not, All, Option, Some, None, filter_map}
+use Rattle.std.proofs.Common.{◌≡◌, refl, sym, ap, subst, ℕ, List, [], ◌∷◌}
+use Rattle.std.specs.Prelude.{⊤, Bool, true, All}
 use Rattle.std.specs.Ordering.{nat_cmp}
-use Rattle.std.specs.BTreeMap.{is_at, insert_entry}
-use Rattle.std.specs.Map.{remove_entry}
+use Rattle.std.specs.BTreeMap.{is_at}
 use Rattle.std.specs.List.{cons_option}
 use Rattle.std.proofs.lemmas.List.Elements.{All-nil, All-cons}
 use Rattle.std.proofs.lemmas.Map.Lookups.{exact_unsigned}
 use Rattle.silo_address.specs.Silo.{Silo}
-use Rattle.silo_address.specs.declared.Entry.{Entry}
 use Rattle.membership_view.specs.View.{ViewValue}
 use Rattle.membership_view.specs.Views.{ViewsValue}
 use Rattle.ring_range.specs.Range.{Range}
 use Rattle.hash_ring.specs.declared.Hashing.{Hashing}
-use Rattle.hash_ring.specs.declared.Point.{Point}
 use Rattle.hash_ring.specs.Point.{IsOnCircle}
-use Rattle.hash_ring.specs.Hash.{hash_grain}
 use Rattle.hash_ring.specs.Places.{PlacesValue, IsPlaces}
 use Rattle.hash_ring.specs.Ring.{sorted_ring}
 use Rattle.range_moves.specs.Arcs.{arcs_of}
@@ -28,12 +24,12 @@ use Rattle.directory_rules.specs.Table.{Table, table_of, rise_by_grain, lie_in}
 use Rattle.directory_rules.specs.Piece.{Piece}
 use Rattle.directory_rules.specs.Sight.{is_next}
 use Rattle.directory_rules.specs.Snapshot.{Page}
-use Rattle.directory_rules.specs.Gathering.{Gathering, Wants_page, Has_all, Refuses, new_gathering, gathered}
-use Rattle.directory_rules.specs.Recovery.{Report, Recovery, Awaits_more, Has_union, new_recovery, recovered}
+use Rattle.directory_rules.specs.Gathering.{Gathering, new_gathering, gathered}
+use Rattle.directory_rules.specs.Recovery.{Report, Recovery, new_recovery, recovered}
 use Rattle.directory_rules.specs.Letter.{Letter, Request_letter}
 use Rattle.directory_rules.specs.Node.{Node, new_node}
 use Rattle.directory_rules.specs.Answer.{answered}
-use Rattle.directory_rules.specs.Sending.{grain_of, gathering_of, recovery_of}
+use Rattle.directory_rules.specs.Sending.{gathering_of, recovery_of}
 use Rattle.directory_rules.specs.Step as at
 use Rattle.directory_rules.specs.Transfer as tr
 use Rattle.directory_rules.specs.Input.{Input}
@@ -44,7 +40,7 @@ use Rattle.directory_facts.specs.Own.{SaysOwn}
 use Rattle.directory_facts.specs.Seen.{SeesItsVersion}
 use Rattle.directory_facts.specs.Pieces.{IsHashedInto, IsTableOf, IsGathering, IsRecovery, HasPieces}
 use Rattle.directory_facts.proofs.Entries.{all_put, all_removed}
-use Rattle.directory_facts.proofs.Carried.{Facts, Brings, Before, After, Keeps, Both, KeepsBeside, beside, both_keep}
+use Rattle.directory_facts.proofs.Carried.{Facts, Brings, Keeps, Both, KeepsBeside, beside, both_keep}
 use Rattle.directory_facts.proofs.Ways.{HasPiece, IsPageTaken, IsReportTaken, Ways}
 use Rattle.directory_facts.proofs.Stepping.{by_way}
 use Rattle.directory_facts.proofs.Owning.{OwnNode, own_facts, own_keep}

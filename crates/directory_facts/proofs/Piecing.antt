@@ -1,15 +1,14 @@
 -- Pieces stay pieces: those of a sight are, and a piece that is changed keeps its range.
-use Rattle.std.proofs.Common.{◌≡◌, refl, sym, ap, subst, ◌∙◌, ℕ, ◌<◌, List, [], ◌∷◌, map, arith}
-use Rattle.std.specs.Prelude.{⊤, Bool, true, false, cond, not, ◌&&◌, All, AllPairs, Option, Some, None, Result, Ok, Err, filter, fold, flat_map}
+use Rattle.std.proofs.Common.{◌≡◌, refl, sym, subst, ℕ, ◌<◌, List, [], ◌∷◌, map, arith}
+use Rattle.std.specs.Prelude.{Bool, true, cond, not, All, AllPairs, Some, Result, Ok, Err, filter, fold, flat_map}
 use Rattle.std.specs.List.{slice_index_or}
 use Rattle.std.specs.Ordering.{nat_cmp}
-use Rattle.std.specs.Map.{lookup, set_value}
+use Rattle.std.specs.Map.{lookup}
 use Rattle.std.specs.BTreeMap.{is_at}
 use Rattle.std.proofs.lemmas.List.Elements.{All-nil, All-cons, All-head, All-tail, All-filter, All-weaker, All-map, filter_passes}
 use Rattle.std.proofs.lemmas.List.Kept.{AllPairs-cons, AllPairs-filter}
 use Rattle.texts.proofs.Decided.{both}
 use Rattle.silo_address.specs.Silo.{Silo}
-use Rattle.silo_address.specs.Grain.{Grain}
 use Rattle.silo_address.specs.declared.Entry.{Entry}
 use Rattle.membership_view.specs.View.{ViewValue}
 use Rattle.ring_range.specs.Range.{Range, IsRange, holds}
@@ -35,7 +34,7 @@ use Rattle.directory_rules.proofs.Ranges.{ranges, Rising, changed_ranges, stands
 use Rattle.directory_facts.specs.Pieces.{IsHashedInto, IsTableOf, IsPiece, ArePieces}
 use Rattle.directory_facts.proofs.Entries.{all_set, found_so}
 use Rattle.directory_facts.proofs.Tabling.{InOrder, order_nil, order_put, order_filtered, in_range, table_nil, table_turned}
-use Rattle.directory_facts.proofs.Serving.{Serves, serves, found_holds}
+use Rattle.directory_facts.proofs.Serving.{serves, found_holds}
 
 -- what a piece has
 pub record HasTable (hashing : Hashing) (piece : Piece) : Type 0 where

@@ -1,6 +1,6 @@
 -- Tables stay in the order of their grains, and their entries in the range.
-use Rattle.std.proofs.Common.{◌≡◌, refl, sym, ap, subst, ◌∙◌, List, [], ◌∷◌, map}
-use Rattle.std.specs.Prelude.{Bool, true, false, cond, ◌&&◌, is_some, All, Option, Some, None, filter, fold}
+use Rattle.std.proofs.Common.{◌≡◌, refl, List, [], ◌∷◌}
+use Rattle.std.specs.Prelude.{Bool, true, cond, is_some, All, Option, Some, None, filter, fold}
 use Rattle.std.specs.List.{AllByRecursion, list_all}
 use Rattle.std.specs.List.Sorted.{IsStrictlySortedBy}
 use Rattle.std.specs.Ordering.{is_lt}
@@ -8,7 +8,7 @@ use Rattle.std.specs.declared.cmp.Ordering.{Ordering}
 use Rattle.std.specs.declared.cmp.Ordering.TheVariants.{Less, Equal, Greater}
 use Rattle.std.specs.Map.{keys_of}
 use Rattle.std.specs.BTreeMap.{is_at}
-use Rattle.std.proofs.lemmas.List.Elements.{All-nil, All-cons, All-head, All-tail, All-filter, All-weaker, All-map}
+use Rattle.std.proofs.lemmas.List.Elements.{All-nil, All-cons, All-head, All-tail, All-filter, All-map}
 use Rattle.texts.proofs.Decided.{both}
 use Rattle.silo_address.specs.Grain.{Grain, grain_cmp}
 use Rattle.silo_address.specs.Activation.{activation_eq}
@@ -23,7 +23,7 @@ use Rattle.directory_rules.specs.declared.act.Act.{Act}
 use Rattle.directory_rules.specs.declared.act.Act.TheVariants.{Register, Deregister, Find}
 use Rattle.directory_rules.specs.declared.reply.Reply.{Reply}
 use Rattle.directory_rules.specs.declared.reply.Reply.TheVariants.{Registered, Taken, Removed, Absent}
-use Rattle.directory_rules.specs.Table.{Table, entry_at, with_entry, without_grain, table_of, is_before_first, rise_by_grain, lie_in}
+use Rattle.directory_rules.specs.Table.{Table, entry_at, with_entry, without_grain, table_of, is_before_first, rise_by_grain}
 use Rattle.directory_rules.specs.Answer.{Turned, turned, registered_over, deregistered_from, is_previous}
 use Rattle.directory_rules.specs.Recovery.{with_reported}
 use Rattle.directory_rules.specs.Sending.{grain_of}
