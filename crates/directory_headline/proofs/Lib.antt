@@ -17,3 +17,4 @@ pub mod Finding
 pub mod Beginning
 pub mod Closing
 pub mod Replies
+pub mod FactsHold
