@@ -18,3 +18,5 @@ pub mod Beginning
 pub mod Closing
 pub mod Replies
 pub mod FactsHold
+pub mod FirmEntries
+pub mod Telling
