@@ -1,0 +1,177 @@
+-- A join, a leaving and a death are the next view: `Shown` is carried on.
+use Rattle.std.proofs.Common.{arith, ◌≡◌, ◌≢◌, ℕ, suc, ◌+◌, ◌<◌, List, [], IsSome, inl, inr, refl, sym, ap, ◌∙◌, subst}
+use Rattle.std.specs.Prelude.{All, Option, Some, None, Ok}
+use Rattle.std.specs.Option.{option_map}
+use Rattle.std.specs.Map.{lookup, remove_entry}
+use Rattle.std.specs.BTreeMap.{is_at, insert_entry}
+use Rattle.std.proofs.lemmas.List.Elements.{All-nil, All-weaker}
+use Rattle.texts.proofs.Decided.{decided}
+use Rattle.silo_address.specs.Silo.{Silo, silo_cmp, IsSameEndpoint}
+use Rattle.silo_address.proofs.Order.{silo_cmp_total, silo_cmp_exact}
+use Rattle.membership_view.specs.declared.status.Status.{Status}
+use Rattle.membership_view.specs.declared.status.Status.TheVariants.{Active, Dead}
+use Rattle.membership_view.specs.Views.{ViewsValue, view_at, status_at}
+use Rattle.membership_view.specs.Changes as change
+use Rattle.membership_view.specs.Laws.{Accepts}
+use Rattle.membership_view.specs.Step.{Joins, Leaves, Dies}
+use Rattle.membership_view.proofs.Order.{Decides-shares}
+use Rattle.membership_view.proofs.Staying.{versions_rise}
+use Rattle.membership_view.proofs.Stepping.{changes_are_steps}
+use Rattle.hash_ring.specs.Places.{PlacesValue}
+use Rattle.directory_protocol.specs.Setting.{Setting}
+use Rattle.directory_protocol.specs.World as protocol
+use Rattle.directory_protocol.specs.Actions.{New_view}
+use Rattle.directory_protocol.specs.Effects.{after}
+use Rattle.directory_protocol.specs.Safety.{IsReached}
+use Rattle.directory_protocol.proofs.Changes.{silo_cases}
+use Rattle.directory_protocol.proofs.Runs.{reached_after}
+use Rattle.directory_rules.specs.Node.{Node, new_node}
+use Rattle.directory_rules.specs.Settings.{Settings}
+use Rattle.directory_rules.specs.World.{World, Posted}
+use Rattle.directory_rules.specs.Happens.{node_of, after_joining, without_node, without_replaced, counted, died}
+use Rattle.directory_rules.proofs.Removed.{lookup_removed}
+use Rattle.directory_headline.specs.Silo_state.{state_of, first_state}
+use Rattle.directory_headline.specs.Shown.{Shown, IsShownNode, IsShownLetter, IsShownSnapshot, IsShownGathering, IsShownRecovery}
+use Rattle.directory_headline.proofs.Actors.{Grows}
+use Rattle.directory_headline.proofs.Growing.{letter_still, node_still}
+use Rattle.directory_headline.proofs.Lookups.{found_put, found_beside_put, found_beside_removed}
+use Rattle.directory_headline.proofs.Facts.{WorldFacts}
+
+-- what is carried through a run
+pub record Carried (m : Setting) (f : World) : Type 0 where
+  pub world : protocol.World
+  pub reached : IsReached m world
+  pub shown : Shown m f world
+
+module _ (m : Setting) (w : protocol.World) where
+  abbrev pub viewed : protocol.World
+  viewed = after m w New_view
+
+  grows : Grows w viewed
+  grows = record { requests = λ x s. s; replies = λ x s. s; snapshots = λ x s. s; reports = λ x s. s; offers = λ x s. s }
+
+  abbrev Says : (ℕ × Posted) → Type 0
+  Says e = IsShownLetter m.hash w e.1.letter
+
+  -- a silo that has just joined
+  pub new_shown : (settings : Settings) (silo : Silo) → IsShownNode m w (new_node settings silo) first_state
+  new_shown settings silo = record {
+    seen = refl;
+    host = record { held = λ grain. refl; next_number = refl; next_count = refl };
+    holding = record { settled = λ h. refl; table = λ grain piece found. absurd (cc (found)); served = λ sender. refl };
+    shelf = All-nil (IsShownSnapshot m.hash w.snapshots);
+    gatherings = All-nil (λ (e : ℕ × _). IsShownGathering m.hash w.snapshots e.1);
+    recoveries = All-nil (λ (e : ℕ × _). IsShownRecovery m w.reports e.1);
+  }
+
+  -- the next view: each silo that has a node has the one that it had, and one that isn't there wasn't
+  view_shown :
+      (f later : World) → Shown m f w → later.views.version ≡ f.views.version + 1 → later.mail ≡ f.mail
+      → ((silo : Silo) (node : Node) → node_of later silo ≡ Some node → IsShownNode m w node (state_of w silo))
+      → ((silo : Silo) → status_at later.views later.views.version silo ≡ None → status_at f.views f.views.version silo ≡ None)
+      → Shown m later viewed
+  view_shown f later shown version mail nodes absent =
+      let now = shown.now in
+      record {
+        now = omega arith;
+        live = λ silo node there. node_still m w viewed grows node (state_of w silo) (nodes silo node there);
+        absent = λ silo none. shown.absent silo (absent silo none);
+        letters =
+            All-weaker Says (λ e. IsShownLetter m.hash viewed e.1.letter) (λ e is. letter_still m w viewed grows e.1.letter is) later.mail
+            (subst (All Says) (sym mail) shown.letters);
+      }
+
+nothing_was : (status : Option Status) → option_map (λ _. Dead) status ≡ None → status ≡ None
+nothing_was None none = refl
+nothing_was (Some status) none = absurd (cc)
+
+-- who had no status before a join
+was_absent : (silo : Silo) (views next : ViewsValue) → Joins silo (view_at views views.version) (view_at next next.version) → (q : Silo) → status_at next next.version q ≡ None
+    → status_at views views.version q ≡ None
+was_absent silo views next step q none =
+    elim (silo_cases q silo) [
+      | inl same ↦ let there = step.joined in let nothing = subst (λ s. status_at next next.version s ≡ None) same none in absurd (cc)
+      | inr apart ↦ elim (decided (change.shares_endpoint silo q) (Decides-shares silo q)) [
+        | inl one ↦ nothing_was (status_at views views.version q) (sym (step.older q one apart) ∙ none)
+        | inr other ↦ sym (step.others q other) ∙ none
+      ]
+    ]
+
+-- who joins wasn't there
+newcomer : (silo : Silo) (views next : ViewsValue) → Joins silo (view_at views views.version) (view_at next next.version) → status_at views views.version silo ≡ None
+newcomer silo views next step = by (status_at views views.version silo) refl
+  where
+    by : (status : Option Status) → status_at views views.version silo ≡ status → status ≡ None
+    by None is = refl
+    by (Some status) is =
+        let newer : silo.generation < silo.generation = step.newest silo (refl, refl) (subst (λ o. IsSome o) (sym is) refl) in
+        absurd (omega arith)
+
+module _ (m : Setting) (f : World) (facts : WorldFacts m.hash f) (carried : Carried m f) where
+  go_on : (later : World) → Shown m later (viewed m carried.world) → Carried m later
+  go_on later shown = record { world = viewed m carried.world; reached = reached_after m carried.world New_view carried.reached tt; shown = shown }
+
+  -- a node that is there after another was taken out was there
+  still_there : (taken : Silo) (silo : Silo) (node : Node) → lookup (is_at (silo_cmp silo)) (remove_entry (is_at (silo_cmp taken)) f.nodes) ≡ Some node → node_of f silo ≡ Some node
+  still_there taken silo node there =
+      elim (silo_cases silo taken) [
+        | inl same ↦
+          let gone = lookup_removed silo_cmp silo_cmp_total taken f.nodes facts.peopled.by_address in
+          let found = subst (λ s. lookup (is_at (silo_cmp s)) (remove_entry (is_at (silo_cmp taken)) f.nodes) ≡ Some node) same there in
+          absurd (cc)
+        | inr apart ↦ sym (found_beside_removed silo_cmp silo_cmp_total silo_cmp_exact taken f.nodes silo apart) ∙ there
+      ]
+
+  pub carried_leaving : (silo : Silo) → change.after f.views (change.Leave silo) ≡ Ok (change.with_leave f.views silo) → Carried m (counted (record f { views = change.with_leave f.views silo }))
+  carried_leaving silo is =
+      let next = change.with_leave f.views silo in
+      let accepts : Accepts f.views (change.Leave silo) next = record { whole = facts.peopled.whole; is = is } in
+      let step : Leaves silo (view_at f.views f.views.version) (view_at next next.version) = changes_are_steps f.views (change.Leave silo) next accepts in
+      go_on (counted (record f { views = next })) (view_shown m carried.world f (counted (record f { views = next })) carried.shown (versions_rise f.views (change.Leave silo) next accepts) refl carried.shown.live (λ q none.
+      elim (silo_cases q silo) [
+        | inl same ↦ let left = step.left in let nothing = subst (λ s. status_at next next.version s ≡ None) same none in absurd (cc)
+        | inr apart ↦ sym (step.others q apart) ∙ none
+      ]))
+
+  pub carried_death : (silo : Silo) → change.after f.views (change.Die silo) ≡ Ok (change.with_death f.views silo) → Carried m (died f silo).world
+  carried_death silo is =
+      let next = change.with_death f.views silo in
+      let accepts : Accepts f.views (change.Die silo) next = record { whole = facts.peopled.whole; is = is } in
+      let step : Dies silo (view_at f.views f.views.version) (view_at next next.version) = changes_are_steps f.views (change.Die silo) next accepts in
+      go_on (died f silo).world (view_shown m carried.world f (died f silo).world carried.shown (versions_rise f.views (change.Die silo) next accepts) refl
+      (λ q node there. carried.shown.live q node (still_there silo q node there)) (λ q none.
+      elim (silo_cases q silo) [
+        | inl same ↦ let dead = step.dead in let nothing = subst (λ s. status_at next next.version s ≡ None) same none in absurd (cc)
+        | inr apart ↦ sym (step.others q apart) ∙ none
+      ]))
+
+  replaced_there : (old : Option Silo) (silo : Silo) (node : Node) → node_of (without_replaced f old) silo ≡ Some node → node_of f silo ≡ Some node
+  replaced_there None silo node there = there
+  replaced_there (Some old) silo node there = still_there old silo node there
+
+  pub carried_joining : (silo : Silo) (next : ViewsValue) (added : PlacesValue) → change.after_join f.views silo ≡ Ok next → (old : Option Silo) → Carried m (counted (after_joining f silo old next added))
+  carried_joining silo next added is old =
+      let accepts : Accepts f.views (change.Join silo) next = record { whole = facts.peopled.whole; is = is } in
+      let step : Joins silo (view_at f.views f.views.version) (view_at next next.version) = changes_are_steps f.views (change.Join silo) next accepts in
+      go_on (counted (after_joining f silo old next added)) (view_shown m carried.world f (counted (after_joining f silo old next added)) carried.shown (versions_rise f.views (change.Join silo) next accepts) (mail_same old) (λ q node there.
+      elim (silo_cases q silo) [
+        | inl same ↦
+          let one : Some (new_node f.settings silo) ≡ Some node =
+              sym (found_put silo_cmp silo_cmp_total silo_cmp_exact silo (new_node f.settings silo) (without_replaced f old).nodes)
+              ∙ ap (λ s. lookup (is_at (silo_cmp s)) (insert_entry silo_cmp (without_replaced f old).nodes silo (new_node f.settings silo))) (sym same) ∙ made old q node there in
+          let its : new_node f.settings silo ≡ node = cc in
+          let first : state_of carried.world q ≡ first_state = ap (state_of carried.world) same ∙ carried.shown.absent silo (newcomer silo f.views next step) in
+          subst (λ n. IsShownNode m carried.world n (state_of carried.world q)) its (subst (IsShownNode m carried.world (new_node f.settings silo)) (sym first) (new_shown m carried.world f.settings silo))
+        | inr apart ↦
+          carried.shown.live q node (replaced_there old q node
+          (sym (found_beside_put silo_cmp silo_cmp_total silo_cmp_exact silo (new_node f.settings silo) (without_replaced f old).nodes q apart) ∙ made old q node there))
+      ]) (was_absent silo f.views next step))
+    where
+      mail_same : (old : Option Silo) → (after_joining f silo old next added).mail ≡ f.mail
+      mail_same None = refl
+      mail_same (Some old) = refl
+
+      made : (old : Option Silo) (q : Silo) (node : Node) → node_of (after_joining f silo old next added) q ≡ Some node
+          → lookup (is_at (silo_cmp q)) (insert_entry silo_cmp (without_replaced f old).nodes silo (new_node f.settings silo)) ≡ Some node
+      made None q node there = there
+      made (Some old) q node there = there

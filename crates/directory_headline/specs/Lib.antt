@@ -1,0 +1,3 @@
+pub mod Setting
+pub mod Silo_state
+pub mod Shown
