@@ -24,7 +24,7 @@ use silo_address::{Entry, SiloAddress};
 use std::alloc::AllocError;
 
 /// Writes the line of an accepted event (`docs/RULES.md#what-a-script-prints`). Fails only for want of memory.
-#[tactic(auto, using(crate::proofs::SomeWords::happening_has_words), unfolding(directory_rules::specs::Lines::outcome_line))]
+#[tactic(auto, using(crate::proofs::SomeWords::happening_has_words), unfolding(script_rules::specs::Lines::outcome_line))]
 pub fn write_outcome(out: &mut Vec<u8>, outcome: &Outcome) -> Result<(), AllocError>
     ensures written { OnOk result (out.new.items ≡ out.old.items ++ printed (outcome_line (outcome_of outcome.now))) }
     ensures unchanged { OnErr result (out.new.items ≡ out.old.items) }

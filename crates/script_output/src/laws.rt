@@ -15,7 +15,7 @@ ghost use Rattle.script_output.specs.Shown.{line_of_owner, line_of_range, line_o
 
 /// The lines of `show` and `owner` are the rule's, by what they tell of the world: its current version, the seen of a
 /// silo's node, the entries of a range that is settled at its owner, and the point that owns a hash in the current ring.
-#[tactic(auto, unfolding(directory_rules::specs::Show::owner_line))]
+#[tactic(auto, unfolding(script_rules::specs::Show::owner_line))]
 pub fn lines_are_of_the_world()
     ensures version { (world : World) → version_line world ≡ line_of_version world.views.version }
     ensures silo { (silo : Silo) (status : StatusSeen) (node : Option Node)
