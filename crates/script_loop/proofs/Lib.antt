@@ -1,0 +1,6 @@
+mod Causes
+mod Filled
+mod Pieces
+mod Stands
+mod Steps
+mod TurnsTaken

@@ -1,0 +1,320 @@
+-- What steps, reads and writes keep of a play.
+use Rattle.std.proofs.Common.{◌≡◌, ℕ, ◌+◌, ◌<◌, ◌≤◌, ◌++◌, List, [], ◌∷◌, length, Option, Some, None, true, ap, arith, refl, sym, ◌∙◌, append_assoc, append-nil, subst}
+use Rattle.std.proofs.lemmas.List.{length-append}
+use Rattle.std.specs.Io.KnownBytes.{Appends, Consumes, IsAtEnd, Keeps}
+use Rattle.std.proofs.KnownBytes.{Appends-trans, Appends-nil, Consumes-trans, Consumes-kept}
+use Rattle.script_rules.specs.Script.{lines_of}
+use Rattle.texts.specs.Printed.{Output}
+use Rattle.script_output.specs.Spaced.{BeginsWith}
+use Rattle.script_loop.specs.declared.ended.Ended.{Ended}
+use Rattle.script_loop.specs.declared.ended.Ended.TheVariants as ended
+use Rattle.script_loop.specs.Endings.{Concludes, Ends, EndsReading, HasRead, most_at_once, most_read}
+use Rattle.script_loop.specs.Lines.{Rule, behind, no_output}
+use Rattle.script_loop.specs.Progress.{EndsStep, HasEnded, HasPlayed, MayCome, Progress, first_progress, to_come}
+use Rattle.script_loop.specs.Sending.{WritesFront}
+use Rattle.script_loop.specs.Transfers.{Fills, HasDrained, HasFilled, HasGot}
+use Rattle.script_loop.specs.Turns.{Stands}
+
+-- ---- What was read.
+
+-- nothing yet
+abbrev pub none_read : (first : Rule) (script : List ℕ) → first 1 [] ≡ no_output → HasRead script (first 1) (Some script) []
+none_read first script nothing = record {
+  front = [];
+  chunk = [];
+  consumes = refl;
+  front_fits = omega arith;
+  chunk_fits = omega arith;
+  whole = [];
+  begun = [];
+  lines = refl;
+  written = record { more = []; joined = sym (ap (λ (o : Output). o.text ++ []) nothing) };
+}
+
+-- as much, when more is written
+abbrev pub same_read : (output : List (List ℕ) → Output) (script : List ℕ) (rest : Option (List ℕ)) (text more : List ℕ) → HasRead script output rest text
+    → HasRead script output rest (text ++ more)
+same_read output script rest text more read = record {
+  front = read.front;
+  chunk = read.chunk;
+  consumes = read.consumes;
+  front_fits = read.front_fits;
+  chunk_fits = read.chunk_fits;
+  whole = read.whole;
+  begun = read.begun;
+  lines = read.lines;
+  written = record {
+    more = read.written.more ++ more;
+    joined = ap (λ (t : List ℕ). t ++ more) read.written.joined ∙ append_assoc (output read.whole).text read.written.more more;
+  };
+}
+
+-- as much, where a read failed
+kept_read : (output : List (List ℕ) → Output) (script : List ℕ) (read rest : Option (List ℕ)) (text : List ℕ) → Keeps read rest → HasRead script output read text
+    → HasRead script output rest text
+kept_read output script read rest text keeps old = record {
+  front = old.front;
+  chunk = old.chunk;
+  consumes = Consumes-kept (Some script) read rest (old.front ++ old.chunk) old.consumes keeps;
+  front_fits = old.front_fits;
+  chunk_fits = old.chunk_fits;
+  whole = old.whole;
+  begun = old.begun;
+  lines = old.lines;
+  written = old.written;
+}
+
+-- all lines that were played are written where nothing waits
+pub all_sent : (sent waiting : List ℕ) (output whole : Output) → waiting ≡ [] → output ≡ no_output → behind sent (behind waiting output) ≡ whole → sent ≡ whole.text ++ []
+all_sent sent waiting output whole none nothing is =
+    let text : sent ++ (waiting ++ output.text) ≡ whole.text = ap (λ (o : Output). o.text) is in
+    let no_text : waiting ++ output.text ≡ [] = ap (λ (t : List ℕ). t ++ output.text) none ∙ ap (λ (o : Output). o.text) nothing in
+    sym (append-nil (whole.text) ∙ (sym text ∙ (ap (λ (t : List ℕ). sent ++ t) no_text ∙ append-nil sent)))
+
+-- a chunk more, where no line that is there is still to be played and nothing waits
+abbrev pub more_read : (first : Rule) (script : List ℕ) (begun : Option (List ℕ)) (rule : Rule) (at : Progress) (read rest written : Option (List ℕ)) (line got : List ℕ)
+    → rule at.line [] ≡ no_output → lines_of at.held ≡ line ∷ [] → at.waiting ≡ [] → HasGot read rest got
+    → (stands : Stands first script begun rule at read written) → HasRead script (first 1) rest stands.sent
+more_read first script begun rule at read rest written line got nothing only none chunk stands = record {
+  front = stands.has_read.front ++ stands.has_read.chunk;
+  chunk = got;
+  consumes = Consumes-trans (Some script) read rest (stands.has_read.front ++ stands.has_read.chunk) got stands.has_read.consumes chunk.consumes;
+  front_fits = omega (arith, stands.counted);
+  chunk_fits = chunk.fits;
+  whole = stands.played;
+  begun = line;
+  lines = ap lines_of (sym (append-nil (stands.has_read.front ++ stands.has_read.chunk)))
+      ∙ (stands.lines [] ∙ (ap (λ (bs : List ℕ). stands.played ++ lines_of bs) (append-nil at.held) ∙ ap (λ (ls : List (List ℕ)). stands.played ++ ls) only));
+  written = record {
+    more = [];
+    joined = all_sent stands.sent at.waiting (rule at.line []) (first 1 stands.played) none nothing
+        (stands.makes [] ∙ ap (first 1) (append-nil stands.played));
+  };
+}
+
+-- ---- A play goes on.
+
+-- before the first line
+pub stands_first : (first : Rule) (script : List ℕ) (begun : Option (List ℕ)) (at : Progress) → first 1 [] ≡ no_output → at ≡ first_progress
+    → Stands first script begun first at (Some script) begun
+stands_first first script begun at nothing is = subst (λ (p : Progress). Stands first script begun first p (Some script) begun) (sym is) (record {
+  sent = [];
+  appends = Appends-nil begun;
+  has_read = none_read first script nothing;
+  at_end = λ over. absurd (cc);
+  counted = refl;
+  played = [];
+  numbered = refl;
+  whole_played = omega arith;
+  lines = λ more. refl;
+  makes = λ lines. refl;
+})
+
+-- a line was played
+pub stands_played : (first : Rule) (script : List ℕ) (begun read written : Option (List ℕ)) (rule : Rule) (old : Progress) (next : Rule) (new : Progress)
+    → HasPlayed rule old next new → Stands first script begun rule old read written → Stands first script begun next new read written
+stands_played first script begun read written rule old next new step stands = record {
+  sent = stands.sent;
+  appends = stands.appends;
+  has_read = stands.has_read;
+  at_end = λ over. stands.at_end (sym step.same_end ∙ over);
+  counted = omega (arith, step.same_left, stands.counted);
+  played = stands.played ++ step.line ∷ [];
+  numbered = omega (arith, step.next_line, stands.numbered, length-append stands.played (step.line ∷ []));
+  whole_played = omega (arith, stands.whole_played, length-append stands.played (step.line ∷ []));
+  lines = λ more. stands.lines more
+      ∙ (ap (λ (ls : List (List ℕ)). stands.played ++ ls) (step.first more) ∙ sym (append_assoc stands.played (step.line ∷ []) (lines_of (new.held ++ more))));
+  makes = λ lines. ap (behind stands.sent) (step.plays lines)
+      ∙ (stands.makes (step.line ∷ lines) ∙ ap (first 1) (sym (append_assoc stands.played (step.line ∷ []) lines)));
+}
+
+behind_both : (one other : List ℕ) (output : Output) → behind (one ++ other) output ≡ behind one (behind other output)
+behind_both one other output = ap (λ (t : List ℕ). let o : Output = record { text = t; status = output.status } in o) (append_assoc one other output.text)
+
+-- what waited was written
+pub stands_drained : (first : Rule) (script : List ℕ) (begun read before written : Option (List ℕ)) (rule : Rule) (old new : Progress)
+    → HasDrained old before new written → Stands first script begun rule old read before → Stands first script begun rule new read written
+stands_drained first script begun read before written rule old new drain stands =
+    let drained : Progress = record old { waiting = [] } in
+    subst (λ (p : Progress). Stands first script begun rule p read written) (sym drain.drained) (record {
+      sent = stands.sent ++ old.waiting;
+      appends = Appends-trans begun before written _ _ stands.appends drain.appends;
+      has_read = same_read (first 1) script read stands.sent old.waiting stands.has_read;
+      at_end = stands.at_end;
+      counted = stands.counted;
+      played = stands.played;
+      numbered = stands.numbered;
+      whole_played = stands.whole_played;
+      lines = stands.lines;
+      makes = λ lines. behind_both stands.sent old.waiting (to_come rule drained lines) ∙ stands.makes lines;
+    })
+
+-- more was read
+pub stands_filled : (first : Rule) (script : List ℕ) (begun read rest written : Option (List ℕ)) (rule : Rule) (old new : Progress) (line : List ℕ)
+    → rule old.line [] ≡ no_output → lines_of old.held ≡ line ∷ [] → old.waiting ≡ [] → HasFilled old read new rest
+    → Stands first script begun rule old read written → Stands first script begun rule new rest written
+stands_filled first script begun read rest written rule old new line nothing only none fill stands =
+    let consumed = stands.has_read.front ++ stands.has_read.chunk in
+    record {
+      sent = stands.sent;
+      appends = stands.appends;
+      has_read = more_read first script begun rule old read rest written line fill.got nothing only none fill.chunk stands;
+      at_end = fill.at_end;
+      counted = omega (arith, fill.counted, stands.counted, length-append consumed fill.got);
+      played = stands.played;
+      numbered = fill.same_line ∙ stands.numbered;
+      whole_played = omega arith;
+      lines = λ more. ap lines_of (append_assoc consumed fill.got more)
+          ∙ (stands.lines (fill.got ++ more) ∙ ap (λ (bs : List ℕ). stands.played ++ lines_of bs)
+          (sym (append_assoc old.held fill.got more) ∙ ap (λ (h : List ℕ). h ++ more) (sym fill.held)));
+      makes = λ lines. ap (λ (w : List ℕ). behind stands.sent (behind w (rule new.line lines))) fill.same_waiting
+          ∙ (ap (λ (n : ℕ). behind stands.sent (behind old.waiting (rule n lines))) fill.same_line ∙ stands.makes lines);
+    }
+
+-- ---- A play ends.
+
+-- what the source still has
+rest_of : (script : List ℕ) (read : Option (List ℕ)) (bytes : List ℕ) → Consumes (Some script) read bytes → (rest : List ℕ) × (read ≡ Some rest) × (script ≡ bytes ++ rest)
+rest_of script None bytes consumes = absurd consumes
+rest_of script (Some rest) bytes consumes = (rest, refl, consumes)
+
+none_left : (read : Option (List ℕ)) (rest : List ℕ) → read ≡ Some rest → IsAtEnd read → rest ≡ []
+none_left None rest is end = absurd (cc)
+none_left (Some xs) rest is end = cc
+
+-- what may come of it
+may_come : (first : Rule) (script : List ℕ) (begun : Option (List ℕ)) (rule : Rule) (at : Progress) (read written : Option (List ℕ)) (rest : List ℕ) → read ≡ Some rest
+    → Stands first script begun rule at read written → MayCome at rest
+may_come first script begun rule at read written rest is stands = λ over. none_left read rest is (stands.at_end over)
+
+-- the output of the whole script is what was sent, and what is to come
+whole_output : (first : Rule) (script : List ℕ) (begun : Option (List ℕ)) (rule : Rule) (at : Progress) (read written : Option (List ℕ)) (rest : List ℕ)
+    → (stands : Stands first script begun rule at read written) → script ≡ (stands.has_read.front ++ stands.has_read.chunk) ++ rest
+    → behind stands.sent (to_come rule at (lines_of (at.held ++ rest))) ≡ first 1 (lines_of script)
+whole_output first script begun rule at read written rest stands is =
+    stands.makes (lines_of (at.held ++ rest)) ∙ ap (first 1) (sym (ap lines_of is ∙ stands.lines rest))
+
+-- what was sent is a beginning of it
+sent_first : (sent : List ℕ) (output whole : Output) → behind sent output ≡ whole → BeginsWith sent whole.text
+sent_first sent output whole is = record { more = output.text; joined = sym (ap (λ (o : Output). o.text) is) }
+
+-- a read failed, or memory ran out, or the script is too long
+pub ends_unread : (first : Rule) (script : List ℕ) (begun read rest written : Option (List ℕ)) (rule : Rule) (at new : Progress) (line : List ℕ) (ended : Ended)
+    → rule at.line [] ≡ no_output → lines_of at.held ≡ line ∷ [] → at.waiting ≡ [] → Fills at read new rest (Some ended)
+    → Stands first script begun rule at read written → Ends script (first 1) rest begun written ended
+ends_unread first script begun read rest written rule at new line ended.Played nothing only none fill stands = absurd fill
+ends_unread first script begun read rest written rule at new line (ended.Faulted fault) nothing only none fill stands = absurd fill
+ends_unread first script begun read rest written rule at new line ended.TooLong nothing only none fill stands =
+    let h = stands.has_read in
+    let before = rest_of script read (h.front ++ h.chunk) h.consumes in
+    let now = more_read first script begun rule at read rest written line fill.0 nothing only none fill.1 stands in
+    let after = rest_of script rest ((h.front ++ h.chunk) ++ fill.0) now.consumes in
+    record {
+      text = stands.sent;
+      writes = stands.appends;
+      concludes = sent_first stands.sent _ _ (whole_output first script begun rule at read written before.0 stands before.2);
+      read = now;
+      reads = omega (arith, fill.2, stands.counted, ap length after.2, length-append ((h.front ++ h.chunk) ++ fill.0) after.0, length-append (h.front ++ h.chunk) fill.0);
+    }
+ends_unread first script begun read rest written rule at new line ended.OutOfMemory nothing only none fill stands =
+    let h = stands.has_read in
+    let before = rest_of script read (h.front ++ h.chunk) h.consumes in
+    record {
+      text = stands.sent;
+      writes = stands.appends;
+      concludes = sent_first stands.sent _ _ (whole_output first script begun rule at read written before.0 stands before.2);
+      read = more_read first script begun rule at read rest written line fill.0 nothing only none fill.1 stands;
+      reads = tt;
+    }
+ends_unread first script begun read rest written rule at new line ended.Broken nothing only none fill stands =
+    let h = stands.has_read in
+    let before = rest_of script read (h.front ++ h.chunk) h.consumes in
+    record {
+      text = stands.sent;
+      writes = stands.appends;
+      concludes = sent_first stands.sent _ _ (whole_output first script begun rule at read written before.0 stands before.2);
+      read = kept_read (first 1) script read rest stands.sent fill h;
+      reads = tt;
+    }
+
+-- memory ran out before the first line
+pub ends_at_once : (first : Rule) (script : List ℕ) (begun : Option (List ℕ)) → first 1 [] ≡ no_output
+    → Ends script (first 1) (Some script) begun begun ended.OutOfMemory
+ends_at_once first script begun nothing = record {
+  text = [];
+  writes = Appends-nil begun;
+  concludes = record { more = (first 1 (lines_of script)).text; joined = refl };
+  read = none_read first script nothing;
+  reads = tt;
+}
+
+-- a write failed
+pub ends_unwritten : (first : Rule) (script : List ℕ) (begun read before written : Option (List ℕ)) (rule : Rule) (at : Progress) (waiting : List ℕ) (ending : Ended) → ending ≡ ended.Broken
+    → ((more : List ℕ) → MayCome at more → BeginsWith waiting (to_come rule at (lines_of (at.held ++ more))).text) → WritesFront waiting before written
+    → Stands first script begun rule at read before → Ends script (first 1) read begun written ending
+ends_unwritten first script begun read before written rule at waiting ending is begins front stands =
+    let h = stands.has_read in
+    let left = rest_of script read (h.front ++ h.chunk) h.consumes in
+    let next = begins left.0 (may_come first script begun rule at read before left.0 left.1 stands) in
+    let whole = whole_output first script begun rule at read before left.0 stands left.2 in
+    subst (λ (e : Ended). Ends script (first 1) read begun written e) (sym is) (record {
+      text = stands.sent ++ front.front;
+      writes = Appends-trans begun before written _ _ stands.appends front.appends;
+      concludes = record {
+        more = front.begins.more ++ next.more;
+        joined = sym (ap (λ (o : Output). o.text) whole)
+            ∙ (ap (λ (t : List ℕ). stands.sent ++ t) (next.joined ∙ (ap (λ (t : List ℕ). t ++ next.more) front.begins.joined ∙ append_assoc front.front front.begins.more next.more))
+            ∙ sym (append_assoc stands.sent front.front (front.begins.more ++ next.more)));
+      };
+      read = same_read (first 1) script read stands.sent front.front h;
+      reads = tt;
+    })
+
+-- what waits is a beginning of what is to come
+pub waits_first : (rule : Rule) (at : Progress) (lines : List (List ℕ)) → BeginsWith at.waiting (to_come rule at lines).text
+waits_first rule at lines = record { more = (rule at.line lines).text; joined = refl }
+
+pub concluded_first : (whole : Output) (text : List ℕ) (ended : Ended) → Concludes whole text ended → BeginsWith text whole.text
+concluded_first whole text ended.TooLong is = is
+concluded_first whole text ended.OutOfMemory is = is
+concluded_first whole text ended.Broken is = is
+concluded_first whole text ended.Played is = record { more = []; joined = ap (λ (o : Output). o.text) is ∙ sym (append-nil text) }
+concluded_first whole text (ended.Faulted fault) is = record { more = []; joined = ap (λ (o : Output). o.text) is.0 ∙ sym (append-nil text) }
+
+-- the script ended, and all was written
+begins_behind : (sent text : List ℕ) (output : Output) → BeginsWith text output.text → BeginsWith (sent ++ text) (behind sent output).text
+begins_behind sent text output is = record { more = is.more; joined = ap (λ (t : List ℕ). sent ++ t) is.joined ∙ sym (append_assoc sent text is.more) }
+
+behind_concluded : (sent text : List ℕ) (output : Output) (ended : Ended) → Concludes output text ended → Concludes (behind sent output) (sent ++ text) ended
+behind_concluded sent text output ended.TooLong is = begins_behind sent text output is
+behind_concluded sent text output ended.OutOfMemory is = begins_behind sent text output is
+behind_concluded sent text output ended.Broken is = begins_behind sent text output is
+behind_concluded sent text output ended.Played is = ap (behind sent) is
+behind_concluded sent text output (ended.Faulted fault) is =
+    (ap (behind sent) is.0, (sent ++ is.1.0, ap (λ (t : List ℕ). sent ++ t) is.1.1 ∙ sym (append_assoc sent is.1.0 _)))
+
+-- the reading ends where the step said
+ends_reading : (script : List ℕ) (at : Progress) (read : Option (List ℕ)) (rest bytes : List ℕ) (whole played : List (List ℕ)) (ended : Ended) → EndsStep at ended
+    → script ≡ bytes ++ rest → (at.ended ≡ true → IsAtEnd read) → (at.ended ≡ true → rest ≡ []) → length bytes + at.left ≡ most_read → at.line ≡ length played + 1
+    → length whole ≤ length played → EndsReading script read whole ended
+ends_reading script at read rest bytes whole played ended.Played is all at_end may counted numbered whole_played =
+    (omega (arith, counted, ap length all, ap length (may is), length-append bytes rest), at_end is)
+ends_reading script at read rest bytes whole played (ended.Faulted fault) is all at_end may counted numbered whole_played = omega arith
+ends_reading script at read rest bytes whole played ended.OutOfMemory is all at_end may counted numbered whole_played = tt
+ends_reading script at read rest bytes whole played ended.TooLong is all at_end may counted numbered whole_played = absurd is
+ends_reading script at read rest bytes whole played ended.Broken is all at_end may counted numbered whole_played = absurd is
+
+pub ends_written : (first : Rule) (script : List ℕ) (begun read before written : Option (List ℕ)) (rule : Rule) (at last : Progress) (ended : Ended) → HasEnded rule at last ended
+    → Appends before written last.waiting → Stands first script begun rule at read before → Ends script (first 1) read begun written ended
+ends_written first script begun read before written rule at last ended step drained stands =
+    let h = stands.has_read in
+    let left = rest_of script read (h.front ++ h.chunk) h.consumes in
+    let may = may_come first script begun rule at read before left.0 left.1 stands in
+    record {
+      text = stands.sent ++ last.waiting;
+      writes = Appends-trans begun before written _ _ stands.appends drained;
+      concludes = subst (λ (o : Output). Concludes o (stands.sent ++ last.waiting) ended) (whole_output first script begun rule at read before left.0 stands left.2)
+          (behind_concluded stands.sent last.waiting (to_come rule at (lines_of (at.held ++ left.0))) ended (step.concludes left.0 may));
+      read = same_read (first 1) script read stands.sent last.waiting h;
+      reads = ends_reading script at read left.0 (h.front ++ h.chunk) h.whole stands.played ended step.ends left.2 stands.at_end may stands.counted stands.numbered stands.whole_played;
+    }

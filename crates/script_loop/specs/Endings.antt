@@ -1,0 +1,68 @@
+-- A script played to its end: what is written of its output, and what was read of it, by the ending.
+use Rattle.std.specs.Prelude.{◌≡◌, ℕ, ◌<◌, ◌≤◌, ◌⊎◌, List, [], ◌∷◌, ◌++◌, length, Option, Some, None, ⊤}
+use Rattle.std.specs.Io.KnownBytes.{Appends, Consumes, IsAtEnd}
+use Rattle.script_rules.specs.Script.{lines_of}
+use Rattle.texts.specs.Printed.{Output}
+use Rattle.script_output.specs.Spaced.{BeginsWith}
+use Rattle.script_loop.specs.declared.ended.Ended.{Ended}
+use Rattle.script_loop.specs.declared.ended.Ended.TheVariants.{Played, Faulted, TooLong, OutOfMemory, Broken}
+use Rattle.script_loop.specs.Lines.{told_fault}
+
+-- the exit status of an ending
+abbrev pub status_of : Ended → ℕ
+status_of Played = 0
+status_of (Faulted fault) = 2
+status_of OutOfMemory = 3
+status_of TooLong = 5
+status_of Broken = 5
+
+-- the text that was written is what the ending promises of the output: all of it, with its status, and the line of the fault
+-- at its end; or a beginning
+abbrev pub Concludes : Output → List ℕ → Ended → Type 0
+Concludes output text Played = output ≡ record { text = text; status = 0 }
+Concludes output text (Faulted fault) = (output ≡ record { text = text; status = 2 }) × ((front : List ℕ) × (text ≡ front ++ told_fault fault))
+Concludes output text TooLong = BeginsWith text output.text
+Concludes output text OutOfMemory = BeginsWith text output.text
+Concludes output text Broken = BeginsWith text output.text
+
+-- how many bytes a script may have
+abbrev pub most_read : ℕ
+most_read = 268435456
+
+-- how many bytes are read at once at most
+abbrev pub most_at_once : ℕ
+most_at_once = 65536
+
+-- what was read of the script: the last chunk, and what stands in front of it, whose lines are whole but for the last. More was
+-- read only once that was played and written which the whole ones print.
+pub record HasRead (script : List ℕ) (output : List (List ℕ) → Output) (rest : Option (List ℕ)) (text : List ℕ) : Type 0 where
+  pub front : List ℕ
+  pub chunk : List ℕ
+  pub consumes : Consumes (Some script) rest (front ++ chunk)
+  pub front_fits : length front ≤ most_read
+  pub chunk_fits : length chunk ≤ most_at_once
+  pub whole : List (List ℕ)
+  pub begun : List ℕ
+  pub lines : lines_of front ≡ whole ++ begun ∷ []
+  pub written : BeginsWith (output whole).text text
+
+-- where the reading ends: at the script's end, at the line with the fault, or behind the limit
+abbrev pub EndsReading : (script : List ℕ) → (rest : Option (List ℕ)) → (whole : List (List ℕ)) → Ended → Type 0
+EndsReading script rest whole Played = (length script ≤ most_read) × IsAtEnd rest
+EndsReading script rest whole (Faulted fault) = length whole < fault.line
+EndsReading script rest whole TooLong = most_read < length script
+EndsReading script rest whole other = ⊤
+
+-- a script whose lines have that output is played and written behind what the sink had before: the source's rest is then
+-- `rest`, what the sink has is `written`
+pub record Ends (script : List ℕ) (output : List (List ℕ) → Output) (rest begun written : Option (List ℕ)) (ended : Ended) : Type 0 where
+  pub text : List ℕ
+  pub writes : Appends begun written text
+  pub concludes : Concludes (output (lines_of script)) text ended
+  pub read : HasRead script output rest text
+  pub reads : EndsReading script rest read.whole ended
+
+-- a play breaks only by the last read or write
+abbrev pub IsBrokenBy : (read write : Type 0) → Ended → Type 0
+IsBrokenBy read write Broken = read ⊎ write
+IsBrokenBy read write other = ⊤

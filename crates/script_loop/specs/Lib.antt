@@ -1,0 +1,7 @@
+pub mod Calls
+pub mod Endings
+pub mod Lines
+pub mod Progress
+pub mod Sending
+pub mod Transfers
+pub mod Turns

@@ -1,0 +1,86 @@
+-- How far a script has come, and what steps make of that.
+use Rattle.std.specs.Prelude.{◌≡◌, ℕ, ◌+◌, ◌*◌, ◌<◌, Bool, true, false, if◌then◌else◌, List, [], ◌∷◌, ◌++◌, length, drop, Contains, ⊤}
+use Rattle.texts.specs.Words.{line_feed}
+use Rattle.script_rules.specs.Script.{lines_of}
+use Rattle.script_loop.specs.declared.ended.Ended.{Ended}
+use Rattle.script_loop.specs.declared.ended.Ended.TheVariants as ended
+use Rattle.script_loop.specs.declared.session.Session.{Session}
+use Rattle.script_loop.specs.declared.step.Step.{Step}
+use Rattle.script_loop.specs.declared.step.Step.TheVariants.{Played, Wants, Ends}
+use Rattle.script_loop.specs.Endings.{Concludes, most_read}
+use Rattle.script_loop.specs.Lines.{Rule, behind}
+use Rattle.texts.specs.Printed.{Output}
+
+-- how far a session has come
+pub record Progress : Type 0 where
+  -- the number of the next line
+  pub line : ℕ
+  -- what is printed and waits to be written
+  pub waiting : List ℕ
+  -- what was read and is not played yet
+  pub held : List ℕ
+  -- how many more bytes may be read, and whether there are none
+  pub left : ℕ
+  pub ended : Bool
+
+abbrev pub progress : Session → Progress
+progress session = record {
+  line = session.line;
+  waiting = session.out.items;
+  held = drop session.start session.bytes.items;
+  left = session.left;
+  ended = session.ended;
+}
+
+-- before the first line
+abbrev pub first_progress : Progress
+first_progress = record { line = 1; waiting = []; held = []; left = most_read; ended = false }
+
+-- the output of lines that are still to be played, behind what waits to be written
+abbrev pub to_come : Rule → Progress → List (List ℕ) → Output
+to_come rule at lines = behind at.waiting (rule at.line lines)
+
+-- what may still be read: nothing behind the end
+abbrev pub MayCome : Progress → List ℕ → Type 0
+MayCome at more = at.ended ≡ true → more ≡ []
+
+-- how much may still be done: each byte is read, and played; and once nothing is read
+abbrev pub work : Progress → ℕ
+work at = 2 * at.left + (length at.held + (if at.ended then 0 else 1))
+
+-- a line was played, the first of those to come
+pub record HasPlayed (rule : Rule) (old : Progress) (next : Rule) (new : Progress) : Type 0 where
+  pub same_end : new.ended ≡ old.ended
+  pub same_left : new.left ≡ old.left
+  pub next_line : new.line ≡ old.line + 1
+  pub less : work new < work old
+  pub line : List ℕ
+  pub first : (more : List ℕ) → lines_of (old.held ++ more) ≡ line ∷ lines_of (new.held ++ more)
+  pub plays : (lines : List (List ℕ)) → to_come next new lines ≡ to_come rule old (line ∷ lines)
+
+-- no line can be played before more is read: one was begun
+pub record NeedsMore (rule : Rule) (old : Progress) (next : Rule) (new : Progress) : Type 0 where
+  pub same : new ≡ old
+  pub same_rule : next ≡ rule
+  pub goes_on : old.ended ≡ false
+  pub no_line : ¬ (Contains old.held line_feed)
+  pub begun : List ℕ
+  pub only : lines_of old.held ≡ begun ∷ []
+
+-- how a step may end the script: at its end, at a fault of the line, or when memory runs out
+abbrev pub EndsStep : Progress → Ended → Type 0
+EndsStep old ended.Played = old.ended ≡ true
+EndsStep old (ended.Faulted fault) = fault.line ≡ old.line
+EndsStep old ended.OutOfMemory = ⊤
+EndsStep old other = ⊥
+
+-- the script ends
+pub record HasEnded (rule : Rule) (old new : Progress) (ended : Ended) : Type 0 where
+  pub ends : EndsStep old ended
+  pub concludes : (more : List ℕ) → MayCome old more → Concludes (to_come rule old (lines_of (old.held ++ more))) new.waiting ended
+
+-- what a step did
+abbrev pub Steps : Rule → Progress → Rule → Progress → Step → Type 0
+Steps rule old next new Played = HasPlayed rule old next new
+Steps rule old next new Wants = NeedsMore rule old next new
+Steps rule old next new (Ends ended) = HasEnded rule old new ended

@@ -1,0 +1,29 @@
+-- Turns: how far a play has come, and what a turn makes of it.
+use Rattle.std.specs.Prelude.{◌≡◌, ℕ, ◌+◌, ◌≤◌, true, List, ◌++◌, length, Option, Some, None}
+use Rattle.std.specs.Io.KnownBytes.{Appends, IsAtEnd}
+use Rattle.script_rules.specs.Script.{lines_of}
+use Rattle.script_loop.specs.declared.ended.Ended.{Ended}
+use Rattle.script_loop.specs.Endings.{Ends, HasRead, most_read}
+use Rattle.script_loop.specs.Lines.{Rule, behind}
+use Rattle.script_loop.specs.Progress.{Progress, to_come}
+
+-- what was sent so far, and what is made of lines that are still to be played, are the output of the lines that were played and
+-- of those, from the first on; and the lines of what was read are those that were played and those of what is held
+pub record Stands (first : Rule) (script : List ℕ) (begun : Option (List ℕ)) (rule : Rule) (at : Progress) (read written : Option (List ℕ)) : Type 0 where
+  pub sent : List ℕ
+  pub appends : Appends begun written sent
+  pub has_read : HasRead script (first 1) read sent
+  pub at_end : at.ended ≡ true → IsAtEnd read
+  pub counted : length (has_read.front ++ has_read.chunk) + at.left ≡ most_read
+  pub played : List (List ℕ)
+  pub numbered : at.line ≡ length played + 1
+  pub whole_played : length has_read.whole ≤ length played
+  pub lines : (more : List ℕ) → lines_of ((has_read.front ++ has_read.chunk) ++ more) ≡ played ++ lines_of (at.held ++ more)
+  pub makes : (lines : List (List ℕ)) → behind sent (to_come rule at lines) ≡ first 1 (played ++ lines)
+
+-- a turn: the play goes on, or ends
+abbrev pub Turns : Rule → Progress → (read before : Option (List ℕ)) → Rule → Progress → (rest written : Option (List ℕ)) → Option Ended → Type 0
+Turns rule old read before next new rest written None =
+    (first : Rule) (script : List ℕ) (begun : Option (List ℕ)) → Stands first script begun rule old read before → Stands first script begun next new rest written
+Turns rule old read before next new rest written (Some ended) =
+    (first : Rule) (script : List ℕ) (begun : Option (List ℕ)) → Stands first script begun rule old read before → Ends script (first 1) rest begun written ended

@@ -1,0 +1,43 @@
+//! One turn of a play.
+
+ghost use Rattle.std.specs.Prelude.{◌≡◌, ◌<◌, IfNone, IfSome};
+ghost use Rattle.script_loop.specs.Calls.{ReadFailed, WriteFailed};
+ghost use Rattle.script_loop.specs.Endings.{IsBrokenBy};
+ghost use Rattle.script_loop.specs.Turns.{Turns};
+
+use crate::session::Session;
+use crate::step::Step;
+use crate::{Ended, LinePlayer, Sink, Source};
+
+/// How many bytes wait to be written at most before a write, while lines are there to be played.
+const WRITTEN_AT: usize = 32_768;
+
+impl Session {
+    ghost use Rattle.script_loop.specs.Progress.{progress, work};
+
+    /// One step, and the read or the write that is due then; answers how the play ends, if it does.
+    pub(crate) fn turn<P: LinePlayer, R: Source, W: Sink>(
+        &mut self,
+        player: &mut P,
+        reader: &mut R,
+        writer: &mut W,
+    ) -> Option<Ended>
+        ensures goes { Turns (P.output player.old) (progress self.old) (R.remaining reader.old) (W.contents writer.old)
+            (P.output player.new) (progress self.new) (R.remaining reader.new) (W.contents writer.new) result }
+        ensures less { IfNone result (work (progress self.new) < work (progress self.old)) }
+        ensures cause { IfSome result (IsBrokenBy (ReadFailed R.reads reader.new) (WriteFailed W.writes writer.new)) }
+    {
+        match self.step(player) {
+            Step::Played if self.out.len() < WRITTEN_AT => None,
+            Step::Played => self.drain(writer),
+            Step::Wants => match self.drain(writer) {
+                None => self.fill(reader),
+                Some(ended) => Some(ended),
+            },
+            Step::Ends(ended) => match self.drain(writer) {
+                None => Some(ended),
+                Some(broken) => Some(broken),
+            },
+        }
+    }
+}
