@@ -18,6 +18,7 @@ For more information, try '--help'.
 const FAULT_TOLD: &str = "error: line 2: a command is join SILO PLACE.., see SILO VERSION, wake SILO GRAIN, find SILO GRAIN, settle, owner HASH or show\n";
 
 // What a command line comes to: its exit, what of the script is left, what is printed and what is told.
+#[derive(Drop)]
 struct Course {
     exit: Exit,
     rest: &'static [u8],

@@ -74,7 +74,7 @@ owner 335007437 10.0.0.1:1000@1 2
         ),
         (
             &["g", "play", "--hashing", "stated"],
-            "refused 401
+            "refused 403
 owner 3641977640 none
 owner 3089745447 none
 owner 335007437 none
