@@ -1,7 +1,4 @@
 pub mod Lines
-mod Turns
-mod Steps
-mod Sending
-mod Standings
-mod TurnsTaken
+mod LinesPlayed
 mod Rows
+mod Turns
