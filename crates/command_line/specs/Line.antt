@@ -7,6 +7,7 @@ use Rattle.clap.specs.Simple.{App, subcommand_of}
 use Rattle.clap.specs.Faults.{fault_of}
 use Rattle.clap.specs.Kinds.{IsAmong}
 use Rattle.clap.specs.Values.{kind_of}
+use Rattle.clap.specs.declared.error.kind.ErrorKind.{ErrorKind}
 use Rattle.hash_ring.specs.declared.hashing.Hashing.{Hashing}
 use Rattle.hash_ring.specs.declared.hashing.Hashing.TheVariants.{Sha256, Stated}
 use Rattle.command_line.specs.declared.line.Line.{Line}
@@ -36,11 +37,18 @@ line_in (name, rows) =
 abbrev pub line_of : App → List Text → Option Line
 line_of command words = option_and_then line_in (subcommand_of command words)
 
--- an accepted line is what clap reads from words in which it finds no fault; a refusal has one of the faults that it finds, or
--- memory ran out; the words begin with the program's name
+-- clap reads that line from the words, and finds no fault in them; the words begin with the program's name
+abbrev pub AskFor : List Text → Line → Type 0
+AskFor words line = OfCommand (λ command. (line_of command words ≡ Some line) × (fault_of command words ≡ []))
+
+-- clap finds a fault of that kind in the words; a request for help is one
+abbrev pub HaveFault : List Text → ErrorKind → Type 0
+HaveFault words kind = OfCommand (λ command. IsAmong kind (fault_of command words))
+
+-- an accepted line is what the words ask for; a refusal has one of their faults, or memory ran out
 abbrev pub Reads : List Text → Result Line LineError → Type 0
-Reads words (Ok line) = OfCommand (λ command. (line_of command words ≡ Some line) × (fault_of command words ≡ []))
-Reads words (Err (error.Usage e)) = OfCommand (λ command. IsAmong (kind_of e) (fault_of command words))
+Reads words (Ok line) = AskFor words line
+Reads words (Err (error.Usage e)) = HaveFault words (kind_of e)
 Reads words (Err error.OutOfMemory) = ⊤
 
 -- the points of the line are as many as a silo may have

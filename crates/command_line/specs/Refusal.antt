@@ -11,7 +11,7 @@ abbrev pub IsHelp : LineError → Type 0
 IsHelp (error.Usage e) = kind_of e ≡ DisplayHelp
 IsHelp error.OutOfMemory = ⊥
 
--- the refusal is clap's error, unless that is want of memory
+-- the refusal is clap's error, unless that says that memory ran out
 abbrev pub Refuses : Error → LineError → Type 0
 Refuses e (error.Usage told) = (told ≡ e) × (kind_of e ≢ OutOfMemory)
 Refuses e error.OutOfMemory = kind_of e ≡ OutOfMemory

@@ -4,7 +4,6 @@ ghost use Rattle.command_line.specs.declared.error.LineError.TheVariants.{OutOfM
 
 use clap::error::ErrorKind;
 use std::alloc::AllocError;
-use std::io;
 use thiserror::Error;
 
 /// Why a command line is not carried out.
@@ -13,7 +12,7 @@ pub enum LineError {
     /// The words ask for help, or are not a line of the program; the text is for the user.
     #[error("{0}")]
     Usage(clap::Error),
-    /// There was no memory for the reading.
+    /// Memory ran out.
     #[error("out of memory")]
     OutOfMemory,
 }
@@ -26,14 +25,6 @@ impl LineError {
         match self {
             LineError::Usage(error) => matches!(error.kind(), ErrorKind::DisplayHelp),
             LineError::OutOfMemory => false,
-        }
-    }
-
-    /// Prints the help to standard output, and what tells of a mistake or of want of memory to standard error.
-    pub fn print<R: Print + Eprint>(&self, rt: &R) -> io::Result<()> {
-        match self {
-            LineError::Usage(error) => error.print(rt),
-            LineError::OutOfMemory => rt.eprint("error: out of memory\n"),
         }
     }
 }

@@ -1,6 +1,6 @@
-ghost use Rattle.std.specs.Prelude.{◌≡◌, IfOk, option_and_then};
+ghost use Rattle.std.specs.Prelude.{◌≡◌, IfOk, map, option_and_then};
 ghost use Rattle.clap.specs.Matches.{found_of};
-ghost use Rattle.clap.specs.Walk.{rows_of, texts};
+ghost use Rattle.clap.specs.Walk.{rows_of};
 ghost use Rattle.clap.specs.Simple.{subcommand_rows_of};
 ghost use Rattle.command_line.specs.Line.{HasPoints, Reads, hashing_named, hashing_of, line_in, points_of};
 ghost use Rattle.command_line.specs.Refusal.{Refuses};
@@ -11,6 +11,7 @@ use clap::ArgMatches;
 use clap::error::ErrorKind;
 use hash_ring::Hashing;
 use std::alloc::Global;
+use std::convert::AsStr;
 
 /// What an accepted command line asks for.
 #[derive(Clone, Copy, Debug, PartialEq, Eq)]
@@ -26,9 +27,9 @@ pub enum Line {
 
 /// Reads a command line: its words as the system gives them, the program's name first.
 ///
-/// The error is what clap says of the words, be it a mistake or the help that they ask for, or want of memory.
-pub fn read_line<'a>(alloc: Global, words: &'a [&'a str]) -> Result<Line, LineError>
-    ensures reads { Reads (texts words.entry.now) result }
+/// The error is what clap says of the words, be it a mistake or the help that they ask for, or that memory ran out.
+pub fn read_line<S: AsStr>(alloc: Global, words: &[S]) -> Result<Line, LineError>
+    ensures reads { Reads (map S.text words.entry.now) result }
     ensures points { IfOk result HasPoints }
 {
     let command = grain_directory(alloc)?;
@@ -41,7 +42,7 @@ pub fn read_line<'a>(alloc: Global, words: &'a [&'a str]) -> Result<Line, LineEr
     }
 }
 
-// Want of memory is told apart from the words' faults.
+// That memory ran out is told apart from the words' faults.
 fn refusal(error: clap::Error) -> LineError
     ensures { Refuses error result }
 {

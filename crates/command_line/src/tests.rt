@@ -149,16 +149,3 @@ For more information, try '--help'.
     assert!(rt; text.as_str() == wanted, "{text}");
     Ok(())
 }
-
-#[test]
-fn refusals_are_printed(rt: HostRuntime) -> Result<(), Fail> {
-    let rows: [&'static [&'static str]; 2] = [&["g", "--help"], &["g", "play", "--points", "0"]];
-    for words in rows {
-        match read_line(rt.alloc(), words) {
-            Ok(_) => return Err(Fail::new("the line was accepted")),
-            Err(refusal) => refusal.print(&rt)?,
-        }
-    }
-    LineError::OutOfMemory.print(&rt)?;
-    Ok(())
-}

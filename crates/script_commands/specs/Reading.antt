@@ -1,4 +1,4 @@
--- How what the code read stands to what the rule reads.
+-- How what the code read is what the rule reads.
 use Rattle.std.specs.Prelude.{◌≡◌, ℕ, ⊤, Option, Some, Result, Ok, Err, IsOk}
 use Rattle.directory_rules.specs.Event as event
 use Rattle.script_rules.specs.Script as script
@@ -12,7 +12,7 @@ abbrev pub told : {A B : Type 0} → (A → B) → Result A ScriptFault → Resu
 told view (Ok value) = Ok (view value)
 told view (Err fault) = Err (script_fault_number fault)
 
--- a fault is the rule's, by its number; memory is wanting only where the rule finds no fault
+-- a fault is the rule's, by its number; memory runs out only where the rule finds no fault
 abbrev pub Fails : {B : Type 0} → ReadError → Result B ℕ → Type 0
 Fails (Fault fault) rule = rule ≡ Err (script_fault_number fault)
 Fails OutOfMemory rule = IsOk rule

@@ -58,7 +58,7 @@ pub enum ReadError {
     /// The line has a fault.
     #[error("{0}")]
     Fault(ScriptFault),
-    /// There was no memory for the places of a join.
+    /// Memory ran out for the places of a join.
     #[error("out of memory")]
     OutOfMemory,
 }

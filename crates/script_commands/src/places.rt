@@ -26,7 +26,7 @@ pub(crate) fn places_in(alloc: Global, words: &[u8]) -> Result<Vec<u32>, ReadErr
     Ok(places)
 }
 
-/// The first fault of the places, else that there was no memory for them.
+/// The first fault of the places, else that memory ran out.
 fn without_memory(words: &[u8]) -> ReadError
     ensures { Fails result (script.places_in (words_in words.now)) }
 {

@@ -14,7 +14,7 @@ use std::alloc::Global;
 const LONGEST_LINE: usize = 8192;
 
 /// Reads a line, given without its end: a command, nothing, or the first fault of the line. Memory is taken for the places
-/// of a join alone, and wanting only where the line has no fault. (`docs/RULES.md#scripts`)
+/// of a join alone, and that it runs out is told only where the line has no fault. (`docs/RULES.md#scripts`)
 #[tactic(auto, unfolding(script_rules::specs::Script::read_line))]
 pub fn read_command(alloc: Global, line: &[u8]) -> Result<Option<Command>, ReadError>
     ensures reads { Reads (option_map command_of) result (script.read_line known_commands line.now) }

@@ -27,9 +27,9 @@ fn leading_spaces(line: &[u8]) -> usize
     ensures before { (k : ℕ) → k < result → slice_index line.now k ≡ space }
     ensures stops { result < length line.now → slice_index line.now result ≢ space }
 {
-    for (place, byte) in line.iter().enumerate() {
+    for (position, byte) in line.iter().enumerate() {
         if *byte != b' ' {
-            return place;
+            return position;
         }
     }
     line.len()

@@ -1,4 +1,4 @@
--- Lines of `show` and `owner`, by what stands in them.
+-- Lines of `show` and `owner`, by what they tell.
 use Rattle.std.specs.Prelude.{ℕ, List, [], ◌∷◌, codes, Option, Some, None, length, if◌then◌else◌}
 use Rattle.std.specs.Fmt.{decimal}
 use Rattle.silo_address.specs.Silo.{Silo}
@@ -17,18 +17,18 @@ use Rattle.directory_rules.specs.Sight.{entries_within}
 abbrev pub line_of_version : (version : ℕ) → List ℕ
 line_of_version version = sentence (codes "version" ∷ decimal version ∷ [])
 
--- the version that a silo has seen, and how many activations it holds
-abbrev pub seen_of : Node → ℕ × ℕ
-seen_of node = (node.view.version, length node.host.held)
+-- a silo's figures: the version that it has seen, and how many activations it holds
+abbrev pub figures_of : Node → ℕ × ℕ
+figures_of node = (node.view.version, length node.host.held)
 
--- these two in words; a Dead silo has none
-abbrev pub seen_words : Option (ℕ × ℕ) → List (List ℕ)
-seen_words None = []
-seen_words (Some seen) = codes "seen" ∷ decimal seen.0 ∷ codes "held" ∷ decimal seen.1 ∷ []
+-- the figures in words; a Dead silo has none
+abbrev pub words_of_figures : Option (ℕ × ℕ) → List (List ℕ)
+words_of_figures None = []
+words_of_figures (Some figures) = codes "seen" ∷ decimal figures.0 ∷ codes "held" ∷ decimal figures.1 ∷ []
 
 -- a silo's own line
 abbrev pub line_of_silo : Silo → Status → Option (ℕ × ℕ) → List ℕ
-line_of_silo silo status seen = sentence (codes "silo" ∷ silo_text silo ∷ status_word status ∷ seen_words seen)
+line_of_silo silo status figures = sentence (codes "silo" ∷ silo_text silo ∷ status_word status ∷ words_of_figures figures)
 
 -- how many entries a range has at its owner, where it is settled there
 abbrev pub settled_entries : World → Option Node → Range → Option ℕ

@@ -23,7 +23,7 @@ use directory_rules::{Effect, LetterKind};
 use silo_address::{Entry, SiloAddress};
 use std::alloc::AllocError;
 
-/// Writes the line of an accepted event (`docs/RULES.md#what-a-script-prints`). Fails only for want of memory.
+/// Writes the line of an accepted event (`docs/RULES.md#what-a-script-prints`). Fails only when memory runs out.
 #[tactic(auto, using(crate::proofs::SomeWords::happening_has_words), unfolding(script_rules::specs::Lines::outcome_line))]
 pub fn write_outcome(out: &mut Vec<u8>, outcome: &Outcome) -> Result<(), AllocError>
     ensures written { OnOk result (out.new.items ≡ out.old.items ++ printed (outcome_line (outcome_of outcome.now))) }
@@ -34,7 +34,7 @@ pub fn write_outcome(out: &mut Vec<u8>, outcome: &Outcome) -> Result<(), AllocEr
     end_line(out, start, written)
 }
 
-/// Writes the line of a refused event or question, by the number of its refusal. Fails only for want of memory.
+/// Writes the line of a refused event or question, by the number of its refusal. Fails only when memory runs out.
 pub fn write_refusal(out: &mut Vec<u8>, number: u16) -> Result<(), AllocError>
     ensures written { OnOk result (out.new.items ≡ out.old.items ++ printed (refusal_line number)) }
     ensures unchanged { OnErr result (out.new.items ≡ out.old.items) }
@@ -45,7 +45,7 @@ pub fn write_refusal(out: &mut Vec<u8>, number: u16) -> Result<(), AllocError>
 }
 
 /// Writes the line with which a fault ends a script: the number of the script's line, from 1, and that of the fault. Fails
-/// only for want of memory.
+/// only when memory runs out.
 pub fn write_fault(out: &mut Vec<u8>, line: u64, fault: u16) -> Result<(), AllocError>
     ensures written { OnOk result (out.new.items ≡ out.old.items ++ printed (fault_line line fault)) }
     ensures unchanged { OnErr result (out.new.items ≡ out.old.items) }
@@ -234,7 +234,7 @@ fn push_subject(out: &mut Vec<u8>, silo: &SiloAddress, effect: &Effect) -> Resul
     }
 }
 
-/// An activation, its grain, and the silo to which its place is offered.
+/// An activation, its grain, and the silo to which it is offered.
 fn push_offered(out: &mut Vec<u8>, entry: &Entry, to: &SiloAddress) -> Result<(), AllocError>
     ensures written { OnOk result (out.new.items ≡ out.old.items ++ spaced (entry_words entry.now ++ codes "to" ∷ silo_text to.now ∷ [])) }
     ensures kept { BeginsWith out.old.items out.new.items }

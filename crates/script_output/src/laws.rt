@@ -3,7 +3,7 @@
 ghost use Rattle.std.specs.Prelude.{◌≡◌, ◌∷◌, ℕ, Option};
 ghost use Rattle.std.specs.Option.{option_map};
 ghost use Rattle.silo_address.specs.Silo.{Silo};
-ghost use Rattle.membership_view.specs.declared.status.Status.{Status as StatusSeen};
+ghost use Rattle.membership_view.specs.declared.status.Status.{Status};
 ghost use Rattle.ring_range.specs.Range.{Range};
 ghost use Rattle.hash_ring.specs.Owner.{owner_of};
 ghost use Rattle.directory_rules.specs.Happens.{node_of};
@@ -11,15 +11,15 @@ ghost use Rattle.directory_rules.specs.Node.{Node};
 ghost use Rattle.directory_rules.specs.World.{World};
 ghost use Rattle.script_rules.specs.Show.{held_lines, owner_line, range_line, silo_lines, version_line};
 ghost use Rattle.directory_rules.specs.World.{current_ring};
-ghost use Rattle.script_output.specs.Shown.{line_of_owner, line_of_range, line_of_silo, line_of_version, settled_entries, seen_of};
+ghost use Rattle.script_output.specs.Shown.{line_of_owner, line_of_range, line_of_silo, line_of_version, figures_of, settled_entries};
 
-/// The lines of `show` and `owner` are the rule's, by what they tell of the world: its current version, the seen of a
+/// The lines of `show` and `owner` are the rule's, by what they tell of the world: its current version, the figures of a
 /// silo's node, the entries of a range that is settled at its owner, and the point that owns a hash in the current ring.
 #[tactic(auto, unfolding(script_rules::specs::Show::owner_line))]
 pub fn lines_are_of_the_world()
     ensures version { (world : World) → version_line world ≡ line_of_version world.views.version }
-    ensures silo { (silo : Silo) (status : StatusSeen) (node : Option Node)
-        → silo_lines silo status node ≡ line_of_silo silo status (option_map seen_of node) ∷ held_lines silo node }
+    ensures silo { (silo : Silo) (status : Status) (node : Option Node)
+        → silo_lines silo status node ≡ line_of_silo silo status (option_map figures_of node) ∷ held_lines silo node }
     ensures range { (world : World) (range : Range) (owner : Silo)
         → range_line world range owner ≡ line_of_range range owner (settled_entries world (node_of world owner) range) }
     ensures owner { (world : World) (hash : ℕ) → owner_line world hash ≡ line_of_owner hash (owner_of (current_ring world) hash) }

@@ -1,7 +1,7 @@
 //! The lines that a script prints, each written behind what stands in a byte buffer. The rules are in
 //! `docs/RULES.md#what-a-script-prints`.
 //!
-//! Each call writes one line with its line feed, or leaves the bytes as they were where memory lacks.
+//! Each call writes one line with its line feed, or leaves the bytes as they were when memory runs out.
 #![tactic(auto)]
 
 mod event_lines;

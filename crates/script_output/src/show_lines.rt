@@ -10,7 +10,7 @@ ghost use Rattle.silo_address.specs.ActivationText.{activation_text};
 ghost use Rattle.ring_range.specs.Text.{range_text};
 ghost use Rattle.script_rules.specs.Show.{held_line, owner_words, phase_word, status_word};
 ghost use Rattle.script_output.specs.Printed.{printed};
-ghost use Rattle.script_output.specs.Shown.{line_of_owner, line_of_range, line_of_silo, seen_words, words_of_state, line_of_version};
+ghost use Rattle.script_output.specs.Shown.{line_of_owner, line_of_range, line_of_silo, line_of_version, words_of_figures, words_of_state};
 ghost use Rattle.script_output.specs.Spaced.{spaced, BeginsWith};
 
 use crate::line::end_line;
@@ -25,7 +25,7 @@ use ring_range::RingRange;
 use silo_address::{ActivationId, GrainId, SiloAddress};
 use std::alloc::AllocError;
 
-/// Writes `show`'s first line: the current version. Fails only for want of memory.
+/// Writes `show`'s first line: the current version. Fails only when memory runs out.
 pub fn write_version(out: &mut Vec<u8>, version: u64) -> Result<(), AllocError>
     ensures written { OnOk result (out.new.items ≡ out.old.items ++ printed (line_of_version version)) }
     ensures unchanged { OnErr result (out.new.items ≡ out.old.items) }
@@ -36,18 +36,18 @@ pub fn write_version(out: &mut Vec<u8>, version: u64) -> Result<(), AllocError>
 }
 
 /// Writes a silo's line: its status, and where it isn't Dead the version that it has seen and the number of activations that
-/// it holds. Fails only for want of memory.
+/// it holds. Fails only when memory runs out.
 pub fn write_silo(
     out: &mut Vec<u8>,
     silo: &SiloAddress,
     status: Status,
-    seen: Option<(u64, usize)>,
+    figures: Option<(u64, usize)>,
 ) -> Result<(), AllocError>
-    ensures written { OnOk result (out.new.items ≡ out.old.items ++ printed (line_of_silo silo.now status seen)) }
+    ensures written { OnOk result (out.new.items ≡ out.old.items ++ printed (line_of_silo silo.now status figures)) }
     ensures unchanged { OnErr result (out.new.items ≡ out.old.items) }
 {
     let start = out.len();
-    let written = push_silo_words(out, silo, status, seen);
+    let written = push_silo_words(out, silo, status, figures);
     end_line(out, start, written)
 }
 
@@ -55,23 +55,23 @@ fn push_silo_words(
     out: &mut Vec<u8>,
     silo: &SiloAddress,
     status: Status,
-    seen: Option<(u64, usize)>,
+    figures: Option<(u64, usize)>,
 ) -> Result<(), AllocError>
-    ensures written { OnOk result (out.new.items ≡ out.old.items ++ spaced (codes "silo" ∷ silo_text silo.now ∷ status_word status ∷ seen_words seen)) }
+    ensures written { OnOk result (out.new.items ≡ out.old.items ++ spaced (codes "silo" ∷ silo_text silo.now ∷ status_word status ∷ words_of_figures figures)) }
     ensures kept { BeginsWith out.old.items out.new.items }
 {
     push_word(out, b"silo")?;
     push_silo(out, silo)?;
     push_word(out, status_word(status))?;
-    push_seen(out, seen)?;
+    push_figures(out, figures)?;
     Ok(())
 }
 
-fn push_seen(out: &mut Vec<u8>, seen: Option<(u64, usize)>) -> Result<(), AllocError>
-    ensures written { OnOk result (out.new.items ≡ out.old.items ++ spaced (seen_words seen)) }
+fn push_figures(out: &mut Vec<u8>, figures: Option<(u64, usize)>) -> Result<(), AllocError>
+    ensures written { OnOk result (out.new.items ≡ out.old.items ++ spaced (words_of_figures figures)) }
     ensures kept { BeginsWith out.old.items out.new.items }
 {
-    let Some((seen, held)) = seen else {
+    let Some((seen, held)) = figures else {
         return Ok(());
     };
     push_named(out, b"seen", seen)?;
@@ -79,7 +79,7 @@ fn push_seen(out: &mut Vec<u8>, seen: Option<(u64, usize)>) -> Result<(), AllocE
     Ok(())
 }
 
-/// Writes the line of an activation that the silo holds for the grain. Fails only for want of memory.
+/// Writes the line of an activation that the silo holds for the grain. Fails only when memory runs out.
 pub fn write_held(
     out: &mut Vec<u8>,
     silo: &SiloAddress,
@@ -116,7 +116,7 @@ fn push_held(
 }
 
 /// Writes the line of a range of the current ring and of the silo that owns it: how many entries it has, where it is settled
-/// there, and `None` where it isn't. Fails only for want of memory.
+/// there, and `None` where it isn't. Fails only when memory runs out.
 pub fn write_range(
     out: &mut Vec<u8>,
     range: &RingRange,
@@ -159,7 +159,7 @@ fn push_state(out: &mut Vec<u8>, entries: Option<usize>) -> Result<(), AllocErro
     Ok(())
 }
 
-/// Writes the line of a ring with no point. Fails only for want of memory.
+/// Writes the line of a ring with no point. Fails only when memory runs out.
 pub fn write_no_owner(out: &mut Vec<u8>) -> Result<(), AllocError>
     ensures written { OnOk result (out.new.items ≡ out.old.items ++ printed (codes "no owner")) }
     ensures unchanged { OnErr result (out.new.items ≡ out.old.items) }
@@ -167,8 +167,8 @@ pub fn write_no_owner(out: &mut Vec<u8>) -> Result<(), AllocError>
     out.extend_from_slice(b"no owner\n")
 }
 
-/// Writes the line that tells the owner of a hash: its silo and the index of its point, or that there is none. Fails only for
-/// want of memory.
+/// Writes the line that tells the owner of a hash: its silo and the index of its point, or that there is none. Fails only when
+/// memory runs out.
 pub fn write_owner(out: &mut Vec<u8>, hash: u32, owner: Option<Point>) -> Result<(), AllocError>
     ensures written { OnOk result (out.new.items ≡ out.old.items ++ printed (line_of_owner hash owner)) }
     ensures unchanged { OnErr result (out.new.items ≡ out.old.items) }

@@ -1,5 +1,4 @@
-use Rattle.std.proofs.Common.{ap, option_and_then, subst, sym, ◌∙◌}
-use Rattle.clap.specs.Walk.{texts}
+use Rattle.std.proofs.Common.{ap, map, option_and_then, subst, sym, ◌∙◌}
 use Rattle.clap.specs.Simple.{App, is_simple, subcommand_of}
 use Rattle.clap.specs.Faults.{fault_of, is_simple_and_free}
 use Rattle.clap.specs.Kinds.{HasKind}
@@ -10,8 +9,8 @@ use Rattle.command_line.proofs.Refused.{refused}
 use Rattle.command_line.proofs.line.read_line.Goals as goal
 
 pub unreachable-requires : goal.unreachable-requires
-unreachable-requires c =
-    let words = texts c.args.words.now in
+unreachable-requires g c =
+    let words = map g.S.AsStr.text c.args.words.now in
     let command = c.in_ok-command.ensures in
     let rows = (c.in-Ok.ensures.matches (ap is_simple command.2)).1 in
     let faults = ap (λ (a : App). fault_of a words) (sym command.2) ∙ c.in-Ok.ensures.kinds (ap is_simple_and_free command.2) in
@@ -19,8 +18,8 @@ unreachable-requires c =
     never_none (line_of (app command.0) words) read (accepted command.0 words faults)
 
 pub returns-in-Some-clause-reads : goal.returns-in-Some-clause-reads
-returns-in-Some-clause-reads c =
-    let words = texts c.args.words.now in
+returns-in-Some-clause-reads g c =
+    let words = map g.S.AsStr.text c.args.words.now in
     let command = c.in_ok-command.ensures in
     let rows = (c.in-Ok.ensures.matches (ap is_simple command.2)).1 in
     let faults = c.in-Ok.ensures.kinds (ap is_simple_and_free command.2) in (
@@ -33,14 +32,14 @@ returns-in-Some-clause-reads c =
     )
 
 pub returns-in-Some-clause-points : goal.returns-in-Some-clause-points
-returns-in-Some-clause-points c =
-    let read = returns-in-Some-clause-reads c in
-    let words = texts c.args.words.now in
+returns-in-Some-clause-points g c =
+    let read = returns-in-Some-clause-reads g c in
+    let words = map g.S.AsStr.text c.args.words.now in
     points_of_line (line_of (app read.0) words) c.in-Some.line read.2.0 (accepted read.0 words read.2.1)
 
 pub returns-in-Err-clause-reads : goal.returns-in-Err-clause-reads
-returns-in-Err-clause-reads c =
-    let words = texts c.args.words.now in
+returns-in-Err-clause-reads g c =
+    let words = map g.S.AsStr.text c.args.words.now in
     let command = c.in_ok-command.ensures in
     let kinds = c.in-Err.ensures.kinds (ap is_simple_and_free command.2) in
     refused words command.0 command.1 c.in-Err.error c.refusal.result

@@ -1,0 +1,2 @@
+mod Explained
+mod Told

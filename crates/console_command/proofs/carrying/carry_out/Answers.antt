@@ -1,0 +1,6 @@
+use Rattle.std.proofs.Common.{map}
+use Rattle.console_command.proofs.carrying.carry_out.Goals as goal
+
+pub returns-in-Err-clause-does : goal.returns-in-Err-clause-does
+returns-in-Err-clause-does g c =
+    c.explain.ensures.does (map g.S.AsStr.text c.args.words.now) c.in-Err.ensures.reads (g.R.Source.remaining c.args.source.now)

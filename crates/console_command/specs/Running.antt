@@ -1,0 +1,39 @@
+-- What the program does with the words of its command line.
+use Rattle.std.specs.Prelude.{◌≡◌, ◌≢◌, ℕ, false, List, Option, IfSome}
+use Rattle.std.specs.Io.KnownBytes.{Appends}
+use Rattle.clap.specs.Walk.{Text}
+use Rattle.clap.specs.declared.error.kind.ErrorKind.{ErrorKind}
+use Rattle.clap.specs.declared.error.kind.ErrorKind.TheVariants.{DisplayHelp}
+use Rattle.directory_rules.specs.Settings.{directory_settings}
+use Rattle.directory_rules.specs.World.{first_world}
+use Rattle.script_loop.specs.Endings.{Ends}
+use Rattle.script_loop.specs.declared.ended.Ended.{Ended}
+use Rattle.console_play.specs.Playing.{lines_played}
+use Rattle.command_line.specs.Line.{AskFor, HaveFault}
+use Rattle.command_line.specs.declared.line.Line.{Line}
+use Rattle.command_line.specs.declared.line.Line.TheVariants.{Play}
+use Rattle.console_command.specs.declared.exit.Exit.{Exit}
+use Rattle.console_command.specs.declared.exit.Exit.TheVariants.{Played, Helped, HelpBroken, Refused, OutOfMemory}
+
+-- what the source has left, and what the sink of the output has
+pub record Streams : Type 0 where
+  pub rest : Option (List ℕ)
+  pub output : Option (List ℕ)
+
+-- the source's script is played to one silo, with the hashing and the points of the line
+abbrev pub Plays : Line → (old new : Streams) → Ended → Type 0
+Plays (Play hashing points) old new ended = IfSome old.rest (λ script.
+    Ends script (lines_played (first_world (record (directory_settings hashing points 0) { silos = 1 })) 1)
+    new.rest old.output new.output ended)
+
+-- nothing is read, and something is written to the output
+abbrev pub Prints : (old new : Streams) → Type 0
+Prints old new = (new.rest ≡ old.rest) × ((text : List ℕ) × Appends old.output new.output text)
+
+-- what the words ask for is done; where they are a mistake, or memory runs out, nothing is read and nothing written to the output
+abbrev pub Does : (words : List Text) → (old new : Streams) → Exit → Type 0
+Does words old new (Played ended) = (line : Line) × AskFor words line × Plays line old new ended
+Does words old new Helped = HaveFault words DisplayHelp × Prints old new
+Does words old new HelpBroken = HaveFault words DisplayHelp × Prints old new
+Does words old new Refused = (kind : ErrorKind) × HaveFault words kind × (kind ≢ DisplayHelp) × (new ≡ old)
+Does words old new OutOfMemory = new ≡ old

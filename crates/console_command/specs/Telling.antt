@@ -1,0 +1,53 @@
+-- What the program tells on standard error.
+use Rattle.std.specs.Prelude.{◌≡◌, ◌⊎◌, ◌++◌, ℕ, List, [], Option, codes, ⊤}
+use Rattle.std.specs.Fmt.{decimal}
+use Rattle.std.specs.Io.KnownBytes.{Appends}
+use Rattle.std.specs.declared.io.ErrorKind.{ErrorKind}
+use Rattle.std.specs.declared.io.ErrorKind.TheVariants as kind
+use Rattle.script_output.specs.Printed.{printed}
+use Rattle.script_loop.specs.Sending.{WritesFront}
+use Rattle.script_loop.specs.declared.ended.Ended.{Ended}
+use Rattle.script_loop.specs.declared.ended.Ended.TheVariants as ended
+use Rattle.script_loop.specs.declared.ended.LineFault.{LineFault}
+use Rattle.console_command.specs.declared.exit.Exit.{Exit}
+use Rattle.console_command.specs.declared.exit.Exit.TheVariants.{Played, Refused, OutOfMemory}
+
+-- memory ran out
+abbrev pub out_of_memory : List ℕ
+out_of_memory = printed (codes "error: out of memory")
+
+-- the line of that number has a fault, in these words
+abbrev pub fault_text : (line : ℕ) → (words : List ℕ) → List ℕ
+fault_text line words = codes "error: line " ++ (decimal line ++ (codes ": " ++ printed words))
+
+-- a fault is told, in some words; or there was no memory for them
+abbrev pub TellsFault : LineFault → (text : List ℕ) → Type 0
+TellsFault fault text = ((words : List ℕ) × (text ≡ fault_text fault.line words)) ⊎ (text ≡ out_of_memory)
+
+-- what a play's end tells: nothing where all was played
+abbrev pub TellsEnd : Ended → (text : List ℕ) → Type 0
+TellsEnd ended.Played text = text ≡ []
+TellsEnd (ended.Faulted fault) text = TellsFault fault text
+TellsEnd ended.TooLong text = text ≡ printed (codes "error: the script has more than 268435456 bytes")
+TellsEnd ended.OutOfMemory text = text ≡ out_of_memory
+TellsEnd ended.Broken text = text ≡ printed (codes "error: a read or a write failed")
+
+-- what the program's end tells: of a mistake clap's words, of help nothing
+abbrev pub Tells : Exit → (text : List ℕ) → Type 0
+Tells (Played ended) text = TellsEnd ended text
+Tells Refused text = ⊤
+Tells OutOfMemory text = text ≡ out_of_memory
+Tells other text = text ≡ []
+
+-- a text is written; or a beginning of it, since the last write failed
+abbrev pub Writes : (failed : Type 0) → List ℕ → (begun written : Option (List ℕ)) → Type 0
+Writes failed text begun written = Appends begun written text ⊎ (WritesFront text begun written × failed)
+
+-- that is told
+abbrev pub IsTold : (failed : Type 0) → Exit → (begun written : Option (List ℕ)) → Type 0
+IsTold failed exit begun written = (text : List ℕ) × Tells exit text × Writes failed text begun written
+
+-- what is told where the words of the command line can't be had
+abbrev pub told_without_words : ErrorKind → List ℕ
+told_without_words kind.OutOfMemory = out_of_memory
+told_without_words _ = printed (codes "error: a word of the command line is not UTF-8")

@@ -1,0 +1,112 @@
+//! From the words of the command line to the exit.
+
+ghost use Rattle.std.specs.Prelude.{◌≡◌, List, [], ℕ, Option, Err, map};
+ghost use Rattle.clap.specs.Walk.{Text};
+ghost use Rattle.clap.specs.declared.error.kind.ErrorKind.TheVariants.{DisplayHelp};
+ghost use Rattle.command_line.specs.Line.{HasPoints, HaveFault, Reads};
+ghost use Rattle.script_loop.specs.Calls.{ReadFailed, WriteFailed};
+ghost use Rattle.script_loop.specs.Endings as play;
+ghost use Rattle.console_command.specs.Exits.{IsBrokenBy, exit_without_words};
+ghost use Rattle.console_command.specs.Running.{Does, Plays};
+ghost use Rattle.console_command.specs.Telling.{IsTold, Tells, Writes, told_without_words};
+
+use crate::Exit;
+use crate::telling::{tell, tell_end, tell_no_memory};
+use command_line::{Line, LineError, read_line};
+use console_play::play_to_one_silo;
+use script_loop::{Ended, Sink, Source, send};
+use std::alloc::Global;
+use std::convert::AsStr;
+use std::io::ErrorKind;
+
+/// Does what the words of a command line ask for, the program's name first: plays the script that comes from the source, or
+/// prints help. What is wrong with the words, and what ends the script too early, is told to the sink of errors.
+pub fn carry_out<S: AsStr, R: Source, W: Sink, E: Sink>(
+    alloc: Global,
+    words: &[S],
+    source: &mut R,
+    output: &mut W,
+    errors: &mut E,
+) -> Exit
+    ensures does { Does (map S.text words.now)
+        (record { rest = R.remaining source.old; output = W.contents output.old })
+        (record { rest = R.remaining source.new; output = W.contents output.new }) result }
+    ensures cause { IsBrokenBy (ReadFailed R.reads source.new) (WriteFailed W.writes output.new) result }
+    ensures told { IsTold (WriteFailed E.writes errors.new) result (E.contents errors.old) (E.contents errors.new) }
+{
+    match read_line(alloc, words) {
+        Ok(line) => {
+            let ended = play(alloc, line, source, output);
+            tell_end(alloc, ended, errors);
+            Exit::Played(ended)
+        }
+        Err(error) => explain(alloc, &error, output, errors),
+    }
+}
+
+fn play<R: Source, W: Sink>(alloc: Global, line: Line, source: &mut R, output: &mut W) -> Ended
+    requires { HasPoints line }
+    ensures plays { Plays line
+        (record { rest = R.remaining source.old; output = W.contents output.old })
+        (record { rest = R.remaining source.new; output = W.contents output.new }) result }
+    ensures cause { play.IsBrokenBy (ReadFailed R.reads source.new) (WriteFailed W.writes output.new) result }
+{
+    let Line::Play { hashing, points } = line;
+    match play_to_one_silo(alloc, hashing, points, source, output) {
+        Some(ended) => ended,
+        None => unreachable!(),
+    }
+}
+
+// Prints the help that the words ask for, or tells what is wrong with them.
+fn explain<W: Sink, E: Sink>(
+    alloc: Global,
+    error: &LineError,
+    output: &mut W,
+    errors: &mut E,
+) -> Exit
+    ensures does { (words : List Text) → Reads words (Err error.now) → (rest : Option (List ℕ)) → Does words
+        (record { rest = rest; output = W.contents output.old })
+        (record { rest = rest; output = W.contents output.new }) result }
+    ensures cause { IsBrokenBy ⊥ (WriteFailed W.writes output.new) result }
+    ensures told { IsTold (WriteFailed E.writes errors.new) result (E.contents errors.old) (E.contents errors.new) }
+{
+    if let LineError::OutOfMemory = error {
+        return tell_no_memory(errors);
+    }
+    let Ok(text) = error.to_string(alloc) else {
+        return tell_no_memory(errors);
+    };
+    if error.is_help() {
+        return help(text.as_str(), output);
+    }
+    tell(errors, text.as_bytes());
+    Exit::Refused
+}
+
+// Prints help.
+fn help<W: Sink>(text: &str, output: &mut W) -> Exit
+    ensures does { (words : List Text) → HaveFault words DisplayHelp → (rest : Option (List ℕ)) → Does words
+        (record { rest = rest; output = W.contents output.old })
+        (record { rest = rest; output = W.contents output.new }) result }
+    ensures cause { IsBrokenBy ⊥ (WriteFailed W.writes output.new) result }
+    ensures silent { Tells result [] }
+{
+    if send(output, text.as_bytes()) {
+        Exit::Helped
+    } else {
+        Exit::HelpBroken
+    }
+}
+
+/// Tells that the words of the command line can't be had: memory ran out, or one of them isn't text.
+pub fn carry_out_nothing<E: Sink>(kind: ErrorKind, errors: &mut E) -> Exit
+    ensures exit { result ≡ exit_without_words kind }
+    ensures told { Writes (WriteFailed E.writes errors.new) (told_without_words kind) (E.contents errors.old) (E.contents errors.new) }
+{
+    if let ErrorKind::OutOfMemory = kind {
+        return tell_no_memory(errors);
+    }
+    tell(errors, b"error: a word of the command line is not UTF-8\n");
+    Exit::Refused
+}

@@ -1,0 +1,34 @@
+ghost use Rattle.std.specs.Prelude.{◌≡◌};
+ghost use Rattle.console_command.specs.Exits.{status_of};
+
+use script_loop::Ended;
+
+/// How the program ends.
+#[derive(Clone, Copy, Debug, PartialEq, Eq)]
+pub enum Exit {
+    /// The script was played, up to its end or to what ended it before.
+    Played(Ended),
+    /// The words asked for help, which is written.
+    Helped,
+    /// The words asked for help, and a write of it failed.
+    HelpBroken,
+    /// The words are a mistake.
+    Refused,
+    /// Memory ran out before anything was read or written.
+    OutOfMemory,
+}
+
+impl Exit {
+    /// The exit status (`docs/RULES.md#the-program`).
+    pub fn status(self) -> u8
+        ensures { result ≡ status_of self }
+    {
+        match self {
+            Exit::Played(ended) => ended.status(),
+            Exit::Helped => 0,
+            Exit::OutOfMemory => 3,
+            Exit::Refused => 4,
+            Exit::HelpBroken => 5,
+        }
+    }
+}

@@ -1,0 +1,13 @@
+//! The whole program, from the words of its command line to its exit status, over any source and any two sinks. The rules are in
+//! `docs/RULES.md#the-program`.
+#![tactic(auto)]
+
+mod carrying;
+mod exit;
+mod telling;
+
+pub use carrying::{carry_out, carry_out_nothing};
+pub use exit::Exit;
+
+#[cfg(test)]
+mod tests;
