@@ -2,8 +2,8 @@
 #![tactic(auto)]
 
 mod endpoint;
-mod refusal;
 pub mod laws;
+mod refusal;
 mod row;
 mod status;
 mod view;

@@ -1,4 +1,4 @@
-use Rattle.std.proofs.Common.{sym, subst}
+use Rattle.std.proofs.Common.{sym, subst, rules}
 use Rattle.std.specs.List.Sorted.{IsStrictlySortedBy}
 use Rattle.std.specs.Map.{keys_of}
 use Rattle.silo_address.specs.Silo.{silo_cmp}
@@ -8,3 +8,6 @@ use Rattle.membership_view.proofs.view.View.empty.Goals as goal
 pub invariant_of-result : goal.invariant_of-result
 unfolding IsStrictlySortedBy
 invariant_of-result c = subst (λ rows. IsStrictlySortedBy silo_cmp (keys_of rows)) (sym c.new.ensures.items) tt
+
+pub returns : goal.returns
+returns c = search rules

@@ -1,0 +1,5 @@
+use Rattle.std.proofs.Common.{rules}
+use Rattle.membership_view.proofs.views.Views.is_dead.Goals as goal
+
+pub returns : goal.returns
+returns c = search rules
