@@ -1,5 +1,5 @@
 -- What words mean that clap refuses.
-use Rattle.std.proofs.Common.{◌≡◌, ◌≢◌, List, Err, refl, subst}
+use Rattle.std.proofs.Common.{◌≢◌, List, Err, refl, subst}
 use Rattle.clap.specs.Walk.{Text}
 use Rattle.clap.specs.Values.{kind_of}
 use Rattle.clap.specs.declared.error.kind.ErrorKind.{ErrorKind}

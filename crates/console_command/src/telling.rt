@@ -15,10 +15,7 @@ pub(crate) fn tell_end<E: Sink>(alloc: Global, ended: Ended, errors: &mut E)
     match ended {
         Ended::Played => {}
         Ended::Faulted(fault) => tell_fault(alloc, fault, errors),
-        Ended::TooLong => tell(
-            errors,
-            b"error: the script has more than 268435456 bytes\n",
-        ),
+        Ended::TooLong => tell(errors, b"error: the script has more than 268435456 bytes\n"),
         Ended::OutOfMemory => tell(errors, b"error: out of memory\n"),
         Ended::Broken => tell(errors, b"error: a read or a write failed\n"),
     }

@@ -15,7 +15,8 @@ For more information, try '--help'.
 ";
 
 // The fault of a line that names no command.
-const FAULT_TOLD: &str = "error: line 2: a command is join SILO PLACE.., see SILO VERSION, wake SILO GRAIN, find SILO GRAIN, settle, owner HASH or show\n";
+const FAULT_TOLD: &str =
+    "error: line 2: a command is join SILO PLACE.., see SILO VERSION, wake SILO GRAIN, find SILO GRAIN, settle, owner HASH or show\n";
 
 // What a command line comes to: its exit, what of the script is left, what is printed and what is told.
 #[derive(Drop)]

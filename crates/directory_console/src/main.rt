@@ -3,9 +3,8 @@
 #![tactic(auto)]
 
 use console_command::{carry_out, carry_out_nothing};
-use std::env;
-use std::io;
 use std::process::ExitCode;
+use std::{env, io};
 
 fn main(rt: HostRuntime) -> ExitCode {
     let output = &mut io::writer(&rt);

@@ -16,7 +16,10 @@ fn statuses(rt: HostRuntime) {
     let table = [
         (PLAYED, 0),
         (Exit::Helped, 0),
-        (Exit::Played(Ended::Faulted(LineFault { line: 1, fault })), 2),
+        (
+            Exit::Played(Ended::Faulted(LineFault { line: 1, fault })),
+            2,
+        ),
         (Exit::Played(Ended::OutOfMemory), 3),
         (Exit::OutOfMemory, 3),
         (Exit::Refused, 4),

@@ -27,7 +27,11 @@ fn assert_cut(
         taken: Vec::new(alloc),
         room: told_room,
     };
-    assert_eq!(rt; carry_out(alloc, words, &mut script, &mut output, &mut errors), exit, "{words:?}");
+    assert_eq!(rt;
+        carry_out(alloc, words, &mut script, &mut output, &mut errors),
+        exit,
+        "{words:?}"
+    );
     assert_eq!(rt; output.taken.as_slice(), printed.as_bytes(), "{words:?}");
     assert_eq!(rt; errors.taken.as_slice(), told.as_bytes(), "{words:?}");
 }
@@ -36,10 +40,34 @@ fn assert_cut(
 fn an_output_that_fails(rt: HostRuntime) {
     let broken = Exit::Played(Ended::Broken);
     let alloc = rt.alloc();
-    assert_cut(&rt, alloc, &["g", "play"], (0, 100), (broken, "", BROKEN_TOLD));
-    assert_cut(&rt, alloc, &["g", "play"], (5, 100), (broken, "versi", BROKEN_TOLD));
-    assert_cut(&rt, alloc, &["g", "help"], (0, 100), (Exit::HelpBroken, "", ""));
-    assert_cut(&rt, alloc, &["g", "help"], (5, 100), (Exit::HelpBroken, "A dir", ""));
+    assert_cut(
+        &rt,
+        alloc,
+        &["g", "play"],
+        (0, 100),
+        (broken, "", BROKEN_TOLD),
+    );
+    assert_cut(
+        &rt,
+        alloc,
+        &["g", "play"],
+        (5, 100),
+        (broken, "versi", BROKEN_TOLD),
+    );
+    assert_cut(
+        &rt,
+        alloc,
+        &["g", "help"],
+        (0, 100),
+        (Exit::HelpBroken, "", ""),
+    );
+    assert_cut(
+        &rt,
+        alloc,
+        &["g", "help"],
+        (5, 100),
+        (Exit::HelpBroken, "A dir", ""),
+    );
 }
 
 #[test]
@@ -48,14 +76,26 @@ fn errors_that_fail(rt: HostRuntime) {
     let alloc = rt.alloc();
     assert_cut(&rt, alloc, &["g", "play"], (0, 5), (broken, "", "error"));
     assert_cut(&rt, alloc, &MISTAKE, (100, 5), (Exit::Refused, "", "error"));
-    assert_cut(&rt, alloc, &MISTAKE, (0, 1000), (Exit::Refused, "", MISTAKE_TOLD));
+    assert_cut(
+        &rt,
+        alloc,
+        &MISTAKE,
+        (0, 1000),
+        (Exit::Refused, "", MISTAKE_TOLD),
+    );
 }
 
 #[test]
 fn an_input_that_fails(rt: HostRuntime) {
     let mut printed = Vec::new(rt.alloc());
     let mut told = Vec::new(rt.alloc());
-    let exit = carry_out(rt.alloc(), &["g", "play"], &mut BrokenReader, &mut printed, &mut told);
+    let exit = carry_out(
+        rt.alloc(),
+        &["g", "play"],
+        &mut BrokenReader,
+        &mut printed,
+        &mut told,
+    );
     assert_eq!(rt; exit, Exit::Played(Ended::Broken));
     assert_eq!(rt; printed.as_slice(), b"".as_slice());
     assert_eq!(rt; told.as_slice(), BROKEN_TOLD.as_bytes());
