@@ -1,6 +1,6 @@
 -- A report that counts, taken in place.
 use Rattle.std.proofs.Common.{◌≡◌, sym, subst, ap, ◌∙◌, ℕ, List}
-use Rattle.std.specs.Prelude.{Bool, true, false, cond, Some}
+use Rattle.std.specs.Prelude.{◌↔◌, Bool, true, false, cond, Some, Ok, is_ok}
 use Rattle.std.specs.Ordering.{nat_cmp}
 use Rattle.std.specs.Map.{keys_of, lookup, remove_entry}
 use Rattle.std.specs.BTreeMap.{is_at, insert_entry}
@@ -17,12 +17,20 @@ use Rattle.directory_rules.specs.declared.Effect.TheVariants.{Ignored}
 use Rattle.directory_node.proofs.Kept.{written_is_found}
 use Rattle.directory_node.proofs.Writing.{insert_entry-there, remove-set_value}
 use Rattle.directory_node.specs.Node.{HaveRecoveries, IsNode}
-use Rattle.directory_node.specs.Taking.{IsTaken}
+use Rattle.range_recovery.specs.declared.Progress.TheVariants.{Complete}
+use Rattle.range_recovery.specs.Progress.{progress_of}
+use Rattle.directory_node.proofs.Taking.{IsTaken, taken_is, with_taken}
 use Rattle.directory_node.proofs.Reports.{report_recovers, its_recovery, taken_keeps}
 
 -- what the report does to the recoveries of the node
 abbrev pub Takes : Node → Report → (new : List (ℕ × Recovery)) → Bool → Type 0
 Takes node report new complete = (r : Recovery) → lookup (is_at (nat_cmp report.range.start)) node.recoveries ≡ Some r → IsTaken (recovered r report) r report node.recoveries new complete
+
+pub takes_by : (node : Node) (report : Report) (new : List (ℕ × Recovery)) (complete : Bool)
+    → ((r : Recovery) → lookup (is_at (nat_cmp report.range.start)) node.recoveries ≡ Some r → (complete ≡ true) ↔ (progress_of (recovered r report) ≡ Ok Complete))
+    → ((r : Recovery) → lookup (is_at (nat_cmp report.range.start)) node.recoveries ≡ Some r → new ≡ cond (is_ok (progress_of (recovered r report))) (with_taken r report node.recoveries) node.recoveries)
+    → Takes node report new complete
+takes_by node report new complete whole new_is = λ r there. taken_is r report node.recoveries new complete (whole r there) (new_is r there)
 
 still_serve : (node : Node) (report : Report) (r : Recovery) (outcome : Recovered) (new : List (ℕ × Recovery)) (complete : Bool) → lookup (is_at (nat_cmp report.range.start)) node.recoveries ≡ Some r
     → HaveRecoveries node.holding.pieces node.recoveries → IsTaken outcome r report node.recoveries new complete → HaveRecoveries node.holding.pieces new

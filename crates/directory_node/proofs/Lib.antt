@@ -1,6 +1,7 @@
 pub mod Kept
 pub mod PieceRecoveries
 pub mod Numbers
+pub mod Taking
 pub mod Reports
 pub mod Absorbing
 pub mod Writing

@@ -1,5 +1,5 @@
 -- A report that counts finds the piece that recovers, and its recovery.
-use Rattle.std.proofs.Common.{◌≡◌, refl, sym, subst, ap, ◌∙◌, ℕ, List}
+use Rattle.std.proofs.Common.{◌≡◌, refl, sym, ap, ◌∙◌, ℕ, List}
 use Rattle.std.specs.Prelude.{Bool, true, false, ◌&&◌, Option, Some, None}
 use Rattle.std.specs.Ordering.{nat_cmp}
 use Rattle.std.specs.Map.{lookup}
@@ -9,7 +9,7 @@ use Rattle.ring_range.proofs.Same.{Decides-range}
 use Rattle.directory_rules.specs.declared.PieceState.{PieceState}
 use Rattle.directory_rules.specs.declared.PieceState.TheVariants.{Settled, Awaiting, Recovering}
 use Rattle.directory_rules.specs.Piece.{Piece}
-use Rattle.directory_rules.specs.Recovery.{Recovery, Report, Rejects, recovered, with_report}
+use Rattle.directory_rules.specs.Recovery.{Recovery, Report, with_report}
 use Rattle.directory_rules.specs.Letter.{Letter}
 use Rattle.directory_rules.specs.Node.{Node}
 use Rattle.directory_rules.specs.Transfer.{has_range, is_recovering, is_report_awaited, piece_at}
@@ -17,7 +17,7 @@ use Rattle.std.proofs.lemmas.Map.Lookups.{exact_unsigned}
 use Rattle.membership_view.proofs.Entries.{Equal-from}
 use Rattle.directory_rules.proofs.Cases.{on_bool}
 use Rattle.directory_node.proofs.Kept.{apart_from, other_than_written, written_is_found}
-use Rattle.directory_node.specs.Taking.{IsTaken, with_taken}
+use Rattle.directory_node.proofs.Taking.{with_taken}
 use Rattle.directory_node.specs.Node.{HasRecovery, HaveRecoveries, IsNode}
 
 both : (a b : Bool) → (a && b) ≡ true → (a ≡ true) × (b ≡ true)
@@ -55,11 +55,6 @@ report_recovers node letter report is =
 -- and its recovery
 pub its_recovery : (node : Node) (range : Range) → IsNode node → (piece : RecoversPiece node range) → HasRecovery node.recoveries range.start piece.piece
 its_recovery node range is piece = is.recovers range.start piece.piece piece.there piece.state
-
--- a refused report is taken by changing nothing
-pub refused_is_taken : (recovery its : Recovery) (report : Report) (old new : List (ℕ × Recovery)) (number : ℕ) → recovered its report ≡ Rejects number → recovery ≡ its → new ≡ old → IsTaken (recovered recovery report) recovery report old new false
-refused_is_taken recovery its report old new number is same unchanged =
-    subst (λ o. IsTaken o recovery report old new false) (sym (ap (λ r. recovered r report) same ∙ is)) (refl, unchanged)
 
 -- the recoveries, one of them with a report, still serve the pieces
 pub taken_keeps : (pieces : List (ℕ × Piece)) (recoveries : List (ℕ × Recovery)) (recovery : Recovery) (report : Report) → lookup (is_at (nat_cmp report.range.start)) recoveries ≡ Some recovery

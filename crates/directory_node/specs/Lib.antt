@@ -6,4 +6,3 @@ pub mod Saying
 pub mod Node
 pub mod NodeModel
 pub mod First
-pub mod Taking

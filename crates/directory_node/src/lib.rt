@@ -2,12 +2,12 @@
 //! `docs/RULES.md#the-world`.
 #![tactic(auto)]
 
-mod refusal;
 mod input;
 mod letter;
 mod node;
 mod own_steps;
 mod recoveries;
+mod refusal;
 mod replies;
 mod requests;
 mod response;
@@ -15,9 +15,9 @@ mod sending;
 mod sight;
 mod step;
 
-pub use refusal::StepRefusal;
 pub use input::Input;
 pub use letter::{Body, Letter};
 pub use node::Node;
+pub use refusal::StepRefusal;
 pub use response::Response;
 pub use step::Stepped;

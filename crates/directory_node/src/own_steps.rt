@@ -5,7 +5,7 @@ ghost use Rattle.directory_node.specs.Follows.{Follows};
 ghost use Rattle.directory_node.specs.Numbers.{step_refusal_number};
 ghost use Rattle.directory_node.specs.Saying.{SendsOne, left_by, response_of, said, said_of};
 
-use crate::{Letter, Node, StepRefusal, Response};
+use crate::{Letter, Node, Response, StepRefusal};
 use directory_rules::{Act, Effect};
 use silo_address::{ActivationId, Entry, GrainId};
 use std::alloc::{AllocError, Global};

@@ -1,12 +1,12 @@
 ghost use Rattle.std.specs.BTreeMap.{is_at};
 ghost use Rattle.std.specs.List.Sorted.{IsStrictlySortedBy};
-ghost use Rattle.std.specs.Map.{keys_of, lookup};
+ghost use Rattle.std.specs.Map.{keys_of, lookup, set_value};
 ghost use Rattle.std.specs.Ordering.{nat_cmp};
-ghost use Rattle.std.specs.Prelude.{◌≡◌, IsTrue, IfOk, OnOk, OnErr, Some, [], length};
+ghost use Rattle.std.specs.Prelude.{◌≡◌, ◌↔◌, if◌then◌else◌, is_ok, IsTrue, IfOk, OnOk, OnErr, Ok, Some, [], length};
 ghost use Rattle.std.specs.List.{list_all};
 ghost use Rattle.silo_address.specs.Silo.{silo_eq};
-ghost use Rattle.directory_rules.specs.Recovery.{Recovery as RecoveryValue, recovered};
-ghost use Rattle.directory_node.specs.Taking.{IsTaken};
+ghost use Rattle.directory_rules.specs.Recovery.{Recovery as RecoveryValue, recovered, with_report};
+ghost use Rattle.range_recovery.specs.Progress.{progress_of};
 ghost use Rattle.directory_rules.specs.Table.{is_before_first, lie_in, rise_by_grain};
 ghost use Rattle.directory_rules.specs.Transfer.{answering, has_range, is_recovering, is_report_awaited, piece_at, queried, recovers, report_of, reported, with_settled};
 ghost use Rattle.directory_node.specs.LetterModel.{body_of};
@@ -152,8 +152,12 @@ fn take_report(
     recoveries: &mut BTreeMap<u32, Recovery>,
     report: &Report,
 ) -> Result<bool, AllocError>
-    ensures taken { IfOk result (λ complete. (recovery : RecoveryValue) → lookup (is_at (nat_cmp report.now.range.start)) recoveries.old.entries ≡ Some recovery →
-        IsTaken (recovered recovery report.now) recovery report.now recoveries.old.entries recoveries.new.entries complete) }
+    ensures complete { IfOk result (λ complete. (recovery : RecoveryValue) → lookup (is_at (nat_cmp report.now.range.start)) recoveries.old.entries ≡ Some recovery →
+        IsTrue complete ↔ (progress_of (recovered recovery report.now) ≡ Ok Progress.Complete)) }
+
+    // It is taken unless it is refused.
+    ensures taken { OnOk result ((recovery : RecoveryValue) → lookup (is_at (nat_cmp report.now.range.start)) recoveries.old.entries ≡ Some recovery →
+        recoveries.new.entries ≡ (if is_ok (progress_of (recovered recovery report.now)) then set_value (is_at (nat_cmp report.now.range.start)) recoveries.old.entries (with_report recovery report.now) else recoveries.old.entries)) }
     ensures unchanged { OnErr result (recoveries.new.entries ≡ recoveries.old.entries) }
     ensures in_order { IsStrictlySortedBy nat_cmp (keys_of recoveries.old.entries) }
 {

@@ -7,7 +7,7 @@ ghost use Rattle.directory_node.specs.Follows.{Follows};
 ghost use Rattle.directory_node.specs.Numbers.{step_refusal_number};
 ghost use Rattle.directory_node.specs.Saying.{left_by, response_of, said, said_of, stepped_of};
 
-use crate::{Body, Input, Letter, Node, StepRefusal, Response};
+use crate::{Body, Input, Letter, Node, Response, StepRefusal};
 use directory_rules::Effect;
 use std::alloc::{AllocError, Global};
 

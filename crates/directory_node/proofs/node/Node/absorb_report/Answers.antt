@@ -7,23 +7,27 @@ use Rattle.directory_rules.specs.Recovery.{Recovery}
 use Rattle.directory_rules.specs.Node.{Node}
 use Rattle.directory_rules.specs.Transfer.{reported, with_settled}
 use Rattle.directory_node.specs.NodeModel.{node_of}
-use Rattle.directory_node.proofs.Absorbing.{Takes, kept_by_taking, left_by_more, left_by_union}
+use Rattle.directory_node.proofs.Absorbing.{Takes, kept_by_taking, left_by_more, left_by_union, takes_by}
 use Rattle.directory_node.proofs.node.Node.absorb_report.Goals as goal
 
 pub invariant_of-self-then-branch : goal.invariant_of-self-then-branch
-invariant_of-self-then-branch c = kept_by_taking (node_of c.self.inside) c.args.letter.now c.args.report.now c.in_ok-take_report.field-0 c.take_report.new.recoveries.entries c.self.invariant
-    (cc (c.is_report_awaited.ensures, c.if-not-is_report_awaited.false, c.self.view_is)) c.in_ok-take_report.ensures.taken
+invariant_of-self-then-branch c =
+    kept_by_taking (node_of c.self.inside) c.args.letter.now c.args.report.now c.in_ok-take_report.field-0 c.take_report.new.recoveries.entries c.self.invariant
+    (cc (c.is_report_awaited.ensures, c.if-not-is_report_awaited.false, c.self.view_is))
+    (takes_by (node_of c.self.inside) c.args.report.now c.take_report.new.recoveries.entries c.in_ok-take_report.field-0 c.in_ok-take_report.ensures.complete c.in_ok-take_report.ensures.taken)
 
 pub invariant_of-self-else-branch : goal.invariant_of-self-else-branch
-invariant_of-self-else-branch c = kept_by_taking (node_of c.self.inside) c.args.letter.now c.args.report.now c.in_ok-take_report.field-0 c.take_report.new.recoveries.entries c.self.invariant
-    (cc (c.is_report_awaited.ensures, c.if-not-is_report_awaited.false, c.self.view_is)) c.in_ok-take_report.ensures.taken
+invariant_of-self-else-branch c =
+    kept_by_taking (node_of c.self.inside) c.args.letter.now c.args.report.now c.in_ok-take_report.field-0 c.take_report.new.recoveries.entries c.self.invariant
+    (cc (c.is_report_awaited.ensures, c.if-not-is_report_awaited.false, c.self.view_is))
+    (takes_by (node_of c.self.inside) c.args.report.now c.take_report.new.recoveries.entries c.in_ok-take_report.field-0 c.in_ok-take_report.ensures.complete c.in_ok-take_report.ensures.taken)
 
 pub returns-then-branch-clause-left : goal.returns-then-branch-clause-left
 returns-then-branch-clause-left c =
     let node = node_of c.self.inside in
     let report = c.args.report.now in
     let new = c.take_report.new.recoveries.entries in
-    let takes = subst (λ b. Takes node report new b) c.if-branch.true c.in_ok-take_report.ensures.taken in
+    let takes = subst (λ b. Takes node report new b) c.if-branch.true (takes_by node report new c.in_ok-take_report.field-0 c.in_ok-take_report.ensures.complete c.in_ok-take_report.ensures.taken) in
     let settles = subst (λ (range : Range). (r : Recovery) → lookup (is_at (nat_cmp range.start)) new ≡ Some r → c.settle.new.self ≡ with_settled (record node { recoveries = new }) range r.gathered) c.range.ensures c.settle.ensures in
     left_by_union node c.settle.new.self c.args.letter.now report new c.self.invariant (cc (c.is_report_awaited.ensures, c.if-not-is_report_awaited.false, c.self.view_is)) takes settles
     ∙ ap (λ (n : Node). (reported n c.args.letter.now report).node) c.self.view_is
@@ -33,6 +37,6 @@ returns-else-branch-clause-left c =
     let node = node_of c.self.inside in
     let report = c.args.report.now in
     let new = c.take_report.new.recoveries.entries in
-    let takes = subst (λ b. Takes node report new b) c.if-branch.false c.in_ok-take_report.ensures.taken in
+    let takes = subst (λ b. Takes node report new b) c.if-branch.false (takes_by node report new c.in_ok-take_report.field-0 c.in_ok-take_report.ensures.complete c.in_ok-take_report.ensures.taken) in
     left_by_more node c.args.letter.now report new c.self.invariant c.take_report.ensures.in_order (cc (c.is_report_awaited.ensures, c.if-not-is_report_awaited.false, c.self.view_is)) takes
     ∙ ap (λ (n : Node). (reported n c.args.letter.now report).node) c.self.view_is
