@@ -2,10 +2,10 @@
 #![tactic(auto)]
 
 mod apply;
-mod refusal;
 mod join;
 mod mail;
 mod own;
+mod refusal;
 mod run;
 mod sight;
 mod steps;

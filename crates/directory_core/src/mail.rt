@@ -110,8 +110,8 @@ impl Mail {
         Ok(())
     }
 
-    /// A node receives the letter of a number, which is fresh no more, and what it answers is sent. Fails only for want of
-    /// memory.
+    /// A node receives the letter of a number, which is fresh no more, and what it answers is sent. Fails only when memory runs
+    /// out.
     pub(crate) fn deliver(
         &mut self,
         node: &mut Node,

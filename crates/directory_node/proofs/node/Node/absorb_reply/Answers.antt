@@ -1,0 +1,14 @@
+use Rattle.std.proofs.Common.{rules}
+use Rattle.directory_node.proofs.node.Node.absorb_reply.Goals as goal
+
+pub returns-in-Registered : goal.returns-in-Registered
+returns-in-Registered c = search rules
+
+pub returns-in-Taken : goal.returns-in-Taken
+returns-in-Taken c = search rules
+
+pub returns-in-Removed : goal.returns-in-Removed
+returns-in-Removed c = search rules
+
+pub returns-in-Found : goal.returns-in-Found
+returns-in-Found c = search rules
