@@ -54,7 +54,13 @@ fn find(rt: &impl Abort) -> Event {
 }
 
 // The event is refused, by the refusal with that number.
-fn is_refused(rt: &impl Abort, world: &mut World, event: &Event, refusal: EventRefusal, number: u16) {
+fn is_refused(
+    rt: &impl Abort,
+    world: &mut World,
+    event: &Event,
+    refusal: EventRefusal,
+    number: u16,
+) {
     assert_eq!(rt; world.apply(event), Err(refusal));
     assert_eq!(rt; refusal.number(), Some(number));
 }

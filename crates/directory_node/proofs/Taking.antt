@@ -1,13 +1,13 @@
 -- A report taken among the recoveries of a node.
 use Rattle.std.proofs.Common.{◌≡◌, ◌↔◌, refl, sym, ap, ◌∙◌, ℕ, List, [], ◌∷◌}
-use Rattle.std.specs.Prelude.{Bool, true, false, cond, Some, Result, Ok, Err, is_ok}
+use Rattle.std.specs.Prelude.{Bool, true, false, cond, Result, Ok, Err, is_ok}
 use Rattle.std.specs.Ordering.{nat_cmp}
-use Rattle.std.specs.Map.{lookup, set_value}
+use Rattle.std.specs.Map.{set_value}
 use Rattle.std.specs.BTreeMap.{is_at}
 use Rattle.silo_address.specs.Silo.{Silo}
 use Rattle.directory_rules.specs.Recovery.{Recovery, Report, Recovered, Awaits_more, Has_union, Rejects, awaits_still, recovered, with_report}
 use Rattle.range_recovery.specs.declared.Progress.{Progress}
-use Rattle.range_recovery.specs.declared.Progress.TheVariants.{More, Complete}
+use Rattle.range_recovery.specs.declared.Progress.TheVariants.{Complete}
 use Rattle.range_recovery.specs.Progress.{progress_of}
 
 -- the recovery of the report's range has the report, and nothing else changed

@@ -1,4 +1,4 @@
-use Rattle.std.proofs.Common.{◌≤◌, ◌<◌, sym, subst, ap, arith}
+use Rattle.std.proofs.Common.{rules, ◌≤◌, ◌<◌, sym, subst, ap, arith}
 use Rattle.directory_rules.specs.Settings.{Settings}
 use Rattle.cluster_events.specs.EventModel.{event_of}
 use Rattle.directory_node.specs.Follows.{Follows}
@@ -18,3 +18,6 @@ returns-clause-told c =
     let events_are = ap (λ (s : Settings). s.events) c.settings.ensures in
     let room : c.args.self.now.accepted < c.args.self.now.settings.events = omega (arith, c.if-accepted-events.false, c.accepted.ensures, c.events.ensures, events_are) in
     subst (λ h. Follows (accepted_as c.attempt.new.self) event_refusal_number (excused c.args.event.now) h c.attempt.result) (sym (has_room c.args.self.now (event_of c.args.event.now) room)) c.attempt.ensures.told
+
+pub returns-then-accepted-events-clause-unchanged : goal.returns-then-accepted-events-clause-unchanged
+returns-then-accepted-events-clause-unchanged c = search rules
