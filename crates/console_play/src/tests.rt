@@ -2,6 +2,7 @@ mod cuts;
 mod endings;
 mod examples;
 mod faults;
+mod limits;
 mod rows;
 
 use crate::play_to_one_silo;
