@@ -1,4 +1,4 @@
-use Rattle.std.proofs.Common.{ℕ, List, arith, drop, length, subst, take}
+use Rattle.std.proofs.Common.{ℕ, List, arith, subst, take}
 use Rattle.std.proofs.lemmas.List.{length-drop, take_all, take_rest}
 use Rattle.std.specs.Io.KnownBytes.{Appends}
 use Rattle.script_loop.proofs.Pieces.{sends_front, sends_more, sends_nothing}
