@@ -1,5 +1,5 @@
 -- Lines played to a cluster.
-use Rattle.std.proofs.Common.{◌≡◌, ℕ, ◌+◌, ◌++◌, List, [], ◌∷◌, Option, None, Some, Result, Ok, Err, ap, refl, sym, ◌∙◌, append_assoc, append-nil}
+use Rattle.std.proofs.Common.{◌≡◌, ℕ, ◌+◌, ◌++◌, List, [], ◌∷◌, Option, None, Some, Ok, Err, ap, sym, ◌∙◌, append_assoc, append-nil}
 use Rattle.directory_rules.specs.World.{World}
 use Rattle.script_rules.specs.Script.{Command, read_line}
 use Rattle.script_rules.specs.Lines.{fault_line}

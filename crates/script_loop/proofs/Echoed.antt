@@ -16,8 +16,8 @@ pub echoes : (number : ℕ) (line before after : List ℕ) → length line ≤ l
 unfolding echoed
 echoes number line before after short written =
     λ lines. rw (le-ltb longest_line (length line) short)
-        (ap (λ (t : List ℕ). behind t (echoed (number + 1) lines)) written
-        ∙ ap (λ (t : List ℕ). let o : Output = record { text = t; status = (echoed (number + 1) lines).status } in o) (append_assoc before (line ++ line_feed ∷ []) (echoed (number + 1) lines).text))
+    (ap (λ (t : List ℕ). behind t (echoed (number + 1) lines)) written
+    ∙ ap (λ (t : List ℕ). let o : Output = record { text = t; status = (echoed (number + 1) lines).status } in o) (append_assoc before (line ++ line_feed ∷ []) (echoed (number + 1) lines).text))
 
 -- a line that is too long
 pub echoes_fault : (number : ℕ) (line before after : List ℕ) → longest_line < length line → after ≡ before ++ printed (fault_line number 924)

@@ -1,5 +1,5 @@
 -- What steps, reads and writes keep of a play.
-use Rattle.std.proofs.Common.{◌≡◌, ℕ, ◌+◌, ◌<◌, ◌≤◌, ◌++◌, List, [], ◌∷◌, length, Option, Some, None, true, ap, arith, refl, sym, ◌∙◌, append_assoc, append-nil, subst}
+use Rattle.std.proofs.Common.{◌≡◌, ℕ, ◌+◌, ◌≤◌, ◌++◌, List, [], ◌∷◌, length, Option, Some, None, true, ap, arith, refl, sym, ◌∙◌, append_assoc, append-nil, subst}
 use Rattle.std.proofs.lemmas.List.{length-append}
 use Rattle.std.specs.Io.KnownBytes.{Appends, Consumes, IsAtEnd, Keeps}
 use Rattle.std.proofs.KnownBytes.{Appends-trans, Appends-nil, Consumes-trans, Consumes-kept}
@@ -8,7 +8,7 @@ use Rattle.texts.specs.Printed.{Output}
 use Rattle.script_output.specs.Spaced.{BeginsWith}
 use Rattle.script_loop.specs.declared.ended.Ended.{Ended}
 use Rattle.script_loop.specs.declared.ended.Ended.TheVariants as ended
-use Rattle.script_loop.specs.Endings.{Concludes, Ends, EndsReading, HasRead, most_at_once, most_read}
+use Rattle.script_loop.specs.Endings.{Concludes, Ends, EndsReading, HasRead, most_read}
 use Rattle.script_loop.specs.Lines.{Rule, behind, no_output}
 use Rattle.script_loop.specs.Progress.{EndsStep, HasEnded, HasPlayed, MayCome, Progress, first_progress, to_come}
 use Rattle.script_loop.specs.Sending.{WritesFront}

@@ -12,7 +12,7 @@ use Rattle.script_output.specs.Printed.{printed}
 use Rattle.script_loop.specs.declared.ended.Ended.TheVariants as ended
 use Rattle.script_loop.specs.declared.ended.LineFault.{LineFault}
 use Rattle.script_loop.specs.Endings.{Concludes}
-use Rattle.script_loop.specs.Lines.{PlaysLine, Rule, behind, faulty_output, no_output, told_fault}
+use Rattle.script_loop.specs.Lines.{PlaysLine, Rule, behind, faulty_output, no_output}
 
 -- the first of the lines that are to come was played
 pub goes_on : (rule next : Rule) (number : ℕ) (start text line : List ℕ) (told : Option LineFault) → told ≡ None

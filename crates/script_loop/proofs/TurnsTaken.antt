@@ -1,5 +1,5 @@
 -- Turns, by what the step, the read and the write of each did.
-use Rattle.std.proofs.Common.{◌≡◌, ℕ, ◌++◌, List, [], ◌∷◌, Option, Some, None, IfSome, ap, subst, sym, ◌∙◌}
+use Rattle.std.proofs.Common.{◌≡◌, ℕ, ◌++◌, List, [], Option, Some, None, IfSome, ap, subst, sym, ◌∙◌}
 use Rattle.script_rules.specs.Script.{lines_of}
 use Rattle.script_loop.specs.declared.ended.Ended.{Ended}
 use Rattle.script_loop.specs.declared.ended.Ended.TheVariants as ended
@@ -73,3 +73,9 @@ begins_standing first (Some script) begun at nothing is = stands_first first scr
 pub ends_at_first : (first : Rule) (read begun : Option (List ℕ)) → first 1 [] ≡ no_output → IfSome read (λ script. Ends script (first 1) read begun begun ended.OutOfMemory)
 ends_at_first first None begun nothing = tt
 ends_at_first first (Some script) begun nothing = ends_at_once first script begun nothing
+
+-- a turn ends the play
+pub ends_by_turn : (first rule next : Rule) (whole read before rest begun written : Option (List ℕ)) (old new : Progress) (ended : Ended) → IfSome whole (λ script. Stands first script begun rule old read before)
+    → Turns rule old read before next new rest written (Some ended) → IfSome whole (λ script. Ends script (first 1) rest begun written ended)
+ends_by_turn first rule next None read before rest begun written old new ended stands turn = tt
+ends_by_turn first rule next (Some script) read before rest begun written old new ended stands turn = turn first script begun stands

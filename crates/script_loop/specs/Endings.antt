@@ -1,5 +1,5 @@
 -- A script played to its end: what is written of its output, and what was read of it, by the ending.
-use Rattle.std.specs.Prelude.{◌≡◌, ℕ, ◌<◌, ◌≤◌, ◌⊎◌, List, [], ◌∷◌, ◌++◌, length, Option, Some, None, ⊤}
+use Rattle.std.specs.Prelude.{◌≡◌, ℕ, ◌<◌, ◌≤◌, ◌⊎◌, List, [], ◌∷◌, ◌++◌, length, Option, Some, ⊤}
 use Rattle.std.specs.Io.KnownBytes.{Appends, Consumes, IsAtEnd}
 use Rattle.script_rules.specs.Script.{lines_of}
 use Rattle.texts.specs.Printed.{Output}
@@ -33,8 +33,8 @@ most_read = 268435456
 abbrev pub most_at_once : ℕ
 most_at_once = 65536
 
--- what was read of the script: the last chunk, and what stands in front of it, whose lines are whole but for the last. More was
--- read only once that was played and written which the whole ones print.
+-- what was read of the script: the chunk that came by the last read, and the bytes in front of it. The lines of those are whole
+-- but for the last, and the last chunk was read only after all was written that the whole lines print.
 pub record HasRead (script : List ℕ) (output : List (List ℕ) → Output) (rest : Option (List ℕ)) (text : List ℕ) : Type 0 where
   pub front : List ℕ
   pub chunk : List ℕ
@@ -46,7 +46,7 @@ pub record HasRead (script : List ℕ) (output : List (List ℕ) → Output) (re
   pub lines : lines_of front ≡ whole ++ begun ∷ []
   pub written : BeginsWith (output whole).text text
 
--- where the reading ends: at the script's end, at the line with the fault, or behind the limit
+-- where the reading ends: at the script's end; by the read that made the line with the fault whole; or behind the limit
 abbrev pub EndsReading : (script : List ℕ) → (rest : Option (List ℕ)) → (whole : List (List ℕ)) → Ended → Type 0
 EndsReading script rest whole Played = (length script ≤ most_read) × IsAtEnd rest
 EndsReading script rest whole (Faulted fault) = length whole < fault.line

@@ -1,5 +1,5 @@
-use Rattle.std.proofs.Common.{ℕ, List, arith, drop, length, subst, take}
-use Rattle.std.proofs.lemmas.List.{length-drop, take_rest}
+use Rattle.std.proofs.Common.{ℕ, List, arith, subst, take}
+use Rattle.std.proofs.lemmas.List.{length-drop, take_all, take_rest}
 use Rattle.std.specs.Io.KnownBytes.{Appends}
 use Rattle.script_loop.proofs.Pieces.{sends_front, sends_more, sends_nothing}
 use Rattle.script_loop.proofs.sending.send.Goals as goal
@@ -19,3 +19,7 @@ returns-then-count-eq0-clause-sends g c =
 
 pub returns-in-Err-clause-sends : goal.returns-in-Err-clause-sends
 returns-in-Err-clause-sends g c = sends_front _ _ _ c.args.bytes.now c.loop-sent.sent c.loop-sent.invariant.appends c.in-Err.ensures.bytes
+
+pub returns-clause-sends : goal.returns-clause-sends
+returns-clause-sends g c = subst (λ (bs : List ℕ). Appends (g.W.Sink.contents c.args.writer.now) (g.W.Sink.contents c.loop-sent.writer) bs)
+    (take_all c.loop-sent.sent c.args.bytes.now (omega arith)) c.loop-sent.invariant.appends

@@ -1,4 +1,5 @@
-use Rattle.script_loop.specs.Progress.{progress}
+use Rattle.std.proofs.Common.{ap}
+use Rattle.script_loop.specs.Progress.{Progress, progress}
 use Rattle.script_loop.proofs.TurnsTaken.{drained_and_filled, ended_and_drained, ended_unwritten, played_and_drained, played_on, waits_unwritten}
 use Rattle.script_loop.proofs.Causes.{broken_unread, broken_unwritten, by_write, not_broken}
 use Rattle.script_loop.proofs.session.Session.turn.Goals as goal
@@ -32,3 +33,6 @@ returns-in-None-drain-clause-cause g c = not_broken _ _ (progress c.args.self.no
 
 pub returns-in-Some-drain-clause-goes : goal.returns-in-Some-drain-clause-goes
 returns-in-Some-drain-clause-goes g c = ended_unwritten (g.P.LinePlayer.output c.args.player.now) (progress c.args.self.now) (g.P.LinePlayer.output c.step.new.player) (progress c.step.new.self) (progress c.drain-in-Ends.new.self) _ _ _ c.in-Ends.ended c.in-Some-drain.broken c.in-Ends.ensures c.in-Some-drain.ensures.drains
+
+pub fill-requires-clause-written : goal.fill-requires-clause-written
+fill-requires-clause-written g c = ap (λ (p : Progress). p.waiting) c.in-None.ensures.drains.drained
