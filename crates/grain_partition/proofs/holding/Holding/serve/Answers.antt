@@ -1,4 +1,4 @@
-use Rattle.std.proofs.Common.{◌≡◌, sym, ap, ◌∙◌, is_some}
+use Rattle.std.proofs.Common.{◌≡◌, sym, ap, ◌∙◌, is_some, rules}
 use Rattle.std.specs.Map.{lookup}
 use Rattle.std.specs.BTreeMap.{is_at}
 use Rattle.std.specs.Ordering.{nat_cmp}
@@ -20,3 +20,6 @@ returns-clause-served c =
     let at : c.start-start.result ≡ piece.range.start = c.start-start.ensures ∙ ap (λ (r : Range). r.start) c.range.ensures in
     answer_after c.args.self.now c.serve_from.new.self c.whole.ensures c.args.request.now piece c.in-Ok.ensures (sym c.is_numbered.ensures ∙ c.if-not-is_numbered.false)
     c.start-start.result at c.serve_from.result c.serve_from.ensures.turned c.serve_from.ensures.noted
+
+pub returns-then-not-is_numbered-clause-find_succeeds : goal.returns-then-not-is_numbered-clause-find_succeeds
+returns-then-not-is_numbered-clause-find_succeeds c = search rules

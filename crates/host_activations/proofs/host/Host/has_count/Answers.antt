@@ -1,0 +1,5 @@
+use Rattle.std.proofs.Common.{rules}
+use Rattle.host_activations.proofs.host.Host.has_count.Goals as goal
+
+pub returns : goal.returns
+returns c = search rules
