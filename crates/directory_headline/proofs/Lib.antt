@@ -17,3 +17,6 @@ pub mod Finding
 pub mod Beginning
 pub mod Closing
 pub mod Replies
+pub mod PieceAt
+pub mod Answering
+pub mod Serving
