@@ -23,3 +23,6 @@ pub mod PieceAt
 pub mod Answering
 pub mod Serving
 pub mod Steps
+pub mod TableEntries
+pub mod HashPieces
+pub mod Capped
