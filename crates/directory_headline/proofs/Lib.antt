@@ -26,3 +26,5 @@ pub mod Steps
 pub mod TableEntries
 pub mod HashPieces
 pub mod Capped
+pub mod PieceSet
+pub mod SettledPiece
