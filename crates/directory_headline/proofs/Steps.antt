@@ -39,6 +39,7 @@ use Rattle.directory_headline.proofs.Beginning.{wakes, takes_over}
 use Rattle.directory_headline.proofs.Closing.{closes, offers}
 use Rattle.directory_headline.proofs.Replies.{confirms, yields, removes, misses}
 use Rattle.directory_headline.proofs.Telling.{reports}
+use Rattle.directory_headline.proofs.Serving.{answers}
 
 -- what is to be shown of a way
 abbrev pub Shows : Setting → World → protocol.World → Silo → Input → Stepped → Type 0
@@ -50,9 +51,6 @@ pub record Left (m : Setting) (f : World) (w : protocol.World) (silo : Silo) (no
       (before view : ViewValue) (places : PlacesValue) → node.view.version < view.version → IsSight f.views f.places silo before view places
       → Moves m w silo (sight (is_next node.view before view node.host.silo) node before view places)
   pub nudges : Moves m w silo (having_nudged (record node { host = renewed node.host }))
-  pub answers :
-      (letter : Letter) (request : Request) → letter.body ≡ Request_letter request → request.sender ≡ letter.from → request.version ≡ letter.version → Comes m f w silo letter
-      → Moves m w silo (replying node request (answered node.holding request))
   pub hands :
       (letter : Letter) (range : Range) (number : ℕ) (page : Page) → shelf_answer node.shelf node.view.version letter.version range letter.from number ≡ Hands_page page
       → Moves m w silo (answering letter node (Page_letter page) effect.Page)
@@ -86,7 +84,7 @@ ways m f w silo node here left = record {
   finds = λ grain room numbers brings. finds m f w silo node here grain;
   forgets = λ grain activation hint brings. cache_changes m f w silo node here (without_pair node.cache grain activation) (effect.Forgot grain);
   nudges = λ numbers brings. left.nudges;
-  answers = λ letter request body sender version brings. left.answers letter request body sender version brings;
+  answers = λ letter request body sender version brings. answers m f w silo node here letter request body brings;
   confirms = λ letter number entry e is there brings. confirms m f w silo node here letter number entry e is there brings;
   yields = λ letter number entry e is there brings. yields m f w silo node here letter number entry e is there brings;
   removes = λ letter number e is there brings. removes m f w silo node here letter number e is there brings;
