@@ -67,7 +67,7 @@ impl Node {
         &self.holding
     }
 
-    /// The silo as the place of activations.
+    /// The silo as the host of activations.
     pub fn host(&self) -> &Host
         ensures { result.now ≡ self.now.host }
     {
