@@ -15,7 +15,7 @@ use Rattle.directory_rules.specs.declared.act.Act.TheVariants as act
 use Rattle.directory_rules.specs.declared.held.Held.{Held}
 use Rattle.directory_rules.specs.declared.held.Phase.{Phase}
 use Rattle.directory_rules.specs.declared.held.Phase.TheVariants as phase
-use Rattle.directory_rules.specs.Host.{held_of, entry_of, activation_of, with_closing}
+use Rattle.directory_rules.specs.Host.{held_of, entry_of, with_closing}
 use Rattle.directory_rules.specs.Letter.{Letter, Offer_letter}
 use Rattle.directory_rules.specs.Node.{Node}
 use Rattle.directory_rules.specs.Sending.{letter_to}
