@@ -47,8 +47,8 @@ module _ (m : Setting) (f : World) (w : protocol.World) (silo : Silo) (node : No
       let count = was.host.next_count in
       let its = host_is m f w silo node here in
       let member : m.member (w.seen silo) silo ≡ true =
-          ap (λ v. m.member v silo) (seen_is m f w silo node here) ∙ member_is m f w silo node here silo
-          ∙ ap (λ s. is_live (status_of node.view s)) (sym its) ∙ active_live (status_of node.view node.host.silo) may.active in
+      ap (λ v. m.member v silo) (seen_is m f w silo node here) ∙ member_is m f w silo node here silo
+      ∙ ap (λ s. is_live (status_of node.view s)) (sym its) ∙ active_live (status_of node.view node.host.silo) may.active in
       let allowed : MayStart m w silo grain previous = record {
         alive = alive m f w silo node here;
         member = member;

@@ -64,17 +64,17 @@ shown_step m f its w silo node stepped here views nodes mail moves =
       live = λ q its_node there.
           elim (silo_cases q silo) [
             | inl same ↦
-              let one : Some stepped.node ≡ Some its_node =
-                  sym (found_put silo_cmp silo_cmp_total silo_cmp_exact silo stepped.node its.nodes)
-                  ∙ ap (λ s. lookup (is_at (silo_cmp s)) (with_step its silo stepped).nodes) (sym same) ∙ there in
-              let is : stepped.node ≡ its_node = cc in
-              subst (λ n. IsShownNode m later n (state_of later q)) is (subst (λ s. IsShownNode m later stepped.node (state_of later s)) (sym same) moves.node)
+                let one : Some stepped.node ≡ Some its_node =
+                sym (found_put silo_cmp silo_cmp_total silo_cmp_exact silo stepped.node its.nodes)
+                ∙ ap (λ s. lookup (is_at (silo_cmp s)) (with_step its silo stepped).nodes) (sym same) ∙ there in
+                let is : stepped.node ≡ its_node = cc in
+                subst (λ n. IsShownNode m later n (state_of later q)) is (subst (λ s. IsShownNode m later stepped.node (state_of later s)) (sym same) moves.node)
             | inr apart ↦
-              let before : node_of f q ≡ Some its_node =
-                  ap (λ ns. lookup (is_at (silo_cmp q)) ns) (sym nodes)
-                  ∙ sym (found_beside_put silo_cmp silo_cmp_total silo_cmp_exact silo stepped.node its.nodes q apart) ∙ there in
-              subst (IsShownNode m later its_node) (sym (left.others q apart))
-              (node_still m w later left.grows its_node (state_of w q) (here.shown.live q its_node before))
+                let before : node_of f q ≡ Some its_node =
+                ap (λ ns. lookup (is_at (silo_cmp q)) ns) (sym nodes)
+                ∙ sym (found_beside_put silo_cmp silo_cmp_total silo_cmp_exact silo stepped.node its.nodes q apart) ∙ there in
+                subst (IsShownNode m later its_node) (sym (left.others q apart))
+                (node_still m w later left.grows its_node (state_of w q) (here.shown.live q its_node before))
           ];
       absent = λ q none.
           let before : status_at f.views f.views.version q ≡ None = ap (λ v. status_at v v.version q) (sym views) ∙ none in

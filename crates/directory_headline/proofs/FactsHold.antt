@@ -43,9 +43,10 @@ above key (e ∷ es) all = (sym (nat_cmp_is key e.0 Less (All-head (λ x. key < 
 sorted_keys : (es : List (ℕ × Piece)) → AllPairs (λ e later. e.0 < later.0) es → IsStrictlySortedBy nat_cmp (keys_of es)
 unfolding IsStrictlySortedBy
 sorted_keys [] pairs = tt
-sorted_keys (e ∷ es) pairs =
-    (above e.0 es (λ k d below. pairs 0 (suc k) d (omega arith) (omega (arith, below))),
-    sorted_keys es (λ i j d lt below. pairs (suc i) (suc j) d (omega (arith, lt)) (omega (arith, below))))
+sorted_keys (e ∷ es) pairs = (
+  above e.0 es (λ k d below. pairs 0 (suc k) d (omega arith) (omega (arith, below))),
+  sorted_keys es (λ i j d lt below. pairs (suc i) (suc j) d (omega (arith, lt)) (omega (arith, below))),
+)
 
 pub facts_hold : FactsHold
 facts_hold settings events are named =

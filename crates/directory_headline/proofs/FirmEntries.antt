@@ -57,11 +57,11 @@ module _ (hashing : Hashing) (host : Host) (range : Range) where
   found_firm grain (x ∷ xs) table once =
       elim (grain_cases grain x.0) [
         | inl same ↦
-          ap (λ g. entry_at g (fold with_entry table (entries (x ∷ xs)))) same ∙ here (λ g t. found_firm g xs t (λ i j d lt below. once (suc i) (suc j) d (omega (arith, lt)) (omega (arith, below)))) (test x) refl
-          ∙ ap (λ o. either (chosen x.0 o) (entry_at x.0 table)) (sym (lookup_first grain_cmp grain_cmp_total x.0 x.1 xs))
-          ∙ ap (λ g. either (chosen g (lookup (is_at (grain_cmp g)) (x ∷ xs))) (entry_at g table)) (sym same)
+            ap (λ g. entry_at g (fold with_entry table (entries (x ∷ xs)))) same ∙ here (λ g t. found_firm g xs t (λ i j d lt below. once (suc i) (suc j) d (omega (arith, lt)) (omega (arith, below)))) (test x) refl
+            ∙ ap (λ o. either (chosen x.0 o) (entry_at x.0 table)) (sym (lookup_first grain_cmp grain_cmp_total x.0 x.1 xs))
+            ∙ ap (λ g. either (chosen g (lookup (is_at (grain_cmp g)) (x ∷ xs))) (entry_at g table)) (sym same)
         | inr apart ↦
-          there (λ g t. found_firm g xs t (λ i j d lt below. once (suc i) (suc j) d (omega (arith, lt)) (omega (arith, below)))) apart (test x) refl ∙ ap (λ o. either (chosen grain o) (entry_at grain table)) (sym (lookup_later grain_cmp grain_cmp_exact grain x.0 x.1 xs apart))
+            there (λ g t. found_firm g xs t (λ i j d lt below. once (suc i) (suc j) d (omega (arith, lt)) (omega (arith, below)))) apart (test x) refl ∙ ap (λ o. either (chosen grain o) (entry_at grain table)) (sym (lookup_later grain_cmp grain_cmp_exact grain x.0 x.1 xs apart))
       ]
     where
       none : lookup (is_at (grain_cmp x.0)) xs ≡ None

@@ -79,9 +79,11 @@ find_looked R o exact test (x ∷ xs) e pairs found =
     (is, ap (λ b. cond b (Some x.1) (lookup (is_at (R x.0)) xs)) (at_itself R o x.0), (0, omega arith, refl)))
     (λ f is its.
     let later = find_looked R o exact test xs e (λ i j d lt below. pairs (suc i) (suc j) d (omega (arith, lt)) (omega (arith, below))) its in
-    let apart : x.0 ≢ e.0 = λ same. pairs 0 (suc later.2.0) e (omega arith) (omega (arith, later.2.1)) (same ∙ ap (λ y. y.0) (sym later.2.2)) in
-    (later.0, ap (λ b. cond b (Some x.1) (lookup (is_at (R e.0)) xs)) (apart_in_order R exact e.0 x.0 (λ same. apart (sym same))) ∙ later.1,
-    (suc later.2.0, omega (arith, later.2.1), later.2.2)))
+    let apart : x.0 ≢ e.0 = λ same. pairs 0 (suc later.2.0) e (omega arith) (omega (arith, later.2.1)) (same ∙ ap (λ y. y.0) (sym later.2.2)) in (
+      later.0,
+      ap (λ b. cond b (Some x.1) (lookup (is_at (R e.0)) xs)) (apart_in_order R exact e.0 x.0 (λ same. apart (sym same))) ∙ later.1,
+      (suc later.2.0, omega (arith, later.2.1), later.2.2),
+    ))
     refl found
 
 module _ {K X : Type 0} (R : K → K → Ordering) (o : IsTotalOrder R) (exact : CmpEqualImpliesEq R) where

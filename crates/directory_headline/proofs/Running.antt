@@ -130,8 +130,8 @@ module _ (facts_hold : FactsHold) (settings : Settings) (are : AreSettings setti
       let next = before ++ event ∷ [] in
       let one = one_more settings before event in
       let later =
-          setting_back next rest (and_one before event all (All-head IsEvent event rest more)) (All-tail IsEvent event rest more)
-          (subst (λ world. IsSettingOf m (running.run world rest).world) (sym one) is) in
+      setting_back next rest (and_one before event all (All-head IsEvent event rest more)) (All-tail IsEvent event rest more)
+      (subst (λ world. IsSettingOf m (running.run world rest).world) (sym one) is) in
       before_result m f (rule.happens f event) (goes_on f (facts_hold settings before are all).views event) (subst (IsSettingOf m) one later)
 
   carried_run :

@@ -125,7 +125,7 @@ setting_of end whole = record {
   dead_stays_dead = λ j k silo le alive.
       let later = subst (λ view. is_alive_in view silo ≡ true) (view_up_to-is end.views k) alive in
       let before = alive_before (status_at end.views (up_to end.views j) silo) (status_at end.views (up_to end.views k) silo)
-          (dead_stays_dead end.views whole silo (up_to end.views j) (up_to end.views k) (up_to-rises end.views j k le) (up_to-made end.views k)) later in
+      (dead_stays_dead end.views whole silo (up_to end.views j) (up_to end.views k) (up_to-rises end.views j k le) (up_to-made end.views k)) later in
       subst (λ view. is_alive_in view silo ≡ true) (sym (view_up_to-is end.views j)) before;
   member_until_death = λ j k silo le member alive.
       let before = subst (λ view. is_member_in view silo ≡ true) (view_up_to-is end.views j) member in

@@ -87,7 +87,7 @@ module _ (test : Entry → Bool) where
       (λ t at is.
       let same : x.1 ≡ e = cc (is) in
       let all : filter test (entries_of (x ∷ xs)) ≡ e ∷ filter test (entries_of xs) =
-          ap (λ b. cond b (x.1 ∷ filter test (entries_of xs)) (filter test (entries_of xs))) (ap test same ∙ passes) ∙ ap (λ y. y ∷ filter test (entries_of xs)) same in
+      ap (λ b. cond b (x.1 ∷ filter test (entries_of xs)) (filter test (entries_of xs))) (ap test same ∙ passes) ∙ ap (λ y. y ∷ filter test (entries_of xs)) same in
       subst (λ l. Contains l e) (sym all) (0, omega arith, refl))
       (λ f at is. picked_more (test x.1) x.1 e (filter test (entries_of xs)) (picked_found grain xs e is passes))
       refl found
