@@ -1,20 +1,18 @@
 -- What is carried through a run: a fact of the views and places, one of each node, and one of each letter. A step may use that
 -- the letter that comes has its fact, and owes it of the letters that it sends.
-use Rattle.std.proofs.Common.{◌≡◌, refl, ap, subst, ◌∙◌, ℕ, ◌+◌, ◌-◌, ◌≤◌, List, [], ◌∷◌, ◌++◌}
-use Rattle.std.specs.Prelude.{⊤, Bool, true, false, cond, not, nat_le, ◌&&◌, nat_lt, length, All, Option, Some, None, Result, Ok, Err, IfOk}
+use Rattle.std.proofs.Common.{◌≡◌, ℕ, ◌-◌, ◌≤◌, List}
+use Rattle.std.specs.Prelude.{⊤, All, Ok}
 use Rattle.std.specs.Option.{unwrap_or}
-use Rattle.std.specs.Map.{lookup, set_value}
-use Rattle.std.specs.BTreeMap.{is_at}
 use Rattle.silo_address.specs.Silo.{Silo}
 use Rattle.membership_view.specs.View.{ViewValue}
-use Rattle.membership_view.specs.Views.{ViewsValue, view_at, status_at, joining_version}
+use Rattle.membership_view.specs.Views.{ViewsValue, view_at, joining_version}
 use Rattle.membership_view.specs.Changes.{Change, after}
 use Rattle.membership_view.specs.Changes as change
 use Rattle.hash_ring.specs.Places.{PlacesValue, after_add}
 use Rattle.directory_rules.specs.Settings.{Settings}
 use Rattle.directory_rules.specs.Letter.{Letter}
 use Rattle.directory_rules.specs.Node.{Node, new_node}
-use Rattle.directory_rules.specs.Event.{Event, Join, Leave, Kill, See, Wake, Close, Find, Forget, Deliver, Lose, Nudge, Offer}
+use Rattle.directory_rules.specs.Event.{Event, Join, Wake, Close, Find, Forget, Nudge, Offer}
 use Rattle.directory_rules.specs.Step.{Stepped}
 use Rattle.directory_rules.specs.Input.{Input, Sees, Wakes, Closes, Finds, Forgets, Nudges, Offers, Receives, step}
 use Rattle.directory_rules.specs.World.{World, first_world}
@@ -100,7 +98,7 @@ pub record KeepsBeside (G F : Facts) : Type 0 where
   pub first : (settings : Settings) → F.asked settings → F.shared settings (first_world settings).views (first_world settings).places
   pub joining : (settings : Settings) (views next : ViewsValue) (places added : PlacesValue) (silo : Silo) (given : List ℕ) → F.named (Join silo given) → G.shared settings views places → F.shared settings views places
       → change.after_join views silo ≡ Ok next → after_add places silo given ≡ Ok added → F.shared settings next added × F.node settings next added silo (new_node settings silo)
-  pub joined : (settings : Settings) (views next : ViewsValue) (places added : PlacesValue) (silo : Silo) (given : List ℕ) → G.shared settings views places → F.shared settings views places
+  pub joined : (settings : Settings) (views next : ViewsValue) (places added : PlacesValue) (silo : Silo) (given : List ℕ) → F.named (Join silo given) → G.shared settings views places → F.shared settings views places
       → change.after_join views silo ≡ Ok next → after_add places silo given ≡ Ok added → (other : Silo) (node : Node) → G.node settings views places other node → F.node settings views places other node → F.node settings next added other node
   pub going : (settings : Settings) (views next : ViewsValue) (places : PlacesValue) (change : Change) → IsGoing change → G.shared settings views places → F.shared settings views places → after views change ≡ Ok next
       → F.shared settings next places
@@ -108,6 +106,19 @@ pub record KeepsBeside (G F : Facts) : Type 0 where
       → (silo : Silo) (node : Node) → G.node settings views places silo node → F.node settings views places silo node → F.node settings next places silo node
   pub stepping : (settings : Settings) (views : ViewsValue) (places : PlacesValue) (silo : Silo) (node : Node) (input : Input) (stepped : Stepped)
       → Before G settings views places silo node input → After G settings views places silo stepped → Before F settings views places silo node input → step node input ≡ Ok stepped → After F settings views places silo stepped
+
+-- facts that rest on no others are kept beside any
+pub beside : (G F : Facts) → Keeps F → KeepsBeside G F
+beside G F k = record {
+  first = k.first;
+  joining = λ settings views next places added silo given named other shared viewed placed.
+      let made = k.joining settings views next places added silo given named shared viewed placed in
+      (made.0.shared, made.1);
+  joined = λ settings views next places added silo given named other shared viewed placed q node beside so. (k.joining settings views next places added silo given named shared viewed placed).0.nodes q node so;
+  going = λ settings views next places way goes other shared is. (k.going settings views next places way goes shared is).shared;
+  gone = λ settings views next places way goes other shared is silo node beside so. (k.going settings views next places way goes shared is).nodes silo node so;
+  stepping = λ settings views places silo node input stepped other made before is. k.stepping settings views places silo node input stepped before is;
+}
 
 -- the one or the other half of what an input brings
 brings_half : (G F : Facts) (settings : Settings) (views : ViewsValue) (places : PlacesValue) (silo : Silo) (input : Input) → Brings (Both G F) settings views places silo input
@@ -129,11 +140,13 @@ both_keep G F g f = record {
   first = λ settings asked. (g.first settings asked.0, f.first settings asked.1);
   joining = λ settings views next places added silo given named shared viewed placed.
       let one = g.joining settings views next places added silo given named.0 shared.0 viewed placed in
-      let other = f.joining settings views next places added silo given named.1 shared.0 shared.1 viewed placed in
-      (record {
-        shared = (one.0.shared, other.0);
-        nodes = λ its node is. (one.0.nodes its node is.0, f.joined settings views next places added silo given shared.0 shared.1 viewed placed its node is.0 is.1);
-      }, (one.1, other.1));
+      let other = f.joining settings views next places added silo given named.1 shared.0 shared.1 viewed placed in (
+        record {
+          shared = (one.0.shared, other.0);
+          nodes = λ its node is. (one.0.nodes its node is.0, f.joined settings views next places added silo given named.1 shared.0 shared.1 viewed placed its node is.0 is.1);
+        },
+        (one.1, other.1),
+      );
   going = λ settings views next places change goes shared is.
       let one = g.going settings views next places change goes shared.0 is in
       record {

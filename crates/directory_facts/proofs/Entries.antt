@@ -1,6 +1,6 @@
 -- What holds of each entry under a key, once one is put in, set or taken out; and what is found where a key passes a test.
-use Rattle.std.proofs.Common.{◌≡◌, refl, sym, subst, List, [], ◌∷◌}
-use Rattle.std.specs.Prelude.{Bool, true, false, cond, All, Option, Some, None}
+use Rattle.std.proofs.Common.{◌≡◌, refl, subst, List, [], ◌∷◌}
+use Rattle.std.specs.Prelude.{Bool, true, cond, All, Some}
 use Rattle.std.specs.Ordering.{match_ordering}
 use Rattle.std.specs.declared.cmp.Ordering.{Ordering}
 use Rattle.std.specs.declared.cmp.Ordering.TheVariants.{Less, Equal, Greater}

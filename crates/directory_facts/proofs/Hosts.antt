@@ -1,11 +1,11 @@
 -- A host goes on holding one activation a grain, whatever it does.
-use Rattle.std.proofs.Common.{◌≡◌, ◌≢◌, refl, sym, ap, subst, ◌∙◌, ℕ, List, [], ◌∷◌, ◌++◌, map, arith}
-use Rattle.std.specs.Prelude.{⊤, Bool, true, false, cond, All, AllPairs, Option, Some, None, fold}
+use Rattle.std.proofs.Common.{◌≡◌, ◌≢◌, refl, sym, ap, subst, ℕ, List, [], ◌∷◌, ◌++◌, map, arith}
+use Rattle.std.specs.Prelude.{⊤, Bool, false, cond, All, AllPairs, Some, None, fold}
 use Rattle.std.specs.List.{filter_map, cons_option}
 use Rattle.std.specs.Ordering.{nat_cmp, is_eq}
 use Rattle.std.specs.Map.{lookup, keys_of, set_value, remove_entry}
 use Rattle.std.specs.BTreeMap.{is_at, insert_entry}
-use Rattle.std.proofs.lemmas.List.Elements.{All-nil, All-cons, All-head, All-tail, All-append, All-weaker}
+use Rattle.std.proofs.lemmas.List.Elements.{All-nil, All-cons, All-head, All-tail, All-append}
 use Rattle.std.proofs.lemmas.List.Kept.{AllPairs-cons}
 use Rattle.std.proofs.lemmas.Cmp.{tied_itself}
 use Rattle.std.proofs.lemmas.Map.{keys-set_value}
@@ -18,7 +18,7 @@ use Rattle.directory_rules.specs.declared.act.Act.TheVariants.{Find}
 use Rattle.directory_rules.specs.declared.held.Held.{Held}
 use Rattle.directory_rules.specs.declared.held.Phase.{Phase}
 use Rattle.directory_rules.specs.declared.held.Phase.TheVariants.{Asking, Firm, Closing}
-use Rattle.directory_rules.specs.Host.{Host, held_of, outstanding, held_acts, find_acts, act_in, renewed, renewed_phase}
+use Rattle.directory_rules.specs.Host.{Host, outstanding, held_acts, find_acts, act_in, renewed, renewed_phase}
 use Rattle.directory_rules.proofs.Cases.{on_bool}
 use Rattle.directory_facts.specs.Own.{NamesOwn}
 use Rattle.directory_facts.proofs.Entries.{all_put}
@@ -38,9 +38,10 @@ once_held (e ∷ es) once = AllPairs-cons (λ a later. a.0 ≢ later.0) e es (ap
 
 once_pushed : {K : Type 0} (key : K) (ks : List K) → Once ks → All (λ k. k ≢ key) ks → Once (ks ++ key ∷ [])
 once_pushed key [] once new = (All-nil (λ later. key ≢ later), tt)
-once_pushed key (k ∷ ks) once new =
-    (All-append (λ later. k ≢ later) ks (key ∷ []) once.0 (All-cons (λ later. k ≢ later) key [] (All-head (λ x. x ≢ key) k ks new) (All-nil (λ later. k ≢ later))),
-    once_pushed key ks once.1 (All-tail (λ x. x ≢ key) k ks new))
+once_pushed key (k ∷ ks) once new = (
+  All-append (λ later. k ≢ later) ks (key ∷ []) once.0 (All-cons (λ later. k ≢ later) key [] (All-head (λ x. x ≢ key) k ks new) (All-nil (λ later. k ≢ later))),
+  once_pushed key ks once.1 (All-tail (λ x. x ≢ key) k ks new),
+)
 
 keys_pushed : {K X : Type 0} (es : List (K × X)) (e : K × X) → keys_of (es ++ e ∷ []) ≡ keys_of es ++ e.0 ∷ []
 keys_pushed [] e = refl

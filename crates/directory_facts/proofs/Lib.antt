@@ -7,4 +7,12 @@ pub mod Hosts
 pub mod Owning
 pub mod Placing
 pub mod Seeing
+pub mod Tabling
+pub mod Serving
+pub mod Collecting
+pub mod Piecing
+pub mod PiecesKept
+pub mod Hashes
+pub mod Throughout
+pub mod Leaving
 pub mod Lawful

@@ -1,16 +1,13 @@
 -- Every step leaves a node its silo's own, and what it sends is the silo's own.
-use Rattle.std.proofs.Common.{◌≡◌, refl, sym, ap, subst, ◌∙◌, ℕ, List, [], ◌∷◌, ◌++◌}
-use Rattle.std.specs.Prelude.{⊤, true, All, Option, Some, None, map, flat_map}
+use Rattle.std.proofs.Common.{◌≡◌, refl, sym, ap, subst, ◌∙◌, ℕ, List, [], ◌∷◌}
+use Rattle.std.specs.Prelude.{⊤, All, Option, Some, None, map, flat_map}
 use Rattle.std.specs.Map.{keys_of}
 use Rattle.std.specs.BTreeMap.{is_at}
 use Rattle.std.proofs.lemmas.List.Elements.{All-nil, All-cons, All-head, All-tail, All-append, All-map}
 use Rattle.silo_address.specs.Silo.{Silo}
 use Rattle.silo_address.specs.Grain.{Grain, grain_cmp}
 use Rattle.silo_address.specs.declared.ActivationId.{ActivationId}
-use Rattle.membership_view.specs.View.{ViewValue}
-use Rattle.membership_view.specs.Views.{ViewsValue}
 use Rattle.ring_range.specs.Range.{Range}
-use Rattle.hash_ring.specs.Places.{PlacesValue}
 use Rattle.directory_rules.specs.declared.act.Act.{Act}
 use Rattle.directory_rules.specs.declared.act.Act.TheVariants as act
 use Rattle.directory_rules.specs.declared.held.Held.{Held}
@@ -23,12 +20,11 @@ use Rattle.directory_rules.specs.Sight.{is_next}
 use Rattle.directory_rules.specs.Host.{Host, outstanding, entry_of, next_held, with_started, with_closing, with_find, without_find, without_held, confirmed, renewed}
 use Rattle.directory_rules.specs.Letter.{Letter, Body, Request_letter, Offer_letter, Query_letter}
 use Rattle.directory_rules.specs.Node.{Node}
-use Rattle.directory_rules.specs.Sending.{letter_to, letter_if_owned, owner_by, hash_of, request_of, request_letters, all_requests, recovery_of, ask_letters, query_letters, wants_by, all_wants}
+use Rattle.directory_rules.specs.Sending.{letter_to, letter_if_owned, owner_by, hash_of, request_of, request_letters, all_requests, recovery_of, wants_by, all_wants}
 use Rattle.directory_rules.specs.Step as at
 use Rattle.directory_rules.specs.Transfer as tr
-use Rattle.directory_rules.specs.Input.{Input}
-use Rattle.directory_facts.specs.Own.{IsOwnNode, NamesOwn, SaysOwn, IsOwnLetter}
-use Rattle.directory_facts.proofs.Carried.{Facts, Brings, Before, After, GoesOn, Keeps}
+use Rattle.directory_facts.specs.Own.{IsOwnNode, NamesOwn, IsOwnLetter}
+use Rattle.directory_facts.proofs.Carried.{Facts, Keeps}
 use Rattle.directory_facts.proofs.Ways.{MayBegin, Ways}
 use Rattle.directory_facts.proofs.Stepping.{by_way}
 use Rattle.directory_facts.proofs.Hosts.{Once, once_held, once_started, once_set, once_less, once_renewed, outstanding_own}
@@ -104,9 +100,10 @@ module _ (settings : Settings) (silo : Silo) (node : Node) (own : OwnNode settin
   host_so host same once = record { by_settings = own.by_settings; by_silo = same ∙ own.by_silo; once = once }
 
   begun : (grain : Grain) (previous : Option ActivationId) → MayBegin node grain → Made (at.started node grain previous)
-  begun grain previous may =
-      (host_so (with_started node.host grain previous) refl (once_started node.host.held grain (next_held node.host previous) own.once may.free),
-      requests_own settings node node.host.next_number (act.Register (entry_of node.host grain (next_held node.host previous)) previous) own.by_settings refl)
+  begun grain previous may = (
+    host_so (with_started node.host grain previous) refl (once_started node.host.held grain (next_held node.host previous) own.once may.free),
+    requests_own settings node node.host.next_number (act.Register (entry_of node.host grain (next_held node.host previous)) previous) own.by_settings refl,
+  )
 
   closed : (grain : Grain) (held : Held) → Own settings silo node.settings (with_closing node.host grain held)
   closed grain held = host_so (with_closing node.host grain held) refl (once_set node.host.held (is_at (grain_cmp grain)) (record held { phase = Closing node.host.next_number }) own.once)

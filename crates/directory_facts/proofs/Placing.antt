@@ -1,12 +1,12 @@
 -- Each silo with a row has places: the rows of views and the silos that were added go together.
-use Rattle.std.proofs.Common.{◌≡◌, refl, sym, ap, subst, ◌∙◌, ℕ, ◌+◌, List, [], ◌∷◌, length}
+use Rattle.std.proofs.Common.{◌≡◌, refl, sym, ap, subst, ◌∙◌, ℕ, List, [], ◌∷◌, length}
 use Rattle.std.specs.Prelude.{Bool, true, false, cond, ◌&&◌, nat_le, is_some, All, IsSome, Option, Some, None, Result, Ok, Err, not, filter}
 use Rattle.std.specs.Option.{option_map}
 use Rattle.std.specs.List.{list_all, cons_option}
 use Rattle.std.specs.Map.{lookup, keys_of}
 use Rattle.std.specs.BTreeMap.{is_at, insert_entry}
 use Rattle.std.specs.Ordering.{is_eq}
-use Rattle.std.proofs.lemmas.List.Elements.{All-nil, All-cons, All-head, All-tail, All-weaker, All-contains}
+use Rattle.std.proofs.lemmas.List.Elements.{All-cons, All-head, All-tail, All-weaker, All-contains}
 use Rattle.std.proofs.lemmas.Map.Views.{All-keys-insert_entry, Contains-keys_from_lookup}
 use Rattle.std.proofs.lemmas.Cmp.{tied_itself}
 use Rattle.silo_address.specs.Silo.{Silo, silo_cmp}
@@ -14,7 +14,6 @@ use Rattle.silo_address.proofs.Order.{silo_cmp_total, silo_cmp_exact}
 use Rattle.membership_view.specs.declared.row.Row.{Row}
 use Rattle.membership_view.specs.declared.status.Status.{Status}
 use Rattle.membership_view.specs.Row.{is_active, status_in, joining, dying}
-use Rattle.membership_view.specs.View.{ViewValue, active_silos}
 use Rattle.membership_view.specs.Views.{ViewsValue, row_of, rows_in, view_at}
 use Rattle.membership_view.specs.Changes.{occupant, changed, without, joined_rows}
 use Rattle.membership_view.proofs.Entries.{lookup-insert_entry}

@@ -28,7 +28,7 @@ use Rattle.directory_rules.specs.Happens as rule
 use Rattle.directory_rules.specs.Run.{run, run_from_start, world_after}
 use Rattle.directory_rules.proofs.Cases.{on_bool}
 use Rattle.directory_facts.proofs.Entries.{all_put, all_removed, all_set, found_so, same_key}
-use Rattle.directory_facts.proofs.Carried.{Facts, Brings, Before, After, GoesOn, IsGoing, Keeps, Everywhere}
+use Rattle.directory_facts.proofs.Carried.{Facts, Brings, After, GoesOn, IsGoing, Keeps, Everywhere}
 
 -- the fact of a node, of entries
 abbrev Of : Facts → World → (Silo × Node) → Type 0

@@ -1,6 +1,6 @@
 -- What a silo has seen stays the view of its version and the ring of that view, whatever happens.
-use Rattle.std.proofs.Common.{◌≡◌, refl, sym, ap, subst, ◌∙◌, ℕ, ◌+◌, ◌≤◌, List, [], arith}
-use Rattle.std.specs.Prelude.{⊤, true, All, Ok, Some}
+use Rattle.std.proofs.Common.{◌≡◌, refl, sym, ap, subst, ◌∙◌, ℕ, ◌+◌, ◌≤◌, List, arith}
+use Rattle.std.specs.Prelude.{⊤, Ok}
 use Rattle.std.specs.Map.{keys_of}
 use Rattle.std.proofs.lemmas.List.Elements.{All-nil}
 use Rattle.silo_address.specs.Silo.{Silo}
@@ -21,7 +21,7 @@ use Rattle.directory_rules.specs.Node.{Node, new_node}
 use Rattle.directory_rules.specs.Step as at
 use Rattle.directory_rules.specs.Input.{Input}
 use Rattle.directory_facts.specs.Seen.{SeesItsVersion}
-use Rattle.directory_facts.proofs.Carried.{Facts, Brings, IsSight, Before, After, GoesOn, IsGoing, Keeps}
+use Rattle.directory_facts.proofs.Carried.{Facts, Brings, IsSight, GoesOn, IsGoing, Keeps}
 use Rattle.directory_facts.proofs.Ways.{Ways}
 use Rattle.directory_facts.proofs.Stepping.{by_way}
 use Rattle.directory_facts.proofs.Placing.{AllAdded, added_changed, added_joined, added_more, added_itself, added_is, added_view}
@@ -75,19 +75,21 @@ joining : (settings : Settings) (views next : ViewsValue) (places added : Places
 joining settings views next places added silo given are viewed placed =
     let whole = next_whole settings views next places (change.Join silo) are viewed in
     let join = join_is views silo next viewed in
-    let made = added_is places added silo given placed in
-    (record {
-      shared = record {
-        whole = whole;
-        limit = ap (λ v. v.limit) join.is ∙ are.limit;
-        hashing = ap (λ p. p.hashing) (sym made) ∙ are.hashing;
-        points = ap (λ p. p.points) (sym made) ∙ are.points;
-        added = subst (λ (v : ViewsValue). AllAdded added (keys_of v.rows)) (sym join.is)
-            (added_joined added silo (views.version + 1) views.rows (added_more places added silo given (keys_of views.rows) placed are.added) (added_itself places added silo given placed));
-      };
-      nodes = λ other node sees. still_sees settings views next places (change.Join silo) are viewed added node
-          (λ version. ring_stays places silo given added placed (view_at views version) (added_view views places version are.added)) sees;
-    }, new_sees settings next added silo whole)
+    let made = added_is places added silo given placed in (
+      record {
+        shared = record {
+          whole = whole;
+          limit = ap (λ v. v.limit) join.is ∙ are.limit;
+          hashing = ap (λ p. p.hashing) (sym made) ∙ are.hashing;
+          points = ap (λ p. p.points) (sym made) ∙ are.points;
+          added = subst (λ (v : ViewsValue). AllAdded added (keys_of v.rows)) (sym join.is)
+              (added_joined added silo (views.version + 1) views.rows (added_more places added silo given (keys_of views.rows) placed are.added) (added_itself places added silo given placed));
+        };
+        nodes = λ other node sees. still_sees settings views next places (change.Join silo) are viewed added node
+            (λ version. ring_stays places silo given added placed (view_at views version) (added_view views places version are.added)) sees;
+      },
+      new_sees settings next added silo whole,
+    )
 
 -- rows change, and no silo more has one
 rows_change : (settings : Settings) (views next : ViewsValue) (places : PlacesValue) (how : Row → Row) (silo : Silo) → IsViews next → next ≡ change.next_views views (change.changed how silo views.rows) → AreViews settings views places → AreViews settings next places

@@ -25,22 +25,20 @@ use Rattle.directory_rules.specs.declared.reply.Reply.TheVariants as reply
 use Rattle.directory_rules.specs.declared.effect.Effect.TheVariants as effect
 use Rattle.directory_rules.specs.Piece.{Piece}
 use Rattle.directory_rules.specs.Table.{rise_by_grain, lie_in}
-use Rattle.directory_rules.specs.Sight.{is_next}
 use Rattle.directory_rules.specs.Snapshot.{Page, ShelfAnswer, Hands_page, Has_none, Is_behind, shelf_answer, has_snapshot, shelf_without}
-use Rattle.directory_rules.specs.Gathering.{Gathering, Gathered, Wants_page, Has_all, Refuses, gathered}
+use Rattle.directory_rules.specs.Gathering.{Gathered, Wants_page, Has_all, Refuses, gathered}
 use Rattle.directory_rules.specs.Recovery.{Report, Recovered, Awaits_more, Has_union, Rejects, recovered}
-use Rattle.directory_rules.specs.Host.{held_of, outstanding, has_numbers, has_count, is_full_of_activations, is_full_of_finds, is_firm, asking_under, closing_under, is_finding, is_outstanding, renewed, without_find}
+use Rattle.directory_rules.specs.Host.{held_of, outstanding, has_numbers, has_count, is_full_of_activations, is_full_of_finds, is_firm, asking_under, closing_under, is_finding, is_outstanding, without_find}
 use Rattle.directory_rules.specs.Cache.{hint_of, learnt}
 use Rattle.directory_rules.specs.Letter.{Body, Request_letter, Reply_letter, Ask_letter, Page_letter, Missing_letter, Done_letter, Query_letter, Report_letter, Behind_letter, Ahead_letter, Offer_letter, Letter}
 use Rattle.directory_rules.specs.Node.{Node}
 use Rattle.directory_rules.specs.Sending.{gathering_of, recovery_of}
-use Rattle.directory_rules.specs.Answer.{answered}
 use Rattle.directory_rules.specs.Step as at
 use Rattle.directory_rules.specs.Reply as re
 use Rattle.directory_rules.specs.Transfer as tr
 use Rattle.directory_rules.specs.Receive as rc
 use Rattle.directory_rules.specs.Input.{Input, Sees, Wakes, Closes, Finds, Forgets, Nudges, Offers, Receives, step}
-use Rattle.directory_facts.proofs.Ways.{MayBegin, MayClose, IsReply, HasPiece, IsPageTaken, IsReportTaken, Ways}
+use Rattle.directory_facts.proofs.Ways.{IsReply, HasPiece, IsPageTaken, IsReportTaken, Ways}
 
 -- ---- what tests say
 unless : (Q : at.Stepped → Type 0) (b : Bool) (number : ℕ) (result : Result at.Stepped ℕ) → (b ≡ false → IfOk result Q) → IfOk (cond b (Err number) result) Q

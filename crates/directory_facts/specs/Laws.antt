@@ -1,5 +1,5 @@
--- What holds in every world that a run reaches.
-use Rattle.std.specs.Prelude.{◌≡◌, ◌≢◌, ℕ, ◌<◌, List, Some}
+-- What holds in every world that a run reaches, whatever the settings and the events.
+use Rattle.std.specs.Prelude.{◌≡◌, ℕ, ◌<◌, List, All, Some}
 use Rattle.silo_address.specs.Silo.{Silo}
 use Rattle.silo_address.specs.Grain.{Grain}
 use Rattle.ring_range.specs.Range.{circle}
@@ -8,24 +8,52 @@ use Rattle.hash_ring.specs.Hash.{hash_grain}
 use Rattle.directory_rules.specs.Settings.{Settings, AreSettings}
 use Rattle.directory_rules.specs.Letter.{Letter}
 use Rattle.directory_rules.specs.Node.{Node}
-use Rattle.directory_rules.specs.Event.{Event}
+use Rattle.directory_rules.specs.Event.{Event, IsEvent}
 use Rattle.directory_rules.specs.World.{World}
 use Rattle.directory_rules.specs.Mail.{letter_of}
 use Rattle.directory_rules.specs.Happens.{node_of}
 use Rattle.directory_rules.specs.Run.{run_from_start}
+use Rattle.directory_rules.specs.Laws.{NamesHashes, IsReached, HoldOwned}
 use Rattle.directory_facts.specs.Own.{IsOwnNode, IsOwnLetter}
+use Rattle.directory_facts.specs.Seen.{SeesItsVersion, ArePlaced}
+use Rattle.directory_facts.specs.Pieces.{HasPieces}
 
 -- the world after such events
 abbrev pub world_by : Settings → List Event → World
 world_by settings events = (run_from_start settings events).world
 
--- each node is its silo's own, with the world's settings and one activation a grain
+-- the world keeps its settings; each node is its silo's own, by them, and holds one activation a grain
+abbrev pub SettingsStay : Type 0
+SettingsStay = (settings : Settings) (events : List Event) → (world_by settings events).settings ≡ settings
+
 abbrev pub NodesAreOwn : Type 0
 NodesAreOwn = (settings : Settings) (events : List Event) (silo : Silo) (node : Node) → node_of (world_by settings events) silo ≡ Some node → IsOwnNode settings silo node
 
 -- each letter in the mail is its sender's own
 abbrev pub LettersAreOwn : Type 0
 LettersAreOwn = (settings : Settings) (events : List Event) (number : ℕ) (letter : Letter) → letter_of (world_by settings events) number ≡ Some letter → IsOwnLetter settings letter
+
+-- each node has the view of the version that it has seen, and the ring of that view
+abbrev pub NodesSeeTheirVersions : Type 0
+NodesSeeTheirVersions = (settings : Settings) (events : List Event) → AreSettings settings → (silo : Silo) (node : Node) → node_of (world_by settings events) silo ≡ Some node
+    → SeesItsVersion (world_by settings events).views (world_by settings events).places node
+
+-- each silo with a row has places
+abbrev pub RowsHavePlaces : Type 0
+RowsHavePlaces = (settings : Settings) (events : List Event) → AreSettings settings → ArePlaced settings (world_by settings events).views (world_by settings events).places
+
+-- each node's pieces are ranges under their starts, which rise, each with the table of its range; and so is what it has of those
+-- that it awaits and recovers
+abbrev pub NodesHavePieces : Type 0
+NodesHavePieces = (settings : Settings) (events : List Event) (silo : Silo) (node : Node) → IsReached settings events silo node → HasPieces settings.hashing node
+
+-- the pieces hold each hash that the silo owns by its ring once, and no other, and each entry lies in its piece
+abbrev pub PiecesAreOwned : Type 0
+PiecesAreOwned = (settings : Settings) (events : List Event) (silo : Silo) (node : Node) → IsReached settings events silo node → HoldOwned settings.hashing node.ring.points silo node.holding.pieces
+
+-- events whose values are in range name hashes
+abbrev pub EventsNameHashes : Type 0
+EventsNameHashes = (events : List Event) → All IsEvent events → All NamesHashes events
 
 -- the hash of a grain is a hash
 abbrev pub GrainsHaveHashes : Type 0

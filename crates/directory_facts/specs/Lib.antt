@@ -1,3 +1,5 @@
 pub mod Own
 pub mod Seen
+pub mod Pieces
+pub mod Whole
 pub mod Laws

@@ -1,7 +1,6 @@
 -- What is a silo's own: its node, the activations that it holds, and what it names in its letters.
 use Rattle.std.specs.Prelude.{◌≡◌, ◌≢◌, ⊤, AllPairs}
 use Rattle.silo_address.specs.Silo.{Silo}
-use Rattle.ring_range.specs.Range.{Range}
 use Rattle.hash_ring.specs.declared.Hashing.{Hashing}
 use Rattle.hash_ring.specs.Hash.{hash_grain}
 use Rattle.directory_rules.specs.declared.act.Act.{Act}

@@ -1,0 +1,5 @@
+use Rattle.directory_facts.proofs.Leaving.{answers_leave_others}
+use Rattle.directory_facts.proofs.laws.answers_leave_others.Goals as goal
+
+pub returns : goal.returns
+returns c = answers_leave_others

@@ -1,0 +1,56 @@
+//! The laws. Each holds for all settings and all lists of events, and says what it asks of them.
+ghost use Rattle.directory_facts.specs.Laws.{SettingsStay, NodesAreOwn, LettersAreOwn, NodesSeeTheirVersions, RowsHavePlaces, NodesHavePieces, PiecesAreOwned, EventsNameHashes, GrainsHaveHashes};
+ghost use Rattle.directory_facts.specs.Whole.{WasSettledIsSettled, AnswersLeaveOthers};
+
+/// The world keeps its settings. A silo's node is that silo's, by these settings, and it holds one activation a grain.
+pub fn nodes_are_own()
+    ensures settings { SettingsStay }
+    ensures nodes { NodesAreOwn }
+{}
+
+/// A request in the mail is its sender's, under the hash of its grain; what it registers or deregisters is an activation of the
+/// sender, and so is what a silo offers.
+pub fn letters_are_own()
+    ensures { LettersAreOwn }
+{}
+
+/// A node's view is that of the version that it has seen, and its ring is the ring of that view by the places of all silos.
+pub fn nodes_see_their_versions()
+    ensures { NodesSeeTheirVersions }
+{}
+
+/// A silo with a row has places; views and places are by the settings.
+pub fn rows_have_places()
+    ensures { RowsHavePlaces }
+{}
+
+/// A node's pieces are ranges, none empty, each under its start, and these rise. A piece's table is in the order of the grains, each
+/// entry under its own and in the piece of its hash; a piece that isn't settled has none.
+pub fn nodes_have_pieces()
+    ensures { NodesHavePieces }
+{}
+
+/// A node's pieces hold each hash that its silo owns by its ring, once, and no other, and each entry lies in its piece.
+pub fn pieces_are_owned()
+    ensures { PiecesAreOwned }
+{}
+
+/// Events whose values are in range name hashes, which is all that the laws ask of them.
+pub fn events_name_hashes()
+    ensures { EventsNameHashes }
+{}
+
+/// The hash of a grain is a hash, be it stated or made of its text.
+pub fn grains_have_hashes()
+    ensures { GrainsHaveHashes }
+{}
+
+/// A range was settled just where each of its hashes lies in a settled piece.
+pub fn was_settled_is_settled()
+    ensures { WasSettledIsSettled }
+{}
+
+/// An answer leaves the version seen, the ranges and states of the pieces, and the entry of every other grain in any piece.
+pub fn answers_leave_others()
+    ensures { AnswersLeaveOthers }
+{}
