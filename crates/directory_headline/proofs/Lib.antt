@@ -11,3 +11,9 @@ pub mod Viewed
 pub mod Starting
 pub mod Running
 pub mod Steps
+pub mod Hosts
+pub mod Staying
+pub mod Finding
+pub mod Beginning
+pub mod Closing
+pub mod Replies
