@@ -17,3 +17,6 @@ pub mod Finding
 pub mod Beginning
 pub mod Closing
 pub mod Replies
+pub mod Distinct
+pub mod Renewals
+pub mod Renewing
