@@ -10,7 +10,6 @@ pub mod Going
 pub mod Viewed
 pub mod Starting
 pub mod Running
-pub mod Steps
 pub mod Hosts
 pub mod Staying
 pub mod Finding
@@ -20,3 +19,13 @@ pub mod Replies
 pub mod Distinct
 pub mod Renewals
 pub mod Renewing
+pub mod FactsHold
+pub mod FirmEntries
+pub mod Telling
+pub mod PieceAt
+pub mod Answering
+pub mod Serving
+pub mod Steps
+pub mod TableEntries
+pub mod HashPieces
+pub mod Capped
