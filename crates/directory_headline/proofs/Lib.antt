@@ -19,6 +19,8 @@ pub mod Replies
 pub mod Distinct
 pub mod Renewals
 pub mod Renewing
+pub mod Members
+pub mod KeptEntries
 pub mod FactsHold
 pub mod FirmEntries
 pub mod Telling
