@@ -22,6 +22,7 @@ pub mod Renewing
 pub mod Members
 pub mod KeptEntries
 pub mod SightPieces
+pub mod Sights
 pub mod FactsHold
 pub mod FirmEntries
 pub mod Telling
