@@ -23,6 +23,7 @@ pub mod Members
 pub mod KeptEntries
 pub mod SightPieces
 pub mod Sights
+pub mod Seeing
 pub mod FactsHold
 pub mod FirmEntries
 pub mod Telling
