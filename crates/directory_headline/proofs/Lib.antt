@@ -22,9 +22,14 @@ pub mod Telling
 pub mod PieceAt
 pub mod Answering
 pub mod Serving
-pub mod Steps
 pub mod TableEntries
 pub mod HashPieces
 pub mod Capped
 pub mod PieceSet
 pub mod SettledPiece
+pub mod Members
+pub mod Unions
+pub mod Turning
+pub mod Collecting
+pub mod Recovering
+pub mod Steps
