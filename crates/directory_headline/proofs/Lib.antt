@@ -20,3 +20,4 @@ pub mod Replies
 pub mod PieceAt
 pub mod Answering
 pub mod Serving
+pub mod FactsHold
