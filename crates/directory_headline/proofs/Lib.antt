@@ -21,3 +21,5 @@ pub mod PieceAt
 pub mod Answering
 pub mod Serving
 pub mod FactsHold
+pub mod HighHashes
+pub mod HashTables
