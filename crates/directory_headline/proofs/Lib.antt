@@ -23,3 +23,4 @@ pub mod Serving
 pub mod FactsHold
 pub mod HighHashes
 pub mod HashTables
+pub mod Promises
