@@ -10,7 +10,6 @@ pub mod Going
 pub mod Viewed
 pub mod Starting
 pub mod Running
-pub mod Steps
 pub mod Hosts
 pub mod Staying
 pub mod Finding
@@ -24,3 +23,11 @@ pub mod FactsHold
 pub mod HighHashes
 pub mod HashTables
 pub mod Promises
+pub mod FirmEntries
+pub mod Telling
+pub mod Steps
+pub mod TableEntries
+pub mod HashPieces
+pub mod Capped
+pub mod PieceSet
+pub mod SettledPiece

@@ -92,7 +92,7 @@ module _ {K X : Type 0} (R : K → K → Ordering) (o : IsTotalOrder R) (exact :
   found_beside_end k x es q apart = end_elsewhere (is_at (R q)) k x es (apart_in_order R exact q k apart)
 
 -- a list in which no key stands twice, after one was taken out
-absent_found : {K X : Type 0} (R : K → K → Ordering) → CmpEqualImpliesEq R → (k : K) (es : List (K × X)) → All (λ e. k ≢ e.0) es → lookup (is_at (R k)) es ≡ None
+pub absent_found : {K X : Type 0} (R : K → K → Ordering) → CmpEqualImpliesEq R → (k : K) (es : List (K × X)) → All (λ e. k ≢ e.0) es → lookup (is_at (R k)) es ≡ None
 absent_found R exact k [] all = refl
 absent_found R exact k (e ∷ es) all =
     ap (λ b. cond b (Some e.1) (lookup (is_at (R k)) es)) (apart_in_order R exact k e.0 (All-head (λ x. k ≢ x.0) e es all)) ∙ absent_found R exact k es (All-tail (λ x. k ≢ x.0) e es all)
@@ -106,3 +106,10 @@ once_removed R o exact k (e ∷ es) pairs =
     absent_found R exact k es (λ i d below. subst (λ q. q ≢ (slice_index_or es i d).0) (sym same) (pairs 0 (suc i) d (omega arith) (omega (arith, below)))))
     (λ f is. ap (λ b. cond b (Some e.1) (lookup (is_at (R k)) (remove_entry (is_at (R k)) es))) is ∙ once_removed R o exact k es (λ i j d lt below. pairs (suc i) (suc j) d (omega (arith, lt)) (omega (arith, below))))
     refl
+
+-- what stands first
+pub lookup_first : {K X : Type 0} (R : K → K → Ordering) → IsTotalOrder R → (k : K) (x : X) (es : List (K × X)) → lookup (is_at (R k)) ((k, x) ∷ es) ≡ Some x
+lookup_first R o k x es = ap (λ b. cond b (Some x) (lookup (is_at (R k)) es)) (at_itself R o k)
+
+pub lookup_later : {K X : Type 0} (R : K → K → Ordering) → CmpEqualImpliesEq R → (q k : K) (x : X) (es : List (K × X)) → q ≢ k → lookup (is_at (R q)) ((k, x) ∷ es) ≡ lookup (is_at (R q)) es
+lookup_later R exact q k x es apart = ap (λ b. cond b (Some x) (lookup (is_at (R q)) es)) (apart_in_order R exact q k apart)
