@@ -69,7 +69,7 @@ pub record Left (m : Setting) (f : World) (w : protocol.World) (silo : Silo) (no
 
 ways : (m : Setting) (f : World) (w : protocol.World) (silo : Silo) (node : Node) → Here m f w silo node → Left m f w silo node → Ways node (Shows m f w silo)
 ways m f w silo node here left = record {
-  nothing = λ input effect brings. nothing m f w silo node here effect;
+  nothing = λ input effect plain brings. nothing m f w silo node here effect;
   sees = λ before view places newer numbers brings. left.sees before view places newer brings;
   wakes = λ grain may brings. wakes m f w silo node here grain may;
   closes = λ grain held may brings. closes m f w silo node here grain held may;
