@@ -39,7 +39,7 @@ use Rattle.directory_headline.specs.Shown.{IsShownNode, IsShownLetter, IsShownBo
 use Rattle.directory_headline.proofs.Facts.{IsTable}
 use Rattle.directory_headline.proofs.TableEntries.{found_own, found_holds}
 use Rattle.directory_headline.proofs.Unions.{union_stays, union_came, union_has}
-use Rattle.directory_headline.proofs.Members.{recovery_begins}
+use Rattle.directory_headline.proofs.NewRecoveries.{recovery_begins}
 use Rattle.directory_headline.proofs.Frame.{Here, Comes, Moves, stays, node_shown, hash_is, no_letters}
 
 -- ---- what the tests of a report say

@@ -28,7 +28,7 @@ use Rattle.directory_headline.specs.Silo_state.{state_of}
 use Rattle.directory_headline.specs.Shown.{activation_in, IsShownNode, IsShownHolding, IsShownLetter, IsShownGathering, IsShownRecovery}
 use Rattle.directory_headline.proofs.Frame.{Here, Moves, stays, node_shown}
 use Rattle.directory_headline.proofs.SettledPiece.{grain_below, changed_has, others_have, settled_changed}
-use Rattle.directory_headline.proofs.Members.{recovery_begins}
+use Rattle.directory_headline.proofs.NewRecoveries.{recovery_begins}
 
 module _ (m : Setting) (f : World) (w : protocol.World) (silo : Silo) (node : Node) (here : Here m f w silo node) where
   holding_turned : (version : ℕ) (range : Range) (piece : Piece) → HasPiece node version range piece → is_settled piece.state ≡ false → IsShownHolding m.hash (with_state node range state.Recovering []).holding (state_of w silo)
