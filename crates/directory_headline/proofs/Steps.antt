@@ -39,6 +39,9 @@ use Rattle.directory_headline.proofs.Closing.{closes, offers}
 use Rattle.directory_headline.proofs.Replies.{confirms, yields, removes, misses}
 use Rattle.directory_headline.proofs.Telling.{reports}
 use Rattle.directory_headline.proofs.Serving.{answers}
+use Rattle.directory_headline.proofs.Turning.{turns}
+use Rattle.directory_headline.proofs.Collecting.{collects}
+use Rattle.directory_headline.proofs.Recovering.{completes}
 use Rattle.directory_headline.proofs.Renewing.{nudges}
 
 -- what is to be shown of a way
@@ -62,19 +65,10 @@ pub record Left (m : Setting) (f : World) (w : protocol.World) (silo : Silo) (no
   pub drops :
       (letter : Letter) (page : Page) (gathering : Gathering) → IsPageTaken node letter page → gathered (gathering_of node page.range) page ≡ Refuses 701 gathering → Comes m f w silo letter
       → Moves m w silo (silently (with_gathering node gathering) (effect.Refused 701))
-  pub turns :
-      (letter : Letter) (range : Range) (piece : Piece) → HasPiece node letter.version range piece → piece.state ≡ state.Awaiting letter.from
-      → Moves m w silo (querying range (turned_to_recovery node range))
-  pub collects :
-      (letter : Letter) (report : Report) (recovery : Recovery) → IsReportTaken node letter report → recovered (recovery_of node report.range) report ≡ Awaits_more recovery → Comes m f w silo letter
-      → Moves m w silo (silently (with_recovery node recovery) effect.More)
-  pub completes :
-      (letter : Letter) (report : Report) (table : Table) → IsReportTaken node letter report → recovered (recovery_of node report.range) report ≡ Has_union table → Comes m f w silo letter
-      → Moves m w silo (silently (with_settled node report.range table) effect.Complete)
 
 ways : (m : Setting) (f : World) (w : protocol.World) (silo : Silo) (node : Node) → Here m f w silo node → Left m f w silo node → Ways node (Shows m f w silo)
 ways m f w silo node here left = record {
-  nothing = λ input effect brings. nothing m f w silo node here effect;
+  nothing = λ input effect plain brings. nothing m f w silo node here effect;
   sees = λ before view places newer numbers brings. left.sees before view places newer brings;
   wakes = λ grain may brings. wakes m f w silo node here grain may;
   closes = λ grain held may brings. closes m f w silo node here grain held may;
@@ -99,9 +93,9 @@ ways m f w silo node here left = record {
   gathers = λ letter page gathering taken is brings. left.gathers letter page gathering taken is brings;
   installs = λ letter page entries taken is brings. left.installs letter page entries taken is brings;
   drops = λ letter page gathering taken is brings. left.drops letter page gathering taken is brings;
-  turns = λ letter range piece body has awaits brings. left.turns letter range piece has awaits;
-  collects = λ letter report recovery taken is brings. left.collects letter report recovery taken is brings;
-  completes = λ letter report table taken is brings. left.completes letter report table taken is brings;
+  turns = λ letter range piece body has awaits brings. turns m f w silo node here letter range piece has awaits;
+  collects = λ letter report recovery taken is brings. collects m f w silo node here letter report taken brings recovery is;
+  completes = λ letter report table taken is brings. completes m f w silo node here letter report taken brings table is;
   takes_over = λ letter entry body seen may brings. takes_over m f w silo node here letter entry body seen may brings;
 }
 
