@@ -38,17 +38,19 @@ use Rattle.directory_rules.specs.World.{World}
 use Rattle.directory_rules.specs.Laws.{is_live}
 use Rattle.directory_rules.proofs.Cases.{on_bool}
 use Rattle.directory_facts.proofs.Carried.{IsSight}
-use Rattle.directory_facts.proofs.Hashes.{grains_have_hashes}
 use Rattle.directory_facts.proofs.Serving.{found_holds}
+use Rattle.directory_headline.specs.Setting.{is_member_in}
 use Rattle.directory_headline.specs.Silo_state.{state_of}
 use Rattle.directory_headline.specs.Shown.{activation_in, IsShownHost, IsShownHolding, IsListOf, HasSealed, IsShownSnapshot, IsShownGathering, IsShownRecovery, IsShownLetter}
+use Rattle.directory_headline.proofs.Settings.{view_by_address}
 use Rattle.directory_headline.proofs.Actors.{leaves_after, leaves_run}
 use Rattle.directory_headline.proofs.Facts.{NodeFacts, IsPiece}
 use Rattle.directory_headline.proofs.Frame.{Here, Moves, alive, node_facts, node_shown, host_is, hash_is}
 use Rattle.directory_headline.proofs.Growing.{shelf_still, gatherings_still, recoveries_still}
 use Rattle.directory_headline.proofs.PieceAt.{of_found}
-use Rattle.directory_headline.proofs.Members.{members_are, view_by_address}
+use Rattle.directory_headline.proofs.NewRecoveries.{new_recovery_shown}
 use Rattle.directory_headline.proofs.KeptEntries.{kept_at, kept_rises, kept_again, kept_inside}
+use Rattle.directory_headline.proofs.SettledPiece.{grain_below}
 use Rattle.directory_headline.proofs.SightPieces.{IsSealed}
 use Rattle.directory_headline.proofs.Renewals.{IsSentAnew, SendsAnew, sends_anew}
 use Rattle.directory_headline.proofs.Renewing.{requests_shown, all_wants_shown}
@@ -67,14 +69,7 @@ module _ (m : Setting) (w : protocol.World) (view : ViewValue) where
           (record { next = refl; entries = refl }) later
       by state.Recovering later = later
 
-  module _ (member : (s : Silo) → m.member view.version s ≡ is_live (status_of view s)) (by_address : IsByAddress view) where
-    recovery_anew : (range : Range) → IsShownRecovery m w.reports (new_recovery view range)
-    recovery_anew range = record {
-      gathered = λ grain e found. absurd (cc (found));
-      awaits = λ silo awaited. member silo ∙ sym (members_are view silo by_address) ∙ awaited;
-      members = λ silo is. inl (members_are view silo by_address ∙ sym (member silo) ∙ is);
-    }
-
+  module _ (member : (s : Silo) → m.member view.version s ≡ is_member_in view s) (by_address : IsByAddress view) where
     recoveries_anew : (pieces : List (ℕ × Piece)) → All (λ e. IsShownRecovery m w.reports e.1) (new_recoveries view pieces)
     recoveries_anew [] = All-nil (λ (e : ℕ × Recovery). IsShownRecovery m w.reports e.1)
     recoveries_anew (e ∷ es) = by e.1.state (recoveries_anew es)
@@ -83,7 +78,7 @@ module _ (m : Setting) (w : protocol.World) (view : ViewValue) where
         by state.Settled later = later
         by (state.Awaiting from) later = later
         by state.Recovering later =
-            All-cons (λ (x : ℕ × Recovery). IsShownRecovery m w.reports x.1) (e.1.range.start, new_recovery view e.1.range) (new_recoveries view es) (recovery_anew e.1.range) later
+            All-cons (λ (x : ℕ × Recovery). IsShownRecovery m w.reports x.1) (e.1.range.start, new_recovery view e.1.range) (new_recoveries view es) (new_recovery_shown m w view e.1.range by_address member) later
 
 -- ---- a hash that one of them has, some of them have
 module _ {X : Type 0} (test : ℕ → X → Bool) where
@@ -129,7 +124,7 @@ module _ (m : Setting) (f : World) (w : protocol.World) (silo : Silo) (node : No
       → surviving m view.version (w.table silo grain) ≡ activation_in (entry_at grain (kept_entries node.settings.hashing view pieces range))
   survives range is was grain held =
       let its = hash_is m f w silo node here in
-      let below : m.hash grain < circle = subst (λ h. h grain < circle) (sym its) (grains_have_hashes node.settings.hashing grain) in
+      let below = grain_below m f w silo node here grain in
       let has = sights.had_settled m f w silo node here before view places newer brings range is was (m.hash grain) below held in
       let piece = (of_found (λ e. IsPiece m.hash e.1) (m.hash grain) pieces has.piece facts.pieces.each has.found).1 in
       ap (surviving m view.version) ((node_shown m f w silo node here).holding.table grain has.piece has.found has.settled)
@@ -196,7 +191,7 @@ module _ (m : Setting) (f : World) (w : protocol.World) (silo : Silo) (node : No
       let version = put_same silo view.version w.seen in
       let holding = holding_shown in
       let member = sights.member_there m f w silo node here before view places newer brings in
-      let by_address = subst IsByAddress (sym (sights.view_is m f w silo node here before view places newer brings)) (view_by_address f.views here.facts.peopled.whole view.version (sights.within m f w silo node here before view places newer brings)) in
+      let by_address = subst IsByAddress (sym (sights.view_is m f w silo node here before view places newer brings)) (view_by_address f.views view.version here.facts.peopled.whole) in
       record {
         actions = See x ∷ sends.actions;
         allowed = (sights.may_see m f w silo node here before view places newer brings, sends.allowed);

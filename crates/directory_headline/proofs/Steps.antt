@@ -43,6 +43,7 @@ use Rattle.directory_headline.proofs.Turning.{turns}
 use Rattle.directory_headline.proofs.Collecting.{collects}
 use Rattle.directory_headline.proofs.Recovering.{completes}
 use Rattle.directory_headline.proofs.Renewing.{nudges}
+use Rattle.directory_headline.proofs.Seeing.{sees}
 
 -- what is to be shown of a way
 abbrev pub Shows : Setting → World → protocol.World → Silo → Input → Stepped → Type 0
@@ -50,9 +51,6 @@ Shows m f w silo input stepped = Brings m f w silo input → Moves m w silo step
 
 -- the ways that are left to be shown
 pub record Left (m : Setting) (f : World) (w : protocol.World) (silo : Silo) (node : Node) : Type 0 where
-  pub sees :
-      (before view : ViewValue) (places : PlacesValue) → node.view.version < view.version → IsSight f.views f.places silo before view places
-      → Moves m w silo (sight (is_next node.view before view node.host.silo) node before view places)
   pub hands :
       (letter : Letter) (range : Range) (number : ℕ) (page : Page) → shelf_answer node.shelf node.view.version letter.version range letter.from number ≡ Hands_page page
       → Moves m w silo (answering letter node (Page_letter page) effect.Page)
@@ -69,7 +67,7 @@ pub record Left (m : Setting) (f : World) (w : protocol.World) (silo : Silo) (no
 ways : (m : Setting) (f : World) (w : protocol.World) (silo : Silo) (node : Node) → Here m f w silo node → Left m f w silo node → Ways node (Shows m f w silo)
 ways m f w silo node here left = record {
   nothing = λ input effect plain brings. nothing m f w silo node here effect;
-  sees = λ before view places newer numbers brings. left.sees before view places newer brings;
+  sees = λ before view places newer numbers brings. sees m f w silo node here before view places newer brings;
   wakes = λ grain may brings. wakes m f w silo node here grain may;
   closes = λ grain held may brings. closes m f w silo node here grain held may;
   offers = λ grain held to may active other brings. offers m f w silo node here grain held may to;
