@@ -40,3 +40,5 @@ pub mod Recovering
 pub mod HashPieces
 pub mod NewRecoveries
 pub mod Steps
+pub mod SameTables
+pub mod PagesTaken
