@@ -39,6 +39,8 @@ pub mod Collecting
 pub mod Recovering
 pub mod HashPieces
 pub mod NewRecoveries
-pub mod Steps
 pub mod SameTables
 pub mod PagesTaken
+pub mod Paging
+pub mod Installing
+pub mod Steps
