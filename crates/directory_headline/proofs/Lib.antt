@@ -42,4 +42,8 @@ pub mod Collecting
 pub mod Recovering
 pub mod HashPieces
 pub mod NewRecoveries
+pub mod SameTables
+pub mod PagesTaken
+pub mod Paging
+pub mod Installing
 pub mod Steps
