@@ -21,6 +21,9 @@ pub mod Renewals
 pub mod Renewing
 pub mod Members
 pub mod KeptEntries
+pub mod SightPieces
+pub mod Sights
+pub mod Seeing
 pub mod FactsHold
 pub mod FirmEntries
 pub mod Telling

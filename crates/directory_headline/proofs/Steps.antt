@@ -45,21 +45,16 @@ use Rattle.directory_headline.proofs.Turning.{turns}
 use Rattle.directory_headline.proofs.Collecting.{collects}
 use Rattle.directory_headline.proofs.Recovering.{completes}
 use Rattle.directory_headline.proofs.Renewing.{nudges}
+use Rattle.directory_headline.proofs.Seeing.{sees}
 
 -- what is to be shown of a way
 abbrev pub Shows : Setting → World → protocol.World → Silo → Input → Stepped → Type 0
 Shows m f w silo input stepped = Brings m f w silo input → Moves m w silo stepped
 
--- the ways that are left to be shown
-pub record Left (m : Setting) (f : World) (w : protocol.World) (silo : Silo) (node : Node) : Type 0 where
-  pub sees :
-      (before view : ViewValue) (places : PlacesValue) → node.view.version < view.version → IsSight f.views f.places silo before view places
-      → Moves m w silo (sight (is_next node.view before view node.host.silo) node before view places)
-
-ways : (m : Setting) (f : World) (w : protocol.World) (silo : Silo) (node : Node) → Here m f w silo node → Left m f w silo node → Ways node (Shows m f w silo)
-ways m f w silo node here left = record {
+ways : (m : Setting) (f : World) (w : protocol.World) (silo : Silo) (node : Node) → Here m f w silo node → Ways node (Shows m f w silo)
+ways m f w silo node here = record {
   nothing = λ input effect plain brings. nothing m f w silo node here effect;
-  sees = λ before view places newer numbers brings. left.sees before view places newer brings;
+  sees = λ before view places newer numbers brings. sees m f w silo node here before view places newer brings;
   wakes = λ grain may brings. wakes m f w silo node here grain may;
   closes = λ grain held may brings. closes m f w silo node here grain held may;
   offers = λ grain held to may active other brings. offers m f w silo node here grain held may to;
@@ -89,10 +84,6 @@ ways m f w silo node here left = record {
   takes_over = λ letter entry body seen may brings. takes_over m f w silo node here letter entry body seen may brings;
 }
 
--- the ways that are left, at every silo
-abbrev pub AllLeft : Type 0
-AllLeft = (m : Setting) (f : World) (w : protocol.World) (silo : Silo) (node : Node) → Here m f w silo node → Left m f w silo node
-
--- all steps move, if the ways that are left do
-pub all_move : AllLeft → AllMove
-all_move left m f w silo node here input stepped is brings = by_way node (Shows m f w silo) (ways m f w silo node here (left m f w silo node here)) input stepped is brings
+-- so all steps move
+pub all_move : AllMove
+all_move m f w silo node here input stepped is brings = by_way node (Shows m f w silo) (ways m f w silo node here) input stepped is brings
