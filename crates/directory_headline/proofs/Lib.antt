@@ -31,3 +31,8 @@ pub mod HashPieces
 pub mod Capped
 pub mod PieceSet
 pub mod SettledPiece
+pub mod PlainWays
+pub mod PlainSilo
+pub mod PlainViews
+pub mod Plainly
+pub mod Ending

@@ -187,7 +187,7 @@ module _ (m : Setting) (f : World) (setting : IsSettingOf m f) (facts : WorldFac
       where
         by : m.hash grain ≡ number → (o : Option Entry) → entry_at grain at.piece.entries ≡ o → activation_in (entry_at grain at.piece.entries) ≡ Some (activation_on t held.count)
             → Contains (filter its (entries_of at.piece.entries)) (entry_on t grain held)
-        by so None found is = let none = ap activation_in found in absurd (cc (none, is))
+        by so None found is = let none = ap activation_in found in absurd (cc (is))
         by so (Some e) found is =
             let some : Some e.activation ≡ Some (activation_on t held.count) = sym (ap activation_in found) ∙ is in
             let one : e.activation ≡ activation_on t held.count = cc (some) in
