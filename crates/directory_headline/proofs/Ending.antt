@@ -1,8 +1,7 @@
 -- The headline and the plain machine after any list of events, if every step moves as it should.
-use Rattle.std.proofs.Common.{◌≡◌, List, [], ◌∷◌, ◌++◌, refl, sym, ap, subst, ◌∙◌}
+use Rattle.std.proofs.Common.{◌≡◌, List, [], ◌∷◌, ◌++◌, sym, ap, subst, ◌∙◌}
 use Rattle.std.specs.Prelude.{All, Ok, IfOk}
 use Rattle.std.proofs.lemmas.List.Elements.{All-nil, All-cons, All-append}
-use Rattle.directory_protocol.specs.Setting.{Setting}
 use Rattle.directory_rules.specs.Settings.{Settings, AreSettings}
 use Rattle.directory_rules.specs.Event.{Event, IsEvent}
 use Rattle.directory_rules.specs.World.{World, Accepted}
@@ -29,7 +28,7 @@ module _ (all_move : AllMove) where
       let m = setting_of f whole in
       let its : IsSettingOf m f = is_setting_of f whole in
       let facts : WorldFacts m.hash f =
-          subst (λ hash. WorldFacts hash f) (sym (its.hash ∙ ap (λ (s : Settings). hash_grain s.hashing) (settings_stay settings events))) (facts_hold settings events are named) in
+      subst (λ hash. WorldFacts hash f) (sym (its.hash ∙ ap (λ (s : Settings). hash_grain s.hashing) (settings_stay settings events))) (facts_hold settings events are named) in
       headline m f its facts (carried_after facts_hold settings are m all_move events named its)
 
   -- the world after one event more is one that events make too

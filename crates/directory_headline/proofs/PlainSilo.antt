@@ -1,49 +1,27 @@
 -- A silo's step is a plain step of the world. The protocol is needed for one thing alone: where an activation becomes firm, no
 -- other of its grain is.
-use Rattle.std.proofs.Common.{arith, ◌≡◌, ◌≢◌, ◌⊎◌, ℕ, ◌+◌, ◌<◌, ◌≤◌, List, IsSome, inl, inr, refl, sym, ap, subst, ◌∙◌}
-use Rattle.std.specs.Prelude.{Bool, true, false, not, is_some, Option, Some, None, Ok, IfOk}
+use Rattle.std.proofs.Common.{◌≡◌, ◌≢◌, ℕ, IsSome, inl, inr, refl, sym, ap, ◌∙◌}
+use Rattle.std.specs.Prelude.{true, false, is_some, Option, Some, None}
 use Rattle.std.specs.Option.{option_map, option_and_then}
-use Rattle.std.specs.Map.{lookup, remove_entry}
-use Rattle.std.specs.BTreeMap.{is_at, insert_entry}
-use Rattle.silo_address.specs.Silo.{Silo, silo_cmp}
+use Rattle.silo_address.specs.Silo.{Silo}
 use Rattle.silo_address.specs.Grain.{Grain}
-use Rattle.silo_address.proofs.Order.{silo_cmp_total, silo_cmp_exact}
 use Rattle.membership_view.specs.declared.status.Status.{Status}
 use Rattle.membership_view.specs.declared.status.Status.TheVariants.{Active, Leaving, Dead}
-use Rattle.membership_view.specs.View.{status_of}
-use Rattle.membership_view.specs.Views.{ViewsValue, view_at, status_at}
-use Rattle.membership_view.specs.Changes as change
-use Rattle.membership_view.specs.Laws.{Accepts}
-use Rattle.membership_view.specs.Step.{Joins, Leaves, Dies, MembershipStep}
-use Rattle.membership_view.proofs.Staying.{rows_stay}
-use Rattle.membership_view.proofs.Stepping.{changes_are_steps}
-use Rattle.hash_ring.specs.Places.{PlacesValue, after_add}
+use Rattle.membership_view.specs.Views.{view_at, status_at}
 use Rattle.directory_protocol.proofs.Changes.{silo_cases}
 use Rattle.directory_rules.specs.declared.held.Held.{Held}
 use Rattle.directory_rules.specs.declared.held.Phase.{Phase}
 use Rattle.directory_rules.specs.declared.held.Phase.TheVariants as phase
-use Rattle.directory_rules.specs.Membership.{is_dead_in, is_known_dead}
+use Rattle.directory_rules.specs.Membership.{is_known_dead}
 use Rattle.directory_rules.specs.Host.{held_of}
-use Rattle.directory_rules.specs.Settings.{Settings}
-use Rattle.directory_rules.specs.Node.{Node, new_node}
-use Rattle.directory_rules.specs.Step.{Stepped}
-use Rattle.directory_rules.specs.Input.{Input, Receives, step}
-use Rattle.directory_rules.specs.Event.{Event, IsEvent}
-use Rattle.directory_rules.specs.World.{World, Accepted}
-use Rattle.directory_rules.specs.Mail.{with_delivered}
-use Rattle.directory_rules.specs.Happens.{node_of, happens, counted, after_joining, without_replaced, without_node, died}
+use Rattle.directory_rules.specs.Node.{Node}
+use Rattle.directory_rules.specs.World.{World}
+use Rattle.directory_rules.specs.Happens.{node_of}
 use Rattle.directory_rules.specs.Laws.{ArePeopled, is_live}
 use Rattle.directory_rules.specs.Settled.{IsFirmOn}
-use Rattle.directory_rules.specs.Headline.{NoTwoFirm, MovesPlainly}
-use Rattle.directory_rules.specs.PlainMachine.{Life, Is_asking, Is_firm, Is_closing, life_by, life_of, life_on, Plain, plain_of, PlainStep, Change_view, Begin, Make_firm, Yield, Begin_closing, End, Nothing_changes, step_of_effect, plain_step_of, IsChanged, IsSame, ViewChanges, Begins, Goes, BecomesFirm, IsPlainStep}
-use Rattle.directory_rules.proofs.Removed.{lookup_removed}
-use Rattle.directory_facts.specs.Own.{HoldsOnce}
-use Rattle.directory_headline.proofs.Events.{EventWays, with_step, by_event}
-use Rattle.directory_headline.proofs.Facts.{WorldFacts}
-use Rattle.directory_headline.proofs.Settings.{GoesOnTo}
-use Rattle.directory_headline.proofs.Going.{goes_on}
-use Rattle.directory_headline.proofs.Lookups.{found_put, found_beside_put, found_beside_removed}
-use Rattle.directory_headline.proofs.PlainWays.{NodeSame, NodeGoes, NodeBegins, IsNodeStep, steps_plainly}
+use Rattle.directory_rules.specs.Headline.{NoTwoFirm}
+use Rattle.directory_rules.specs.PlainMachine.{Life, Is_asking, Is_firm, Is_closing, life_by, life_of, life_on, plain_of, PlainStep, Change_view, Begin, Make_firm, Yield, Begin_closing, End, Nothing_changes, IsChanged, IsSame, Begins, Goes, BecomesFirm, IsPlainStep}
+use Rattle.directory_headline.proofs.PlainWays.{NodeSame, NodeGoes, NodeBegins, IsNodeStep}
 
 live_there : (status : Option Status) → is_live status ≡ true → IsSome status
 live_there None is = absurd (cc (is))
@@ -81,7 +59,7 @@ module _ (f later : World) (silo : Silo) (node next : Node) (peopled : ArePeople
   unused_same count s =
       elim (silo_cases s silo) [
         | inl is ↦
-          ap (λ q. (plain_of later).unused q) is ∙ unused_of later silo next then ∙ ap Some count ∙ sym (unused_of f silo node there) ∙ ap (λ q. (plain_of f).unused q) (sym is)
+            ap (λ q. (plain_of later).unused q) is ∙ unused_of later silo next then ∙ ap Some count ∙ sym (unused_of f silo node there) ∙ ap (λ q. (plain_of f).unused q) (sym is)
         | inr apart ↦ unused_beside s apart
       ]
 
@@ -152,12 +130,12 @@ module _ (f later : World) (silo : Silo) (node next : Node) (peopled : ArePeople
     alone = λ s other was.
         elim (silo_cases s silo) [
           | inl here ↦
-            let asks = ap (λ q. (plain_of f).lives q is.grain) here ∙ lives_of f silo node there is.grain ∙ is.was in
-            absurd (cc (asks, was))
+              let asks = ap (λ q. (plain_of f).lives q is.grain) here ∙ lives_of f silo node there is.grain ∙ is.was in
+              absurd (cc (asks, was))
           | inr apart ↦
-            let its = node_firm s is.grain other (node_of later s) refl (lives_beside s apart is.grain ∙ was) in
-            let mine = node_firm silo is.grain count (node_of later silo) refl (lives_of later silo next then is.grain ∙ is.there) in
-            absurd (apart (one is.grain s silo its.0 mine.0 its.1 mine.1))
+              let its = node_firm s is.grain other (node_of later s) refl (lives_beside s apart is.grain ∙ was) in
+              let mine = node_firm silo is.grain count (node_of later silo) refl (lives_of later silo next then is.grain ∙ is.there) in
+              absurd (apart (one is.grain s silo its.0 mine.0 its.1 mine.1))
         ];
   }
 

@@ -1,6 +1,6 @@
 -- A join, a leaving and a death change the plain machine's view, and its activations by the silos that are Dead alone.
-use Rattle.std.proofs.Common.{arith, ◌≡◌, ◌≢◌, ◌⊎◌, ℕ, ◌+◌, ◌<◌, ◌≤◌, List, IsSome, inl, inr, refl, sym, ap, subst, ◌∙◌}
-use Rattle.std.specs.Prelude.{Bool, true, false, not, is_some, Option, Some, None, Ok, IfOk}
+use Rattle.std.proofs.Common.{arith, ◌≡◌, ◌⊎◌, ◌<◌, IsSome, inl, inr, refl, sym, ap, subst, ◌∙◌}
+use Rattle.std.specs.Prelude.{true, false, is_some, Option, Some, None}
 use Rattle.std.specs.Option.{option_map, option_and_then}
 use Rattle.std.specs.Map.{lookup, remove_entry}
 use Rattle.std.specs.BTreeMap.{is_at, insert_entry}
@@ -12,37 +12,20 @@ use Rattle.membership_view.specs.declared.status.Status.TheVariants.{Active, Lea
 use Rattle.membership_view.specs.View.{status_of}
 use Rattle.membership_view.specs.Views.{ViewsValue, view_at, status_at}
 use Rattle.membership_view.specs.Changes as change
-use Rattle.membership_view.specs.Laws.{Accepts}
-use Rattle.membership_view.specs.Step.{Joins, Leaves, Dies, MembershipStep}
+use Rattle.membership_view.specs.Step.{Joins, MembershipStep}
 use Rattle.membership_view.proofs.Staying.{rows_stay}
-use Rattle.membership_view.proofs.Stepping.{changes_are_steps}
-use Rattle.hash_ring.specs.Places.{PlacesValue, after_add}
+use Rattle.hash_ring.specs.Places.{PlacesValue}
 use Rattle.directory_protocol.proofs.Changes.{silo_cases}
-use Rattle.directory_rules.specs.declared.held.Held.{Held}
-use Rattle.directory_rules.specs.declared.held.Phase.{Phase}
-use Rattle.directory_rules.specs.declared.held.Phase.TheVariants as phase
 use Rattle.directory_rules.specs.Membership.{is_dead_in, is_known_dead}
-use Rattle.directory_rules.specs.Host.{held_of}
-use Rattle.directory_rules.specs.Settings.{Settings}
 use Rattle.directory_rules.specs.Node.{Node, new_node}
-use Rattle.directory_rules.specs.Step.{Stepped}
-use Rattle.directory_rules.specs.Input.{Input, Receives, step}
-use Rattle.directory_rules.specs.Event.{Event, IsEvent}
-use Rattle.directory_rules.specs.World.{World, Accepted}
-use Rattle.directory_rules.specs.Mail.{with_delivered}
-use Rattle.directory_rules.specs.Happens.{node_of, happens, counted, after_joining, without_replaced, without_node, died}
+use Rattle.directory_rules.specs.Input.{step}
+use Rattle.directory_rules.specs.World.{World}
+use Rattle.directory_rules.specs.Happens.{node_of, after_joining, without_replaced, died}
 use Rattle.directory_rules.specs.Laws.{ArePeopled, is_live}
-use Rattle.directory_rules.specs.Settled.{IsFirmOn}
-use Rattle.directory_rules.specs.Headline.{NoTwoFirm, MovesPlainly}
-use Rattle.directory_rules.specs.PlainMachine.{Life, Is_asking, Is_firm, Is_closing, life_by, life_of, life_on, Plain, plain_of, PlainStep, Change_view, Begin, Make_firm, Yield, Begin_closing, End, Nothing_changes, step_of_effect, plain_step_of, IsChanged, IsSame, ViewChanges, Begins, Goes, BecomesFirm, IsPlainStep}
+use Rattle.directory_rules.specs.PlainMachine.{life_on, plain_of, ViewChanges}
 use Rattle.directory_rules.proofs.Removed.{lookup_removed}
-use Rattle.directory_facts.specs.Own.{HoldsOnce}
-use Rattle.directory_headline.proofs.Events.{EventWays, with_step, by_event}
-use Rattle.directory_headline.proofs.Facts.{WorldFacts}
 use Rattle.directory_headline.proofs.Settings.{GoesOnTo}
-use Rattle.directory_headline.proofs.Going.{goes_on}
 use Rattle.directory_headline.proofs.Lookups.{found_put, found_beside_put, found_beside_removed}
-use Rattle.directory_headline.proofs.PlainWays.{NodeSame, NodeGoes, NodeBegins, IsNodeStep, steps_plainly}
 
 dead_not_live : (status : Option Status) → is_known_dead status ≡ true → is_live status ≡ false
 dead_not_live None is = refl
@@ -131,9 +114,9 @@ module _ (f : World) (peopled : ArePeopled f.views f.nodes) where
   still_there taken silo node there =
       elim (silo_cases silo taken) [
         | inl same ↦
-          let gone = lookup_removed silo_cmp silo_cmp_total taken f.nodes peopled.by_address in
-          let found = subst (λ s. lookup (is_at (silo_cmp s)) (remove_entry (is_at (silo_cmp taken)) f.nodes) ≡ Some node) same there in
-          absurd (cc (gone, found))
+            let gone = lookup_removed silo_cmp silo_cmp_total taken f.nodes peopled.by_address in
+            let found = subst (λ s. lookup (is_at (silo_cmp s)) (remove_entry (is_at (silo_cmp taken)) f.nodes) ≡ Some node) same there in
+            absurd (cc (gone, found))
         | inr apart ↦ sym (found_beside_removed silo_cmp silo_cmp_total silo_cmp_exact taken f.nodes silo apart) ∙ there
       ]
 
@@ -161,14 +144,14 @@ module _ (f : World) (peopled : ArePeopled f.views f.nodes) where
   joining_kept silo next added old step q node there =
       elim (silo_cases q silo) [
         | inl same ↦
-          let one : Some (new_node f.settings silo) ≡ Some node =
-              sym (found_put silo_cmp silo_cmp_total silo_cmp_exact silo (new_node f.settings silo) (without_replaced f old).nodes)
-              ∙ ap (λ s. lookup (is_at (silo_cmp s)) (insert_entry silo_cmp (without_replaced f old).nodes silo (new_node f.settings silo))) (sym same) ∙ made silo next added old q node there in
-          let its : new_node f.settings silo ≡ node = cc (one) in
-          inr (ap (node_of f) same ∙ newcomer silo next step, sym its ∙ ap (new_node f.settings) (sym same))
+            let one : Some (new_node f.settings silo) ≡ Some node =
+            sym (found_put silo_cmp silo_cmp_total silo_cmp_exact silo (new_node f.settings silo) (without_replaced f old).nodes)
+            ∙ ap (λ s. lookup (is_at (silo_cmp s)) (insert_entry silo_cmp (without_replaced f old).nodes silo (new_node f.settings silo))) (sym same) ∙ made silo next added old q node there in
+            let its : new_node f.settings silo ≡ node = cc (one) in
+            inr (ap (node_of f) same ∙ newcomer silo next step, sym its ∙ ap (new_node f.settings) (sym same))
         | inr apart ↦
-          inl (replaced_there old q node
-          (sym (found_beside_put silo_cmp silo_cmp_total silo_cmp_exact silo (new_node f.settings silo) (without_replaced f old).nodes q apart) ∙ made silo next added old q node there))
+            inl (replaced_there old q node
+            (sym (found_beside_put silo_cmp silo_cmp_total silo_cmp_exact silo (new_node f.settings silo) (without_replaced f old).nodes q apart) ∙ made silo next added old q node there))
       ]
 
   pub death_kept : (silo : Silo) (q : Silo) (node : Node) → node_of (died f silo).world q ≡ Some node → WasThere f q node

@@ -1,14 +1,11 @@
 -- What a silo's step is to the plain machine: of the activations that the silo holds, at most one changes.
-use Rattle.std.proofs.Common.{arith, ◌≡◌, ◌≢◌, ℕ, ◌+◌, ◌<◌, ◌≤◌, List, [], ◌∷◌, ◌++◌, refl, sym, ap, subst, ◌∙◌}
+use Rattle.std.proofs.Common.{◌≡◌, ◌≢◌, ℕ, ◌+◌, List, [], ◌∷◌, refl, sym, ap, subst, ◌∙◌}
 use Rattle.std.specs.Prelude.{Bool, true, false, cond, is_some, map, if◌then◌else◌, Option, Some, None, Result, Ok, Err, not, nat_lt, length}
 use Rattle.std.specs.Option.{option_map}
 use Rattle.std.specs.Map.{lookup}
 use Rattle.std.specs.BTreeMap.{is_at}
-use Rattle.std.proofs.lemmas.Bool.{eqb-true}
-use Rattle.silo_address.specs.Silo.{Silo}
 use Rattle.silo_address.specs.Grain.{Grain, grain_cmp}
 use Rattle.silo_address.specs.declared.ActivationId.{ActivationId}
-use Rattle.silo_address.specs.declared.Entry.{Entry}
 use Rattle.silo_address.proofs.Order.{grain_cmp_total, grain_cmp_exact}
 use Rattle.membership_view.specs.View.{ViewValue}
 use Rattle.hash_ring.specs.Places.{PlacesValue}
@@ -17,19 +14,18 @@ use Rattle.directory_rules.specs.declared.held.Phase.{Phase}
 use Rattle.directory_rules.specs.declared.held.Phase.TheVariants as phase
 use Rattle.directory_rules.specs.declared.reply.Reply.{Reply}
 use Rattle.directory_rules.specs.declared.reply.Reply.TheVariants as reply
-use Rattle.directory_rules.specs.declared.effect.Effect.{Effect}
 use Rattle.directory_rules.specs.declared.effect.Effect.TheVariants as effect
 use Rattle.directory_rules.specs.Host.{Host, has_numbers, outstanding, held_of, renewed, renewed_phase, with_started, with_closing, without_held, confirmed, next_held, asking_under, closing_under, is_asking_under, is_closing_under}
 use Rattle.directory_rules.specs.Sight.{is_next}
 use Rattle.directory_rules.specs.Node.{Node}
-use Rattle.directory_rules.specs.Step.{Stepped, silently, sight, started, closing, offered}
+use Rattle.directory_rules.specs.Step.{Stepped, sight}
 use Rattle.directory_rules.specs.Receive.{reply_effect, replying}
 use Rattle.directory_rules.specs.Answer.{answered}
 use Rattle.directory_rules.specs.Input.{Input, Sees, step}
 use Rattle.directory_rules.specs.PlainMachine.{Life, Is_asking, Is_firm, Is_closing, life_by, life_of, life_on, PlainStep, Change_view, Begin, Make_firm, Yield, Begin_closing, End, Nothing_changes, step_of_effect}
 use Rattle.directory_rules.proofs.Cases.{on_bool}
 use Rattle.directory_facts.specs.Own.{HoldsOnce}
-use Rattle.directory_facts.proofs.Ways.{Ways, MayBegin, MayClose}
+use Rattle.directory_facts.proofs.Ways.{Ways, MayClose}
 use Rattle.directory_facts.proofs.Stepping.{by_way}
 use Rattle.directory_headline.proofs.Lookups.{found_set, found_beside_set, found_beside_removed, find_looked, found_at_end, found_beside_end, once_removed}
 

@@ -1,48 +1,32 @@
 -- Every accepted event is one step of the plain machine.
-use Rattle.std.proofs.Common.{arith, ◌≡◌, ◌≢◌, ◌⊎◌, ℕ, ◌+◌, ◌-◌, ◌<◌, ◌≤◌, List, IsSome, inl, inr, refl, sym, ap, subst, ◌∙◌}
-use Rattle.std.specs.Prelude.{Bool, true, false, not, is_some, Option, Some, None, Ok, IfOk}
-use Rattle.std.specs.Option.{option_map, option_and_then}
-use Rattle.std.specs.Map.{lookup, remove_entry}
-use Rattle.std.specs.BTreeMap.{is_at, insert_entry}
+use Rattle.std.proofs.Common.{◌≡◌, ℕ, ◌-◌, inl, refl, sym, ap, subst, ◌∙◌}
+use Rattle.std.specs.Prelude.{Option, Some, None, Ok, IfOk}
+use Rattle.std.specs.Map.{lookup}
+use Rattle.std.specs.BTreeMap.{is_at}
 use Rattle.silo_address.specs.Silo.{Silo, silo_cmp}
 use Rattle.silo_address.specs.Grain.{Grain}
 use Rattle.silo_address.proofs.Order.{silo_cmp_total, silo_cmp_exact}
-use Rattle.membership_view.specs.declared.status.Status.{Status}
-use Rattle.membership_view.specs.declared.status.Status.TheVariants.{Active, Leaving, Dead}
-use Rattle.membership_view.specs.View.{status_of}
-use Rattle.membership_view.specs.Views.{ViewsValue, view_at, status_at}
+use Rattle.membership_view.specs.Views.{ViewsValue, view_at}
 use Rattle.membership_view.specs.Changes as change
 use Rattle.membership_view.specs.Laws.{Accepts}
-use Rattle.membership_view.specs.Step.{Joins, Leaves, Dies, MembershipStep}
-use Rattle.membership_view.proofs.Staying.{rows_stay}
+use Rattle.membership_view.specs.Step.{Joins}
 use Rattle.membership_view.proofs.Stepping.{changes_are_steps}
-use Rattle.hash_ring.specs.Places.{PlacesValue, after_add}
-use Rattle.directory_protocol.proofs.Changes.{silo_cases}
-use Rattle.directory_rules.specs.declared.held.Held.{Held}
-use Rattle.directory_rules.specs.declared.held.Phase.{Phase}
-use Rattle.directory_rules.specs.declared.held.Phase.TheVariants as phase
-use Rattle.directory_rules.specs.Membership.{is_dead_in, is_known_dead}
-use Rattle.directory_rules.specs.Host.{held_of}
-use Rattle.directory_rules.specs.Settings.{Settings}
-use Rattle.directory_rules.specs.Node.{Node, new_node}
+use Rattle.hash_ring.specs.Places.{PlacesValue}
+use Rattle.directory_rules.specs.Node.{Node}
 use Rattle.directory_rules.specs.Step.{Stepped}
 use Rattle.directory_rules.specs.Input.{Input, Receives, step}
 use Rattle.directory_rules.specs.Event.{Event, IsEvent, Lost}
 use Rattle.directory_rules.specs.World.{World, Accepted}
 use Rattle.directory_rules.specs.Mail.{with_delivered, with_lost}
 use Rattle.directory_rules.specs.Happens.{node_of, happens, counted, tells, after_joining, died}
-use Rattle.directory_rules.specs.Laws.{ArePeopled, is_live}
-use Rattle.directory_rules.specs.Settled.{IsFirmOn}
+use Rattle.directory_rules.specs.Laws.{ArePeopled}
 use Rattle.directory_rules.specs.Headline.{NoTwoFirm, MovesPlainly}
-use Rattle.directory_rules.specs.PlainMachine.{Life, Is_asking, Is_firm, Is_closing, life_by, life_of, life_on, Plain, plain_of, PlainStep, Change_view, Begin, Make_firm, Yield, Begin_closing, End, Nothing_changes, step_of_effect, plain_step_of, IsChanged, IsSame, ViewChanges, Begins, Goes, BecomesFirm, IsPlainStep}
-use Rattle.directory_rules.proofs.Removed.{lookup_removed}
-use Rattle.directory_facts.specs.Own.{HoldsOnce}
-use Rattle.directory_headline.proofs.Events.{EventWays, with_step, by_event}
+use Rattle.directory_rules.specs.PlainMachine.{plain_of, PlainStep, Nothing_changes, step_of_effect, plain_step_of, IsSame, ViewChanges, IsPlainStep}
+use Rattle.directory_headline.proofs.Events.{with_step, by_event}
 use Rattle.directory_headline.proofs.Facts.{WorldFacts}
 use Rattle.directory_headline.proofs.Settings.{GoesOnTo}
-use Rattle.directory_headline.proofs.Going.{goes_on}
-use Rattle.directory_headline.proofs.Lookups.{found_put, found_beside_put, found_beside_removed}
-use Rattle.directory_headline.proofs.PlainWays.{NodeSame, NodeGoes, NodeBegins, IsNodeStep, steps_plainly, sees_plainly}
+use Rattle.directory_headline.proofs.Lookups.{found_put, found_beside_put}
+use Rattle.directory_headline.proofs.PlainWays.{IsNodeStep, steps_plainly, sees_plainly}
 use Rattle.directory_headline.proofs.PlainSilo.{node_step}
 use Rattle.directory_headline.proofs.PlainViews.{view_changes, joining_kept, death_kept}
 
