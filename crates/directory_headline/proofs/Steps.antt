@@ -19,11 +19,10 @@ use Rattle.directory_rules.specs.Snapshot.{Page, Hands_page, shelf_answer}
 use Rattle.directory_rules.specs.Gathering.{Gathering, Wants_page, Has_all, Refuses, gathered}
 use Rattle.directory_rules.specs.Recovery.{Report, Recovery, Awaits_more, Has_union, recovered}
 use Rattle.directory_rules.specs.Cache.{in_front, learnt, without_pair}
-use Rattle.directory_rules.specs.Host.{renewed}
 use Rattle.directory_rules.specs.Letter.{Letter, Request_letter, Ask_letter, Page_letter, Missing_letter, Done_letter, Behind_letter, Ahead_letter}
 use Rattle.directory_rules.specs.Node.{Node}
 use Rattle.directory_rules.specs.Sending.{gathering_of, recovery_of}
-use Rattle.directory_rules.specs.Step.{Stepped, silently, sight, having_nudged}
+use Rattle.directory_rules.specs.Step.{Stepped, silently, sight}
 use Rattle.directory_rules.specs.Transfer.{answering, asking_on, querying, turned_to_recovery, with_gathering, with_recovery, with_settled}
 use Rattle.directory_rules.specs.Receive.{replying}
 use Rattle.directory_rules.specs.Input.{Input, step}
@@ -40,6 +39,10 @@ use Rattle.directory_headline.proofs.Closing.{closes, offers}
 use Rattle.directory_headline.proofs.Replies.{confirms, yields, removes, misses}
 use Rattle.directory_headline.proofs.Telling.{reports}
 use Rattle.directory_headline.proofs.Serving.{answers}
+use Rattle.directory_headline.proofs.Turning.{turns}
+use Rattle.directory_headline.proofs.Collecting.{collects}
+use Rattle.directory_headline.proofs.Recovering.{completes}
+use Rattle.directory_headline.proofs.Renewing.{nudges}
 
 -- what is to be shown of a way
 abbrev pub Shows : Setting → World → protocol.World → Silo → Input → Stepped → Type 0
@@ -50,7 +53,6 @@ pub record Left (m : Setting) (f : World) (w : protocol.World) (silo : Silo) (no
   pub sees :
       (before view : ViewValue) (places : PlacesValue) → node.view.version < view.version → IsSight f.views f.places silo before view places
       → Moves m w silo (sight (is_next node.view before view node.host.silo) node before view places)
-  pub nudges : Moves m w silo (having_nudged (record node { host = renewed node.host }))
   pub hands :
       (letter : Letter) (range : Range) (number : ℕ) (page : Page) → shelf_answer node.shelf node.view.version letter.version range letter.from number ≡ Hands_page page
       → Moves m w silo (answering letter node (Page_letter page) effect.Page)
@@ -63,15 +65,6 @@ pub record Left (m : Setting) (f : World) (w : protocol.World) (silo : Silo) (no
   pub drops :
       (letter : Letter) (page : Page) (gathering : Gathering) → IsPageTaken node letter page → gathered (gathering_of node page.range) page ≡ Refuses 701 gathering → Comes m f w silo letter
       → Moves m w silo (silently (with_gathering node gathering) (effect.Refused 701))
-  pub turns :
-      (letter : Letter) (range : Range) (piece : Piece) → HasPiece node letter.version range piece → piece.state ≡ state.Awaiting letter.from
-      → Moves m w silo (querying range (turned_to_recovery node range))
-  pub collects :
-      (letter : Letter) (report : Report) (recovery : Recovery) → IsReportTaken node letter report → recovered (recovery_of node report.range) report ≡ Awaits_more recovery → Comes m f w silo letter
-      → Moves m w silo (silently (with_recovery node recovery) effect.More)
-  pub completes :
-      (letter : Letter) (report : Report) (table : Table) → IsReportTaken node letter report → recovered (recovery_of node report.range) report ≡ Has_union table → Comes m f w silo letter
-      → Moves m w silo (silently (with_settled node report.range table) effect.Complete)
 
 ways : (m : Setting) (f : World) (w : protocol.World) (silo : Silo) (node : Node) → Here m f w silo node → Left m f w silo node → Ways node (Shows m f w silo)
 ways m f w silo node here left = record {
@@ -83,7 +76,7 @@ ways m f w silo node here left = record {
   uses_hint = λ grain activation hint brings. cache_changes m f w silo node here (in_front node.cache grain activation) (effect.Cached (record { grain = grain; activation = activation }));
   finds = λ grain room numbers brings. finds m f w silo node here grain;
   forgets = λ grain activation hint brings. cache_changes m f w silo node here (without_pair node.cache grain activation) (effect.Forgot grain);
-  nudges = λ numbers brings. left.nudges;
+  nudges = λ numbers brings. nudges m f w silo node here;
   answers = λ letter request body sender version brings. answers m f w silo node here letter request body brings;
   confirms = λ letter number entry e is there brings. confirms m f w silo node here letter number entry e is there brings;
   yields = λ letter number entry e is there brings. yields m f w silo node here letter number entry e is there brings;
@@ -100,9 +93,9 @@ ways m f w silo node here left = record {
   gathers = λ letter page gathering taken is brings. left.gathers letter page gathering taken is brings;
   installs = λ letter page entries taken is brings. left.installs letter page entries taken is brings;
   drops = λ letter page gathering taken is brings. left.drops letter page gathering taken is brings;
-  turns = λ letter range piece body has awaits brings. left.turns letter range piece has awaits;
-  collects = λ letter report recovery taken is brings. left.collects letter report recovery taken is brings;
-  completes = λ letter report table taken is brings. left.completes letter report table taken is brings;
+  turns = λ letter range piece body has awaits brings. turns m f w silo node here letter range piece has awaits;
+  collects = λ letter report recovery taken is brings. collects m f w silo node here letter report taken brings recovery is;
+  completes = λ letter report table taken is brings. completes m f w silo node here letter report taken brings table is;
   takes_over = λ letter entry body seen may brings. takes_over m f w silo node here letter entry body seen may brings;
 }
 
