@@ -1,14 +1,14 @@
 -- The entries that a node has of one hash are those in the table of the piece that has the hash.
 use Rattle.std.proofs.Common.{arith, ◌≡◌, ◌≢◌, refl, sym, ap, subst, ◌∙◌, ℕ, ◌+◌, ◌≤◌, suc, List, [], ◌∷◌, ◌++◌}
-use Rattle.std.specs.Prelude.{Bool, true, false, cond, ◌==◌, find, filter, flat_map, count_by, All, AllPairs, Contains, Option, Some, None}
+use Rattle.std.specs.Prelude.{Bool, true, false, cond, ◌==◌, find, filter, flat_map, count_by, All, AllPairs, Contains, Some}
 use Rattle.std.specs.Option.{option_map}
 use Rattle.std.specs.List.{AllByRecursion, slice_index_or}
 use Rattle.std.specs.Ordering.{is_eq}
 use Rattle.std.specs.List.Sorted.{IsStrictlySortedBy}
 use Rattle.std.specs.declared.cmp.Ordering.TheVariants.{Less}
-use Rattle.std.specs.Map.{lookup, keys_of}
+use Rattle.std.specs.Map.{keys_of}
 use Rattle.std.specs.BTreeMap.{is_at}
-use Rattle.std.proofs.lemmas.Bool.{eqb-true, eq-eqb}
+use Rattle.std.proofs.lemmas.Bool.{eqb-true}
 use Rattle.std.proofs.lemmas.Cmp.{tied_itself}
 use Rattle.std.proofs.lemmas.List.{append-nil}
 use Rattle.std.proofs.lemmas.List.Elements.{All-nil, All-cons, All-head, All-tail, All-weaker, filter-append}
@@ -23,7 +23,7 @@ use Rattle.directory_rules.specs.Answer.{piece_with}
 use Rattle.directory_rules.proofs.Cases.{on_bool}
 use Rattle.directory_facts.proofs.Entries.{found_so, same_key}
 use Rattle.directory_headline.proofs.Facts.{IsTable, IsPiece}
-use Rattle.directory_headline.proofs.PieceAt.{counted_first, found_counted}
+use Rattle.directory_headline.proofs.PieceAt.{counted_first}
 
 -- ---- lists that are filtered
 pub contains_later : {X : Type 0} (x y : X) (xs : List X) → Contains xs y → Contains (x ∷ xs) y

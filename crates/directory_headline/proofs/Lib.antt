@@ -36,6 +36,11 @@ pub mod Promises
 pub mod TableEntries
 pub mod PieceSet
 pub mod SettledPiece
+pub mod PlainWays
+pub mod PlainSilo
+pub mod PlainViews
+pub mod Plainly
+pub mod Ending
 pub mod Unions
 pub mod Turning
 pub mod Collecting

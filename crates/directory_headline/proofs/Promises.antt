@@ -15,11 +15,10 @@ use Rattle.silo_address.proofs.Same.{same_entry}
 use Rattle.membership_view.specs.declared.status.Status.{Status}
 use Rattle.membership_view.specs.declared.status.Status.TheVariants.{Active, Leaving, Dead}
 use Rattle.membership_view.specs.Views.{view_at, status_at}
-use Rattle.ring_range.specs.Range.{circle, IsRange, holds}
+use Rattle.ring_range.specs.Range.{circle, IsRange}
 use Rattle.hash_ring.specs.declared.point.Point.{Point}
-use Rattle.hash_ring.specs.Hash.{hash_grain}
-use Rattle.hash_ring.specs.Point.{back, IsOnCircle, HaveSamePoints}
-use Rattle.hash_ring.specs.Owner.{IsOwner, Owns}
+use Rattle.hash_ring.specs.Point.{back, HaveSamePoints}
+use Rattle.hash_ring.specs.Owner.{IsOwner}
 use Rattle.hash_ring.specs.Ring.{points_of, sorted_ring, IsSortedAnew}
 use Rattle.hash_ring.proofs.Lawful.{is_sorted_anew}
 use Rattle.hash_ring.proofs.PlacesKept.{IsRing-anew}
@@ -29,14 +28,12 @@ use Rattle.directory_protocol.specs.World as protocol
 use Rattle.directory_protocol.specs.Safety as safe
 use Rattle.directory_protocol.proofs.Runs.{holds_where_reached}
 use Rattle.directory_protocol.proofs.All.{one_silo_settles, settled_tables_are_right, no_two_firm}
-use Rattle.directory_rules.specs.declared.act.Request.{Request}
 use Rattle.directory_rules.specs.declared.held.Held.{Held}
 use Rattle.directory_rules.specs.declared.held.Phase.{Phase}
 use Rattle.directory_rules.specs.declared.held.Phase.TheVariants as phase
 use Rattle.directory_rules.specs.declared.reply.Why.{Why}
-use Rattle.directory_rules.specs.declared.piece_state.PieceState.TheVariants.{Settled}
 use Rattle.directory_rules.specs.Membership.{is_known_dead}
-use Rattle.directory_rules.specs.Table.{Table, entry_at, entries_of}
+use Rattle.directory_rules.specs.Table.{entry_at, entries_of}
 use Rattle.directory_rules.specs.Piece.{Piece}
 use Rattle.directory_rules.specs.Sight.{is_settled}
 use Rattle.directory_rules.specs.Answer.{piece_with, serving_piece, answered_from}
@@ -46,15 +43,14 @@ use Rattle.directory_rules.specs.World.{World}
 use Rattle.directory_rules.specs.Happens.{node_of}
 use Rattle.directory_rules.specs.Laws.{is_live}
 use Rattle.directory_rules.specs.Settled.{HasNode, OwnsIn, IsSettledAt, entries_with, IsHeld, IsFirmOn, entry_on, AreComplete, IsRightTable, IsRightOnLive}
-use Rattle.directory_rules.specs.Headline.{RingsAreSortedAnew, SettledTablesAreRight, EarlierTablesAreRight, IsRetry, UnsettledRangesRetry, UnsettledPiecesRetry, NoTwoFirm, OneSettles, Headline}
+use Rattle.directory_rules.specs.Headline.{RingsAreSortedAnew, IsRetry, UnsettledRangesRetry, NoTwoFirm, OneSettles, Headline}
 use Rattle.directory_rules.proofs.Retried.{unsettled_retries}
 use Rattle.directory_facts.proofs.Hashes.{grains_have_hashes}
 use Rattle.directory_facts.proofs.Serving.{serves}
 use Rattle.directory_headline.specs.Setting.{IsSettingOf}
-use Rattle.directory_headline.specs.Silo_state.{state_of}
 use Rattle.directory_headline.specs.Shown.{held_in, held_as, activation_in, is_settled_piece}
-use Rattle.directory_headline.proofs.Facts.{WorldFacts, NodeFacts, IsPiece, IsTable}
-use Rattle.directory_headline.proofs.Frame.{Here, node_facts, node_shown, seen_is, hash_is, alive}
+use Rattle.directory_headline.proofs.Facts.{WorldFacts, IsPiece}
+use Rattle.directory_headline.proofs.Frame.{Here, node_shown, seen_is, hash_is, alive}
 use Rattle.directory_headline.proofs.Viewed.{Carried}
 use Rattle.directory_headline.proofs.PieceAt.{of_found}
 use Rattle.directory_headline.proofs.HighHashes.{hash_for, hash_below, is_hash, owns_by, found_hash, found_owned, held_once}
@@ -136,7 +132,7 @@ module _ (m : Setting) (f : World) (setting : IsSettingOf m f) (facts : WorldFac
   holder_there : (silo : Silo) (grain : Grain) (x : protocol.Held) → m.alive w.now silo ≡ true → w.held silo grain ≡ Some x → (node : Node) × HasNode f silo node
   holder_there silo grain x lives there =
       let known : not (is_known_dead (status_at f.views f.views.version silo)) ≡ true =
-          sym (ap (λ version. m.alive version silo) carried.shown.now ∙ setting.alive f.views.version silo (omega arith)) ∙ lives in
+      sym (ap (λ version. m.alive version silo) carried.shown.now ∙ setting.alive f.views.version silo (omega arith)) ∙ lives in
       let row : status_at f.views f.views.version silo ≢ None = λ none. let first = ap (λ s. s.held grain) (carried.shown.absent silo none) in absurd (cc (first, there)) in
       some_node (node_of f silo) (facts.peopled.live silo ∙ alive_there (status_at f.views f.views.version silo) known row)
 
@@ -187,7 +183,7 @@ module _ (m : Setting) (f : World) (setting : IsSettingOf m f) (facts : WorldFac
       where
         by : m.hash grain ≡ number → (o : Option Entry) → entry_at grain at.piece.entries ≡ o → activation_in (entry_at grain at.piece.entries) ≡ Some (activation_on t held.count)
             → Contains (filter its (entries_of at.piece.entries)) (entry_on t grain held)
-        by so None found is = let none = ap activation_in found in absurd (cc (none, is))
+        by so None found is = let none = ap activation_in found in absurd (cc (is))
         by so (Some e) found is =
             let some : Some e.activation ≡ Some (activation_on t held.count) = sym (ap activation_in found) ∙ is in
             let one : e.activation ≡ activation_on t held.count = cc (some) in

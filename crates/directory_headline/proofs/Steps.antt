@@ -65,6 +65,6 @@ ways m f w silo node here = record {
   takes_over = λ letter entry body seen may brings. takes_over m f w silo node here letter entry body seen may brings;
 }
 
--- every accepted step of a silo moves as it should
+-- so all steps move
 pub all_move : AllMove
 all_move m f w silo node here input stepped is brings = by_way node (Shows m f w silo) (ways m f w silo node here) input stepped is brings
