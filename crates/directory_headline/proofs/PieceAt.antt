@@ -122,8 +122,8 @@ states_same hash before after same = state_outlined hash after ∙ ap (state_in 
 abbrev holding : ℕ → List (ℕ × Piece) → ℕ
 holding hash pieces = count_by (λ e. holds e.1.range hash) pieces
 
-counted : (hash : ℕ) (e : ℕ × Piece) (es : List (ℕ × Piece)) → holding hash (e ∷ es) ≡ cond (holds e.1.range hash) 1 0 + holding hash es
-counted hash e es = sum_by-cons (λ (x : ℕ × Piece). cond (holds x.1.range hash) 1 0) e es
+pub counted_first : (hash : ℕ) (e : ℕ × Piece) (es : List (ℕ × Piece)) → count_by (λ x. holds x.1.range hash) (e ∷ es) ≡ cond (holds e.1.range hash) 1 0 + count_by (λ x. holds x.1.range hash) es
+counted_first hash e es = sum_by-cons (λ (x : ℕ × Piece). cond (holds x.1.range hash) 1 0) e es
 
 -- a piece that is found is counted
 pub found_counted : (hash : ℕ) (pieces : List (ℕ × Piece)) (piece : Piece) → piece_with hash pieces ≡ Some piece → 1 ≤ count_by (λ e. holds e.1.range hash) pieces
@@ -132,5 +132,5 @@ found_counted hash (e ∷ es) piece found = at (holds e.1.range hash) refl found
   where
     at : (b : Bool) → holds e.1.range hash ≡ b → option_map (λ x. x.1) (cond b (Some e) (find (λ x. holds x.1.range hash) es)) ≡ Some piece
         → (piece_with hash es ≡ Some piece → 1 ≤ count_by (λ x. holds x.1.range hash) es) → 1 ≤ count_by (λ x. holds x.1.range hash) (e ∷ es)
-    at true held here rest = let all = counted hash e es ∙ ap (λ b. cond {A = ℕ} b 1 0 + holding hash es) held in omega (all, arith)
-    at false held here rest = let all = counted hash e es ∙ ap (λ b. cond {A = ℕ} b 1 0 + holding hash es) held in let some = rest here in omega (all, some, arith)
+    at true held here rest = let all = counted_first hash e es ∙ ap (λ b. cond {A = ℕ} b 1 0 + holding hash es) held in omega (all, arith)
+    at false held here rest = let all = counted_first hash e es ∙ ap (λ b. cond {A = ℕ} b 1 0 + holding hash es) held in let some = rest here in omega (all, some, arith)

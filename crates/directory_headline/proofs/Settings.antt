@@ -59,7 +59,7 @@ pub view_within : (views : ViewsValue) (version : ℕ) → version ≤ views.ver
 view_within views version within = view_up_to-is views version ∙ ap (view_at views) (up_to-within views version within)
 
 -- ---- owners
-view_by_address : (views : ViewsValue) (version : ℕ) → IsViews views → IsByAddress (view_at views version)
+pub view_by_address : (views : ViewsValue) (version : ℕ) → IsViews views → IsByAddress (view_at views version)
 view_by_address views version whole =
     on_bool (λ b. IsStrictlySortedBy silo_cmp (keys_of (if b then rows_in version views.rows else []))) (nat_le version views.version)
     (λ t. sorted-picked silo_cmp_total (status_in version) views.rows whole.in_order) (λ f. sorted-nil silo_cmp)

@@ -30,7 +30,7 @@ apart_from grain (e ∷ es) above =
     absurd (cc (sym less ∙ tied)))
     (apart_from grain es above.1)
 
-head_apart : (e : Grain × Entry) (es : Table) → IsTable (e ∷ es) → All (λ x. e.0 ≢ x.0) es
+pub head_apart : (e : Grain × Entry) (es : Table) → IsTable (e ∷ es) → All (λ x. e.0 ≢ x.0) es
 unfolding IsStrictlySortedBy
 head_apart e es table = apart_from e.0 es table.rising.0
 
