@@ -27,8 +27,8 @@ pub mod Telling
 pub mod PieceAt
 pub mod Answering
 pub mod Serving
+pub mod Statuses
 pub mod HighHashes
-pub mod HashTables
 pub mod Promises
 pub mod TableEntries
 pub mod PieceSet
