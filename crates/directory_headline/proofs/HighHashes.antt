@@ -1,7 +1,7 @@
 -- Numbers above the circle, which no grain is hashed to. A range that has one has the highest hash too, and who owns that one
 -- owns the number: going back, nothing lies between.
 use Rattle.std.proofs.Common.{arith, ◌≡◌, refl, ap, ◌∙◌, ℕ, ◌+◌, ◌<◌, ◌≤◌, List, [], ◌∷◌}
-use Rattle.std.specs.Prelude.{Bool, true, false, cond, nat_lt, find, count_by, if◌then◌else◌, All, Option, Some, None}
+use Rattle.std.specs.Prelude.{Bool, true, false, cond, nat_lt, count_by, if◌then◌else◌, All, Option, Some, None}
 use Rattle.std.specs.Option.{option_map}
 use Rattle.std.specs.List.{slice_index_or}
 use Rattle.std.proofs.lemmas.Bool.{lt-ltb, ltb-true, ltb-false}

@@ -1,18 +1,15 @@
 -- A silo's step is a plain step of the world. The protocol is needed for one thing alone: where an activation becomes firm, no
 -- other of its grain is.
-use Rattle.std.proofs.Common.{◌≡◌, ◌≢◌, ℕ, IsSome, inl, inr, refl, sym, ap, ◌∙◌}
-use Rattle.std.specs.Prelude.{true, false, is_some, Option, Some, None}
+use Rattle.std.proofs.Common.{◌≡◌, ◌≢◌, ℕ, inl, inr, refl, sym, ap, ◌∙◌}
+use Rattle.std.specs.Prelude.{true, is_some, Option, Some, None}
 use Rattle.std.specs.Option.{option_map, option_and_then}
 use Rattle.silo_address.specs.Silo.{Silo}
 use Rattle.silo_address.specs.Grain.{Grain}
-use Rattle.membership_view.specs.declared.status.Status.{Status}
-use Rattle.membership_view.specs.declared.status.Status.TheVariants.{Active, Leaving, Dead}
 use Rattle.membership_view.specs.Views.{view_at, status_at}
 use Rattle.directory_protocol.proofs.Changes.{silo_cases}
 use Rattle.directory_rules.specs.declared.held.Held.{Held}
 use Rattle.directory_rules.specs.declared.held.Phase.{Phase}
 use Rattle.directory_rules.specs.declared.held.Phase.TheVariants as phase
-use Rattle.directory_rules.specs.Membership.{is_known_dead}
 use Rattle.directory_rules.specs.Host.{held_of}
 use Rattle.directory_rules.specs.Node.{Node}
 use Rattle.directory_rules.specs.World.{World}

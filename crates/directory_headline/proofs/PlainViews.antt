@@ -8,7 +8,6 @@ use Rattle.silo_address.specs.Silo.{Silo, silo_cmp}
 use Rattle.silo_address.specs.Grain.{Grain}
 use Rattle.silo_address.proofs.Order.{silo_cmp_total, silo_cmp_exact}
 use Rattle.membership_view.specs.declared.status.Status.{Status}
-use Rattle.membership_view.specs.declared.status.Status.TheVariants.{Active, Leaving, Dead}
 use Rattle.membership_view.specs.View.{status_of}
 use Rattle.membership_view.specs.Views.{ViewsValue, view_at, status_at}
 use Rattle.membership_view.specs.Changes as change
@@ -16,7 +15,7 @@ use Rattle.membership_view.specs.Step.{Joins, MembershipStep}
 use Rattle.membership_view.proofs.Staying.{rows_stay}
 use Rattle.hash_ring.specs.Places.{PlacesValue}
 use Rattle.directory_protocol.proofs.Changes.{silo_cases}
-use Rattle.directory_rules.specs.Membership.{is_dead_in, is_known_dead}
+use Rattle.directory_rules.specs.Membership.{is_dead_in}
 use Rattle.directory_rules.specs.Node.{Node, new_node}
 use Rattle.directory_rules.specs.Input.{step}
 use Rattle.directory_rules.specs.World.{World}
