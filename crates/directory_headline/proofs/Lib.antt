@@ -21,6 +21,9 @@ pub mod Renewals
 pub mod Renewing
 pub mod Members
 pub mod KeptEntries
+pub mod SightPieces
+pub mod Sights
+pub mod Seeing
 pub mod FactsHold
 pub mod FirmEntries
 pub mod Telling
@@ -37,13 +40,15 @@ pub mod PlainWays
 pub mod PlainSilo
 pub mod PlainViews
 pub mod Plainly
-pub mod Ending
 pub mod Unions
 pub mod Turning
 pub mod Collecting
 pub mod Recovering
 pub mod HashPieces
 pub mod NewRecoveries
-pub mod Steps
 pub mod SameTables
 pub mod PagesTaken
+pub mod Paging
+pub mod Installing
+pub mod Steps
+pub mod Ending

@@ -83,11 +83,6 @@ nothing None is = refl
 nothing (Some row) is = absurd (cc (is))
 
 module _ (views : ViewsValue) (whole : IsViews views) where
-  pub view_by_address : (version : ℕ) → version ≤ views.version → IsByAddress (view_at views version)
-  view_by_address version within =
-      subst (λ b. IsStrictlySortedBy silo_cmp (keys_of (cond b (rows_in version views.rows) []))) (sym (le-leb version views.version within))
-      (sorted-picked silo_cmp_total (status_in version) views.rows whole.in_order)
-
   never_there : (silo : Silo) → row_of views silo ≡ None → status_at views views.version silo ≡ None
   never_there silo none =
       ap (λ b. lookup (is_at (silo_cmp silo)) (cond b (rows_in views.version views.rows) [])) (le-leb views.version views.version (omega arith))

@@ -45,7 +45,7 @@ pub record IsInTurn (gathering : Gathering) (page : Page) : Type 0 where
 abbrev pub GatheredSo : Gathering → Page → Gathered → Type 0
 GatheredSo gathering page (Wants_page more) = IsInTurn gathering page × (more ≡ with_page gathering page)
 GatheredSo gathering page (Has_all entries) = IsInTurn gathering page × (entries ≡ gathering.entries ++ page.entries) × (nat_lt (page.page + 1) page.pages ≡ false)
-GatheredSo gathering page (Refuses number left) = number ≡ 701 → HasNoPage left
+GatheredSo gathering page (Refuses number left) = number ≡ 701 → (left.whole ≡ None) × HasNoPage left
 
 in_turn_is : (gathering : Gathering) (page : Page) → ((page.version == gathering.version) && range_eq page.range gathering.range) ≡ true → is_in_turn gathering page ≡ true → IsInTurn gathering page
 in_turn_is gathering page same turn =
@@ -70,7 +70,7 @@ gathered_so gathering page =
     (λ t it. (in_turn_is gathering page is in_turn, refl))
     (λ u it.
     on_bool (λ b. So (cond b (Has_all (gathering.entries ++ page.entries)) (Refuses 701 (new_gathering gathering.version gathering.range)))) (pointwise ◌==◌ (digest_of (gathering.entries ++ page.entries)) page.digest)
-    (λ t. (in_turn_is gathering page is in_turn, refl, it)) (λ u number. record { next = refl; entries = refl })) refl)
+    (λ t. (in_turn_is gathering page is in_turn, refl, it)) (λ u number. (refl, record { next = refl; entries = refl }))) refl)
     (λ u not_turn number. absurd (omega (arith, number))) refl)
     (λ u not_same number. absurd (omega (arith, number))) refl
   where

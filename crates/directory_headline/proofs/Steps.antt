@@ -39,37 +39,22 @@ use Rattle.directory_headline.proofs.Closing.{closes, offers}
 use Rattle.directory_headline.proofs.Replies.{confirms, yields, removes, misses}
 use Rattle.directory_headline.proofs.Telling.{reports}
 use Rattle.directory_headline.proofs.Serving.{answers}
+use Rattle.directory_headline.proofs.Paging.{hands, gathers, drops}
+use Rattle.directory_headline.proofs.Installing.{installs}
 use Rattle.directory_headline.proofs.Turning.{turns}
 use Rattle.directory_headline.proofs.Collecting.{collects}
 use Rattle.directory_headline.proofs.Recovering.{completes}
 use Rattle.directory_headline.proofs.Renewing.{nudges}
+use Rattle.directory_headline.proofs.Seeing.{sees}
 
 -- what is to be shown of a way
 abbrev pub Shows : Setting → World → protocol.World → Silo → Input → Stepped → Type 0
 Shows m f w silo input stepped = Brings m f w silo input → Moves m w silo stepped
 
--- the ways that are left to be shown
-pub record Left (m : Setting) (f : World) (w : protocol.World) (silo : Silo) (node : Node) : Type 0 where
-  pub sees :
-      (before view : ViewValue) (places : PlacesValue) → node.view.version < view.version → IsSight f.views f.places silo before view places
-      → Moves m w silo (sight (is_next node.view before view node.host.silo) node before view places)
-  pub hands :
-      (letter : Letter) (range : Range) (number : ℕ) (page : Page) → shelf_answer node.shelf node.view.version letter.version range letter.from number ≡ Hands_page page
-      → Moves m w silo (answering letter node (Page_letter page) effect.Page)
-  pub gathers :
-      (letter : Letter) (page : Page) (gathering : Gathering) → IsPageTaken node letter page → gathered (gathering_of node page.range) page ≡ Wants_page gathering → Comes m f w silo letter
-      → Moves m w silo (asking_on letter page.range (with_gathering node gathering))
-  pub installs :
-      (letter : Letter) (page : Page) (entries : List Entry) → IsPageTaken node letter page → gathered (gathering_of node page.range) page ≡ Has_all entries → Comes m f w silo letter
-      → Moves m w silo (answering letter (with_settled node page.range (table_of entries)) (Done_letter page.range) effect.Installed)
-  pub drops :
-      (letter : Letter) (page : Page) (gathering : Gathering) → IsPageTaken node letter page → gathered (gathering_of node page.range) page ≡ Refuses 701 gathering → Comes m f w silo letter
-      → Moves m w silo (silently (with_gathering node gathering) (effect.Refused 701))
-
-ways : (m : Setting) (f : World) (w : protocol.World) (silo : Silo) (node : Node) → Here m f w silo node → Left m f w silo node → Ways node (Shows m f w silo)
-ways m f w silo node here left = record {
+ways : (m : Setting) (f : World) (w : protocol.World) (silo : Silo) (node : Node) → Here m f w silo node → Ways node (Shows m f w silo)
+ways m f w silo node here = record {
   nothing = λ input effect plain brings. nothing m f w silo node here effect;
-  sees = λ before view places newer numbers brings. left.sees before view places newer brings;
+  sees = λ before view places newer numbers brings. sees m f w silo node here before view places newer brings;
   wakes = λ grain may brings. wakes m f w silo node here grain may;
   closes = λ grain held may brings. closes m f w silo node here grain held may;
   offers = λ grain held to may active other brings. offers m f w silo node here grain held may to;
@@ -84,25 +69,21 @@ ways m f w silo node here left = record {
   misses = λ letter number e is there brings. misses m f w silo node here letter number e is there brings;
   learns = λ letter number entry is there brings. find_ends m f w silo node here number (learnt node.cache entry) effect.Learnt;
   notes = λ letter number is there brings. find_ends m f w silo node here number node.cache effect.Noted;
-  hands = λ letter range number page body is brings. left.hands letter range number page is;
+  hands = λ letter range number page body is brings. hands m f w silo node here letter range number page is;
   lacks = λ letter range number body is brings. answers_so m f w silo node here letter (Missing_letter range) effect.Missing tt;
   forgoes = λ letter range body there brings. forgoes m f w silo node here letter range;
   lags = λ letter range brings. answers_so m f w silo node here letter (Behind_letter range) effect.Behind tt;
   passed = λ letter range brings. answers_so m f w silo node here letter (Ahead_letter range) effect.Ahead tt;
   reports = λ letter range body seen brings. reports m f w silo node here letter range;
-  gathers = λ letter page gathering taken is brings. left.gathers letter page gathering taken is brings;
-  installs = λ letter page entries taken is brings. left.installs letter page entries taken is brings;
-  drops = λ letter page gathering taken is brings. left.drops letter page gathering taken is brings;
+  gathers = λ letter page gathering taken is brings. gathers m f w silo node here letter page taken brings gathering is;
+  installs = λ letter page entries taken is brings. installs m f w silo node here letter page taken brings entries is;
+  drops = λ letter page gathering taken is brings. drops m f w silo node here letter page taken brings gathering is;
   turns = λ letter range piece body has awaits brings. turns m f w silo node here letter range piece has awaits;
   collects = λ letter report recovery taken is brings. collects m f w silo node here letter report taken brings recovery is;
   completes = λ letter report table taken is brings. completes m f w silo node here letter report taken brings table is;
   takes_over = λ letter entry body seen may brings. takes_over m f w silo node here letter entry body seen may brings;
 }
 
--- the ways that are left, at every silo
-abbrev pub AllLeft : Type 0
-AllLeft = (m : Setting) (f : World) (w : protocol.World) (silo : Silo) (node : Node) → Here m f w silo node → Left m f w silo node
-
--- all steps move, if the ways that are left do
-pub all_move : AllLeft → AllMove
-all_move left m f w silo node here input stepped is brings = by_way node (Shows m f w silo) (ways m f w silo node here (left m f w silo node here)) input stepped is brings
+-- so all steps move
+pub all_move : AllMove
+all_move m f w silo node here input stepped is brings = by_way node (Shows m f w silo) (ways m f w silo node here) input stepped is brings
