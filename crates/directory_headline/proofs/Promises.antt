@@ -1,5 +1,5 @@
 -- The headline, of a world that the protocol shows.
-use Rattle.std.proofs.Common.{IsSome, arith, ◌≡◌, ◌&&◌, ℕ, ◌<◌, List, refl, sym, ap, subst, ◌∙◌}
+use Rattle.std.proofs.Common.{arith, ◌≡◌, ◌&&◌, ℕ, ◌<◌, List, IsSome, refl, sym, ap, subst, ◌∙◌}
 use Rattle.std.specs.Prelude.{◌==◌, ◌≤◌, not, nat_lt, Bool, true, false, is_some, filter, flat_map, All, Contains, Option, Some, None, Result, Ok, Err}
 use Rattle.std.specs.Option.{option_map}
 use Rattle.std.specs.List.{slice_index_or}

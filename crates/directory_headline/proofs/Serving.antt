@@ -3,13 +3,14 @@ use Rattle.std.proofs.Common.{◌≡◌, ◌≢◌, ℕ, ◌<◌, ◌&&◌, inl,
 use Rattle.std.specs.Prelude.{Bool, true, false, not, nat_lt, Option, Some, None, option_and_then, Result, Ok, Err}
 use Rattle.std.specs.Option.{option_map, unwrap_or}
 use Rattle.std.proofs.lemmas.Bool.{lt-ltb, ltb-true}
+use Rattle.std.proofs.lemmas.List.Elements.{All-weaker}
 use Rattle.silo_address.specs.Silo.{Silo, silo_cmp}
 use Rattle.silo_address.specs.Grain.{Grain}
 use Rattle.silo_address.specs.declared.ActivationId.{ActivationId}
 use Rattle.silo_address.specs.declared.Entry.{Entry}
 use Rattle.silo_address.proofs.Order.{silo_cmp_total, silo_cmp_exact}
 use Rattle.silo_address.proofs.Same.{same_activation}
-use Rattle.ring_range.specs.Range.{circle}
+use Rattle.ring_range.specs.Range.{circle, IsRange}
 use Rattle.directory_protocol.specs.Setting.{Setting}
 use Rattle.directory_protocol.specs.Letters as letters
 use Rattle.directory_protocol.specs.Letters.{Sent}
@@ -34,8 +35,6 @@ use Rattle.directory_rules.specs.Node.{Node}
 use Rattle.directory_rules.specs.Receive.{replying}
 use Rattle.directory_rules.specs.Sight.{is_settled}
 use Rattle.directory_rules.specs.World.{World}
-use Rattle.std.proofs.lemmas.List.Elements.{All-weaker}
-use Rattle.ring_range.specs.Range.{IsRange}
 use Rattle.directory_rules.proofs.Ranges.{stands_at}
 use Rattle.directory_facts.specs.Own.{SaysOwn, NamesOwn, IsOwnRequest}
 use Rattle.directory_facts.specs.Whole.{LeavesOthers}
