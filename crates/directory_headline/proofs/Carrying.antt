@@ -1,6 +1,6 @@
 -- A step that moves as it should carries `Shown` on; and so it is for letters that are delivered or lost.
-use Rattle.std.proofs.Common.{arith, ◌≡◌, ◌≢◌, ℕ, ◌+◌, List, [], ◌∷◌, ◌++◌, inl, inr, sym, refl, ap, ◌∙◌, subst}
-use Rattle.std.specs.Prelude.{Bool, true, false, cond, All, IfSome, Option, Some, None}
+use Rattle.std.proofs.Common.{◌≡◌, ◌≢◌, ℕ, ◌+◌, List, [], ◌∷◌, ◌++◌, inl, inr, sym, ap, ◌∙◌, subst}
+use Rattle.std.specs.Prelude.{Bool, true, false, cond, All, IfSome, Some, None}
 use Rattle.std.specs.Option.{option_map}
 use Rattle.std.specs.Ordering.{nat_cmp}
 use Rattle.std.specs.List.{enumerate_from}
@@ -25,7 +25,7 @@ use Rattle.directory_rules.proofs.Cases.{on_bool}
 use Rattle.directory_facts.proofs.Entries.{all_set, all_removed}
 use Rattle.directory_headline.specs.Silo_state.{state_of}
 use Rattle.directory_headline.specs.Shown.{Shown, IsShownNode, IsShownLetter}
-use Rattle.directory_headline.proofs.Actors.{LeavesOthers, leaves_run}
+use Rattle.directory_headline.proofs.Actors.{leaves_run}
 use Rattle.directory_headline.proofs.Growing.{letter_still, node_still}
 use Rattle.directory_headline.proofs.Lookups.{found_put, found_beside_put}
 use Rattle.directory_headline.proofs.Events.{with_step}
@@ -64,17 +64,17 @@ shown_step m f its w silo node stepped here views nodes mail moves =
       live = λ q its_node there.
           elim (silo_cases q silo) [
             | inl same ↦
-              let one : Some stepped.node ≡ Some its_node =
-                  sym (found_put silo_cmp silo_cmp_total silo_cmp_exact silo stepped.node its.nodes)
-                  ∙ ap (λ s. lookup (is_at (silo_cmp s)) (with_step its silo stepped).nodes) (sym same) ∙ there in
-              let is : stepped.node ≡ its_node = cc in
-              subst (λ n. IsShownNode m later n (state_of later q)) is (subst (λ s. IsShownNode m later stepped.node (state_of later s)) (sym same) moves.node)
+                let one : Some stepped.node ≡ Some its_node =
+                sym (found_put silo_cmp silo_cmp_total silo_cmp_exact silo stepped.node its.nodes)
+                ∙ ap (λ s. lookup (is_at (silo_cmp s)) (with_step its silo stepped).nodes) (sym same) ∙ there in
+                let is : stepped.node ≡ its_node = cc in
+                subst (λ n. IsShownNode m later n (state_of later q)) is (subst (λ s. IsShownNode m later stepped.node (state_of later s)) (sym same) moves.node)
             | inr apart ↦
-              let before : node_of f q ≡ Some its_node =
-                  ap (λ ns. lookup (is_at (silo_cmp q)) ns) (sym nodes)
-                  ∙ sym (found_beside_put silo_cmp silo_cmp_total silo_cmp_exact silo stepped.node its.nodes q apart) ∙ there in
-              subst (IsShownNode m later its_node) (sym (left.others q apart))
-              (node_still m w later left.grows its_node (state_of w q) (here.shown.live q its_node before))
+                let before : node_of f q ≡ Some its_node =
+                ap (λ ns. lookup (is_at (silo_cmp q)) ns) (sym nodes)
+                ∙ sym (found_beside_put silo_cmp silo_cmp_total silo_cmp_exact silo stepped.node its.nodes q apart) ∙ there in
+                subst (IsShownNode m later its_node) (sym (left.others q apart))
+                (node_still m w later left.grows its_node (state_of w q) (here.shown.live q its_node before))
           ];
       absent = λ q none.
           let before : status_at f.views f.views.version q ≡ None = ap (λ v. status_at v v.version q) (sym views) ∙ none in

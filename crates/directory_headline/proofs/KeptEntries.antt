@@ -1,20 +1,18 @@
 -- What a sight keeps of a grain's entry: where the grain's hash was in a settled piece, its entry there, unless that is on a
 -- silo which is Dead in the view.
-use Rattle.std.proofs.Common.{arith, ◌≡◌, ◌≢◌, ℕ, ◌≤◌, List, [], ◌∷◌, inl, inr, refl, sym, ap, subst, ◌∙◌}
+use Rattle.std.proofs.Common.{◌≡◌, ℕ, ◌≤◌, List, [], ◌∷◌, inl, inr, refl, sym, ap, ◌∙◌}
 use Rattle.std.specs.Prelude.{◌&&◌, Bool, true, false, cond, not, count_by, All, Option, Some, None, filter, fold, flat_map}
 use Rattle.std.specs.Ordering.{is_eq, is_lt}
 use Rattle.std.specs.List.{AllByRecursion}
 use Rattle.std.specs.List.Sorted.{IsStrictlySortedBy}
-use Rattle.std.specs.Map.{lookup, keys_of}
+use Rattle.std.specs.Map.{keys_of}
 use Rattle.std.specs.BTreeMap.{is_at}
 use Rattle.std.specs.declared.cmp.Ordering.TheVariants.{Less}
 use Rattle.std.proofs.lemmas.Bool.{eq-eqb}
-use Rattle.std.proofs.lemmas.Cmp.{tied_itself}
 use Rattle.std.proofs.lemmas.List.Elements.{All-nil, All-cons, All-head, All-tail, All-weaker, filter_passes}
 use Rattle.texts.proofs.Decided.{both}
 use Rattle.silo_address.specs.Grain.{Grain, grain_cmp}
 use Rattle.silo_address.specs.Silo.{Silo}
-use Rattle.silo_address.specs.declared.ActivationId.{ActivationId}
 use Rattle.silo_address.specs.declared.Entry.{Entry}
 use Rattle.silo_address.proofs.Order.{grain_cmp_total, grain_cmp_exact}
 use Rattle.membership_view.specs.View.{ViewValue}
@@ -97,13 +95,13 @@ picked g test passes [] one other same = same
 picked g test passes (e ∷ es) one other same =
     elim (grain_cases g e.grain) [
       | inl its ↦
-        picked g test passes es (with_entry one e) (with_entry other e)
-        (lookup-insert_entry grain_cmp_total e.grain e g one ∙ ap (cond (is_at (grain_cmp g) e.grain) (Some e)) same ∙ sym (lookup-insert_entry grain_cmp_total e.grain e g other))
-        ∙ ap (λ b. entry_at g (fold with_entry other (cond b (e ∷ filter test es) (filter test es)))) (sym (passes e (sym its)))
+          picked g test passes es (with_entry one e) (with_entry other e)
+          (lookup-insert_entry grain_cmp_total e.grain e g one ∙ ap (cond (is_at (grain_cmp g) e.grain) (Some e)) same ∙ sym (lookup-insert_entry grain_cmp_total e.grain e g other))
+          ∙ ap (λ b. entry_at g (fold with_entry other (cond b (e ∷ filter test es) (filter test es)))) (sym (passes e (sym its)))
       | inr apart ↦
-        on_bool (λ b. entry_at g (fold with_entry (with_entry one e) es) ≡ entry_at g (fold with_entry other (cond b (e ∷ filter test es) (filter test es)))) (test e)
-        (λ t. picked g test passes es (with_entry one e) (with_entry other e) (other_than_put one e g apart ∙ same ∙ sym (other_than_put other e g apart)))
-        (λ f. picked g test passes es (with_entry one e) other (other_than_put one e g apart ∙ same))
+          on_bool (λ b. entry_at g (fold with_entry (with_entry one e) es) ≡ entry_at g (fold with_entry other (cond b (e ∷ filter test es) (filter test es)))) (test e)
+          (λ t. picked g test passes es (with_entry one e) (with_entry other e) (other_than_put one e g apart ∙ same ∙ sym (other_than_put other e g apart)))
+          (λ f. picked g test passes es (with_entry one e) other (other_than_put one e g apart ∙ same))
     ]
 
 fold_in_order : (entries : List Entry) (table : Table) → InOrder table → InOrder (fold with_entry table entries)

@@ -1,6 +1,6 @@
 -- What is found under a key after an entry was put in, set or taken out.
-use Rattle.std.proofs.Common.{arith, ◌≡◌, ◌≢◌, ℕ, suc, ◌<◌, List, [], ◌∷◌, ◌++◌, length, refl, sym, ap, subst, ◌∙◌}
-use Rattle.std.specs.Prelude.{Bool, true, false, cond, is_some, find, AllPairs, Contains, Option, Some, None}
+use Rattle.std.proofs.Common.{arith, ◌≡◌, ◌≢◌, suc, List, [], ◌∷◌, ◌++◌, refl, sym, ap, subst, ◌∙◌}
+use Rattle.std.specs.Prelude.{Bool, true, false, cond, is_some, find, AllPairs, Contains, Some, None}
 use Rattle.std.specs.Prelude.{All}
 use Rattle.std.specs.List.{slice_index_or}
 use Rattle.std.proofs.lemmas.List.Elements.{All-head, All-tail}
@@ -12,7 +12,7 @@ use Rattle.std.specs.BTreeMap.{is_at, insert_entry}
 use Rattle.std.proofs.lemmas.Map.Lookups.{CmpEqualImpliesEq}
 use Rattle.std.proofs.lemmas.Cmp.{tied_itself}
 use Rattle.silo_address.proofs.Order.{apart_in_order}
-use Rattle.membership_view.proofs.Entries.{lookup-insert_entry, Equal-from}
+use Rattle.membership_view.proofs.Entries.{lookup-insert_entry}
 use Rattle.directory_rules.proofs.Cases.{on_bool}
 use Rattle.directory_rules.proofs.Tables.{lookup-remove_other}
 use Rattle.directory_facts.proofs.Entries.{same_key}
@@ -79,9 +79,11 @@ find_looked R o exact test (x ∷ xs) e pairs found =
     (is, ap (λ b. cond b (Some x.1) (lookup (is_at (R x.0)) xs)) (at_itself R o x.0), (0, omega arith, refl)))
     (λ f is its.
     let later = find_looked R o exact test xs e (λ i j d lt below. pairs (suc i) (suc j) d (omega (arith, lt)) (omega (arith, below))) its in
-    let apart : x.0 ≢ e.0 = λ same. pairs 0 (suc later.2.0) e (omega arith) (omega (arith, later.2.1)) (same ∙ ap (λ y. y.0) (sym later.2.2)) in
-    (later.0, ap (λ b. cond b (Some x.1) (lookup (is_at (R e.0)) xs)) (apart_in_order R exact e.0 x.0 (λ same. apart (sym same))) ∙ later.1,
-    (suc later.2.0, omega (arith, later.2.1), later.2.2)))
+    let apart : x.0 ≢ e.0 = λ same. pairs 0 (suc later.2.0) e (omega arith) (omega (arith, later.2.1)) (same ∙ ap (λ y. y.0) (sym later.2.2)) in (
+      later.0,
+      ap (λ b. cond b (Some x.1) (lookup (is_at (R e.0)) xs)) (apart_in_order R exact e.0 x.0 (λ same. apart (sym same))) ∙ later.1,
+      (suc later.2.0, omega (arith, later.2.1), later.2.2),
+    ))
     refl found
 
 module _ {K X : Type 0} (R : K → K → Ordering) (o : IsTotalOrder R) (exact : CmpEqualImpliesEq R) where

@@ -1,6 +1,6 @@
 -- The members of a view: who is awaited by a recovery, and who is there from the version in which it joined.
-use Rattle.std.proofs.Common.{arith, ◌≡◌, ◌≢◌, ℕ, ◌≤◌, List, [], ◌∷◌, IsSome, inl, inr, refl, sym, ap, subst, ◌∙◌}
-use Rattle.std.specs.Prelude.{option_and_then, ◌||◌, Bool, true, false, cond, not, filter, Option, Some, None}
+use Rattle.std.proofs.Common.{arith, ◌≡◌, ◌≢◌, ℕ, ◌≤◌, List, [], ◌∷◌, IsSome, inl, inr, refl, sym, ap, ◌∙◌}
+use Rattle.std.specs.Prelude.{option_and_then, ◌||◌, true, false, cond, not, filter, Option, Some, None}
 use Rattle.std.specs.Option.{unwrap_or, option_map}
 use Rattle.std.specs.Ordering.{is_eq}
 use Rattle.std.specs.List.{AllByRecursion}
@@ -18,9 +18,9 @@ use Rattle.membership_view.specs.declared.status.Status.{Status}
 use Rattle.membership_view.specs.declared.status.Status.TheVariants.{Active, Leaving, Dead}
 use Rattle.membership_view.specs.Row.{status_in}
 use Rattle.membership_view.specs.View.{ViewValue, IsByAddress, status_of}
-use Rattle.membership_view.specs.Views.{ViewsValue, row_of, rows_in, view_at, status_at, joining_version}
+use Rattle.membership_view.specs.Views.{ViewsValue, row_of, rows_in, status_at, joining_version}
 use Rattle.membership_view.specs.Whole.{IsViews}
-use Rattle.membership_view.proofs.Entries.{sorted-nil, sorted-picked, lookup-picked}
+use Rattle.membership_view.proofs.Entries.{lookup-picked}
 use Rattle.membership_view.proofs.Staying.{joined_from}
 use Rattle.directory_protocol.proofs.Changes.{silo_cases}
 use Rattle.directory_rules.specs.Membership.{is_dead_status, is_known_dead, members_of}
@@ -56,15 +56,15 @@ among_rows q (e ∷ es) sorted =
     let later = among_rows q es sorted.1 in
     elim (silo_cases q e.0) [
       | inl same ↦
-        let found : is_at (silo_cmp q) e.0 ≡ true = ap (is_at (silo_cmp q)) (sym same) ∙ ap is_eq (tied_itself silo_cmp_total q) in
-        let none = ap (λ s. is_among s (keys_of (staying es))) same ∙ not_among e.0 es sorted.0 in
-        (on_bool (λ b. is_among q (keys_of (cond b (e ∷ staying es) (staying es))) ≡ b) (not (is_dead_status e.1))
-        (λ t. ap (λ b. b || is_among q (keys_of (staying es))) ((Decides-silo q e.0).1 same)) (λ f. none))
-        ∙ sym (live_known e.1) ∙ ap (λ b. is_live (cond b (Some e.1) (lookup (is_at (silo_cmp q)) es))) (sym found)
+          let found : is_at (silo_cmp q) e.0 ≡ true = ap (is_at (silo_cmp q)) (sym same) ∙ ap is_eq (tied_itself silo_cmp_total q) in
+          let none = ap (λ s. is_among s (keys_of (staying es))) same ∙ not_among e.0 es sorted.0 in
+          (on_bool (λ b. is_among q (keys_of (cond b (e ∷ staying es) (staying es))) ≡ b) (not (is_dead_status e.1))
+          (λ t. ap (λ b. b || is_among q (keys_of (staying es))) ((Decides-silo q e.0).1 same)) (λ f. none))
+          ∙ sym (live_known e.1) ∙ ap (λ b. is_live (cond b (Some e.1) (lookup (is_at (silo_cmp q)) es))) (sym found)
       | inr apart ↦
-        (on_bool (λ b. is_among q (keys_of (cond b (e ∷ staying es) (staying es))) ≡ is_among q (keys_of (staying es))) (not (is_dead_status e.1))
-        (λ t. ap (λ b. b || is_among q (keys_of (staying es))) (not_same q e.0 apart)) (λ f. refl))
-        ∙ later ∙ ap (λ b. is_live (cond b (Some e.1) (lookup (is_at (silo_cmp q)) es))) (sym (apart_in_order silo_cmp silo_cmp_exact q e.0 apart))
+          (on_bool (λ b. is_among q (keys_of (cond b (e ∷ staying es) (staying es))) ≡ is_among q (keys_of (staying es))) (not (is_dead_status e.1))
+          (λ t. ap (λ b. b || is_among q (keys_of (staying es))) (not_same q e.0 apart)) (λ f. refl))
+          ∙ later ∙ ap (λ b. is_live (cond b (Some e.1) (lookup (is_at (silo_cmp q)) es))) (sym (apart_in_order silo_cmp silo_cmp_exact q e.0 apart))
     ]
 
 -- the members of a view are those that are there and aren't Dead

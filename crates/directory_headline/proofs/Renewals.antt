@@ -145,10 +145,10 @@ module _ (m : Setting) (host : Host) (silo : Silo) (before : protocol.World) (al
     put_held g its x found new x_is r =
         elim (grain_cases r g) [
           | inl same ↦
-            ap (λ q. put_at silo g (Some x) w.held silo q) same ∙ put_at_same silo g (Some x) w.held ∙ ap Some x_is ∙ ap (option_map (held_by host (low + 1))) (sym found)
-            ∙ ap (λ q. option_map (held_by host (low + 1)) (held_of host q)) (sym same)
+              ap (λ q. put_at silo g (Some x) w.held silo q) same ∙ put_at_same silo g (Some x) w.held ∙ ap Some x_is ∙ ap (option_map (held_by host (low + 1))) (sym found)
+              ∙ ap (λ q. option_map (held_by host (low + 1)) (held_of host q)) (sym same)
           | inr apart ↦
-            put_at_other silo g (Some x) w.held silo r (λ s. apart) ∙ is.held r ∙ held_past host low (held_of host r) (λ h there. other_grain g r its h found new apart there)
+              put_at_other silo g (Some x) w.held silo r (λ s. apart) ∙ is.held r ∙ held_past host low (held_of host r) (λ h there. other_grain g r its h found new apart there)
         ]
 
     sent_one :
@@ -158,12 +158,12 @@ module _ (m : Setting) (host : Host) (silo : Silo) (before : protocol.World) (al
     sent_one g its x found new now r held there =
         elim (grain_cases r g) [
           | inl same ↦
-            let one : Some its ≡ Some held = sym found ∙ ap (held_of host) (sym same) ∙ there in
-            let here : its ≡ held = cc (one) in
-            subst (λ q. IsSentBy held.phase host (low + 1) (before.seen silo) silo q held (x ∷ w.requests)) (sym same)
-            (subst (λ y. IsSentBy y.phase host (low + 1) (before.seen silo) silo g y (x ∷ w.requests)) here now)
+              let one : Some its ≡ Some held = sym found ∙ ap (held_of host) (sym same) ∙ there in
+              let here : its ≡ held = cc (one) in
+              subst (λ q. IsSentBy held.phase host (low + 1) (before.seen silo) silo q held (x ∷ w.requests)) (sym same)
+              (subst (λ y. IsSentBy y.phase host (low + 1) (before.seen silo) silo g y (x ∷ w.requests)) here now)
           | inr apart ↦
-            sent_past host low held.phase (before.seen silo) silo r held x w.requests (other_grain g r its held found new apart there) (is.sent r held there)
+              sent_past host low held.phase (before.seen silo) silo r held x w.requests (other_grain g r its held found new apart there) (is.sent r held there)
         ]
 
     -- an activation's request is sent under the number

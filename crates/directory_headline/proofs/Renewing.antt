@@ -68,7 +68,7 @@ module _ (m : Setting) (host : Host) (silo : Silo) (node : Node) (later : protoc
   anew e = (e.0, record e.1 { phase = renewed_phase host e.1.phase })
 
   act_shown : (phase : Phase) (e : Grain × Held) (acts : List (ℕ × Act)) → Sent phase e.0 e.1 → All Shown acts → All Shown (cons_option (act_in (renewed_phase host phase) (renewed host) e.0 (anew e).1) acts)
-  act_shown (Asking k) e acts sent all = 
+  act_shown (Asking k) e acts sent all =
       All-cons Shown (new_number host k, act.Register (entry_of (renewed host) e.0 (anew e).1) e.1.previous) acts
       (subst (λ s. letters.Sent (request_by letters.Register node.view.version (new_number host k) s e.0 e.1.count e.1.previous) later.requests) (sym its) sent) all
   act_shown Firm e acts sent all = all

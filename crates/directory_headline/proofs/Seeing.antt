@@ -1,22 +1,19 @@
 -- A silo sees a version: what it keeps settled and what it seals is shown, what it awaits begins anew, and its outstanding
 -- requests are sent again.
-use Rattle.std.proofs.Common.{arith, ◌≡◌, ◌≢◌, ℕ, suc, ◌+◌, ◌<◌, ◌≤◌, List, [], ◌∷◌, ◌++◌, inl, inr, refl, sym, ap, subst, ◌∙◌}
-use Rattle.std.specs.Prelude.{◌&&◌, ◌||◌, Bool, true, false, cond, not, nat_lt, filter, All, Option, Some, None}
+use Rattle.std.proofs.Common.{◌≡◌, ℕ, ◌<◌, List, [], ◌∷◌, inl, refl, sym, ap, subst, ◌∙◌}
+use Rattle.std.specs.Prelude.{◌&&◌, ◌||◌, Bool, true, false, not, nat_lt, filter, All}
 use Rattle.std.specs.List.{list_any, cons_option}
 use Rattle.std.proofs.lemmas.Bool.{lt-ltb}
-use Rattle.std.proofs.lemmas.List.Elements.{All-nil, All-cons, All-head, All-tail, All-append, All-filter, All-weaker}
+use Rattle.std.proofs.lemmas.List.Elements.{All-nil, All-cons, All-append, All-filter, All-weaker}
 use Rattle.silo_address.specs.Silo.{Silo}
 use Rattle.silo_address.specs.Grain.{Grain}
 use Rattle.silo_address.specs.declared.Entry.{Entry}
-use Rattle.membership_view.specs.View.{ViewValue, IsByAddress, status_of}
-use Rattle.membership_view.specs.Views.{view_at}
+use Rattle.membership_view.specs.View.{ViewValue, IsByAddress}
 use Rattle.ring_range.specs.Range.{circle, Range, IsRange, distance, holds}
 use Rattle.ring_range.proofs.Circle.{distance-itself}
-use Rattle.hash_ring.specs.Hash.{hash_grain}
 use Rattle.hash_ring.specs.Places.{PlacesValue}
 use Rattle.range_moves.specs.Arcs.{arcs_of}
 use Rattle.directory_protocol.specs.Setting.{Setting}
-use Rattle.directory_protocol.specs.Letters as letters
 use Rattle.directory_protocol.specs.World as protocol
 use Rattle.directory_protocol.specs.World.{surviving}
 use Rattle.directory_protocol.specs.Actions.{See}
@@ -24,24 +21,23 @@ use Rattle.directory_protocol.specs.Effects as effects
 use Rattle.directory_protocol.proofs.Changes.{put_same}
 use Rattle.directory_rules.specs.declared.piece_state.PieceState.{PieceState}
 use Rattle.directory_rules.specs.declared.piece_state.PieceState.TheVariants as state
-use Rattle.directory_rules.specs.Membership.{is_dead_in, members_of}
-use Rattle.directory_rules.specs.Table.{entry_at, entries_of, table_of, rise_by_grain}
+use Rattle.directory_rules.specs.Membership.{is_dead_in}
+use Rattle.directory_rules.specs.Table.{entry_at, entries_of}
 use Rattle.directory_rules.specs.Piece.{Piece}
 use Rattle.directory_rules.specs.Snapshot.{Snapshot}
 use Rattle.directory_rules.specs.Gathering.{Gathering, new_gathering}
-use Rattle.directory_rules.specs.Recovery.{Recovery, new_recovery, is_among}
-use Rattle.directory_rules.specs.Sight.{is_next, was_settled, kept_entries, shelf_after}
+use Rattle.directory_rules.specs.Recovery.{Recovery, new_recovery}
+use Rattle.directory_rules.specs.Sight.{was_settled, kept_entries, shelf_after}
 use Rattle.directory_rules.specs.Node.{Node}
 use Rattle.directory_rules.specs.Sending.{all_requests, all_wants}
 use Rattle.directory_rules.specs.Step.{gathering_in, recovery_in, new_gatherings, new_recoveries, node_after, sight}
 use Rattle.directory_rules.specs.World.{World}
-use Rattle.directory_rules.specs.Laws.{is_live}
 use Rattle.directory_rules.proofs.Cases.{on_bool}
 use Rattle.directory_facts.proofs.Carried.{IsSight}
 use Rattle.directory_facts.proofs.Serving.{found_holds}
 use Rattle.directory_headline.specs.Setting.{is_member_in}
 use Rattle.directory_headline.specs.Silo_state.{state_of}
-use Rattle.directory_headline.specs.Shown.{activation_in, IsShownHost, IsShownHolding, IsListOf, HasSealed, IsShownSnapshot, IsShownGathering, IsShownRecovery, IsShownLetter}
+use Rattle.directory_headline.specs.Shown.{activation_in, IsShownHost, IsShownHolding, IsListOf, IsShownSnapshot, IsShownGathering, IsShownRecovery, IsShownLetter}
 use Rattle.directory_headline.proofs.Settings.{view_by_address}
 use Rattle.directory_headline.proofs.Actors.{leaves_after, leaves_run}
 use Rattle.directory_headline.proofs.Facts.{NodeFacts, IsPiece}
@@ -52,7 +48,7 @@ use Rattle.directory_headline.proofs.NewRecoveries.{new_recovery_shown}
 use Rattle.directory_headline.proofs.KeptEntries.{kept_at, kept_rises, kept_again, kept_inside}
 use Rattle.directory_headline.proofs.SettledPiece.{grain_below}
 use Rattle.directory_headline.proofs.SightPieces.{IsSealed}
-use Rattle.directory_headline.proofs.Renewals.{IsSentAnew, SendsAnew, sends_anew}
+use Rattle.directory_headline.proofs.Renewals.{IsSentAnew, sends_anew}
 use Rattle.directory_headline.proofs.Renewing.{requests_shown, all_wants_shown}
 use Rattle.directory_headline.proofs.Sights as sights
 

@@ -1,6 +1,6 @@
 -- The views and places of a world make a setting; and that of a later world is that of an earlier one, as far as its versions go.
-use Rattle.std.proofs.Common.{arith, ◌≡◌, ◌≢◌, ℕ, ◌≤◌, Bool, true, false, List, [], IsSome, refl, sym, ap, ◌∙◌, subst}
-use Rattle.std.specs.Prelude.{nat_le, not, cond, if◌then◌else◌, is_some, Contains, Option, Some, None}
+use Rattle.std.proofs.Common.{arith, ◌≡◌, ◌≢◌, ℕ, ◌≤◌, true, [], IsSome, refl, sym, ap, ◌∙◌, subst}
+use Rattle.std.specs.Prelude.{nat_le, not, if◌then◌else◌, Contains, Option, Some, None}
 use Rattle.std.specs.Option.{option_map}
 use Rattle.std.specs.List.Sorted.{IsStrictlySortedBy}
 use Rattle.std.specs.Map.{keys_of}
@@ -125,7 +125,7 @@ setting_of end whole = record {
   dead_stays_dead = λ j k silo le alive.
       let later = subst (λ view. is_alive_in view silo ≡ true) (view_up_to-is end.views k) alive in
       let before = alive_before (status_at end.views (up_to end.views j) silo) (status_at end.views (up_to end.views k) silo)
-          (dead_stays_dead end.views whole silo (up_to end.views j) (up_to end.views k) (up_to-rises end.views j k le) (up_to-made end.views k)) later in
+      (dead_stays_dead end.views whole silo (up_to end.views j) (up_to end.views k) (up_to-rises end.views j k le) (up_to-made end.views k)) later in
       subst (λ view. is_alive_in view silo ≡ true) (sym (view_up_to-is end.views j)) before;
   member_until_death = λ j k silo le member alive.
       let before = subst (λ view. is_member_in view silo ≡ true) (view_up_to-is end.views j) member in

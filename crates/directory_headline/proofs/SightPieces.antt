@@ -1,23 +1,21 @@
 -- The pieces after a sight, and what it seals, against the pieces before it: what is settled afterwards or sealed was settled.
-use Rattle.std.proofs.Common.{arith, ◌≡◌, ◌≢◌, ℕ, ◌+◌, ◌<◌, ◌≤◌, List, [], ◌∷◌, ◌++◌, inl, inr, refl, sym, ap, subst, ◌∙◌}
-use Rattle.std.specs.Prelude.{◌&&◌, ◌||◌, Bool, true, false, cond, not, nat_lt, is_some, count_by, find, filter, flat_map, map, All, Option, Some, None}
+use Rattle.std.proofs.Common.{arith, ◌≡◌, ℕ, ◌+◌, ◌<◌, ◌≤◌, List, [], ◌∷◌, refl, ap, ◌∙◌}
+use Rattle.std.specs.Prelude.{◌&&◌, ◌||◌, Bool, true, false, cond, not, nat_lt, is_some, find, filter, flat_map, All, Option, Some, None}
 use Rattle.std.specs.Option.{option_map}
 use Rattle.std.proofs.lemmas.Bool.{lt-ltb, ltb-true}
 use Rattle.std.proofs.lemmas.List.Elements.{All-nil, All-cons, All-head, All-tail, All-append, All-map, All-filter, All-weaker}
 use Rattle.std.proofs.lemmas.List.Sums.{sum_by-cons}
 use Rattle.texts.proofs.Decided.{both}
 use Rattle.silo_address.specs.Silo.{Silo, silo_eq}
-use Rattle.silo_address.specs.Grain.{Grain}
-use Rattle.silo_address.specs.declared.Entry.{Entry}
 use Rattle.membership_view.specs.View.{ViewValue}
-use Rattle.ring_range.specs.Range.{circle, Range, IsRange, EachHash, holds}
+use Rattle.ring_range.specs.Range.{circle, Range, IsRange, holds}
 use Rattle.hash_ring.specs.declared.Hashing.{Hashing}
 use Rattle.range_moves.specs.declared.Arc.{Arc}
 use Rattle.directory_rules.specs.declared.piece_state.PieceState.{PieceState}
 use Rattle.directory_rules.specs.declared.piece_state.PieceState.TheVariants as state
 use Rattle.directory_rules.specs.declared.piece_state.PieceState.TheVariants.{Settled}
 use Rattle.directory_rules.specs.Membership.{is_dead_in}
-use Rattle.directory_rules.specs.Table.{Table, entries_of}
+use Rattle.directory_rules.specs.Table.{entries_of}
 use Rattle.directory_rules.specs.Piece.{Piece}
 use Rattle.directory_rules.specs.Snapshot.{Snapshot}
 use Rattle.directory_rules.specs.Answer.{piece_with}

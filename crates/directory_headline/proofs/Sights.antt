@@ -2,11 +2,10 @@
 use Rattle.std.proofs.Common.{arith, ◌≡◌, ◌≢◌, ◌⊎◌, ℕ, suc, ◌+◌, ◌<◌, ◌≤◌, List, [], ◌∷◌, inl, inr, refl, sym, ap, subst, ◌∙◌}
 use Rattle.std.specs.Prelude.{◌&&◌, ◌||◌, ◌==◌, Bool, true, false, cond, not, nat_lt, is_none, is_some, All, Option, Some, None}
 use Rattle.std.specs.List.{list_any}
-use Rattle.std.proofs.lemmas.Bool.{eqb-true, lt-ltb, ltb-true}
-use Rattle.std.proofs.lemmas.List.Elements.{All-nil, All-cons, All-head, All-tail}
+use Rattle.std.proofs.lemmas.Bool.{eqb-true, ltb-true}
+use Rattle.std.proofs.lemmas.List.Elements.{All-nil, All-head, All-tail}
 use Rattle.texts.proofs.Decided.{both}
-use Rattle.silo_address.specs.Silo.{Silo, silo_eq}
-use Rattle.silo_address.specs.Grain.{Grain}
+use Rattle.silo_address.specs.Silo.{Silo}
 use Rattle.silo_address.proofs.Same.{Decides-silo}
 use Rattle.membership_view.specs.View.{ViewValue, status_of}
 use Rattle.membership_view.specs.Views.{view_at}
@@ -15,7 +14,6 @@ use Rattle.hash_ring.specs.declared.Point.{Point}
 use Rattle.hash_ring.specs.Point.{IsOnCircle}
 use Rattle.hash_ring.specs.Places.{PlacesValue, IsPlaces}
 use Rattle.hash_ring.specs.Ring.{sorted_ring}
-use Rattle.range_moves.specs.declared.Arc.{Arc}
 use Rattle.range_moves.specs.Arcs.{owner_silo, arcs_of, AreArcs}
 use Rattle.range_moves.proofs.Between.{arcs_whole}
 use Rattle.directory_protocol.specs.Setting.{Setting}
@@ -28,7 +26,7 @@ use Rattle.directory_rules.specs.Sight.{is_next, is_owner, was_settled, pieces_a
 use Rattle.directory_rules.specs.Node.{Node}
 use Rattle.directory_rules.specs.Step.{compared_points}
 use Rattle.directory_rules.specs.World.{World}
-use Rattle.directory_rules.specs.Laws.{HoldOnce, lies_settled}
+use Rattle.directory_rules.specs.Laws.{HoldOnce}
 use Rattle.directory_rules.proofs.Cases.{on_bool}
 use Rattle.directory_rules.proofs.Pieces.{pieces_are_owned}
 use Rattle.directory_rules.proofs.Sights.{on_circle, compared}
@@ -37,12 +35,12 @@ use Rattle.directory_facts.proofs.Serving.{found_holds}
 use Rattle.directory_facts.proofs.Throughout.{settled_both}
 use Rattle.directory_headline.specs.Setting.{is_member_in, is_alive_in, owner_in}
 use Rattle.directory_headline.specs.Shown.{has_settled}
-use Rattle.directory_headline.proofs.Facts.{NodeFacts, IsPiece}
+use Rattle.directory_headline.proofs.Facts.{NodeFacts}
 use Rattle.directory_headline.proofs.Frame.{Here, alive, node_facts, node_shown, host_is, seen_is, live_now, owner_is}
 use Rattle.directory_headline.proofs.PieceAt.{of_found, found_counted}
 use Rattle.directory_headline.proofs.HashPieces.{holding}
 use Rattle.directory_headline.proofs.Members.{live_since}
-use Rattle.directory_headline.proofs.SightPieces.{HasSettledPiece, has_piece, of_settled, lies_in_one, IsMade, all_made, HasHash, IsSealed, all_sealed}
+use Rattle.directory_headline.proofs.SightPieces.{HasSettledPiece, has_piece, of_settled, lies_in_one, IsMade, all_made, IsSealed, all_sealed}
 
 -- ---- pieces that hold each hash that is owned once
 owner_of_it : (s : Silo) (o : Option Silo) → is_owner s o ≡ true → o ≡ Some s
@@ -213,9 +211,9 @@ module _ (m : Setting) (f : World) (w : protocol.World) (silo : Silo) (node : No
       (λ t is. elim (either_true (view.version == node.view.version + 1) ((node.view.version == 0) && is_none (status_of before node.host.silo) && is_some (status_of view node.host.silo)) is) [
         | inl one ↦ let same = eqb-true view.version (node.view.version + 1) one in omega (same, seen, arith)
         | inr first ↦
-          let two = both ((node.view.version == 0) && is_none (status_of before node.host.silo)) (is_some (status_of view node.host.silo)) first in
-          let none = both (node.view.version == 0) (is_none (status_of before node.host.silo)) two.0 in
-          absurd (seen_some h has.0 has.1 (eqb-true node.view.version 0 none.0))
+            let two = both ((node.view.version == 0) && is_none (status_of before node.host.silo)) (is_some (status_of view node.host.silo)) first in
+            let none = both (node.view.version == 0) (is_none (status_of before node.host.silo)) two.0 in
+            absurd (seen_some h has.0 has.1 (eqb-true node.view.version 0 none.0))
       ])
       (λ f not. absurd (nothing_given next h not given)) refl
 

@@ -1,36 +1,17 @@
 -- Every accepted step of a silo moves as it should: by the ways of a step, each of its own file.
-use Rattle.std.proofs.Common.{◌≡◌, ◌≢◌, ℕ, ◌<◌, ◌≤◌, List}
-use Rattle.std.specs.Prelude.{true, false, length, Some, None, Ok}
 use Rattle.silo_address.specs.Silo.{Silo}
-use Rattle.silo_address.specs.declared.Entry.{Entry}
-use Rattle.membership_view.specs.View.{ViewValue}
-use Rattle.ring_range.specs.Range.{Range}
-use Rattle.hash_ring.specs.Places.{PlacesValue}
 use Rattle.directory_protocol.specs.Setting.{Setting}
 use Rattle.directory_protocol.specs.World as protocol
-use Rattle.directory_rules.specs.declared.act.Request.{Request}
 use Rattle.directory_rules.specs.declared.effect.Effect.TheVariants as effect
-use Rattle.directory_rules.specs.declared.piece_state.PieceState.TheVariants as state
-use Rattle.directory_rules.specs.Answer.{answered}
-use Rattle.directory_rules.specs.Piece.{Piece}
-use Rattle.directory_rules.specs.Table.{Table, table_of}
-use Rattle.directory_rules.specs.Sight.{is_next}
-use Rattle.directory_rules.specs.Snapshot.{Page, Hands_page, shelf_answer}
-use Rattle.directory_rules.specs.Gathering.{Gathering, Wants_page, Has_all, Refuses, gathered}
-use Rattle.directory_rules.specs.Recovery.{Report, Recovery, Awaits_more, Has_union, recovered}
 use Rattle.directory_rules.specs.Cache.{in_front, learnt, without_pair}
-use Rattle.directory_rules.specs.Letter.{Letter, Request_letter, Ask_letter, Page_letter, Missing_letter, Done_letter, Behind_letter, Ahead_letter}
+use Rattle.directory_rules.specs.Letter.{Missing_letter, Behind_letter, Ahead_letter}
 use Rattle.directory_rules.specs.Node.{Node}
-use Rattle.directory_rules.specs.Sending.{gathering_of, recovery_of}
-use Rattle.directory_rules.specs.Step.{Stepped, silently, sight}
-use Rattle.directory_rules.specs.Transfer.{answering, asking_on, querying, turned_to_recovery, with_gathering, with_recovery, with_settled}
-use Rattle.directory_rules.specs.Receive.{replying}
-use Rattle.directory_rules.specs.Input.{Input, step}
+use Rattle.directory_rules.specs.Step.{Stepped}
+use Rattle.directory_rules.specs.Input.{Input}
 use Rattle.directory_rules.specs.World.{World}
-use Rattle.directory_facts.proofs.Carried.{IsSight}
-use Rattle.directory_facts.proofs.Ways.{Ways, HasPiece, IsPageTaken, IsReportTaken}
+use Rattle.directory_facts.proofs.Ways.{Ways}
 use Rattle.directory_facts.proofs.Stepping.{by_way}
-use Rattle.directory_headline.proofs.Frame.{Here, Comes, Brings, Moves}
+use Rattle.directory_headline.proofs.Frame.{Here, Brings, Moves}
 use Rattle.directory_headline.proofs.Running.{AllMove}
 use Rattle.directory_headline.proofs.Staying.{nothing, cache_changes, find_ends, answers_so, forgoes}
 use Rattle.directory_headline.proofs.Finding.{finds}

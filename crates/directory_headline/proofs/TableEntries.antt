@@ -1,12 +1,11 @@
 -- The entries of a table whose grains rise, of which a test picks some.
-use Rattle.std.proofs.Common.{arith, ◌≡◌, ◌≢◌, ℕ, suc, ◌<◌, List, [], ◌∷◌, length, refl, sym, ap, subst, ◌∙◌}
-use Rattle.std.specs.Prelude.{Bool, true, false, cond, All, AllPairs, Contains, Option, Some, None, filter}
+use Rattle.std.proofs.Common.{arith, ◌≡◌, ◌≢◌, suc, List, [], ◌∷◌, refl, sym, ap, subst, ◌∙◌}
+use Rattle.std.specs.Prelude.{Bool, true, false, cond, All, AllPairs, Contains, Some, filter}
 use Rattle.std.specs.List.{AllByRecursion}
 use Rattle.std.specs.List.Sorted.{IsStrictlySortedBy}
 use Rattle.std.specs.Map.{lookup, keys_of}
 use Rattle.std.specs.BTreeMap.{is_at}
-use Rattle.std.specs.Ordering.{is_eq}
-use Rattle.std.specs.declared.cmp.Ordering.TheVariants.{Less, Equal, Greater}
+use Rattle.std.specs.declared.cmp.Ordering.TheVariants.{Less}
 use Rattle.std.proofs.lemmas.Cmp.{tied_itself}
 use Rattle.std.proofs.lemmas.List.Elements.{All-nil, All-cons, All-head, All-tail}
 use Rattle.std.proofs.lemmas.List.Kept.{AllPairs-cons, AllPairs-filter}
@@ -87,7 +86,7 @@ module _ (test : Entry → Bool) where
       (λ t at is.
       let same : x.1 ≡ e = cc (is) in
       let all : filter test (entries_of (x ∷ xs)) ≡ e ∷ filter test (entries_of xs) =
-          ap (λ b. cond b (x.1 ∷ filter test (entries_of xs)) (filter test (entries_of xs))) (ap test same ∙ passes) ∙ ap (λ y. y ∷ filter test (entries_of xs)) same in
+      ap (λ b. cond b (x.1 ∷ filter test (entries_of xs)) (filter test (entries_of xs))) (ap test same ∙ passes) ∙ ap (λ y. y ∷ filter test (entries_of xs)) same in
       subst (λ l. Contains l e) (sym all) (0, omega arith, refl))
       (λ f at is. picked_more (test x.1) x.1 e (filter test (entries_of xs)) (picked_found grain xs e is passes))
       refl found

@@ -1,15 +1,15 @@
 -- A join, a leaving and a death are the next view: `Shown` is carried on.
-use Rattle.std.proofs.Common.{arith, ◌≡◌, ◌≢◌, ℕ, suc, ◌+◌, ◌<◌, List, [], IsSome, inl, inr, refl, sym, ap, ◌∙◌, subst}
+use Rattle.std.proofs.Common.{arith, ◌≡◌, ℕ, ◌+◌, ◌<◌, IsSome, inl, inr, refl, sym, ap, ◌∙◌, subst}
 use Rattle.std.specs.Prelude.{All, Option, Some, None, Ok}
 use Rattle.std.specs.Option.{option_map}
 use Rattle.std.specs.Map.{lookup, remove_entry}
 use Rattle.std.specs.BTreeMap.{is_at, insert_entry}
 use Rattle.std.proofs.lemmas.List.Elements.{All-nil, All-weaker}
 use Rattle.texts.proofs.Decided.{decided}
-use Rattle.silo_address.specs.Silo.{Silo, silo_cmp, IsSameEndpoint}
+use Rattle.silo_address.specs.Silo.{Silo, silo_cmp}
 use Rattle.silo_address.proofs.Order.{silo_cmp_total, silo_cmp_exact}
 use Rattle.membership_view.specs.declared.status.Status.{Status}
-use Rattle.membership_view.specs.declared.status.Status.TheVariants.{Active, Dead}
+use Rattle.membership_view.specs.declared.status.Status.TheVariants.{Dead}
 use Rattle.membership_view.specs.Views.{ViewsValue, view_at, status_at}
 use Rattle.membership_view.specs.Changes as change
 use Rattle.membership_view.specs.Laws.{Accepts}
@@ -28,7 +28,7 @@ use Rattle.directory_protocol.proofs.Runs.{reached_after}
 use Rattle.directory_rules.specs.Node.{Node, new_node}
 use Rattle.directory_rules.specs.Settings.{Settings}
 use Rattle.directory_rules.specs.World.{World, Posted}
-use Rattle.directory_rules.specs.Happens.{node_of, after_joining, without_node, without_replaced, counted, died}
+use Rattle.directory_rules.specs.Happens.{node_of, after_joining, without_replaced, counted, died}
 use Rattle.directory_rules.proofs.Removed.{lookup_removed}
 use Rattle.directory_headline.specs.Silo_state.{state_of, first_state}
 use Rattle.directory_headline.specs.Shown.{Shown, IsShownNode, IsShownLetter, IsShownSnapshot, IsShownGathering, IsShownRecovery}
@@ -116,9 +116,9 @@ module _ (m : Setting) (f : World) (facts : WorldFacts m.hash f) (carried : Carr
   still_there taken silo node there =
       elim (silo_cases silo taken) [
         | inl same ↦
-          let gone = lookup_removed silo_cmp silo_cmp_total taken f.nodes facts.peopled.by_address in
-          let found = subst (λ s. lookup (is_at (silo_cmp s)) (remove_entry (is_at (silo_cmp taken)) f.nodes) ≡ Some node) same there in
-          absurd (cc)
+            let gone = lookup_removed silo_cmp silo_cmp_total taken f.nodes facts.peopled.by_address in
+            let found = subst (λ s. lookup (is_at (silo_cmp s)) (remove_entry (is_at (silo_cmp taken)) f.nodes) ≡ Some node) same there in
+            absurd (cc)
         | inr apart ↦ sym (found_beside_removed silo_cmp silo_cmp_total silo_cmp_exact taken f.nodes silo apart) ∙ there
       ]
 
@@ -156,15 +156,15 @@ module _ (m : Setting) (f : World) (facts : WorldFacts m.hash f) (carried : Carr
       go_on (counted (after_joining f silo old next added)) (view_shown m carried.world f (counted (after_joining f silo old next added)) carried.shown (versions_rise f.views (change.Join silo) next accepts) (mail_same old) (λ q node there.
       elim (silo_cases q silo) [
         | inl same ↦
-          let one : Some (new_node f.settings silo) ≡ Some node =
-              sym (found_put silo_cmp silo_cmp_total silo_cmp_exact silo (new_node f.settings silo) (without_replaced f old).nodes)
-              ∙ ap (λ s. lookup (is_at (silo_cmp s)) (insert_entry silo_cmp (without_replaced f old).nodes silo (new_node f.settings silo))) (sym same) ∙ made old q node there in
-          let its : new_node f.settings silo ≡ node = cc in
-          let first : state_of carried.world q ≡ first_state = ap (state_of carried.world) same ∙ carried.shown.absent silo (newcomer silo f.views next step) in
-          subst (λ n. IsShownNode m carried.world n (state_of carried.world q)) its (subst (IsShownNode m carried.world (new_node f.settings silo)) (sym first) (new_shown m carried.world f.settings silo))
+            let one : Some (new_node f.settings silo) ≡ Some node =
+            sym (found_put silo_cmp silo_cmp_total silo_cmp_exact silo (new_node f.settings silo) (without_replaced f old).nodes)
+            ∙ ap (λ s. lookup (is_at (silo_cmp s)) (insert_entry silo_cmp (without_replaced f old).nodes silo (new_node f.settings silo))) (sym same) ∙ made old q node there in
+            let its : new_node f.settings silo ≡ node = cc in
+            let first : state_of carried.world q ≡ first_state = ap (state_of carried.world) same ∙ carried.shown.absent silo (newcomer silo f.views next step) in
+            subst (λ n. IsShownNode m carried.world n (state_of carried.world q)) its (subst (IsShownNode m carried.world (new_node f.settings silo)) (sym first) (new_shown m carried.world f.settings silo))
         | inr apart ↦
-          carried.shown.live q node (replaced_there old q node
-          (sym (found_beside_put silo_cmp silo_cmp_total silo_cmp_exact silo (new_node f.settings silo) (without_replaced f old).nodes q apart) ∙ made old q node there))
+            carried.shown.live q node (replaced_there old q node
+            (sym (found_beside_put silo_cmp silo_cmp_total silo_cmp_exact silo (new_node f.settings silo) (without_replaced f old).nodes q apart) ∙ made old q node there))
       ]) (was_absent silo f.views next step))
     where
       mail_same : (old : Option Silo) → (after_joining f silo old next added).mail ≡ f.mail
