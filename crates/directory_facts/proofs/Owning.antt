@@ -122,7 +122,7 @@ module _ (settings : Settings) (silo : Silo) (node : Node) (own : OwnNode settin
 
   ways : Ways node (λ input stepped. Made stepped)
   ways = record {
-    nothing = λ input effect. (own, none);
+    nothing = λ input effect plain. (own, none);
     sees = λ before view places newer numbers.
         let made = at.sight (is_next node.view before view node.host.silo) node before view places in
         (renewed_so, All-append (IsOwnLetter settings) (all_wants made.node) (all_requests made.node) (pieces_own settings made.node made.node.holding.pieces) (all_requests_own settings made.node own.by_settings));

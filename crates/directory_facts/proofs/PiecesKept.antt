@@ -169,7 +169,7 @@ module _ (settings : Settings) (views : ViewsValue) (places : PlacesValue) (silo
 
   ways : Ways node Made
   ways = record {
-    nothing = λ input effect brings. keeps;
+    nothing = λ input effect plain brings. keeps;
     sees = λ before view brought newer numbers brings. sighted (is_next node.view before view node.host.silo) before view brought brings.is_brought;
     wakes = λ grain may brings. keeps;
     closes = λ grain held may brings. keeps;

@@ -139,7 +139,7 @@ module _ (settings : Settings) (views : ViewsValue) (places : PlacesValue) (silo
 
   ways : Ways node Made
   ways = record {
-    nothing = λ input effect brings. sees;
+    nothing = λ input effect plain brings. sees;
     sees = λ before view brought newer numbers brings. sighted before view brought _ brings refl refl;
     wakes = λ grain may brings. stay _ refl refl;
     closes = λ grain held may brings. stay _ refl refl;

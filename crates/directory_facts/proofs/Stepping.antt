@@ -143,7 +143,7 @@ module _ (node : Node) (P : Input → at.Stepped → Type 0) (w : Ways node P) w
       unless (P (Finds grain)) (not (has_numbers node.settings node.host 1)) 805 _ (λ numbers. w.finds grain room (is_so _ numbers)))
 
   forget_hint : (hint : Option ActivationId) (grain : Grain) → hint_of node.cache grain ≡ hint → P (Forgets grain) (at.forget_hint hint node grain)
-  forget_hint None grain found = w.nothing (Forgets grain) (effect.NothingCached grain)
+  forget_hint None grain found = w.nothing (Forgets grain) (effect.NothingCached grain) refl
   forget_hint (Some activation) grain found = w.forgets grain activation found
 
   nudge : IfOk (at.nudge node) (P Nudges)
@@ -151,7 +151,7 @@ module _ (node : Node) (P : Input → at.Stepped → Type 0) (w : Ways node P) w
 
   -- ---- letters
   ignores : (letter : Letter) → P (Receives letter) (at.silently node effect.Ignored)
-  ignores letter = w.nothing (Receives letter) effect.Ignored
+  ignores letter = w.nothing (Receives letter) effect.Ignored refl
 
   requested : (letter : Letter) (request : Request) → letter.body ≡ Request_letter request → P (Receives letter) (rc.requested node letter request)
   requested letter request body =
@@ -190,7 +190,7 @@ module _ (node : Node) (P : Input → at.Stepped → Type 0) (w : Ways node P) w
   replied reply.Nothing letter number body = at_seen letter number reply.Nothing _ body (λ is.
       where_so (P (Receives letter)) (is_finding node.host number) (at.silently (record node { host = without_find node.host number }) effect.Noted) (at.silently node effect.Ignored) (λ there. w.notes letter number is there) (λ otherwise. ignores letter))
   replied (reply.Retry why) letter number body =
-      where_so (P (Receives letter)) (is_outstanding node.host number) (at.silently node effect.Noted) (at.silently node effect.Ignored) (λ there. w.nothing (Receives letter) effect.Noted) (λ otherwise. ignores letter)
+      where_so (P (Receives letter)) (is_outstanding node.host number) (at.silently node effect.Noted) (at.silently node effect.Ignored) (λ there. w.nothing (Receives letter) effect.Noted refl) (λ otherwise. ignores letter)
 
   asked_by : (answer : ShelfAnswer) (letter : Letter) (range : Range) (number : ℕ) → letter.body ≡ Ask_letter range number → shelf_answer node.shelf node.view.version letter.version range letter.from number ≡ answer → P (Receives letter) (tr.asked_by answer letter range node)
   asked_by (Hands_page page) letter range number body is = w.hands letter range number page body is
@@ -305,8 +305,8 @@ module _ (node : Node) (P : Input → at.Stepped → Type 0) (w : Ways node P) w
       where_so (P (Receives letter)) (has_snapshot node.shelf letter.version range letter.from) (at.silently (record node { shelf = shelf_without node.shelf letter.version range letter.from }) effect.Deleted) (at.silently node effect.Ignored) (λ there. w.forgoes letter range is there) (λ otherwise. ignores letter)
   received (Query_letter range) letter is = queried letter range is
   received (Report_letter report) letter is = reported letter report is
-  received (Behind_letter range) letter is = w.nothing (Receives letter) effect.Noted
-  received (Ahead_letter range) letter is = w.nothing (Receives letter) effect.Noted
+  received (Behind_letter range) letter is = w.nothing (Receives letter) effect.Noted refl
+  received (Ahead_letter range) letter is = w.nothing (Receives letter) effect.Noted refl
   received (Offer_letter entry) letter is = offered_to letter entry is
 
   stepped : (input : Input) → IfOk (step node input) (P input)

@@ -34,6 +34,7 @@ use Rattle.directory_rules.specs.Step.{Stepped, silently, sight, started, closin
 use Rattle.directory_rules.specs.Host as host
 use Rattle.directory_rules.specs.Transfer.{answering, piece_at, with_settled, with_gathering, with_recovery, asking_on, turned_to_recovery, querying, report_of}
 use Rattle.directory_rules.specs.Receive.{replying}
+use Rattle.directory_rules.specs.PlainMachine.{Nothing_changes, step_of_effect}
 use Rattle.directory_rules.specs.Input.{Input, Sees, Wakes, Closes, Finds, Forgets, Nudges, Offers, Receives}
 
 -- an activation of the grain may begin: the silo is Active in the view that it has seen, holds none of the grain, and has a
@@ -86,8 +87,8 @@ pub record IsReportTaken (node : Node) (letter : Letter) (report : Report) : Typ
 
 -- what is to be shown of every way
 pub record Ways (node : Node) (P : Input → Stepped → Type 0) : Type 0 where
-  -- nothing changes, and no letter goes out
-  pub nothing : (input : Input) (effect : Effect) → P input (silently node effect)
+  -- nothing changes, also to the plain machine, and no letter goes out
+  pub nothing : (input : Input) (effect : Effect) → step_of_effect effect ≡ Nothing_changes → P input (silently node effect)
   -- steps of the silo's own
   pub sees : (before view : ViewValue) (places : PlacesValue) → node.view.version < view.version → has_numbers node.settings node.host (length (outstanding node.host)) ≡ true
       → P (Sees before view places) (sight (is_next node.view before view node.host.silo) node before view places)

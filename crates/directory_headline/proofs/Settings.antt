@@ -1,6 +1,6 @@
 -- The views and places of a world make a setting; and that of a later world is that of an earlier one, as far as its versions go.
-use Rattle.std.proofs.Common.{arith, ◌≡◌, ◌≢◌, ℕ, ◌≤◌, Bool, true, false, List, [], IsSome, refl, sym, ap, ◌∙◌, subst}
-use Rattle.std.specs.Prelude.{nat_le, not, cond, if◌then◌else◌, is_some, Contains, Option, Some, None}
+use Rattle.std.proofs.Common.{arith, ◌≡◌, ◌≢◌, ℕ, ◌≤◌, true, [], IsSome, refl, sym, ap, ◌∙◌, subst}
+use Rattle.std.specs.Prelude.{nat_le, not, if◌then◌else◌, Contains, Option, Some, None}
 use Rattle.std.specs.Option.{option_map}
 use Rattle.std.specs.List.Sorted.{IsStrictlySortedBy}
 use Rattle.std.specs.Map.{keys_of}
@@ -59,7 +59,7 @@ pub view_within : (views : ViewsValue) (version : ℕ) → version ≤ views.ver
 view_within views version within = view_up_to-is views version ∙ ap (view_at views) (up_to-within views version within)
 
 -- ---- owners
-view_by_address : (views : ViewsValue) (version : ℕ) → IsViews views → IsByAddress (view_at views version)
+pub view_by_address : (views : ViewsValue) (version : ℕ) → IsViews views → IsByAddress (view_at views version)
 view_by_address views version whole =
     on_bool (λ b. IsStrictlySortedBy silo_cmp (keys_of (if b then rows_in version views.rows else []))) (nat_le version views.version)
     (λ t. sorted-picked silo_cmp_total (status_in version) views.rows whole.in_order) (λ f. sorted-nil silo_cmp)

@@ -1,0 +1,142 @@
+-- A join, a leaving and a death change the plain machine's view, and its activations by the silos that are Dead alone.
+use Rattle.std.proofs.Common.{arith, ◌≡◌, ◌⊎◌, ◌<◌, IsSome, inl, inr, refl, sym, ap, subst, ◌∙◌}
+use Rattle.std.specs.Prelude.{true, false, is_some, Option, Some, None}
+use Rattle.std.specs.Option.{option_map, option_and_then}
+use Rattle.std.specs.Map.{lookup, remove_entry}
+use Rattle.std.specs.BTreeMap.{is_at, insert_entry}
+use Rattle.silo_address.specs.Silo.{Silo, silo_cmp}
+use Rattle.silo_address.specs.Grain.{Grain}
+use Rattle.silo_address.proofs.Order.{silo_cmp_total, silo_cmp_exact}
+use Rattle.membership_view.specs.declared.status.Status.{Status}
+use Rattle.membership_view.specs.View.{status_of}
+use Rattle.membership_view.specs.Views.{ViewsValue, view_at, status_at}
+use Rattle.membership_view.specs.Changes as change
+use Rattle.membership_view.specs.Step.{Joins, MembershipStep}
+use Rattle.membership_view.proofs.Staying.{rows_stay}
+use Rattle.hash_ring.specs.Places.{PlacesValue}
+use Rattle.directory_protocol.proofs.Changes.{silo_cases}
+use Rattle.directory_rules.specs.Membership.{is_dead_in}
+use Rattle.directory_rules.specs.Node.{Node, new_node}
+use Rattle.directory_rules.specs.Input.{step}
+use Rattle.directory_rules.specs.World.{World}
+use Rattle.directory_rules.specs.Happens.{node_of, after_joining, without_replaced, died}
+use Rattle.directory_rules.specs.Laws.{ArePeopled, is_live}
+use Rattle.directory_rules.specs.PlainMachine.{life_on, plain_of, ViewChanges}
+use Rattle.directory_rules.proofs.Removed.{lookup_removed}
+use Rattle.directory_headline.proofs.Settings.{GoesOnTo}
+use Rattle.directory_headline.proofs.Statuses.{live_there, dead_not_live, there_live}
+use Rattle.directory_headline.proofs.Lookups.{found_put, found_beside_put, found_beside_removed}
+
+nobody : (o : Option Node) → is_some o ≡ false → o ≡ None
+nobody None is = refl
+nobody (Some node) is = absurd (cc (is))
+
+-- a node that is there was there, or is that of a silo that has just joined
+abbrev pub WasThere : World → Silo → Node → Type 0
+WasThere f silo node = (node_of f silo ≡ Some node) ⊎ ((node_of f silo ≡ None) × (node ≡ new_node f.settings silo))
+
+module _ (f later : World) (before : ArePeopled f.views f.nodes) (after : ArePeopled later.views later.nodes) (on : GoesOnTo f later)
+    (kept : (silo : Silo) (node : Node) → node_of later silo ≡ Some node → WasThere f silo node) where
+  row_stays : (silo : Silo) → IsSome (status_at f.views f.views.version silo) → IsSome (status_at later.views later.views.version silo)
+  row_stays silo there =
+      rows_stay later.views after.whole silo f.views.version later.views.version on.version (omega arith)
+      (subst (λ view. IsSome (status_of view silo)) (sym (on.views f.views.version (omega arith))) there)
+
+  -- a silo that isn't Dead has the node that it had
+  node_stays : (silo : Silo) (node : Node) → node_of f silo ≡ Some node → is_dead_in (view_at later.views later.views.version) silo ≡ false → node_of later silo ≡ Some node
+  node_stays silo node there not_dead = by (node_of later silo) refl
+    where
+      lives : is_some (node_of later silo) ≡ true
+      lives =
+          let was : is_live (status_at f.views f.views.version silo) ≡ true = sym (before.live silo) ∙ ap is_some there in
+          after.live silo ∙ there_live (status_at later.views later.views.version silo) (row_stays silo (live_there (status_at f.views f.views.version silo) was)) not_dead
+
+      by : (o : Option Node) → node_of later silo ≡ o → node_of later silo ≡ Some node
+      by None is = let none = ap is_some is in absurd (cc (lives, none))
+      by (Some its) is =
+          elim (kept silo its is) [
+            | inl same ↦ is ∙ sym same ∙ there
+            | inr new ↦ let none = new.0 in absurd (cc (none, there))
+          ]
+
+  others : (silo : Silo) (grain : Grain) → is_dead_in (view_at later.views later.views.version) silo ≡ false → (plain_of later).lives silo grain ≡ (plain_of f).lives silo grain
+  others silo grain not_dead = by (node_of f silo) refl
+    where
+      new : (its : Option Node) → node_of f silo ≡ None → node_of later silo ≡ its → option_and_then (life_on grain) its ≡ None
+      new None was is = refl
+      new (Some node) was is =
+          elim (kept silo node is) [
+            | inl same ↦ absurd (cc (same, was))
+            | inr first ↦ ap (life_on grain) first.1
+          ]
+
+      by : (o : Option Node) → node_of f silo ≡ o → (plain_of later).lives silo grain ≡ (plain_of f).lives silo grain
+      by None was = new (node_of later silo) was refl ∙ sym (ap (λ o. option_and_then (life_on grain) o) was)
+      by (Some node) was = ap (λ o. option_and_then (life_on grain) o) (node_stays silo node was not_dead ∙ sym was)
+
+  unused : (silo : Silo) → IsSome ((plain_of f).unused silo) → is_dead_in (view_at later.views later.views.version) silo ≡ false → (plain_of later).unused silo ≡ (plain_of f).unused silo
+  unused silo some not_dead = by (node_of f silo) refl
+    where
+      by : (o : Option Node) → node_of f silo ≡ o → (plain_of later).unused silo ≡ (plain_of f).unused silo
+      by None was = let none = ap (λ o. option_map (λ (n : Node). n.host.next_count) o) was in absurd (cc (some, none))
+      by (Some node) was = ap (λ o. option_map (λ (n : Node). n.host.next_count) o) (node_stays silo node was not_dead ∙ sym was)
+
+  pub view_changes : (way : change.Change) → MembershipStep (view_at f.views f.views.version) way (view_at later.views later.views.version) → ViewChanges (plain_of f) (plain_of later)
+  view_changes way step = record {
+    change = way;
+    step = step;
+    dead = λ silo grain dead.
+        ap (λ o. option_and_then (life_on grain) o) (nobody (node_of later silo) (after.live silo ∙ dead_not_live (status_at later.views later.views.version silo) dead));
+    others = others;
+    unused = unused;
+  }
+
+-- ---- each change
+module _ (f : World) (peopled : ArePeopled f.views f.nodes) where
+  -- a node that is there after another was taken out was there
+  still_there : (taken silo : Silo) (node : Node) → lookup (is_at (silo_cmp silo)) (remove_entry (is_at (silo_cmp taken)) f.nodes) ≡ Some node → node_of f silo ≡ Some node
+  still_there taken silo node there =
+      elim (silo_cases silo taken) [
+        | inl same ↦
+            let gone = lookup_removed silo_cmp silo_cmp_total taken f.nodes peopled.by_address in
+            let found = subst (λ s. lookup (is_at (silo_cmp s)) (remove_entry (is_at (silo_cmp taken)) f.nodes) ≡ Some node) same there in
+            absurd (cc (gone, found))
+        | inr apart ↦ sym (found_beside_removed silo_cmp silo_cmp_total silo_cmp_exact taken f.nodes silo apart) ∙ there
+      ]
+
+  replaced_there : (old : Option Silo) (silo : Silo) (node : Node) → node_of (without_replaced f old) silo ≡ Some node → node_of f silo ≡ Some node
+  replaced_there None silo node there = there
+  replaced_there (Some old) silo node there = still_there old silo node there
+
+  -- who joins wasn't there
+  newcomer : (silo : Silo) (next : ViewsValue) → Joins silo (view_at f.views f.views.version) (view_at next next.version) → node_of f silo ≡ None
+  newcomer silo next step = nobody (node_of f silo) (peopled.live silo ∙ by (status_at f.views f.views.version silo) refl)
+    where
+      by : (status : Option Status) → status_at f.views f.views.version silo ≡ status → is_live status ≡ false
+      by None is = refl
+      by (Some status) is =
+          let newer : silo.generation < silo.generation = step.newest silo (refl, refl) (subst (λ o. IsSome o) (sym is) refl) in
+          absurd (omega (newer, arith))
+
+  made : (silo : Silo) (next : ViewsValue) (added : PlacesValue) (old : Option Silo) (q : Silo) (node : Node) → node_of (after_joining f silo old next added) q ≡ Some node
+      → lookup (is_at (silo_cmp q)) (insert_entry silo_cmp (without_replaced f old).nodes silo (new_node f.settings silo)) ≡ Some node
+  made silo next added None q node there = there
+  made silo next added (Some old) q node there = there
+
+  pub joining_kept : (silo : Silo) (next : ViewsValue) (added : PlacesValue) (old : Option Silo) → Joins silo (view_at f.views f.views.version) (view_at next next.version)
+      → (q : Silo) (node : Node) → node_of (after_joining f silo old next added) q ≡ Some node → WasThere f q node
+  joining_kept silo next added old step q node there =
+      elim (silo_cases q silo) [
+        | inl same ↦
+            let one : Some (new_node f.settings silo) ≡ Some node =
+            sym (found_put silo_cmp silo_cmp_total silo_cmp_exact silo (new_node f.settings silo) (without_replaced f old).nodes)
+            ∙ ap (λ s. lookup (is_at (silo_cmp s)) (insert_entry silo_cmp (without_replaced f old).nodes silo (new_node f.settings silo))) (sym same) ∙ made silo next added old q node there in
+            let its : new_node f.settings silo ≡ node = cc (one) in
+            inr (ap (node_of f) same ∙ newcomer silo next step, sym its ∙ ap (new_node f.settings) (sym same))
+        | inr apart ↦
+            inl (replaced_there old q node
+            (sym (found_beside_put silo_cmp silo_cmp_total silo_cmp_exact silo (new_node f.settings silo) (without_replaced f old).nodes q apart) ∙ made silo next added old q node there))
+      ]
+
+  pub death_kept : (silo : Silo) (q : Silo) (node : Node) → node_of (died f silo).world q ≡ Some node → WasThere f q node
+  death_kept silo q node there = inl (still_there silo q node there)
