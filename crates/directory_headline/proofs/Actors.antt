@@ -1,18 +1,17 @@
 -- Actions of one silo leave all others as they are, and letters that were sent stay sent.
-use Rattle.std.proofs.Common.{◌≡◌, ◌≢◌, ◌&&◌, Bool, true, false, cond, ℕ, List, [], ◌∷◌, ◌++◌, refl, sym, ap, subst, ◌∙◌, inl, inr}
+use Rattle.std.proofs.Common.{◌≡◌, ◌≢◌, ◌&&◌, Bool, cond, ℕ, List, [], ◌∷◌, refl, ap, ◌∙◌, inl, inr}
 use Rattle.std.specs.Prelude.{⊤, Option}
 use Rattle.silo_address.specs.Silo.{Silo, silo_eq}
 use Rattle.silo_address.specs.Grain.{Grain, grain_eq}
 use Rattle.silo_address.specs.declared.ActivationId.{ActivationId}
 use Rattle.silo_address.proofs.Same.{Decides-silo}
-use Rattle.directory_protocol.specs.Change.{put, put_at}
+use Rattle.directory_protocol.specs.Change.{put_at}
 use Rattle.directory_protocol.specs.Setting.{Setting}
 use Rattle.directory_protocol.specs.Letters.{Request, Reply, Snapshot, Report, Offer, Sent}
 use Rattle.directory_protocol.specs.World.{World, Held}
 use Rattle.directory_protocol.specs.Actions.{Action, New_view, See, Start, Close, Offer_away, Renew, Find, Serve, Confirm, Leave, Tell, Install, Recover}
 use Rattle.directory_protocol.specs.Effects.{after, run}
 use Rattle.directory_protocol.proofs.Changes.{bool_cases, put_other}
-use Rattle.directory_protocol.proofs.Runs.{run_append}
 use Rattle.directory_headline.specs.Silo_state.{SiloState, state_of}
 
 -- the action is the silo's

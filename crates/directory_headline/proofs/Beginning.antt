@@ -1,6 +1,6 @@
 -- An activation begins: a wake, or an offer that is taken.
-use Rattle.std.proofs.Common.{arith, ◌≡◌, ◌≢◌, ℕ, suc, ◌+◌, ◌≤◌, List, inl, refl, sym, ap, subst, ◌∙◌}
-use Rattle.std.specs.Prelude.{Bool, true, false, Option, Some, None}
+use Rattle.std.proofs.Common.{arith, ◌≡◌, suc, ◌≤◌, inl, refl, sym, ap, subst, ◌∙◌}
+use Rattle.std.specs.Prelude.{true, false, Option, Some, None}
 use Rattle.std.specs.Option.{option_map, option_map_or}
 use Rattle.silo_address.specs.Silo.{Silo}
 use Rattle.silo_address.specs.Grain.{Grain, grain_cmp}
@@ -15,11 +15,11 @@ use Rattle.directory_protocol.specs.Setting.{Setting}
 use Rattle.directory_protocol.specs.Letters as letters
 use Rattle.directory_protocol.specs.World as protocol
 use Rattle.directory_protocol.specs.Actions.{Start, IsOffered, MayStart}
-use Rattle.directory_protocol.specs.Effects.{after, asked}
+use Rattle.directory_protocol.specs.Effects.{after}
 use Rattle.directory_protocol.proofs.Changes.{put_same}
 use Rattle.directory_rules.specs.declared.act.Act.TheVariants as act
-use Rattle.directory_rules.specs.Host.{held_of, entry_of, next_held, with_started}
-use Rattle.directory_rules.specs.Letter.{Letter, Body, Offer_letter}
+use Rattle.directory_rules.specs.Host.{entry_of, next_held, with_started}
+use Rattle.directory_rules.specs.Letter.{Letter, Offer_letter}
 use Rattle.directory_rules.specs.Node.{Node}
 use Rattle.directory_rules.specs.Step.{started}
 use Rattle.directory_rules.specs.World.{World}

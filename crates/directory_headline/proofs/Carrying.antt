@@ -1,6 +1,6 @@
 -- A step that moves as it should carries `Shown` on; and so it is for letters that are delivered or lost.
-use Rattle.std.proofs.Common.{arith, ◌≡◌, ◌≢◌, ℕ, ◌+◌, List, [], ◌∷◌, ◌++◌, inl, inr, sym, refl, ap, ◌∙◌, subst}
-use Rattle.std.specs.Prelude.{Bool, true, false, cond, All, IfSome, Option, Some, None}
+use Rattle.std.proofs.Common.{◌≡◌, ◌≢◌, ℕ, ◌+◌, List, [], ◌∷◌, ◌++◌, inl, inr, sym, ap, ◌∙◌, subst}
+use Rattle.std.specs.Prelude.{Bool, true, false, cond, All, IfSome, Some, None}
 use Rattle.std.specs.Option.{option_map}
 use Rattle.std.specs.Ordering.{nat_cmp}
 use Rattle.std.specs.List.{enumerate_from}
@@ -25,7 +25,7 @@ use Rattle.directory_rules.proofs.Cases.{on_bool}
 use Rattle.directory_facts.proofs.Entries.{all_set, all_removed}
 use Rattle.directory_headline.specs.Silo_state.{state_of}
 use Rattle.directory_headline.specs.Shown.{Shown, IsShownNode, IsShownLetter}
-use Rattle.directory_headline.proofs.Actors.{LeavesOthers, leaves_run}
+use Rattle.directory_headline.proofs.Actors.{leaves_run}
 use Rattle.directory_headline.proofs.Growing.{letter_still, node_still}
 use Rattle.directory_headline.proofs.Lookups.{found_put, found_beside_put}
 use Rattle.directory_headline.proofs.Events.{with_step}

@@ -1,6 +1,6 @@
 -- A firm activation begins to close: by a close, or by an offer.
-use Rattle.std.proofs.Common.{arith, ◌≡◌, ◌≢◌, ℕ, suc, ◌+◌, List, inl, refl, sym, ap, subst, ◌∙◌}
-use Rattle.std.specs.Prelude.{Bool, true, is_some, Option, Some, None}
+use Rattle.std.proofs.Common.{arith, ◌≡◌, ℕ, suc, inl, refl, sym, ap, ◌∙◌}
+use Rattle.std.specs.Prelude.{is_some, Some, None}
 use Rattle.std.specs.Option.{option_map}
 use Rattle.silo_address.specs.Silo.{Silo}
 use Rattle.silo_address.specs.Grain.{Grain, grain_cmp}
@@ -13,17 +13,16 @@ use Rattle.directory_protocol.specs.Effects.{after}
 use Rattle.directory_protocol.proofs.Changes.{put_same}
 use Rattle.directory_rules.specs.declared.act.Act.TheVariants as act
 use Rattle.directory_rules.specs.declared.held.Held.{Held}
-use Rattle.directory_rules.specs.declared.held.Phase.{Phase}
 use Rattle.directory_rules.specs.declared.held.Phase.TheVariants as phase
-use Rattle.directory_rules.specs.Host.{held_of, entry_of, with_closing}
-use Rattle.directory_rules.specs.Letter.{Letter, Offer_letter}
+use Rattle.directory_rules.specs.Host.{entry_of, with_closing}
+use Rattle.directory_rules.specs.Letter.{Offer_letter}
 use Rattle.directory_rules.specs.Node.{Node}
 use Rattle.directory_rules.specs.Sending.{letter_to}
 use Rattle.directory_rules.specs.Step.{closing, offered}
 use Rattle.directory_rules.specs.World.{World}
 use Rattle.directory_facts.proofs.Ways as way
 use Rattle.directory_headline.specs.Silo_state.{state_of}
-use Rattle.directory_headline.specs.Shown.{held_in, held_as, IsShownHost, IsShownLetter, offer_as}
+use Rattle.directory_headline.specs.Shown.{held_in, held_as, IsShownHost, IsShownLetter}
 use Rattle.directory_headline.proofs.Actors.{leaves_after}
 use Rattle.directory_headline.proofs.Lookups.{found_set, found_beside_set}
 use Rattle.directory_headline.proofs.Frame.{Here, Moves, acts, alive, node_shown, host_is, seen_is, one_letter}

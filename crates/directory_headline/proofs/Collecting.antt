@@ -1,10 +1,8 @@
 -- A report is taken: what is gathered then is shown by what was told.
-use Rattle.std.proofs.Common.{arith, ◌≡◌, ◌≢◌, ℕ, ◌⊎◌, List, [], ◌∷◌, inl, inr, refl, sym, ap, subst, ◌∙◌}
-use Rattle.std.specs.Prelude.{◌==◌, ◌&&◌, ◌||◌, Bool, true, false, cond, not, All, Option, Some, None, filter}
+use Rattle.std.proofs.Common.{◌≡◌, ◌≢◌, ℕ, List, [], ◌∷◌, inl, inr, refl, sym, ap, subst, ◌∙◌}
+use Rattle.std.specs.Prelude.{◌==◌, ◌&&◌, ◌||◌, Bool, true, false, cond, not, Option, Some, None, filter}
 use Rattle.std.specs.Option.{option_map}
-use Rattle.std.specs.List.{list_any, list_all}
 use Rattle.std.specs.Ordering.{nat_cmp}
-use Rattle.std.specs.Map.{lookup}
 use Rattle.std.specs.BTreeMap.{is_at}
 use Rattle.std.proofs.lemmas.Bool.{eqb-true}
 use Rattle.std.proofs.lemmas.Map.Lookups.{exact_unsigned}
@@ -14,14 +12,14 @@ use Rattle.silo_address.specs.Silo.{Silo, silo_eq}
 use Rattle.silo_address.specs.Grain.{Grain}
 use Rattle.silo_address.specs.declared.Entry.{Entry}
 use Rattle.silo_address.proofs.Same.{Decides-silo}
-use Rattle.ring_range.specs.Range.{Range, range_eq, holds}
+use Rattle.ring_range.specs.Range.{range_eq, holds}
 use Rattle.ring_range.proofs.Same.{Decides-range}
 use Rattle.hash_ring.specs.Hash.{hash_grain}
 use Rattle.directory_protocol.specs.Setting.{Setting}
 use Rattle.directory_protocol.specs.World as protocol
 use Rattle.directory_protocol.proofs.Changes.{silo_cases}
 use Rattle.directory_rules.specs.declared.effect.Effect.TheVariants as effect
-use Rattle.directory_rules.specs.Table.{Table, entry_at, table_of, rise_by_grain, lie_in}
+use Rattle.directory_rules.specs.Table.{entry_at, table_of}
 use Rattle.directory_rules.specs.Recovery.{Report, Recovery, Recovered, Awaits_more, Has_union, Rejects, is_among, with_report, awaits_still, new_recovery, recovered}
 use Rattle.directory_rules.specs.Letter.{Letter}
 use Rattle.directory_rules.specs.Node.{Node}
@@ -34,8 +32,7 @@ use Rattle.directory_facts.proofs.Collecting.{found_or}
 use Rattle.directory_facts.proofs.Entries.{all_put}
 use Rattle.directory_facts.proofs.Tabling.{all_from, order_rising}
 use Rattle.directory_facts.proofs.Ways.{IsReportTaken}
-use Rattle.directory_headline.specs.Silo_state.{state_of}
-use Rattle.directory_headline.specs.Shown.{IsShownNode, IsShownLetter, IsShownBody, IsShownReport, IsShownRecovery, IsGathered, HasReported}
+use Rattle.directory_headline.specs.Shown.{IsShownLetter, IsShownBody, IsShownReport, IsShownRecovery, IsGathered, HasReported}
 use Rattle.directory_headline.proofs.Facts.{IsTable}
 use Rattle.directory_headline.proofs.TableEntries.{found_own, found_holds}
 use Rattle.directory_headline.proofs.Unions.{union_stays, union_came, union_has}
@@ -99,8 +96,8 @@ among_rest silo gone (s ∷ ss) is =
     (λ t at. ap (λ b. b || is_among silo ss) at)
     (λ u at.
     let rest : is_among silo (filter (λ x. not (silo_eq x gone)) ss) ≡ true =
-        on_bool (λ b. is_among silo (cond b (s ∷ filter (λ x. not (silo_eq x gone)) ss) (filter (λ x. not (silo_eq x gone)) ss)) ≡ true → is_among silo (filter (λ x. not (silo_eq x gone)) ss) ≡ true) (not (silo_eq s gone))
-        (λ t it. sym (ap (λ b. b || is_among silo (filter (λ x. not (silo_eq x gone)) ss)) at) ∙ it) (λ u it. it) is in
+    on_bool (λ b. is_among silo (cond b (s ∷ filter (λ x. not (silo_eq x gone)) ss) (filter (λ x. not (silo_eq x gone)) ss)) ≡ true → is_among silo (filter (λ x. not (silo_eq x gone)) ss) ≡ true) (not (silo_eq s gone))
+    (λ t it. sym (ap (λ b. b || is_among silo (filter (λ x. not (silo_eq x gone)) ss)) at) ∙ it) (λ u it. it) is in
     ap (λ b. b || is_among silo ss) at ∙ among_rest silo gone ss rest)
     refl
 
@@ -111,8 +108,8 @@ not_gone gone (s ∷ ss) =
     (λ t at. not_gone gone ss)
     (λ u at.
     let other : silo_eq gone s ≡ false =
-        on_bool (λ b. silo_eq gone s ≡ b → silo_eq gone s ≡ false) (silo_eq gone s)
-        (λ t is. let same = sym ((Decides-silo gone s).0 is) in absurd (cc (sym at ∙ (Decides-silo s gone).1 same))) (λ u is. is) refl in
+    on_bool (λ b. silo_eq gone s ≡ b → silo_eq gone s ≡ false) (silo_eq gone s)
+    (λ t is. let same = sym ((Decides-silo gone s).0 is) in absurd (cc (sym at ∙ (Decides-silo s gone).1 same))) (λ u is. is) refl in
     ap (λ b. b || is_among gone (filter (λ x. not (silo_eq x gone)) ss)) other ∙ not_gone gone ss)
     refl
 
@@ -123,7 +120,7 @@ still_among silo gone (s ∷ ss) apart is =
     (λ t at.
     let same = (Decides-silo s gone).0 at in
     let other : silo_eq silo s ≡ false =
-        on_bool (λ b. silo_eq silo s ≡ b → silo_eq silo s ≡ false) (silo_eq silo s) (λ t it. absurd (apart ((Decides-silo silo s).0 it ∙ same))) (λ u it. it) refl in
+    on_bool (λ b. silo_eq silo s ≡ b → silo_eq silo s ≡ false) (silo_eq silo s) (λ t it. absurd (apart ((Decides-silo silo s).0 it ∙ same))) (λ u it. it) refl in
     still_among silo gone ss apart (sym (ap (λ b. b || is_among silo ss) other) ∙ is))
     (λ u at. on_bool (λ b. silo_eq silo s ≡ b → (b || is_among silo (filter (λ x. not (silo_eq x gone)) ss)) ≡ true) (silo_eq silo s) (λ t it. refl)
     (λ v it. still_among silo gone ss apart (sym (ap (λ b. b || is_among silo ss) it) ∙ is)) refl)
@@ -157,15 +154,15 @@ module _ (m : Setting) (sent : List _) (recovery : Recovery) (report : Report) (
   gathered grain e found =
       elim (union_came grain report.entries recovery.gathered e sound.table found) [
         | inl old ↦
-          let had = was.gathered grain e old in
-          record { inside = had.inside; on_member = had.on_member; reported = rest_false e.activation.silo report.silo recovery.awaiting had.reported }
+            let had = was.gathered grain e old in
+            record { inside = had.inside; on_member = had.on_member; reported = rest_false e.activation.silo report.silo recovery.awaiting had.reported }
         | inr new ↦
-          let its = sound.own grain e new in
-          record {
-            inside = in_range grain e new;
-            on_member = ap (m.member recovery.version) its ∙ was.awaits report.silo taken.awaited;
-            reported = ap (λ s. is_among s next.awaiting) its ∙ not_gone report.silo recovery.awaiting;
-          }
+            let its = sound.own grain e new in
+            record {
+              inside = in_range grain e new;
+              on_member = ap (m.member recovery.version) its ∙ was.awaits report.silo taken.awaited;
+              reported = ap (λ s. is_among s next.awaiting) its ∙ not_gone report.silo recovery.awaiting;
+            }
       ]
 
   -- who reports now
@@ -178,9 +175,9 @@ module _ (m : Setting) (sent : List _) (recovery : Recovery) (report : Report) (
     from_it = λ grain e found its.
         elim (union_came grain report.entries recovery.gathered e sound.table found) [
           | inl old ↦
-            let had = (was.gathered grain e old).reported in
-            let awaited = ap (λ s. is_among s recovery.awaiting) its ∙ taken.awaited in
-            absurd (cc (sym had ∙ awaited))
+              let had = (was.gathered grain e old).reported in
+              let awaited = ap (λ s. is_among s recovery.awaiting) its ∙ taken.awaited in
+              absurd (cc (sym had ∙ awaited))
           | inr new ↦ shown.firm grain (sound.lies grain e new) ∙ ap (option_map (λ (x : Entry). x.activation.count)) new
         ];
     complete = λ grain count lies firm.
@@ -239,13 +236,13 @@ module _ (m : Setting) (f : World) (w : protocol.World) (silo : Silo) (node : No
         table = record { rising = order.by_grain; own = order.own_grain };
         lies = λ grain e found.
             let all = All-map (λ (x : Grain × Entry). holds report.range (hash_grain node.settings.hashing x.1.grain) ≡ true) keyed report.entries
-                (all_from (λ (x : Entry). holds report.range (hash_grain node.settings.hashing x.grain)) report.entries taken.lie) in
+            (all_from (λ (x : Entry). holds report.range (hash_grain node.settings.hashing x.grain)) report.entries taken.lie) in
             ap (λ hash. holds report.range (hash grain)) (hash_is m f w silo node here)
             ∙ ap (λ g. holds report.range (hash_grain node.settings.hashing g)) (sym (found_own grain (table_of report.entries) e order.own_grain found))
             ∙ found_holds (λ x. holds report.range (hash_grain node.settings.hashing x.1.grain) ≡ true) grain (table_of report.entries) e all found;
         own = λ grain e found.
             let all = All-map (λ (x : Grain × Entry). silo_eq x.1.activation.silo letter.from ≡ true) keyed report.entries
-                (all_from (λ (x : Entry). silo_eq x.activation.silo letter.from) report.entries taken.own) in
+            (all_from (λ (x : Entry). silo_eq x.activation.silo letter.from) report.entries taken.own) in
             (Decides-silo e.activation.silo letter.from).0 (found_holds (λ x. silo_eq x.1.activation.silo letter.from ≡ true) grain (table_of report.entries) e all found) ∙ sym taken.sender;
       }
 

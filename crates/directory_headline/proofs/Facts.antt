@@ -6,7 +6,6 @@ use Rattle.std.specs.List.Sorted.{IsStrictlySortedBy}
 use Rattle.std.specs.Map.{keys_of}
 use Rattle.silo_address.specs.Silo.{Silo}
 use Rattle.silo_address.specs.Grain.{Grain, grain_cmp}
-use Rattle.silo_address.specs.declared.Entry.{Entry}
 use Rattle.ring_range.specs.Range.{IsRange, holds}
 use Rattle.hash_ring.specs.Places.{IsPlaces}
 use Rattle.directory_rules.specs.declared.piece_state.PieceState.TheVariants.{Settled}

@@ -1,27 +1,18 @@
 -- The facts hold of every world that events reach.
-use Rattle.std.proofs.Common.{arith, ◌≡◌, ℕ, suc, ◌<◌, List, [], ◌∷◌, refl, sym, ap, subst, ◌∙◌}
-use Rattle.std.specs.Prelude.{All, AllPairs, Some}
+use Rattle.std.proofs.Common.{arith, ◌≡◌, ℕ, suc, ◌<◌, List, [], ◌∷◌, sym, subst}
+use Rattle.std.specs.Prelude.{All, AllPairs}
 use Rattle.std.specs.Ordering.{nat_cmp}
 use Rattle.std.specs.List.{AllByRecursion}
 use Rattle.std.specs.List.Sorted.{IsStrictlySortedBy}
-use Rattle.std.specs.Map.{keys_of, values_of}
+use Rattle.std.specs.Map.{keys_of}
 use Rattle.std.specs.BTreeMap.{is_at}
 use Rattle.std.specs.declared.cmp.Ordering.TheVariants.{Less}
 use Rattle.std.proofs.lemmas.List.Elements.{All-head, All-tail, All-weaker}
-use Rattle.silo_address.specs.Silo.{Silo, silo_cmp}
-use Rattle.silo_address.specs.Grain.{Grain}
-use Rattle.silo_address.specs.declared.Entry.{Entry}
+use Rattle.silo_address.specs.Silo.{silo_cmp}
 use Rattle.hash_ring.specs.Hash.{hash_grain}
 use Rattle.std.specs.Cmp.{nat_cmp_is}
-use Rattle.directory_rules.specs.Settings.{Settings, AreSettings}
+use Rattle.directory_rules.specs.Settings.{AreSettings}
 use Rattle.directory_rules.specs.Piece.{Piece}
-use Rattle.directory_rules.specs.Letter.{Letter}
-use Rattle.directory_rules.specs.Node.{Node}
-use Rattle.directory_rules.specs.Event.{Event, IsEvent}
-use Rattle.directory_rules.specs.World.{World}
-use Rattle.directory_rules.specs.Mail.{letter_of}
-use Rattle.directory_rules.specs.Happens.{node_of}
-use Rattle.directory_rules.specs.Run.{run_from_start}
 use Rattle.directory_rules.specs.Laws.{IsReached, IsOfOneVersion, HoldOnce}
 use Rattle.directory_rules.proofs.Nodes.{of_found}
 use Rattle.directory_rules.proofs.Numbered.{numbers_are_distinct}
@@ -33,7 +24,7 @@ use Rattle.directory_facts.specs.Pieces as facts
 use Rattle.directory_facts.specs.Laws.{world_by}
 use Rattle.directory_facts.proofs.Lawful.{settings_stay, shared_by, nodes_are_own, letters_are_own, nodes_see, nodes_have_pieces, pieces_are_owned, events_name_hashes}
 use Rattle.directory_facts.proofs.Seeing.{AreViews, seen_facts, seen_keep}
-use Rattle.directory_headline.proofs.Facts.{IsTable, IsPiece, ArePieces, NodeFacts, WorldFacts}
+use Rattle.directory_headline.proofs.Facts.{IsPiece}
 use Rattle.directory_headline.proofs.Running.{FactsHold}
 
 above : (key : ℕ) (es : List (ℕ × Piece)) → All (λ e. key < e.0) es → AllByRecursion (λ other. nat_cmp key other ≡ Less) (keys_of es)

@@ -1,5 +1,5 @@
 -- A find takes a number.
-use Rattle.std.proofs.Common.{arith, ◌≡◌, ℕ, suc, ◌+◌, List, refl, sym, ap, subst, ◌∙◌}
+use Rattle.std.proofs.Common.{arith, suc, refl, ◌∙◌}
 use Rattle.silo_address.specs.Silo.{Silo}
 use Rattle.silo_address.specs.Grain.{Grain}
 use Rattle.directory_protocol.specs.Setting.{Setting}

@@ -1,5 +1,5 @@
 -- What a host reports of a range: an entry for each firm activation that is hashed into it, in the order of the grains.
-use Rattle.std.proofs.Common.{arith, ◌≡◌, ◌≢◌, ℕ, suc, ◌<◌, List, [], ◌∷◌, length, inl, inr, refl, sym, ap, subst, ◌∙◌}
+use Rattle.std.proofs.Common.{arith, ◌≡◌, ◌≢◌, ℕ, suc, List, [], ◌∷◌, inl, inr, refl, sym, ap, ◌∙◌}
 use Rattle.std.specs.Prelude.{◌&&◌, Bool, true, false, cond, if◌then◌else◌, All, AllPairs, Option, Some, None, map, fold, filter}
 use Rattle.std.specs.Option.{option_map}
 use Rattle.std.specs.Map.{lookup}
@@ -7,7 +7,7 @@ use Rattle.std.specs.BTreeMap.{is_at}
 use Rattle.std.proofs.lemmas.List.Elements.{All-nil, All-head, All-tail}
 use Rattle.silo_address.specs.Grain.{Grain, grain_cmp}
 use Rattle.silo_address.specs.declared.Entry.{Entry}
-use Rattle.silo_address.proofs.Order.{grain_cmp_total, grain_cmp_exact, apart_in_order}
+use Rattle.silo_address.proofs.Order.{grain_cmp_total, grain_cmp_exact}
 use Rattle.ring_range.specs.Range.{Range, holds}
 use Rattle.hash_ring.specs.declared.Hashing.{Hashing}
 use Rattle.hash_ring.specs.Hash.{hash_grain}
@@ -18,7 +18,6 @@ use Rattle.directory_rules.specs.declared.held.Phase.{Phase}
 use Rattle.directory_rules.specs.declared.held.Phase.TheVariants as phase
 use Rattle.directory_rules.specs.Table.{Table, entry_at, with_entry, entries_of, table_of}
 use Rattle.directory_rules.specs.Host.{Host, entry_of, held_of, is_firm, firm_entries}
-use Rattle.directory_rules.proofs.Cases.{on_bool}
 use Rattle.directory_facts.proofs.Entries.{all_put}
 use Rattle.directory_headline.specs.Shown.{held_in, held_as}
 use Rattle.directory_headline.proofs.Lookups.{found_put, found_beside_put, absent_found, lookup_first, lookup_later}

@@ -1,33 +1,31 @@
 -- What a step of a silo may use, and what it has to show: a list of actions of that silo, all allowed, after which the silo's
 -- new node and the letters that it sends are shown.
-use Rattle.std.proofs.Common.{◌≡◌, ◌≢◌, ℕ, ◌≤◌, Bool, true, false, List, [], ◌∷◌, sym, refl, ap, ◌∙◌, subst, arith}
+use Rattle.std.proofs.Common.{◌≡◌, ℕ, true, List, [], ◌∷◌, sym, refl, ap, ◌∙◌, arith}
 use Rattle.std.specs.Prelude.{⊤, not, is_some, All, Option, Some, None}
 use Rattle.std.proofs.lemmas.List.Elements.{All-nil, All-cons}
 use Rattle.silo_address.specs.Silo.{Silo}
-use Rattle.silo_address.specs.Grain.{Grain}
 use Rattle.membership_view.specs.declared.status.Status.{Status}
 use Rattle.membership_view.specs.declared.status.Status.TheVariants.{Active, Leaving, Dead}
-use Rattle.membership_view.specs.Views.{view_at, status_at}
+use Rattle.membership_view.specs.Views.{status_at}
 use Rattle.hash_ring.specs.Hash.{hash_grain}
-use Rattle.hash_ring.specs.Ring.{sorted_ring}
 use Rattle.range_moves.specs.Arcs.{owner_silo}
 use Rattle.directory_protocol.specs.Setting.{Setting}
 use Rattle.directory_protocol.specs.World as protocol
 use Rattle.directory_protocol.specs.Actions.{Action, Allowed}
 use Rattle.directory_protocol.specs.Effects.{after, run, AllAllowed}
 use Rattle.directory_protocol.specs.Safety.{IsReached}
-use Rattle.directory_rules.specs.Membership.{is_dead_in, is_known_dead}
+use Rattle.directory_rules.specs.Membership.{is_known_dead}
 use Rattle.directory_rules.specs.Letter.{Letter}
 use Rattle.directory_rules.specs.Node.{Node}
-use Rattle.directory_rules.specs.Step.{Stepped, silently}
-use Rattle.directory_rules.specs.Input.{Input, Sees, Wakes, Closes, Finds, Forgets, Nudges, Offers, Receives, step}
+use Rattle.directory_rules.specs.Step.{Stepped}
+use Rattle.directory_rules.specs.Input.{Input, Sees, Wakes, Closes, Finds, Forgets, Nudges, Offers, Receives}
 use Rattle.directory_rules.specs.World.{World}
 use Rattle.directory_rules.specs.Happens.{node_of}
 use Rattle.directory_rules.specs.Laws.{is_live}
 use Rattle.directory_facts.specs.Own.{IsOwnLetter}
 use Rattle.directory_facts.proofs.Carried.{IsSight}
 use Rattle.directory_headline.specs.Setting.{IsSettingOf, is_member_in, is_alive_in, owner_in}
-use Rattle.directory_headline.specs.Silo_state.{SiloState, state_of}
+use Rattle.directory_headline.specs.Silo_state.{state_of}
 use Rattle.directory_headline.specs.Shown.{Shown, IsShownNode, IsShownLetter}
 use Rattle.directory_headline.proofs.Actors.{IsBy, AllBy}
 use Rattle.directory_headline.proofs.Facts.{WorldFacts, NodeFacts}

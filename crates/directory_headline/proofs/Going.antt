@@ -1,5 +1,5 @@
 -- Every accepted event takes the views and places of a world on.
-use Rattle.std.proofs.Common.{arith, ◌≡◌, ℕ, ◌≤◌, List, refl, ap, ◌∙◌}
+use Rattle.std.proofs.Common.{arith, ◌≡◌, ℕ, ◌≤◌, List, refl, ap}
 use Rattle.std.specs.Prelude.{Option, Some, None, Ok, IfOk}
 use Rattle.silo_address.specs.Silo.{Silo}
 use Rattle.membership_view.specs.Views.{ViewsValue, view_at}
@@ -9,14 +9,13 @@ use Rattle.membership_view.proofs.Staying.{versions_rise, views_stay}
 use Rattle.hash_ring.specs.Places.{PlacesValue, after_add}
 use Rattle.hash_ring.specs.Ring.{sorted_ring}
 use Rattle.hash_ring.proofs.Lawful.{ring_stays}
-use Rattle.directory_rules.specs.Step.{Stepped}
 use Rattle.directory_rules.specs.Event.{Event}
-use Rattle.directory_rules.specs.World.{World, Accepted}
+use Rattle.directory_rules.specs.World.{World}
 use Rattle.directory_rules.specs.Happens.{after_joining, counted, happens}
 use Rattle.directory_facts.proofs.Placing.{added_view}
 use Rattle.directory_facts.proofs.Seeing.{AreViews}
 use Rattle.directory_headline.proofs.Settings.{GoesOnTo}
-use Rattle.directory_headline.proofs.Events.{EventWays, by_event}
+use Rattle.directory_headline.proofs.Events.{by_event}
 
 -- nothing changes
 goes_nowhere : (f later : World) → later.settings ≡ f.settings → later.views ≡ f.views → later.places ≡ f.places → GoesOnTo f later

@@ -1,6 +1,6 @@
 -- What is shown by letters stays shown when more are sent.
-use Rattle.std.proofs.Common.{◌≡◌, ◌⊎◌, ℕ, List, Option, Some, None, inl, inr}
-use Rattle.std.specs.Prelude.{true, All}
+use Rattle.std.proofs.Common.{ℕ, List, Option, Some, None, inl, inr}
+use Rattle.std.specs.Prelude.{All}
 use Rattle.std.proofs.lemmas.List.Elements.{All-weaker}
 use Rattle.silo_address.specs.Silo.{Silo}
 use Rattle.silo_address.specs.Grain.{Grain}
@@ -21,7 +21,7 @@ use Rattle.directory_rules.specs.Recovery.{Report, Recovery}
 use Rattle.directory_rules.specs.Letter.{Letter, Body, Request_letter, Reply_letter, Ask_letter, Page_letter, Missing_letter, Done_letter, Query_letter, Report_letter, Behind_letter, Ahead_letter, Offer_letter}
 use Rattle.directory_rules.specs.Node.{Node}
 use Rattle.directory_headline.specs.Silo_state.{SiloState}
-use Rattle.directory_headline.specs.Shown.{HasSealed, IsShownSnapshot, IsShownPage, HasPages, IsShownWhole, IsShownGathering, IsShownReport, HasReported, IsShownRecovery, IsShownRequest, IsShownReply, IsShownBody, IsShownLetter, IsShownNode}
+use Rattle.directory_headline.specs.Shown.{HasSealed, IsShownSnapshot, IsShownPage, IsShownWhole, IsShownGathering, IsShownReport, HasReported, IsShownRecovery, IsShownRequest, IsShownReply, IsShownBody, IsShownLetter, IsShownNode}
 use Rattle.directory_headline.proofs.Actors.{Grows}
 
 module _ (hash : Grain → ℕ) (sent more : List letters.Snapshot) (grows : (x : letters.Snapshot) → Sent x sent → Sent x more) where

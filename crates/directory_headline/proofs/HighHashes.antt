@@ -1,7 +1,7 @@
 -- Numbers above the circle, which no grain is hashed to. A range that has one has the highest hash too, and who owns that one
 -- owns the number: going back, nothing lies between.
 use Rattle.std.proofs.Common.{arith, ◌≡◌, refl, ap, ◌∙◌, ℕ, ◌+◌, ◌<◌, ◌≤◌, List, [], ◌∷◌}
-use Rattle.std.specs.Prelude.{Bool, true, false, cond, nat_lt, find, count_by, if◌then◌else◌, All, Option, Some, None}
+use Rattle.std.specs.Prelude.{Bool, true, false, cond, nat_lt, count_by, if◌then◌else◌, All, Option, Some, None}
 use Rattle.std.specs.Option.{option_map}
 use Rattle.std.specs.List.{slice_index_or}
 use Rattle.std.proofs.lemmas.Bool.{lt-ltb, ltb-true, ltb-false}
@@ -20,7 +20,9 @@ use Rattle.directory_rules.specs.Piece.{Piece}
 use Rattle.directory_rules.specs.Answer.{piece_with}
 use Rattle.directory_rules.specs.Sight.{is_owner}
 use Rattle.directory_rules.specs.Laws.{HoldOnce}
-use Rattle.directory_headline.proofs.PieceAt.{found_counted, counted_first}
+use Rattle.directory_facts.proofs.Serving.{found_holds}
+use Rattle.directory_headline.proofs.PieceAt.{of_found, found_counted, counted_first}
+use Rattle.directory_headline.proofs.HashPieces.{one_piece}
 
 -- the hash itself; for a number above the circle the highest hash
 abbrev pub hash_for : ℕ → ℕ
@@ -79,26 +81,6 @@ owns_by points number silo on_circle is = by (owner_of points (hash_for number))
 abbrev Goes : ℕ → ℕ → ℕ × Piece → Type 0
 Goes hash other x = holds x.1.range hash ≡ true → holds x.1.range other ≡ true
 
--- a piece that has one of two hashes has the other, which lies in no second piece
-found_other : (hash other : ℕ) (pieces : List (ℕ × Piece)) (piece : Piece) → All (Goes hash other) pieces → count_by (λ e. holds e.1.range other) pieces ≤ 1
-    → piece_with hash pieces ≡ Some piece → piece_with other pieces ≡ Some piece
-found_other hash other [] piece so once found = absurd (cc (found))
-found_other hash other (e ∷ es) piece so once found =
-    by (holds e.1.range hash) refl found (λ later. found_other hash other es piece (All-tail (Goes hash other) e es so) fewer later) (holds e.1.range other) refl
-  where
-    fewer : count_by (λ x. holds x.1.range other) es ≤ 1
-    fewer = let all = counted_first other e es in omega (once, all, arith)
-
-    by : (b : Bool) → holds e.1.range hash ≡ b → option_map (λ x. x.1) (cond b (Some e) (find (λ x. holds x.1.range hash) es)) ≡ Some piece → (piece_with hash es ≡ Some piece → piece_with other es ≡ Some piece)
-        → (c : Bool) → holds e.1.range other ≡ c → option_map (λ x. x.1) (cond c (Some e) (find (λ x. holds x.1.range other) es)) ≡ Some piece
-    by true has here rest true holds_it = here
-    by true has here rest false holds_not = let it = All-head (Goes hash other) e es so has in absurd (cc (it, holds_not))
-    by false has here rest true holds_it =
-        let all = counted_first other e es ∙ ap (λ b. cond {A = ℕ} b 1 0 + count_by (λ x. holds x.1.range other) es) holds_it in
-        let some = found_counted other es piece (rest here) in
-        absurd (omega (once, all, some, arith))
-    by false has here rest false holds_not = rest here
-
 fewer_held : (hash other : ℕ) (pieces : List (ℕ × Piece)) → All (Goes hash other) pieces → count_by (λ e. holds e.1.range hash) pieces ≤ count_by (λ e. holds e.1.range other) pieces
 fewer_held hash other [] so = omega arith
 fewer_held hash other (e ∷ es) so =
@@ -127,9 +109,8 @@ module _ (points : List Point) (silo : Silo) (pieces : List (ℕ × Piece)) (onc
 
   pub found_hash : (number : ℕ) (piece : Piece) → piece_with number pieces ≡ Some piece → piece_with (hash_for number) pieces ≡ Some piece
   found_hash number piece found =
-      found_other number (hash_for number) pieces piece
-      (All-weaker (λ (e : ℕ × Piece). IsRange e.1.range) (λ e. holds e.1.range number ≡ true → holds e.1.range (hash_for number) ≡ true) (λ e is held. holds_hash e.1.range number is held) pieces ranged)
-      (at_most (is_owner silo (owner_silo points (hash_for number))) _ (once (hash_for number) (is_hash number))) found
+      one_piece number (hash_for number) pieces piece (at_most (is_owner silo (owner_silo points (hash_for number))) _ (once (hash_for number) (is_hash number))) found
+      (holds_hash piece.range number (of_found (λ e. IsRange e.1.range) number pieces piece ranged found).1 (found_holds number pieces piece found))
 
   -- the silo owns what lies in its pieces
   pub found_owned : (number : ℕ) (piece : Piece) → piece_with number pieces ≡ Some piece → is_owner silo (owner_silo points (hash_for number)) ≡ true

@@ -1,5 +1,5 @@
 -- Steps that change a silo's host, or its cache, and nothing else of it; and the letters of requests.
-use Rattle.std.proofs.Common.{◌≡◌, ◌≢◌, ℕ, List, [], inl, inr, refl, sym, ap, subst, ◌∙◌}
+use Rattle.std.proofs.Common.{◌≡◌, ◌≢◌, ℕ, inl, inr, sym, ap, ◌∙◌}
 use Rattle.std.specs.Prelude.{All, Option, Some, None}
 use Rattle.std.specs.Option.{option_map}
 use Rattle.silo_address.specs.Silo.{Silo}
@@ -11,10 +11,9 @@ use Rattle.directory_protocol.proofs.Changes.{grain_cases, put_at_same, put_at_o
 use Rattle.directory_protocol.specs.Setting.{Setting}
 use Rattle.directory_protocol.specs.World as protocol
 use Rattle.directory_rules.specs.declared.act.Act.{Act}
-use Rattle.directory_rules.specs.declared.act.Request.{Request}
 use Rattle.directory_rules.specs.Host.{Host, held_of}
 use Rattle.directory_rules.specs.Cache.{Cache}
-use Rattle.directory_rules.specs.Letter.{Letter, Request_letter}
+use Rattle.directory_rules.specs.Letter.{Request_letter}
 use Rattle.directory_rules.specs.Node.{Node}
 use Rattle.directory_rules.specs.Sending.{letter_to, hash_of, request_of, owner_by, letter_if_owned, request_letters}
 use Rattle.directory_rules.specs.World.{World}

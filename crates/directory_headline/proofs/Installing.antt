@@ -1,6 +1,6 @@
 -- The last page completes a snapshot: the piece is settled with its entries.
-use Rattle.std.proofs.Common.{arith, ◌≡◌, ◌≢◌, ℕ, suc, ◌+◌, ◌*◌, ◌<◌, ◌≤◌, List, [], ◌++◌, length, take, refl, sym, ap, subst, ◌∙◌}
-use Rattle.std.specs.Prelude.{◌&&◌, nat_lt, Bool, true, false, Some}
+use Rattle.std.proofs.Common.{arith, ◌≡◌, ℕ, ◌+◌, ◌*◌, ◌<◌, ◌≤◌, List, ◌++◌, length, take, refl, sym, ap, subst, ◌∙◌}
+use Rattle.std.specs.Prelude.{nat_lt, true, false}
 use Rattle.texts.proofs.Decided.{both}
 use Rattle.silo_address.specs.Silo.{Silo}
 use Rattle.silo_address.specs.Grain.{Grain}
@@ -13,7 +13,7 @@ use Rattle.directory_rules.specs.declared.effect.Effect.TheVariants as effect
 use Rattle.directory_rules.specs.Settings.{page_size}
 use Rattle.directory_rules.specs.Table.{entry_at, table_of}
 use Rattle.directory_rules.specs.Snapshot.{Page, page_count}
-use Rattle.directory_rules.specs.Gathering.{Gathering, Has_all, gathered}
+use Rattle.directory_rules.specs.Gathering.{Has_all, gathered}
 use Rattle.directory_rules.specs.Sight.{is_settled}
 use Rattle.directory_rules.specs.Letter.{Letter, Done_letter}
 use Rattle.directory_rules.specs.Node.{Node}
@@ -23,8 +23,8 @@ use Rattle.directory_rules.specs.World.{World}
 use Rattle.directory_facts.proofs.Ways.{IsPageTaken}
 use Rattle.directory_headline.specs.Shown.{IsShownLetter, activation_in}
 use Rattle.directory_headline.proofs.SettledPiece.{settling, settled_world, may_settle, node_settled}
-use Rattle.directory_headline.proofs.PagesTaken.{IsInTurn, GatheredSo, gathered_so, page_more, all_pages}
-use Rattle.directory_headline.proofs.Paging.{IsNextPage, next_page}
+use Rattle.directory_headline.proofs.PagesTaken.{GatheredSo, gathered_so, page_more, all_pages}
+use Rattle.directory_headline.proofs.Paging.{next_page}
 use Rattle.directory_headline.proofs.Frame.{Here, Comes, Moves, acts, seen_is, one_letter}
 
 not_lt : (a b : ℕ) → nat_lt a b ≡ false → b ≤ a
@@ -44,8 +44,8 @@ module _ (m : Setting) (f : World) (w : protocol.World) (silo : Silo) (node : No
       let turn = so.0 in
       let its = next_page m f w silo node here letter page taken comes turn in
       let whole : entries ≡ its.all =
-          so.1 ∙ ap (λ l. l ++ page.entries) its.had ∙ ap (λ l. take (gathering.next * page_size) its.all ++ l) its.next ∙ page_more gathering.next its.all
-          ∙ all_pages (gathering.next + 1) its.all (last_page gathering.next (page_count (length its.all)) page.page page.pages its.pages turn.next so.2) in
+      so.1 ∙ ap (λ l. l ++ page.entries) its.had ∙ ap (λ l. take (gathering.next * page_size) its.all ++ l) its.next ∙ page_more gathering.next its.all
+      ∙ all_pages (gathering.next + 1) its.all (last_page gathering.next (page_count (length its.all)) page.page page.pages its.pages turn.next so.2) in
       let snapshot = its.sealed.snapshot in
       let waits : is_settled taken.piece.state ≡ false = ap is_settled taken.awaits in
       let says = λ (grain : Grain) (held : holds page.range (m.hash grain) ≡ true). its.sealed.list.exact grain held ∙ ap (λ es. activation_in (entry_at grain (table_of es))) (sym whole) in

@@ -30,8 +30,8 @@ pub mod Telling
 pub mod PieceAt
 pub mod Answering
 pub mod Serving
+pub mod Statuses
 pub mod HighHashes
-pub mod HashTables
 pub mod Promises
 pub mod TableEntries
 pub mod PieceSet
@@ -40,7 +40,6 @@ pub mod PlainWays
 pub mod PlainSilo
 pub mod PlainViews
 pub mod Plainly
-pub mod Ending
 pub mod Unions
 pub mod Turning
 pub mod Collecting
@@ -52,3 +51,4 @@ pub mod PagesTaken
 pub mod Paging
 pub mod Installing
 pub mod Steps
+pub mod Ending

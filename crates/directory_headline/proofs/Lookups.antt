@@ -1,6 +1,6 @@
 -- What is found under a key after an entry was put in, set or taken out.
-use Rattle.std.proofs.Common.{arith, ◌≡◌, ◌≢◌, ℕ, suc, ◌<◌, List, [], ◌∷◌, ◌++◌, length, refl, sym, ap, subst, ◌∙◌}
-use Rattle.std.specs.Prelude.{Bool, true, false, cond, is_some, find, AllPairs, Contains, Option, Some, None}
+use Rattle.std.proofs.Common.{arith, ◌≡◌, ◌≢◌, suc, List, [], ◌∷◌, ◌++◌, refl, sym, ap, subst, ◌∙◌}
+use Rattle.std.specs.Prelude.{Bool, true, false, cond, is_some, find, AllPairs, Contains, Some, None}
 use Rattle.std.specs.Prelude.{All}
 use Rattle.std.specs.List.{slice_index_or}
 use Rattle.std.proofs.lemmas.List.Elements.{All-head, All-tail}
@@ -12,7 +12,7 @@ use Rattle.std.specs.BTreeMap.{is_at, insert_entry}
 use Rattle.std.proofs.lemmas.Map.Lookups.{CmpEqualImpliesEq}
 use Rattle.std.proofs.lemmas.Cmp.{tied_itself}
 use Rattle.silo_address.proofs.Order.{apart_in_order}
-use Rattle.membership_view.proofs.Entries.{lookup-insert_entry, Equal-from}
+use Rattle.membership_view.proofs.Entries.{lookup-insert_entry}
 use Rattle.directory_rules.proofs.Cases.{on_bool}
 use Rattle.directory_rules.proofs.Tables.{lookup-remove_other}
 use Rattle.directory_facts.proofs.Entries.{same_key}

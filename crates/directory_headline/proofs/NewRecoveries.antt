@@ -1,5 +1,5 @@
 -- Recoveries that begin: each member of the view is awaited, and nothing is gathered.
-use Rattle.std.proofs.Common.{◌≡◌, ℕ, inl, refl, sym, ap, subst, ◌∙◌}
+use Rattle.std.proofs.Common.{◌≡◌, inl, sym, subst, ◌∙◌}
 use Rattle.silo_address.specs.Silo.{Silo}
 use Rattle.membership_view.specs.View.{ViewValue, IsByAddress}
 use Rattle.ring_range.specs.Range.{Range}

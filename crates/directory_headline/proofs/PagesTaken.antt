@@ -1,16 +1,16 @@
 -- The pages of a list, one after the other, and what the tests of a page say.
-use Rattle.std.proofs.Common.{arith, ◌≡◌, ◌≢◌, ℕ, zero, suc, ◌+◌, ◌*◌, ◌/◌, ◌<◌, ◌≤◌, List, [], ◌∷◌, ◌++◌, length, take, drop, refl, sym, ap, subst, ◌∙◌}
-use Rattle.std.specs.Prelude.{◌==◌, ◌&&◌, nat_lt, not, Bool, true, false, cond, if◌then◌else◌, Option, Some, None}
+use Rattle.std.proofs.Common.{arith, ◌≡◌, ℕ, zero, suc, ◌+◌, ◌*◌, ◌/◌, ◌≤◌, List, [], ◌∷◌, ◌++◌, length, take, drop, refl, sym, ap, ◌∙◌}
+use Rattle.std.specs.Prelude.{◌==◌, ◌&&◌, nat_lt, not, Bool, true, false, cond, if◌then◌else◌, None}
 use Rattle.std.specs.Cmp.Lexicographic.{pointwise}
 use Rattle.std.proofs.lemmas.Bool.{eqb-true}
 use Rattle.std.proofs.lemmas.List.{take_all}
 use Rattle.texts.proofs.Decided.{both}
 use Rattle.silo_address.specs.declared.Entry.{Entry}
-use Rattle.ring_range.specs.Range.{Range, range_eq}
+use Rattle.ring_range.specs.Range.{range_eq}
 use Rattle.ring_range.proofs.Same.{Decides-range}
 use Rattle.directory_rules.specs.Settings.{page_size}
 use Rattle.directory_rules.specs.Snapshot.{Page, digest_of, page_count, page_entries}
-use Rattle.directory_rules.specs.Gathering.{Gathering, Whole, Gathered, Wants_page, Has_all, Refuses, new_gathering, agrees, is_entry_count, is_in_turn, with_page, completed, gathered}
+use Rattle.directory_rules.specs.Gathering.{Gathering, Gathered, Wants_page, Has_all, Refuses, new_gathering, agrees, is_entry_count, is_in_turn, with_page, completed, gathered}
 use Rattle.directory_rules.proofs.Cases.{on_bool}
 use Rattle.directory_headline.specs.Shown.{HasNoPage}
 

@@ -1,13 +1,11 @@
 -- Pages: one is handed over, one is taken, and one empties what was gathered.
-use Rattle.std.proofs.Common.{arith, ◌≡◌, ◌≢◌, ℕ, suc, ◌+◌, ◌-◌, ◌*◌, ◌<◌, List, [], ◌∷◌, ◌++◌, length, take, inl, inr, refl, sym, ap, subst, ◌∙◌}
-use Rattle.std.specs.Prelude.{◌==◌, ◌&&◌, nat_lt, Bool, true, false, cond, All, Option, Some, None, find}
-use Rattle.std.specs.Cmp.Lexicographic.{pointwise}
+use Rattle.std.proofs.Common.{arith, ◌≡◌, ℕ, suc, ◌+◌, ◌-◌, ◌*◌, ◌<◌, List, [], ◌∷◌, ◌++◌, length, take, refl, sym, ap, subst, ◌∙◌}
+use Rattle.std.specs.Prelude.{nat_lt, Bool, true, cond, All, Option, Some, None, find}
 use Rattle.std.specs.Ordering.{nat_cmp}
 use Rattle.std.specs.BTreeMap.{is_at}
-use Rattle.std.proofs.lemmas.Bool.{eqb-true, le-leb}
+use Rattle.std.proofs.lemmas.Bool.{le-leb}
 use Rattle.std.proofs.lemmas.Map.Lookups.{exact_unsigned}
 use Rattle.std.proofs.lemmas.List.Elements.{All-head, All-tail}
-use Rattle.texts.proofs.Decided.{both}
 use Rattle.silo_address.specs.Silo.{Silo}
 use Rattle.silo_address.specs.Grain.{Grain}
 use Rattle.silo_address.specs.declared.Entry.{Entry}
@@ -21,20 +19,20 @@ use Rattle.directory_protocol.proofs.Runs.{holds_where_reached}
 use Rattle.directory_rules.specs.declared.effect.Effect.TheVariants as effect
 use Rattle.directory_rules.specs.Settings.{page_size}
 use Rattle.directory_rules.specs.Piece.{Piece}
-use Rattle.directory_rules.specs.Snapshot.{Snapshot, Page, ShelfAnswer, Hands_page, Has_none, Is_behind, is_snapshot, page_count, page_entries, page_of, page_from, shelf_answer}
-use Rattle.directory_rules.specs.Gathering.{Gathering, Whole, Wants_page, Refuses, new_gathering, agrees, with_page, gathered}
+use Rattle.directory_rules.specs.Snapshot.{Snapshot, Page, Hands_page, Has_none, Is_behind, is_snapshot, page_count, page_entries, page_of, page_from, shelf_answer}
+use Rattle.directory_rules.specs.Gathering.{Gathering, Whole, Wants_page, Refuses, new_gathering, with_page, gathered}
 use Rattle.directory_rules.specs.Letter.{Letter, Ask_letter, Page_letter}
 use Rattle.directory_rules.specs.Node.{Node}
 use Rattle.directory_rules.specs.Sending.{letter_to, gathering_of}
 use Rattle.directory_rules.specs.Step.{silently}
-use Rattle.directory_rules.specs.Transfer.{answering, answer_to, asking_on, with_gathering}
+use Rattle.directory_rules.specs.Transfer.{answering, asking_on, with_gathering}
 use Rattle.directory_rules.specs.World.{World}
 use Rattle.directory_rules.proofs.Cases.{on_bool}
 use Rattle.directory_facts.proofs.Collecting.{found_or}
 use Rattle.directory_facts.proofs.Entries.{all_put, found_so}
 use Rattle.directory_facts.proofs.Ways.{HasPiece, IsPageTaken}
 use Rattle.directory_headline.specs.Silo_state.{state_of}
-use Rattle.directory_headline.specs.Shown.{IsShownNode, IsShownLetter, IsShownBody, IsShownSnapshot, IsShownPage, IsShownWhole, IsShownGathering, HasSealed, HasPages, HasNoPage, IsListOf}
+use Rattle.directory_headline.specs.Shown.{IsShownNode, IsShownLetter, IsShownBody, IsShownSnapshot, IsShownPage, IsShownWhole, IsShownGathering, HasSealed, HasNoPage, IsListOf}
 use Rattle.directory_headline.proofs.Facts.{IsPiece}
 use Rattle.directory_headline.proofs.SameTables.{one_list}
 use Rattle.directory_headline.proofs.PagesTaken.{IsInTurn, GatheredSo, gathered_so, page_more}
@@ -63,8 +61,8 @@ module _ (m : Setting) (w : protocol.World) (sealed_once : SealedOnce m w) (vers
       let held = holds_start range present in
       let below = is_range.start_below in
       let same : x.snapshot ≡ y.snapshot =
-          sealed_once range.start x.snapshot y.snapshot x.was_sent y.was_sent (x.covers range.start below held) (y.covers range.start below held)
-          (same_suc x.snapshot.sealed_at y.snapshot.sealed_at version x.for_version y.for_version) in
+      sealed_once range.start x.snapshot y.snapshot x.was_sent y.was_sent (x.covers range.start below held) (y.covers range.start below held)
+      (same_suc x.snapshot.sealed_at y.snapshot.sealed_at version x.for_version y.for_version) in
       one_list m.hash range x.snapshot.entries one other x.list (subst (λ (s : letters.Snapshot). IsListOf m.hash range s.entries other) (sym same) y.list)
 
 -- ---- what was gathered, and the page that comes
@@ -140,7 +138,7 @@ module _ (m : Setting) (f : World) (w : protocol.World) (silo : Silo) (node : No
     had_first (Some whole) is turn =
         let sealed = is.sealed in
         let its : HasSealed m.hash w.snapshots page.version page.range is.all =
-            subst (λ v. HasSealed m.hash w.snapshots v page.range is.all) (sym turn.version) (subst (λ r. HasSealed m.hash w.snapshots gathering.version r is.all) (sym turn.range) sealed) in
+        subst (λ v. HasSealed m.hash w.snapshots v page.range is.all) (sym turn.version) (subst (λ r. HasSealed m.hash w.snapshots gathering.version r is.all) (sym turn.range) sealed) in
         is.entries ∙ ap (take (gathering.next * page_size)) (one_sealed m w sealed_once page.version page.range is_range present is.all page_shown.all its page_shown.sealed)
 
     pub next_page : IsInTurn gathering page → IsNextPage m.hash w.snapshots gathering page

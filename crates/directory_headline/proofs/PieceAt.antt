@@ -4,11 +4,9 @@ use Rattle.std.specs.Prelude.{Bool, true, false, cond, find, count_by, All, AllP
 use Rattle.std.specs.Option.{option_map}
 use Rattle.std.specs.List.{AllByRecursion}
 use Rattle.std.specs.List.Sorted.{IsStrictlySortedBy}
-use Rattle.std.specs.Cmp.{nat_cmp_is}
-use Rattle.std.specs.Ordering.{nat_cmp, is_eq}
-use Rattle.std.specs.declared.cmp.Ordering.TheVariants.{Less, Equal, Greater}
-use Rattle.std.specs.Map.{set_value, keys_of}
-use Rattle.std.specs.BTreeMap.{is_at}
+use Rattle.std.specs.Ordering.{nat_cmp}
+use Rattle.std.specs.declared.cmp.Ordering.TheVariants.{Less}
+use Rattle.std.specs.Map.{keys_of}
 use Rattle.std.proofs.lemmas.Cmp.{ranked}
 use Rattle.std.proofs.lemmas.List.Elements.{All-nil, All-cons, All-head, All-tail}
 use Rattle.std.proofs.lemmas.List.Kept.{AllPairs-cons}
@@ -56,48 +54,6 @@ of_found P hash (e ∷ es) piece all found = at (holds e.1.range hash) found (λ
     at : (b : Bool) → option_map (λ x. x.1) (cond b (Some e) (find (λ x. holds x.1.range hash) es)) ≡ Some piece → (piece_with hash es ≡ Some piece → (key : ℕ) × P (key, piece)) → (key : ℕ) × P (key, piece)
     at true here rest = let same : e.1 ≡ piece = cc (here) in (e.0, subst (λ p. P (e.0, p)) same (All-head P e es all))
     at false here rest = rest here
-
--- ---- a piece that is changed
-at_self : (start : ℕ) → is_at (nat_cmp start) start ≡ true
-at_self start = ap is_eq (sym (nat_cmp_is start start Equal refl))
-
-at_less : (start key : ℕ) → key < start → is_at (nat_cmp start) key ≡ false
-at_less start key less = ap is_eq (sym (nat_cmp_is start key Greater less))
-
--- the piece that has a hash begins behind what lies below all pieces
-begins_behind : (low hash : ℕ) (pieces : List (ℕ × Piece)) (piece : Piece) → All (λ later. low < later.1.start) (ranges pieces) → piece_with hash pieces ≡ Some piece → low < piece.range.start
-begins_behind low hash [] piece above is = absurd (cc (is))
-begins_behind low hash (e ∷ es) piece above is = at (holds e.1.range hash) is (λ later. begins_behind low hash es piece (All-tail (λ r. low < r.1.start) (e.0, e.1.range) (ranges es) above) later)
-  where
-    at : (b : Bool) → option_map (λ x. x.1) (cond b (Some e) (find (λ x. holds x.1.range hash) es)) ≡ Some piece → (piece_with hash es ≡ Some piece → low < piece.range.start) → low < piece.range.start
-    at true here rest =
-        let there : e.1 ≡ piece = cc (here) in
-        subst (λ (p : Piece). low < p.range.start) there (All-head (λ r. low < r.1.start) (e.0, e.1.range) (ranges es) above)
-    at false there rest = rest there
-
--- the piece that has the hash, with another in its place
-pub changed_found :
-    (hash : ℕ) (pieces : List (ℕ × Piece)) (piece changed : Piece) → Rising (ranges pieces) → piece_with hash pieces ≡ Some piece → piece.range ≡ changed.range
-    → piece_with hash (set_value (is_at (nat_cmp piece.range.start)) pieces changed) ≡ Some changed
-changed_found hash [] piece changed rising found same = absurd (cc (found))
-changed_found hash (e ∷ es) piece changed rising found same =
-    at (holds e.1.range hash) refl found (λ later. changed_found hash es piece changed rising.2 later same)
-  where
-    at : (b : Bool) → holds e.1.range hash ≡ b → option_map (λ x. x.1) (cond b (Some e) (find (λ x. holds x.1.range hash) es)) ≡ Some piece
-        → (piece_with hash es ≡ Some piece → piece_with hash (set_value (is_at (nat_cmp piece.range.start)) es changed) ≡ Some changed)
-        → piece_with hash (set_value (is_at (nat_cmp piece.range.start)) (e ∷ es) changed) ≡ Some changed
-    at true held here rest =
-        let there : e.1 ≡ piece = cc (here) in
-        let key : e.0 ≡ piece.range.start = rising.0 ∙ ap (λ (p : Piece). p.range.start) there in
-        let range : e.1.range ≡ changed.range = ap (λ (p : Piece). p.range) there ∙ same in
-        ap (λ b. piece_with hash (cond b ((e.0, changed) ∷ es) (e ∷ set_value (is_at (nat_cmp piece.range.start)) es changed)))
-        (ap (λ k. is_at (nat_cmp piece.range.start) k) key ∙ at_self piece.range.start)
-        ∙ ap (λ b. option_map (λ x. x.1) (cond b (Some (e.0, changed)) (find (λ x. holds x.1.range hash) es))) (ap (λ (r : Range). holds r hash) (sym range) ∙ held)
-    at false held here rest =
-        ap (λ b. piece_with hash (cond b ((e.0, changed) ∷ es) (e ∷ set_value (is_at (nat_cmp piece.range.start)) es changed)))
-        (at_less piece.range.start e.0 (begins_behind e.0 hash es piece rising.1 here))
-        ∙ ap (λ b. option_map (λ x. x.1) (cond b (Some e) (find (λ x. holds x.1.range hash) (set_value (is_at (nat_cmp piece.range.start)) es changed)))) held
-        ∙ rest here
 
 -- ---- the state of the piece that has a hash
 abbrev pub state_with : ℕ → List (ℕ × Piece) → Option PieceState

@@ -1,17 +1,15 @@
 -- Pieces, when the one that stands under a start is changed: which piece has a hash then.
-use Rattle.std.proofs.Common.{arith, ◌≡◌, ◌≢◌, ℕ, ◌+◌, ◌<◌, ◌≤◌, List, [], ◌∷◌, refl, sym, ap, subst, ◌∙◌}
-use Rattle.std.specs.Prelude.{◌&&◌, nat_lt, Bool, true, false, cond, if◌then◌else◌, Option, Some, None, count_by, find}
+use Rattle.std.proofs.Common.{arith, ◌≡◌, ℕ, ◌+◌, ◌≤◌, List, [], ◌∷◌, refl, sym, ap, ◌∙◌}
+use Rattle.std.specs.Prelude.{Bool, true, false, cond, Some, count_by, find}
 use Rattle.std.specs.Option.{option_map}
 use Rattle.std.specs.Ordering.{nat_cmp}
 use Rattle.std.specs.Map.{lookup, set_value}
 use Rattle.std.specs.BTreeMap.{is_at}
 use Rattle.std.proofs.lemmas.List.Sums.{sum_by-cons}
-use Rattle.ring_range.specs.Range.{circle, Range, holds}
+use Rattle.ring_range.specs.Range.{holds}
 use Rattle.directory_rules.specs.Piece.{Piece}
-use Rattle.directory_rules.specs.Answer.{piece_with, with_piece}
-use Rattle.directory_rules.specs.Sight.{is_settled}
+use Rattle.directory_rules.specs.Answer.{piece_with}
 use Rattle.directory_rules.proofs.Cases.{on_bool}
-use Rattle.directory_headline.specs.Shown.{is_settled_piece, has_settled}
 
 -- how many of the pieces hold the hash
 abbrev holding : ℕ → List (ℕ × Piece) → ℕ

@@ -1,18 +1,15 @@
 -- A silo's step is a plain step of the world. The protocol is needed for one thing alone: where an activation becomes firm, no
 -- other of its grain is.
-use Rattle.std.proofs.Common.{◌≡◌, ◌≢◌, ℕ, IsSome, inl, inr, refl, sym, ap, ◌∙◌}
-use Rattle.std.specs.Prelude.{true, false, is_some, Option, Some, None}
+use Rattle.std.proofs.Common.{◌≡◌, ◌≢◌, ℕ, inl, inr, refl, sym, ap, ◌∙◌}
+use Rattle.std.specs.Prelude.{true, is_some, Option, Some, None}
 use Rattle.std.specs.Option.{option_map, option_and_then}
 use Rattle.silo_address.specs.Silo.{Silo}
 use Rattle.silo_address.specs.Grain.{Grain}
-use Rattle.membership_view.specs.declared.status.Status.{Status}
-use Rattle.membership_view.specs.declared.status.Status.TheVariants.{Active, Leaving, Dead}
 use Rattle.membership_view.specs.Views.{view_at, status_at}
 use Rattle.directory_protocol.proofs.Changes.{silo_cases}
 use Rattle.directory_rules.specs.declared.held.Held.{Held}
 use Rattle.directory_rules.specs.declared.held.Phase.{Phase}
 use Rattle.directory_rules.specs.declared.held.Phase.TheVariants as phase
-use Rattle.directory_rules.specs.Membership.{is_known_dead}
 use Rattle.directory_rules.specs.Host.{held_of}
 use Rattle.directory_rules.specs.Node.{Node}
 use Rattle.directory_rules.specs.World.{World}
@@ -21,17 +18,8 @@ use Rattle.directory_rules.specs.Laws.{ArePeopled, is_live}
 use Rattle.directory_rules.specs.Settled.{IsFirmOn}
 use Rattle.directory_rules.specs.Headline.{NoTwoFirm}
 use Rattle.directory_rules.specs.PlainMachine.{Life, Is_asking, Is_firm, Is_closing, life_by, life_of, life_on, plain_of, PlainStep, Change_view, Begin, Make_firm, Yield, Begin_closing, End, Nothing_changes, IsChanged, IsSame, Begins, Goes, BecomesFirm, IsPlainStep}
+use Rattle.directory_headline.proofs.Statuses.{live_there, live_not_dead}
 use Rattle.directory_headline.proofs.PlainWays.{NodeSame, NodeGoes, NodeBegins, IsNodeStep}
-
-live_there : (status : Option Status) → is_live status ≡ true → IsSome status
-live_there None is = absurd (cc (is))
-live_there (Some status) is = refl
-
-live_not_dead : (status : Option Status) → is_live status ≡ true → is_known_dead status ≡ false
-live_not_dead None is = absurd (cc (is))
-live_not_dead (Some Active) is = refl
-live_not_dead (Some Leaving) is = refl
-live_not_dead (Some Dead) is = absurd (cc (is))
 
 -- ---- a silo's step
 module _ (f later : World) (silo : Silo) (node next : Node) (peopled : ArePeopled f.views f.nodes) (there : node_of f silo ≡ Some node) (then : node_of later silo ≡ Some next)

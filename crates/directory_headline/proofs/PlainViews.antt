@@ -8,7 +8,6 @@ use Rattle.silo_address.specs.Silo.{Silo, silo_cmp}
 use Rattle.silo_address.specs.Grain.{Grain}
 use Rattle.silo_address.proofs.Order.{silo_cmp_total, silo_cmp_exact}
 use Rattle.membership_view.specs.declared.status.Status.{Status}
-use Rattle.membership_view.specs.declared.status.Status.TheVariants.{Active, Leaving, Dead}
 use Rattle.membership_view.specs.View.{status_of}
 use Rattle.membership_view.specs.Views.{ViewsValue, view_at, status_at}
 use Rattle.membership_view.specs.Changes as change
@@ -16,7 +15,7 @@ use Rattle.membership_view.specs.Step.{Joins, MembershipStep}
 use Rattle.membership_view.proofs.Staying.{rows_stay}
 use Rattle.hash_ring.specs.Places.{PlacesValue}
 use Rattle.directory_protocol.proofs.Changes.{silo_cases}
-use Rattle.directory_rules.specs.Membership.{is_dead_in, is_known_dead}
+use Rattle.directory_rules.specs.Membership.{is_dead_in}
 use Rattle.directory_rules.specs.Node.{Node, new_node}
 use Rattle.directory_rules.specs.Input.{step}
 use Rattle.directory_rules.specs.World.{World}
@@ -25,23 +24,8 @@ use Rattle.directory_rules.specs.Laws.{ArePeopled, is_live}
 use Rattle.directory_rules.specs.PlainMachine.{life_on, plain_of, ViewChanges}
 use Rattle.directory_rules.proofs.Removed.{lookup_removed}
 use Rattle.directory_headline.proofs.Settings.{GoesOnTo}
+use Rattle.directory_headline.proofs.Statuses.{live_there, dead_not_live, there_live}
 use Rattle.directory_headline.proofs.Lookups.{found_put, found_beside_put, found_beside_removed}
-
-dead_not_live : (status : Option Status) → is_known_dead status ≡ true → is_live status ≡ false
-dead_not_live None is = refl
-dead_not_live (Some Active) is = absurd (cc (is))
-dead_not_live (Some Leaving) is = absurd (cc (is))
-dead_not_live (Some Dead) is = refl
-
-there_live : (status : Option Status) → IsSome status → is_known_dead status ≡ false → is_live status ≡ true
-there_live None there not_dead = absurd (cc (there))
-there_live (Some Active) there not_dead = refl
-there_live (Some Leaving) there not_dead = refl
-there_live (Some Dead) there not_dead = absurd (cc (not_dead))
-
-live_there : (status : Option Status) → is_live status ≡ true → IsSome status
-live_there None is = absurd (cc (is))
-live_there (Some status) is = refl
 
 nobody : (o : Option Node) → is_some o ≡ false → o ≡ None
 nobody None is = refl

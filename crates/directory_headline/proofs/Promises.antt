@@ -1,19 +1,17 @@
 -- The headline, of a world that the protocol shows.
-use Rattle.std.proofs.Common.{arith, ◌≡◌, ◌≢◌, ◌&&◌, ℕ, ◌<◌, List, refl, sym, ap, subst, ◌∙◌}
+use Rattle.std.proofs.Common.{arith, ◌≡◌, ◌&&◌, ℕ, ◌<◌, List, IsSome, refl, sym, ap, subst, ◌∙◌}
 use Rattle.std.specs.Prelude.{◌==◌, ◌≤◌, not, nat_lt, Bool, true, false, is_some, filter, flat_map, All, Contains, Option, Some, None, Result, Ok, Err}
 use Rattle.std.specs.Option.{option_map}
 use Rattle.std.specs.List.{slice_index_or}
 use Rattle.std.specs.Ordering.{is_gt}
 use Rattle.std.proofs.lemmas.Bool.{eqb-true, eq-eqb, lt-ltb}
 use Rattle.std.proofs.lemmas.List.Elements.{All-contains, All-contains_itself, All-weaker}
-use Rattle.std.proofs.lemmas.List.Kept.{AllPairs-filter}
 use Rattle.silo_address.specs.Silo.{Silo, silo_cmp}
 use Rattle.silo_address.specs.Grain.{Grain}
 use Rattle.silo_address.specs.declared.ActivationId.{ActivationId}
 use Rattle.silo_address.specs.declared.Entry.{Entry}
 use Rattle.silo_address.proofs.Same.{same_entry}
 use Rattle.membership_view.specs.declared.status.Status.{Status}
-use Rattle.membership_view.specs.declared.status.Status.TheVariants.{Active, Leaving, Dead}
 use Rattle.membership_view.specs.Views.{view_at, status_at}
 use Rattle.ring_range.specs.Range.{circle, IsRange}
 use Rattle.hash_ring.specs.declared.point.Point.{Point}
@@ -41,7 +39,6 @@ use Rattle.directory_rules.specs.Host.{held_of}
 use Rattle.directory_rules.specs.Node.{Node}
 use Rattle.directory_rules.specs.World.{World}
 use Rattle.directory_rules.specs.Happens.{node_of}
-use Rattle.directory_rules.specs.Laws.{is_live}
 use Rattle.directory_rules.specs.Settled.{HasNode, OwnsIn, IsSettledAt, entries_with, IsHeld, IsFirmOn, entry_on, AreComplete, IsRightTable, IsRightOnLive}
 use Rattle.directory_rules.specs.Headline.{RingsAreSortedAnew, IsRetry, UnsettledRangesRetry, NoTwoFirm, OneSettles, Headline}
 use Rattle.directory_rules.proofs.Retried.{unsettled_retries}
@@ -52,9 +49,11 @@ use Rattle.directory_headline.specs.Shown.{held_in, held_as, activation_in, is_s
 use Rattle.directory_headline.proofs.Facts.{WorldFacts, IsPiece}
 use Rattle.directory_headline.proofs.Frame.{Here, node_shown, seen_is, hash_is, alive}
 use Rattle.directory_headline.proofs.Viewed.{Carried}
+use Rattle.directory_headline.proofs.Statuses.{there_live}
 use Rattle.directory_headline.proofs.PieceAt.{of_found}
 use Rattle.directory_headline.proofs.HighHashes.{hash_for, hash_below, is_hash, owns_by, found_hash, found_owned, held_once}
-use Rattle.directory_headline.proofs.HashTables.{of_hash, entries_of_piece, contains_passing, all_passing, each_found, one_a_grain, found_own, found_among}
+use Rattle.directory_headline.proofs.HashPieces.{is_hashed_so, only_piece}
+use Rattle.directory_headline.proofs.TableEntries.{found_own, picked_found, picked_all, picked_once}
 
 -- ---- owners by the same points
 owner_same : (one other : List Point) (hash : ℕ) (owner : Point) → HaveSamePoints one other → IsOwner one hash owner → IsOwner other hash owner
@@ -73,13 +72,6 @@ held_count : (its : Phase) (count : ℕ) (previous : Option ActivationId) → pr
 held_count (phase.Asking number) count previous = refl
 held_count phase.Firm count previous = refl
 held_count (phase.Closing number) count previous = refl
-
--- who isn't Dead and is there is live
-alive_there : (status : Option Status) → not (is_known_dead status) ≡ true → status ≢ None → is_live status ≡ true
-alive_there None alive there = absurd (there refl)
-alive_there (Some Active) alive there = refl
-alive_there (Some Leaving) alive there = refl
-alive_there (Some Dead) alive there = absurd (cc (alive))
 
 some_node : (o : Option Node) → is_some o ≡ true → (node : Node) × (o ≡ Some node)
 some_node None is = absurd (cc (is))
@@ -133,8 +125,15 @@ module _ (m : Setting) (f : World) (setting : IsSettingOf m f) (facts : WorldFac
   holder_there silo grain x lives there =
       let known : not (is_known_dead (status_at f.views f.views.version silo)) ≡ true =
       sym (ap (λ version. m.alive version silo) carried.shown.now ∙ setting.alive f.views.version silo (omega arith)) ∙ lives in
-      let row : status_at f.views f.views.version silo ≢ None = λ none. let first = ap (λ s. s.held grain) (carried.shown.absent silo none) in absurd (cc (first, there)) in
-      some_node (node_of f silo) (facts.peopled.live silo ∙ alive_there (status_at f.views f.views.version silo) known row)
+      some_node (node_of f silo) (facts.peopled.live silo ∙ there_live (status_at f.views f.views.version silo) (row (status_at f.views f.views.version silo) refl) (not_not (is_known_dead (status_at f.views f.views.version silo)) known))
+    where
+      not_not : (b : Bool) → not b ≡ true → b ≡ false
+      not_not true is = absurd (cc (is))
+      not_not false is = refl
+
+      row : (status : Option Status) → status_at f.views f.views.version silo ≡ status → IsSome (status_at f.views f.views.version silo)
+      row None none = let first = ap (λ s. s.held grain) (carried.shown.absent silo none) in absurd (cc (first, there))
+      row (Some status) is = subst (λ o. IsSome o) (sym is) refl
 
   -- ---- settled hashes
   module _ (version number : ℕ) (silo : Silo) (node : Node) (at : IsSettledAt f version number silo node) where
@@ -168,12 +167,12 @@ module _ (m : Setting) (f : World) (setting : IsSettingOf m f) (facts : WorldFac
       table_is = (node_shown m f w silo node (here silo node at.live)).holding.table grain at.piece (ap (λ h. piece_with h node.holding.pieces) hashed ∙ at.found) at.settled
 
     abbrev its : Entry → Bool
-    its = of_hash m.hash number
+    its = is_hashed_so m.hash number
 
     entries_are : entries_with number node ≡ filter its (entries_of at.piece.entries)
     entries_are =
         ap (λ hash. filter (λ e. hash e.grain == number) (flat_map (λ p. entries_of p.1.entries) node.holding.pieces)) (sym (hash_is m f w silo node (here silo node at.live)))
-        ∙ entries_of_piece m.hash number node.holding.pieces at.piece (facts.nodes silo node at.live).pieces.each
+        ∙ only_piece m.hash number node.holding.pieces at.piece (facts.nodes silo node at.live).pieces.each
         (held_once node.ring.points node.host.silo node.holding.pieces (facts.nodes silo node at.live).once pieces_ranged number) at.found
 
     is_complete : AreComplete f number (filter its (entries_of at.piece.entries))
@@ -187,19 +186,16 @@ module _ (m : Setting) (f : World) (setting : IsSettingOf m f) (facts : WorldFac
         by so (Some e) found is =
             let some : Some e.activation ≡ Some (activation_on t held.count) = sym (ap activation_in found) ∙ is in
             let one : e.activation ≡ activation_on t held.count = cc (some) in
-            let own : e.grain ≡ grain = found_own at.piece.entries grain e piece_is.table found in
+            let own : e.grain ≡ grain = found_own grain at.piece.entries e piece_is.table.own found in
             let passes : its e ≡ true = eq-eqb (m.hash e.grain) number (ap m.hash own ∙ so) in
             subst (Contains (filter its (entries_of at.piece.entries))) (same_entry e (entry_on t grain held) own one)
-            (All-contains (λ x. its x ≡ true → Contains (filter its (entries_of at.piece.entries)) x) (entries_of at.piece.entries) e (contains_passing its (entries_of at.piece.entries))
-            (found_among at.piece.entries grain e found) passes)
+            (picked_found its grain at.piece.entries e found passes)
 
     -- what is so of each entry that is found in the piece, under the hash
     each_entry : (P : Entry → Type 0) → ((e : Entry) → m.hash e.grain ≡ number → w.table silo e.grain ≡ Some e.activation → P e) → All P (filter its (entries_of at.piece.entries))
     each_entry P so =
-        all_passing its P (entries_of at.piece.entries)
-        (All-weaker (λ e. entry_at e.grain at.piece.entries ≡ Some e) (λ e. its e ≡ true → P e)
+        picked_all its P at.piece.entries piece_is.table
         (λ e found passes. let hashed = eqb-true (m.hash e.grain) number passes in so e hashed (table_is e.grain hashed ∙ ap activation_in found))
-        (entries_of at.piece.entries) (each_found at.piece.entries piece_is.table))
 
     pub right_on_live : IsRightOnLive f number (entries_with number node)
     right_on_live = subst (IsRightOnLive f number) (sym entries_are) (record {
@@ -207,7 +203,7 @@ module _ (m : Setting) (f : World) (setting : IsSettingOf m f) (facts : WorldFac
       held = each_entry (λ e. (other : Node) → HasNode f e.activation.silo other → IsHeld f e.grain e.activation) (λ e hashed there other has.
           let holds = (right e.grain hashed).held e.activation there (alive m f w e.activation.silo other (here e.activation.silo other has)) in
           node_holds e.grain e.activation other has holds.0 holds.1 holds.2);
-      one_a_grain = AllPairs-filter (λ e later. e.grain ≢ later.grain) its (entries_of at.piece.entries) (one_a_grain at.piece.entries piece_is.table);
+      one_a_grain = picked_once its at.piece.entries piece_is.table;
     })
 
     pub right_now : version ≡ f.views.version → IsRightTable f number (entries_with number node)
@@ -218,7 +214,7 @@ module _ (m : Setting) (f : World) (setting : IsSettingOf m f) (facts : WorldFac
           let holds = (right e.grain hashed).held e.activation there lives in
           let one = holder_there e.activation.silo e.grain holds.0 lives holds.1 in
           node_holds e.grain e.activation one.0 one.1 holds.0 holds.1 holds.2);
-      one_a_grain = AllPairs-filter (λ e later. e.grain ≢ later.grain) its (entries_of at.piece.entries) (one_a_grain at.piece.entries piece_is.table);
+      one_a_grain = picked_once its at.piece.entries piece_is.table;
     })
 
   one_silo_has_it : OneSettles f

@@ -1,12 +1,12 @@
 -- The last report completes a recovery: the piece is settled with what all members told.
-use Rattle.std.proofs.Common.{arith, ◌≡◌, ◌≢◌, ℕ, ◌⊎◌, List, [], ◌∷◌, inl, inr, refl, sym, ap, subst, ◌∙◌}
-use Rattle.std.specs.Prelude.{◌&&◌, nat_lt, Bool, true, false, Option, Some, None}
+use Rattle.std.proofs.Common.{◌≡◌, List, [], inl, inr, refl, sym, ap, subst, ◌∙◌}
+use Rattle.std.specs.Prelude.{nat_lt, Bool, true, false, Option, Some, None}
 use Rattle.texts.proofs.Decided.{both}
 use Rattle.silo_address.specs.Silo.{Silo}
 use Rattle.silo_address.specs.Grain.{Grain}
 use Rattle.silo_address.specs.declared.ActivationId.{ActivationId}
 use Rattle.silo_address.specs.declared.Entry.{Entry}
-use Rattle.ring_range.specs.Range.{circle, Range, holds}
+use Rattle.ring_range.specs.Range.{circle, holds}
 use Rattle.directory_protocol.specs.Setting.{Setting}
 use Rattle.directory_protocol.specs.Letters as letters
 use Rattle.directory_protocol.specs.World as protocol
@@ -23,8 +23,8 @@ use Rattle.directory_rules.specs.Transfer.{with_settled}
 use Rattle.directory_rules.specs.World.{World}
 use Rattle.directory_facts.proofs.Ways.{IsReportTaken}
 use Rattle.directory_headline.specs.Shown.{IsShownLetter, IsShownRecovery, HasReported, activation_in}
-use Rattle.directory_headline.proofs.SettledPiece.{part_of_range, settling, settled_world, may_settle, node_settled}
-use Rattle.directory_headline.proofs.Collecting.{IsTaken, TakenSo, taken_so, more_shown, report_shown}
+use Rattle.directory_headline.proofs.SettledPiece.{settling, settled_world, may_settle, node_settled}
+use Rattle.directory_headline.proofs.Collecting.{TakenSo, taken_so, more_shown, report_shown}
 use Rattle.directory_headline.proofs.Frame.{Here, Comes, Moves, acts, seen_is, no_letters}
 
 some_entry : (o : Option Entry) (a : ActivationId) → activation_in o ≡ Some a → (e : Entry) × (o ≡ Some e) × (e.activation ≡ a)
@@ -89,8 +89,8 @@ module _ (m : Setting) (f : World) (w : protocol.World) (silo : Silo) (node : No
         complete = λ grain r count part is firm.
             let lies = (both (holds range (m.hash grain)) (nat_lt (m.hash grain) circle) part).0 in
             let there : (e : Entry) × (entry_at grain all.gathered ≡ Some e) =
-                told_is m w.reports all shown so.1 _ (λ t. t.firm grain ≡ Some count → (e : Entry) × (entry_at grain all.gathered ≡ Some e)) r (member r is)
-                (λ had its. had.complete grain count (ap (λ s. holds s (m.hash grain)) (sym same_range) ∙ lies) its) firm in
+            told_is m w.reports all shown so.1 _ (λ t. t.firm grain ≡ Some count → (e : Entry) × (entry_at grain all.gathered ≡ Some e)) r (member r is)
+            (λ had its. had.complete grain count (ap (λ s. holds s (m.hash grain)) (sym same_range) ∙ lies) its) firm in
             (there.0.activation, ap activation_in (ap (entry_at grain) union ∙ there.1));
       } in
       let later = settled_world m f w silo node here letter.version range taken.piece taken.has waits entries table says in

@@ -1,37 +1,31 @@
 -- Replies that count: an asking activation becomes firm, or goes; a closing one goes.
-use Rattle.std.proofs.Common.{arith, ◌≡◌, ◌≢◌, ℕ, suc, ◌+◌, List, inl, refl, sym, ap, subst, ◌∙◌}
-use Rattle.std.specs.Prelude.{Bool, true, false, ◌==◌, is_some, Option, Some, None}
+use Rattle.std.proofs.Common.{◌≡◌, ◌≢◌, ℕ, refl, sym, ap, subst, ◌∙◌}
+use Rattle.std.specs.Prelude.{true, is_some, Some, None}
 use Rattle.std.specs.Option.{option_map}
-use Rattle.std.specs.Map.{lookup}
-use Rattle.std.specs.BTreeMap.{is_at}
 use Rattle.std.proofs.lemmas.Bool.{eqb-true}
 use Rattle.silo_address.specs.Silo.{Silo}
 use Rattle.silo_address.specs.Grain.{Grain, grain_cmp}
-use Rattle.silo_address.specs.declared.ActivationId.{ActivationId}
 use Rattle.silo_address.specs.declared.Entry.{Entry}
 use Rattle.silo_address.proofs.Order.{grain_cmp_total, grain_cmp_exact}
 use Rattle.directory_protocol.specs.Setting.{Setting}
 use Rattle.directory_protocol.specs.Letters as letters
 use Rattle.directory_protocol.specs.World as protocol
-use Rattle.directory_protocol.specs.Actions.{Confirm, Leave, MayAccept, Counts}
+use Rattle.directory_protocol.specs.Actions.{Confirm, Leave, MayAccept}
 use Rattle.directory_protocol.specs.Effects.{after}
 use Rattle.directory_rules.specs.declared.held.Held.{Held}
 use Rattle.directory_rules.specs.declared.held.Phase.{Phase}
 use Rattle.directory_rules.specs.declared.held.Phase.TheVariants as phase
-use Rattle.directory_rules.specs.declared.reply.Reply.{Reply}
 use Rattle.directory_rules.specs.declared.reply.Reply.TheVariants as reply
 use Rattle.directory_rules.specs.declared.effect.Effect.{Effect}
 use Rattle.directory_rules.specs.declared.effect.Effect.TheVariants as effect
 use Rattle.directory_rules.specs.Host.{Host, held_of, is_asking_under, is_closing_under, asking_under, closing_under, confirmed, without_held}
 use Rattle.directory_rules.specs.Cache.{Cache, learnt}
-use Rattle.directory_rules.specs.Letter.{Letter, Reply_letter}
+use Rattle.directory_rules.specs.Letter.{Letter}
 use Rattle.directory_rules.specs.Node.{Node}
 use Rattle.directory_rules.specs.Step.{silently}
 use Rattle.directory_rules.specs.World.{World}
-use Rattle.directory_rules.proofs.Removed.{lookup_removed}
 use Rattle.directory_facts.proofs.Ways.{IsReply}
-use Rattle.directory_headline.specs.Silo_state.{state_of}
-use Rattle.directory_headline.specs.Shown.{held_in, held_as, IsShownHost, IsShownLetter, IsShownBody, reply_as}
+use Rattle.directory_headline.specs.Shown.{held_in, held_as, IsShownLetter, IsShownBody, reply_as}
 use Rattle.directory_headline.proofs.Actors.{leaves_after}
 use Rattle.directory_headline.proofs.Lookups.{find_looked, found_set, found_beside_set, found_beside_removed, once_removed}
 use Rattle.directory_headline.proofs.Frame.{Here, Comes, Moves, acts, alive, node_shown, node_facts, seen_is, no_letters}

@@ -1,6 +1,6 @@
 -- A run of events carries `Shown` from the first world to the last, if every step moves as it should.
 use Rattle.std.proofs.Common.{◌≡◌, ℕ, List, [], ◌∷◌, ◌++◌, refl, sym, ap, subst, ◌∙◌}
-use Rattle.std.specs.Prelude.{⊤, All, Some, Result, Ok, Err, IfOk}
+use Rattle.std.specs.Prelude.{All, Some, Result, Ok, Err, IfOk}
 use Rattle.std.proofs.lemmas.List.Elements.{All-nil, All-cons, All-head, All-tail, All-append}
 use Rattle.silo_address.specs.Silo.{Silo}
 use Rattle.hash_ring.specs.Hash.{hash_grain}
@@ -21,8 +21,7 @@ use Rattle.directory_rules.specs.Run as running
 use Rattle.directory_rules.specs.Run.{run_from_start, world_after}
 use Rattle.directory_facts.proofs.Lawful.{settings_stay}
 use Rattle.directory_headline.specs.Setting.{IsSettingOf}
-use Rattle.directory_headline.specs.Shown.{Shown}
-use Rattle.directory_headline.proofs.Events.{EventWays, IsOwnInput, with_step, by_event}
+use Rattle.directory_headline.proofs.Events.{IsOwnInput, with_step, by_event}
 use Rattle.directory_headline.proofs.Facts.{WorldFacts}
 use Rattle.directory_headline.proofs.Frame.{Here, Comes, Brings, Moves}
 use Rattle.directory_headline.proofs.Carrying.{shown_step, letter_shown, mail_delivered, shown_lost}

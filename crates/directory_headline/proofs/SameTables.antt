@@ -1,11 +1,9 @@
 -- Tables whose grains rise are one where they have the same entries; so all that is said of a range has one list.
-use Rattle.std.proofs.Common.{arith, ◌≡◌, ◌≢◌, ℕ, List, [], ◌∷◌, inl, inr, refl, sym, ap, subst, ◌∙◌}
-use Rattle.std.specs.Prelude.{Bool, true, false, cond, All, Option, Some, None, map}
-use Rattle.std.specs.Option.{option_map}
+use Rattle.std.proofs.Common.{◌≡◌, ℕ, List, [], ◌∷◌, inl, inr, refl, sym, ap, ◌∙◌}
+use Rattle.std.specs.Prelude.{true, false, cond, Option, Some, None}
 use Rattle.std.specs.List.{AllByRecursion}
 use Rattle.std.specs.List.Sorted.{IsStrictlySortedBy}
-use Rattle.std.specs.Map.{lookup, keys_of}
-use Rattle.std.specs.BTreeMap.{is_at}
+use Rattle.std.specs.Map.{keys_of}
 use Rattle.std.specs.Ordering.{is_eq, ordering_reverse}
 use Rattle.std.specs.declared.cmp.Ordering.{Ordering}
 use Rattle.std.specs.declared.cmp.Ordering.TheVariants.{Less, Equal, Greater}
@@ -22,7 +20,6 @@ use Rattle.directory_headline.specs.Shown.{IsListOf, activation_in}
 use Rattle.directory_headline.proofs.Facts.{IsTable}
 use Rattle.directory_headline.proofs.Lookups.{absent_found, lookup_first, lookup_later}
 use Rattle.directory_headline.proofs.TableEntries.{table_tail, head_apart, found_own, found_holds}
-use Rattle.directory_headline.proofs.FirmEntries.{table_again}
 use Rattle.directory_protocol.proofs.Changes.{grain_cases}
 
 none_above : (grain : Grain) (es : Table) → AllByRecursion (λ other. grain_cmp grain other ≡ Less) (keys_of es) → entry_at grain es ≡ None
@@ -56,11 +53,11 @@ same_tables (x ∷ xs) (y ∷ ys) is its same =
     tails keys grain =
         elim (grain_cases grain x.0) [
           | inl at ↦
-            ap (λ g. entry_at g xs) at ∙ absent_found grain_cmp grain_cmp_exact x.0 xs (head_apart x xs is)
-            ∙ sym (ap (λ g. entry_at g ys) (at ∙ keys) ∙ absent_found grain_cmp grain_cmp_exact y.0 ys (head_apart y ys its))
+              ap (λ g. entry_at g xs) at ∙ absent_found grain_cmp grain_cmp_exact x.0 xs (head_apart x xs is)
+              ∙ sym (ap (λ g. entry_at g ys) (at ∙ keys) ∙ absent_found grain_cmp grain_cmp_exact y.0 ys (head_apart y ys its))
           | inr apart ↦
-            sym (lookup_later grain_cmp grain_cmp_exact grain x.0 x.1 xs apart) ∙ same grain
-            ∙ lookup_later grain_cmp grain_cmp_exact grain y.0 y.1 ys (λ at. apart (at ∙ sym keys))
+              sym (lookup_later grain_cmp grain_cmp_exact grain x.0 x.1 xs apart) ∙ same grain
+              ∙ lookup_later grain_cmp grain_cmp_exact grain y.0 y.1 ys (λ at. apart (at ∙ sym keys))
         ]
 
     by : (r : Ordering) → grain_cmp x.0 y.0 ≡ r → (((grain : Grain) → entry_at grain xs ≡ entry_at grain ys) → xs ≡ ys) → x ∷ xs ≡ y ∷ ys

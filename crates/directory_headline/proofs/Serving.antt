@@ -3,13 +3,14 @@ use Rattle.std.proofs.Common.{◌≡◌, ◌≢◌, ℕ, ◌<◌, ◌&&◌, inl,
 use Rattle.std.specs.Prelude.{Bool, true, false, not, nat_lt, Option, Some, None, option_and_then, Result, Ok, Err}
 use Rattle.std.specs.Option.{option_map, unwrap_or}
 use Rattle.std.proofs.lemmas.Bool.{lt-ltb, ltb-true}
+use Rattle.std.proofs.lemmas.List.Elements.{All-weaker}
 use Rattle.silo_address.specs.Silo.{Silo, silo_cmp}
 use Rattle.silo_address.specs.Grain.{Grain}
 use Rattle.silo_address.specs.declared.ActivationId.{ActivationId}
 use Rattle.silo_address.specs.declared.Entry.{Entry}
 use Rattle.silo_address.proofs.Order.{silo_cmp_total, silo_cmp_exact}
 use Rattle.silo_address.proofs.Same.{same_activation}
-use Rattle.ring_range.specs.Range.{circle}
+use Rattle.ring_range.specs.Range.{circle, IsRange}
 use Rattle.directory_protocol.specs.Setting.{Setting}
 use Rattle.directory_protocol.specs.Letters as letters
 use Rattle.directory_protocol.specs.Letters.{Sent}
@@ -34,11 +35,12 @@ use Rattle.directory_rules.specs.Node.{Node}
 use Rattle.directory_rules.specs.Receive.{replying}
 use Rattle.directory_rules.specs.Sight.{is_settled}
 use Rattle.directory_rules.specs.World.{World}
+use Rattle.directory_rules.proofs.Ranges.{stands_at}
 use Rattle.directory_facts.specs.Own.{SaysOwn, NamesOwn, IsOwnRequest}
 use Rattle.directory_facts.specs.Whole.{LeavesOthers}
 use Rattle.directory_facts.proofs.Hashes.{grains_have_hashes}
 use Rattle.directory_facts.proofs.Leaving.{answers_leave_others}
-use Rattle.directory_facts.proofs.Serving.{Serves, serves}
+use Rattle.directory_facts.proofs.Serving.{Serves, serves, found_holds}
 use Rattle.directory_headline.specs.Silo_state.{state_of}
 use Rattle.directory_headline.specs.Shown.{activation_in, is_settled_piece, request_as, IsShownBody, IsShownHolding, IsShownReply, IsShownRequest, IsShownLetter}
 use Rattle.directory_headline.proofs.Facts.{ArePieces, IsPiece, IsTable}
@@ -46,7 +48,9 @@ use Rattle.directory_headline.proofs.Actors.{leaves_after}
 use Rattle.directory_headline.proofs.Growing.{shelf_still, gatherings_still, recoveries_still}
 use Rattle.directory_headline.proofs.Lookups.{found_put, found_beside_put}
 use Rattle.directory_headline.proofs.Frame.{Here, Comes, Moves, stays, acts, alive, node_facts, node_shown, seen_is, hash_is, one_letter}
-use Rattle.directory_headline.proofs.PieceAt.{rising_ranges, keys_rise, of_found, changed_found, states_same}
+use Rattle.directory_headline.proofs.PieceAt.{rising_ranges, keys_rise, of_found, states_same}
+use Rattle.directory_headline.proofs.PieceSet.{set_found}
+use Rattle.directory_headline.proofs.HighHashes.{held_once}
 use Rattle.directory_headline.proofs.Answering.{IsTurn, registers, deregisters}
 
 settled_by : (one other : Option Piece) → option_map (λ (p : Piece). p.state) one ≡ option_map (λ (p : Piece). p.state) other → is_settled_piece one ≡ is_settled_piece other
@@ -121,7 +125,12 @@ module _ (m : Setting) (f : World) (w : protocol.World) (silo : Silo) (node : No
 
     changed_there : piece_with (m.hash entry.grain) made.holding.pieces ≡ Some (record piece { entries = turn.table })
     changed_there =
-        changed_found (m.hash entry.grain) node.holding.pieces piece (record piece { entries = turn.table }) (rising_ranges node.holding.pieces pieces_are.rising pieces_are.under_start) found refl
+        let own = node_facts m f w silo node here in
+        let h = m.hash entry.grain in
+        let ranged = All-weaker (λ e. IsPiece m.hash e.1) (λ (e : ℕ × Piece). IsRange e.1.range) (λ e its. its.range) node.holding.pieces pieces_are.each in
+        set_found piece.range.start h node.holding.pieces piece (record piece { entries = turn.table })
+        (stands_at h node.holding.pieces piece (rising_ranges node.holding.pieces pieces_are.rising pieces_are.under_start) found) refl (found_holds h node.holding.pieces piece found)
+        (held_once node.ring.points node.host.silo node.holding.pieces own.once ranged h)
 
     -- another grain has its entry still
     other_entry : (grain : Grain) (next : Piece) → grain ≢ entry.grain → piece_with (m.hash grain) made.holding.pieces ≡ Some next → next.state ≡ Settled → (before : Option Piece)

@@ -1,14 +1,12 @@
 -- Steps that are no action: nothing changes that is shown.
-use Rattle.std.proofs.Common.{◌≡◌, ℕ, List, [], refl, sym, ap, subst, ◌∙◌}
-use Rattle.std.specs.Prelude.{All, not, Bool, true, filter}
+use Rattle.std.proofs.Common.{◌≡◌, ℕ, refl, sym, ap, ◌∙◌}
+use Rattle.std.specs.Prelude.{not}
 use Rattle.std.specs.Option.{option_map}
 use Rattle.std.specs.Map.{lookup}
 use Rattle.std.specs.BTreeMap.{is_at}
 use Rattle.std.proofs.lemmas.List.Elements.{All-filter}
 use Rattle.silo_address.specs.Silo.{Silo}
-use Rattle.silo_address.specs.Grain.{Grain, grain_cmp}
-use Rattle.silo_address.specs.declared.ActivationId.{ActivationId}
-use Rattle.silo_address.specs.declared.Entry.{Entry}
+use Rattle.silo_address.specs.Grain.{grain_cmp}
 use Rattle.ring_range.specs.Range.{Range}
 use Rattle.directory_protocol.specs.Setting.{Setting}
 use Rattle.directory_protocol.specs.World as protocol
@@ -17,13 +15,12 @@ use Rattle.directory_rules.specs.declared.effect.Effect.TheVariants as effect
 use Rattle.directory_rules.specs.Snapshot.{is_snapshot, shelf_without}
 use Rattle.directory_rules.specs.Host.{Host, without_find}
 use Rattle.directory_rules.specs.Cache.{Cache}
-use Rattle.directory_rules.specs.Letter.{Letter, Body, Missing_letter, Behind_letter, Ahead_letter}
+use Rattle.directory_rules.specs.Letter.{Letter, Body}
 use Rattle.directory_rules.specs.Node.{Node}
-use Rattle.directory_rules.specs.Step.{Stepped, silently}
+use Rattle.directory_rules.specs.Step.{silently}
 use Rattle.directory_rules.specs.Transfer.{answering, answer_to}
 use Rattle.directory_rules.specs.World.{World}
-use Rattle.directory_headline.specs.Silo_state.{state_of}
-use Rattle.directory_headline.specs.Shown.{held_as, IsShownNode, IsShownHost, IsShownLetter, IsShownSnapshot, IsShownBody}
+use Rattle.directory_headline.specs.Shown.{held_as, IsShownLetter, IsShownSnapshot, IsShownBody}
 use Rattle.directory_headline.proofs.Frame.{Here, Moves, stays, node_shown, no_letters, one_letter}
 
 module _ (m : Setting) (f : World) (w : protocol.World) (silo : Silo) (node : Node) (here : Here m f w silo node) where

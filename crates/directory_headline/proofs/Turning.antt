@@ -1,6 +1,6 @@
 -- A piece whose snapshot is missing recovers from now on.
-use Rattle.std.proofs.Common.{◌≡◌, ℕ, List, [], refl, sym, ap, subst, ◌∙◌}
-use Rattle.std.specs.Prelude.{Bool, true, false, All, Option, Some, None, map}
+use Rattle.std.proofs.Common.{◌≡◌, ℕ, [], refl, sym, ap, ◌∙◌}
+use Rattle.std.specs.Prelude.{false, Option, Some, None}
 use Rattle.std.specs.Ordering.{nat_cmp}
 use Rattle.std.specs.BTreeMap.{is_at}
 use Rattle.std.proofs.lemmas.Map.Lookups.{exact_unsigned}
@@ -25,7 +25,7 @@ use Rattle.directory_rules.proofs.Cases.{on_bool}
 use Rattle.directory_facts.proofs.Entries.{all_put, all_removed}
 use Rattle.directory_facts.proofs.Ways.{HasPiece}
 use Rattle.directory_headline.specs.Silo_state.{state_of}
-use Rattle.directory_headline.specs.Shown.{activation_in, IsShownNode, IsShownHolding, IsShownLetter, IsShownGathering, IsShownRecovery}
+use Rattle.directory_headline.specs.Shown.{activation_in, IsShownHolding, IsShownLetter, IsShownGathering, IsShownRecovery}
 use Rattle.directory_headline.proofs.Frame.{Here, Moves, stays, node_shown}
 use Rattle.directory_headline.proofs.SettledPiece.{grain_below, changed_has, others_have, settled_changed}
 use Rattle.directory_headline.proofs.NewRecoveries.{recovery_begins}

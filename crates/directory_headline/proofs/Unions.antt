@@ -1,8 +1,6 @@
 -- What is found in a table after the entries of a report were taken into it: the ones that were there, or else the report's.
-use Rattle.std.proofs.Common.{◌≡◌, ◌≢◌, ℕ, ◌⊎◌, List, [], ◌∷◌, inl, inr, refl, sym, ap, subst, ◌∙◌}
-use Rattle.std.specs.Prelude.{Bool, true, false, cond, is_some, Option, Some, None, fold}
-use Rattle.std.specs.Map.{lookup}
-use Rattle.std.specs.BTreeMap.{is_at}
+use Rattle.std.proofs.Common.{◌≡◌, ◌⊎◌, List, [], ◌∷◌, inl, inr, refl, sym, ap, ◌∙◌}
+use Rattle.std.specs.Prelude.{true, cond, is_some, Option, Some, None, fold}
 use Rattle.silo_address.specs.Grain.{Grain, grain_cmp}
 use Rattle.silo_address.specs.declared.Entry.{Entry}
 use Rattle.silo_address.proofs.Order.{grain_cmp_total, grain_cmp_exact}
@@ -30,8 +28,8 @@ came_one grain table x e =
     (λ t found. inl found)
     (λ f found. elim (grain_cases grain x.grain) [
       | inl same ↦
-        let put : Some x ≡ Some e = sym (found_put grain_cmp grain_cmp_total grain_cmp_exact x.grain x table) ∙ ap (λ g. entry_at g (with_entry table x)) (sym same) ∙ found in
-        let one : x ≡ e = cc (put) in inr (same, one)
+          let put : Some x ≡ Some e = sym (found_put grain_cmp grain_cmp_total grain_cmp_exact x.grain x table) ∙ ap (λ g. entry_at g (with_entry table x)) (sym same) ∙ found in
+          let one : x ≡ e = cc (put) in inr (same, one)
       | inr apart ↦ inl (sym (found_beside_put grain_cmp grain_cmp_total grain_cmp_exact x.grain x table grain apart) ∙ found)
     ])
 
@@ -61,9 +59,9 @@ union_came grain (x ∷ xs) table e is found =
         | inr new ↦ inr (ap (λ g. entry_at g (table_of (x ∷ xs))) new.0 ∙ lookup_first grain_cmp grain_cmp_total x.grain x (table_of xs) ∙ ap Some new.1)
       ]
       | inr later ↦ inr (lookup_later grain_cmp grain_cmp_exact grain x.grain x (table_of xs) (λ same.
-        let none = absent_found grain_cmp grain_cmp_exact x.grain (table_of xs) (head_apart (x.grain, x) (table_of xs) is) in
-        let there = ap (λ g. entry_at g (table_of xs)) (sym same) ∙ later in
-        absurd (cc (sym none ∙ there))) ∙ later)
+          let none = absent_found grain_cmp grain_cmp_exact x.grain (table_of xs) (head_apart (x.grain, x) (table_of xs) is) in
+          let there = ap (λ g. entry_at g (table_of xs)) (sym same) ∙ later in
+          absurd (cc (sym none ∙ there))) ∙ later)
     ]
 
 -- each grain of the report has some entry
@@ -72,7 +70,7 @@ union_has grain [] table e found = absurd (cc (found))
 union_has grain (x ∷ xs) table e found =
     elim (grain_cases grain x.grain) [
       | inl same ↦
-        let there = there_one table x in
-        (there.0, union_stays grain xs (with_reported table x) there.0 (ap (λ g. entry_at g (with_reported table x)) same ∙ there.1))
+          let there = there_one table x in
+          (there.0, union_stays grain xs (with_reported table x) there.0 (ap (λ g. entry_at g (with_reported table x)) same ∙ there.1))
       | inr apart ↦ union_has grain xs (with_reported table x) e (sym (lookup_later grain_cmp grain_cmp_exact grain x.grain x (table_of xs) apart) ∙ found)
     ]

@@ -1,3 +1,4 @@
 pub mod Setting
 pub mod Silo_state
 pub mod Shown
+pub mod Refined

@@ -22,7 +22,7 @@ use Rattle.directory_rules.specs.declared.reply.Reply.{Reply}
 use Rattle.directory_rules.specs.declared.reply.Reply.TheVariants as reply
 use Rattle.directory_rules.specs.declared.piece_state.PieceState.TheVariants.{Settled}
 use Rattle.directory_rules.specs.Settings.{page_size}
-use Rattle.directory_rules.specs.Table.{Table, entry_at, table_of, rise_by_grain}
+use Rattle.directory_rules.specs.Table.{entry_at, table_of, rise_by_grain}
 use Rattle.directory_rules.specs.Piece.{Piece, Holding}
 use Rattle.directory_rules.specs.Snapshot.{Snapshot, Page, page_count, page_entries}
 use Rattle.directory_rules.specs.Gathering.{Gathering, Whole}

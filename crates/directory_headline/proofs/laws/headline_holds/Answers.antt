@@ -1,0 +1,5 @@
+use Rattle.directory_headline.proofs.Ending.{headline_after}
+use Rattle.directory_headline.proofs.laws.headline_holds.Goals as goal
+
+pub returns : goal.returns
+returns c = headline_after
