@@ -35,11 +35,11 @@ use Rattle.directory_rules.specs.Table.{entry_at, entries_of}
 use Rattle.directory_rules.specs.Piece.{Piece}
 use Rattle.directory_rules.specs.Sight.{is_settled}
 use Rattle.directory_rules.specs.Answer.{piece_with, serving_piece, answered_from}
-use Rattle.directory_rules.specs.Host.{held_of}
+use Rattle.directory_rules.specs.Host.{entry_on, held_of}
 use Rattle.directory_rules.specs.Node.{Node}
 use Rattle.directory_rules.specs.World.{World}
 use Rattle.directory_rules.specs.Happens.{node_of}
-use Rattle.directory_rules.specs.Settled.{HasNode, OwnsIn, IsSettledAt, entries_with, IsHeld, IsFirmOn, entry_on, AreComplete, IsRightTable, IsRightOnLive}
+use Rattle.directory_rules.specs.Settled.{HasNode, OwnsIn, IsSettledAt, entries_with, IsHeld, IsFirmOn, AreComplete, IsRightTable, IsRightOnLive}
 use Rattle.directory_rules.specs.Headline.{RingsAreSortedAnew, IsRetry, UnsettledRangesRetry, NoTwoFirm, OneSettles, Headline}
 use Rattle.directory_rules.proofs.Retried.{unsettled_retries}
 use Rattle.directory_facts.proofs.Hashes.{grains_have_hashes}
