@@ -12,7 +12,7 @@ use Rattle.directory_protocol.specs.World.{World, Held}
 use Rattle.directory_protocol.specs.Actions.{Action, New_view, See, Start, Close, Offer_away, Renew, Find, Serve, Confirm, Leave, Tell, Install, Recover}
 use Rattle.directory_protocol.specs.Effects.{after, run}
 use Rattle.directory_protocol.proofs.Changes.{bool_cases, put_other}
-use Rattle.directory_headline.specs.Silo_state.{SiloState, state_of}
+use Rattle.directory_headline.specs.SiloState.{SiloState, state_of}
 
 -- the action is the silo's
 abbrev pub IsBy : Silo → Action → Type 0

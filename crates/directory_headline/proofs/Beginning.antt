@@ -25,7 +25,7 @@ use Rattle.directory_rules.specs.Step.{started}
 use Rattle.directory_rules.specs.World.{World}
 use Rattle.directory_rules.specs.Laws.{is_live}
 use Rattle.directory_facts.proofs.Ways.{MayBegin}
-use Rattle.directory_headline.specs.Silo_state.{state_of}
+use Rattle.directory_headline.specs.SiloState.{state_of}
 use Rattle.directory_headline.specs.Shown.{held_as, IsShownHost, IsShownBody, offer_as}
 use Rattle.directory_headline.proofs.Actors.{leaves_after}
 use Rattle.directory_headline.proofs.Lookups.{found_at_end, found_beside_end}

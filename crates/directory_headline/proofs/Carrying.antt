@@ -23,7 +23,7 @@ use Rattle.directory_rules.specs.Happens.{node_of, counted}
 use Rattle.directory_rules.specs.Laws.{is_live}
 use Rattle.directory_rules.proofs.Cases.{on_bool}
 use Rattle.directory_facts.proofs.Entries.{all_set, all_removed}
-use Rattle.directory_headline.specs.Silo_state.{state_of}
+use Rattle.directory_headline.specs.SiloState.{state_of}
 use Rattle.directory_headline.specs.Shown.{Shown, IsShownNode, IsShownLetter}
 use Rattle.directory_headline.proofs.Actors.{leaves_run}
 use Rattle.directory_headline.proofs.Growing.{letter_still, node_still}

@@ -21,7 +21,7 @@ use Rattle.directory_rules.specs.Sending.{letter_to}
 use Rattle.directory_rules.specs.Step.{closing, offered}
 use Rattle.directory_rules.specs.World.{World}
 use Rattle.directory_facts.proofs.Ways as way
-use Rattle.directory_headline.specs.Silo_state.{state_of}
+use Rattle.directory_headline.specs.SiloState.{state_of}
 use Rattle.directory_headline.specs.Shown.{held_in, held_as, IsShownHost, IsShownLetter}
 use Rattle.directory_headline.proofs.Actors.{leaves_after}
 use Rattle.directory_headline.proofs.Lookups.{found_set, found_beside_set}

@@ -4,7 +4,7 @@ use Rattle.std.specs.Prelude.{◌&&◌, Bool, true, false, cond, if◌then◌els
 use Rattle.std.specs.Option.{option_map}
 use Rattle.std.specs.Map.{lookup}
 use Rattle.std.specs.BTreeMap.{is_at}
-use Rattle.std.proofs.lemmas.List.Elements.{All-nil, All-head, All-tail}
+use Rattle.std.proofs.lemmas.List.Elements.{All-nil}
 use Rattle.silo_address.specs.Grain.{Grain, grain_cmp}
 use Rattle.silo_address.specs.declared.Entry.{Entry}
 use Rattle.silo_address.proofs.Order.{grain_cmp_total, grain_cmp_exact}
@@ -16,18 +16,12 @@ use Rattle.directory_protocol.proofs.Changes.{grain_cases}
 use Rattle.directory_rules.specs.declared.held.Held.{Held}
 use Rattle.directory_rules.specs.declared.held.Phase.{Phase}
 use Rattle.directory_rules.specs.declared.held.Phase.TheVariants as phase
-use Rattle.directory_rules.specs.Table.{Table, entry_at, with_entry, entries_of, table_of}
+use Rattle.directory_rules.specs.Table.{Table, entry_at, with_entry, table_of}
 use Rattle.directory_rules.specs.Host.{Host, entry_of, held_of, is_firm, firm_entries}
 use Rattle.directory_facts.proofs.Entries.{all_put}
 use Rattle.directory_headline.specs.Shown.{held_in, held_as}
+use Rattle.directory_headline.proofs.TableEntries.{table_again}
 use Rattle.directory_headline.proofs.Lookups.{found_put, found_beside_put, absent_found, lookup_first, lookup_later}
-
--- a table whose entries stand under their own grains is made of them again
-pub table_again : (table : Table) → All (λ e. e.0 ≡ e.1.grain) table → table_of (entries_of table) ≡ table
-table_again [] all = refl
-table_again (e ∷ es) all =
-    ap (λ (g : Grain). (g, e.1) ∷ table_of (entries_of es)) (sym (All-head (λ (x : Grain × Entry). x.0 ≡ x.1.grain) e es all))
-    ∙ ap (λ t. e ∷ t) (table_again es (All-tail (λ (x : Grain × Entry). x.0 ≡ x.1.grain) e es all))
 
 -- entries that are put in stand under their own grains
 pub own_grains : (table : Table) (entries : List Entry) → All (λ e. e.0 ≡ e.1.grain) table → All (λ e. e.0 ≡ e.1.grain) (fold with_entry table entries)

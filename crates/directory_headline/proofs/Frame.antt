@@ -25,7 +25,7 @@ use Rattle.directory_rules.specs.Laws.{is_live}
 use Rattle.directory_facts.specs.Own.{IsOwnLetter}
 use Rattle.directory_facts.proofs.Carried.{IsSight}
 use Rattle.directory_headline.specs.Setting.{IsSettingOf, is_member_in, is_alive_in, owner_in}
-use Rattle.directory_headline.specs.Silo_state.{state_of}
+use Rattle.directory_headline.specs.SiloState.{state_of}
 use Rattle.directory_headline.specs.Shown.{Shown, IsShownNode, IsShownLetter}
 use Rattle.directory_headline.proofs.Actors.{IsBy, AllBy}
 use Rattle.directory_headline.proofs.Facts.{WorldFacts, NodeFacts}

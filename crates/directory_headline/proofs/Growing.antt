@@ -20,7 +20,7 @@ use Rattle.directory_rules.specs.Gathering.{Gathering, Whole}
 use Rattle.directory_rules.specs.Recovery.{Report, Recovery}
 use Rattle.directory_rules.specs.Letter.{Letter, Body, Request_letter, Reply_letter, Ask_letter, Page_letter, Missing_letter, Done_letter, Query_letter, Report_letter, Behind_letter, Ahead_letter, Offer_letter}
 use Rattle.directory_rules.specs.Node.{Node}
-use Rattle.directory_headline.specs.Silo_state.{SiloState}
+use Rattle.directory_headline.specs.SiloState.{SiloState}
 use Rattle.directory_headline.specs.Shown.{HasSealed, IsShownSnapshot, IsShownPage, IsShownWhole, IsShownGathering, IsShownReport, HasReported, IsShownRecovery, IsShownRequest, IsShownReply, IsShownBody, IsShownLetter, IsShownNode}
 use Rattle.directory_headline.proofs.Actors.{Grows}
 

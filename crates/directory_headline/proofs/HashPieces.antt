@@ -1,10 +1,9 @@
 -- The entries of a hash are those of the piece that has it, where each hash is in one piece at most.
-use Rattle.std.proofs.Common.{arith, ◌≡◌, ℕ, ◌+◌, ◌≤◌, List, [], ◌∷◌, ◌++◌, refl, sym, ap, ◌∙◌}
-use Rattle.std.specs.Prelude.{◌==◌, Bool, true, false, cond, All, Some, count_by, find, filter, flat_map}
+use Rattle.std.proofs.Common.{arith, ◌≡◌, ℕ, ◌≤◌, List, [], ◌∷◌, ◌++◌, refl, sym, ap, ◌∙◌}
+use Rattle.std.specs.Prelude.{◌==◌, Bool, true, false, cond, All, Some, find, filter, flat_map}
 use Rattle.std.specs.Option.{option_map}
 use Rattle.std.proofs.lemmas.Bool.{eqb-true}
 use Rattle.std.proofs.lemmas.List.Elements.{All-head, All-tail, filter-append}
-use Rattle.std.proofs.lemmas.List.Sums.{sum_by-cons}
 use Rattle.silo_address.specs.Grain.{Grain}
 use Rattle.silo_address.specs.declared.Entry.{Entry}
 use Rattle.ring_range.specs.Range.{Range, holds}
@@ -13,14 +12,7 @@ use Rattle.directory_rules.specs.Piece.{Piece}
 use Rattle.directory_rules.specs.Answer.{piece_with}
 use Rattle.directory_rules.proofs.Cases.{on_bool}
 use Rattle.directory_headline.proofs.Facts.{IsPiece}
-use Rattle.directory_headline.proofs.PieceAt.{found_counted}
-
--- how many of the pieces hold the hash
-abbrev pub holding : ℕ → List (ℕ × Piece) → ℕ
-holding h pieces = count_by (λ e. holds e.1.range h) pieces
-
-counted : (h : ℕ) (e : ℕ × Piece) (es : List (ℕ × Piece)) (b : Bool) → holds e.1.range h ≡ b → holding h (e ∷ es) ≡ cond {A = ℕ} b 1 0 + holding h es
-counted h e es b is = sum_by-cons (λ (x : ℕ × Piece). cond (holds x.1.range h) 1 0) e es ∙ ap (λ b. cond {A = ℕ} b 1 0 + holding h es) is
+use Rattle.directory_headline.proofs.Counting.{holding, counted, found_counted}
 
 -- a piece that has one hash and holds another has that one too
 pub one_piece : (h k : ℕ) (pieces : List (ℕ × Piece)) (piece : Piece) → holding k pieces ≤ 1 → piece_with h pieces ≡ Some piece → holds piece.range k ≡ true → piece_with k pieces ≡ Some piece

@@ -21,7 +21,8 @@ use Rattle.directory_rules.specs.Answer.{piece_with}
 use Rattle.directory_rules.specs.Sight.{is_owner}
 use Rattle.directory_rules.specs.Laws.{HoldOnce}
 use Rattle.directory_facts.proofs.Serving.{found_holds}
-use Rattle.directory_headline.proofs.PieceAt.{of_found, found_counted, counted_first}
+use Rattle.directory_headline.proofs.PieceAt.{of_found}
+use Rattle.directory_headline.proofs.Counting.{counted_first, found_counted, at_most_one, some_owned}
 use Rattle.directory_headline.proofs.HashPieces.{one_piece}
 
 -- the hash itself; for a number above the circle the highest hash
@@ -99,17 +100,9 @@ fewer_held hash other (e ∷ es) so =
         omega (one, two, fewer, arith)
 
 module _ (points : List Point) (silo : Silo) (pieces : List (ℕ × Piece)) (once : HoldOnce points silo pieces) (ranged : All (λ e. IsRange e.1.range) pieces) where
-  at_most : (b : Bool) (count : ℕ) → count ≡ (if b then 1 else 0) → count ≤ 1
-  at_most true count is = omega arith
-  at_most false count is = omega arith
-
-  some_owned : (b : Bool) (count : ℕ) → count ≡ (if b then 1 else 0) → 1 ≤ count → b ≡ true
-  some_owned true count is some = refl
-  some_owned false count is some = absurd (omega (is, some, arith))
-
   pub found_hash : (number : ℕ) (piece : Piece) → piece_with number pieces ≡ Some piece → piece_with (hash_for number) pieces ≡ Some piece
   found_hash number piece found =
-      one_piece number (hash_for number) pieces piece (at_most (is_owner silo (owner_silo points (hash_for number))) _ (once (hash_for number) (is_hash number))) found
+      one_piece number (hash_for number) pieces piece (at_most_one (is_owner silo (owner_silo points (hash_for number))) _ (once (hash_for number) (is_hash number))) found
       (holds_hash piece.range number (of_found (λ e. IsRange e.1.range) number pieces piece ranged found).1 (found_holds number pieces piece found))
 
   -- the silo owns what lies in its pieces
@@ -121,5 +114,5 @@ module _ (points : List Point) (silo : Silo) (pieces : List (ℕ × Piece)) (onc
   pub held_once : (number : ℕ) → count_by (λ e. holds e.1.range number) pieces ≤ 1
   held_once number =
       let fewer = fewer_held number (hash_for number) pieces (All-weaker (λ (e : ℕ × Piece). IsRange e.1.range) (Goes number (hash_for number)) (λ e is held. holds_hash e.1.range number is held) pieces ranged) in
-      let most = at_most (is_owner silo (owner_silo points (hash_for number))) _ (once (hash_for number) (is_hash number)) in
+      let most = at_most_one (is_owner silo (owner_silo points (hash_for number))) _ (once (hash_for number) (is_hash number)) in
       omega (fewer, most, arith)

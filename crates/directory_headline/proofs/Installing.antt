@@ -1,5 +1,5 @@
 -- The last page completes a snapshot: the piece is settled with its entries.
-use Rattle.std.proofs.Common.{arith, ◌≡◌, ℕ, ◌+◌, ◌*◌, ◌<◌, ◌≤◌, List, ◌++◌, length, take, refl, sym, ap, subst, ◌∙◌}
+use Rattle.std.proofs.Common.{arith, ◌≡◌, ℕ, ◌+◌, ◌*◌, ◌≤◌, List, ◌++◌, length, take, refl, sym, ap, subst, ◌∙◌}
 use Rattle.std.specs.Prelude.{nat_lt, true, false}
 use Rattle.texts.proofs.Decided.{both}
 use Rattle.silo_address.specs.Silo.{Silo}
@@ -22,16 +22,13 @@ use Rattle.directory_rules.specs.Transfer.{answering, answer_to, with_settled}
 use Rattle.directory_rules.specs.World.{World}
 use Rattle.directory_facts.proofs.Ways.{IsPageTaken}
 use Rattle.directory_headline.specs.Shown.{IsShownLetter, activation_in}
-use Rattle.directory_headline.proofs.SettledPiece.{settling, settled_world, may_settle, node_settled}
+use Rattle.directory_headline.proofs.SettledPiece.{lt_true, settling, settled_world, may_settle, node_settled}
 use Rattle.directory_headline.proofs.PagesTaken.{GatheredSo, gathered_so, page_more, all_pages}
 use Rattle.directory_headline.proofs.Paging.{next_page}
 use Rattle.directory_headline.proofs.Frame.{Here, Comes, Moves, acts, seen_is, one_letter}
 
 not_lt : (a b : ℕ) → nat_lt a b ≡ false → b ≤ a
 not_lt a b is = grind arith
-
-lt_true : (a b : ℕ) → nat_lt a b ≡ true → a < b
-lt_true a b less = grind arith
 
 last_page : (next count page pages : ℕ) → pages ≡ count → page ≡ next → nat_lt (page + 1) pages ≡ false → count ≤ next + 1
 last_page next count page pages all its last = let le = not_lt (page + 1) pages last in omega (le, all, its, arith)

@@ -2,7 +2,7 @@
 -- silo which is Dead in the view.
 use Rattle.std.proofs.Common.{◌≡◌, ℕ, ◌≤◌, List, [], ◌∷◌, inl, inr, refl, sym, ap, ◌∙◌}
 use Rattle.std.specs.Prelude.{◌&&◌, Bool, true, false, cond, not, count_by, All, Option, Some, None, filter, fold, flat_map}
-use Rattle.std.specs.Ordering.{is_eq, is_lt}
+use Rattle.std.specs.Ordering.{is_lt}
 use Rattle.std.specs.List.{AllByRecursion}
 use Rattle.std.specs.List.Sorted.{IsStrictlySortedBy}
 use Rattle.std.specs.Map.{keys_of}
@@ -35,18 +35,13 @@ use Rattle.directory_facts.proofs.Tabling.{InOrder, order_nil, order_put, order_
 use Rattle.directory_headline.specs.Setting.{is_alive_in}
 use Rattle.directory_headline.specs.Shown.{activation_in}
 use Rattle.directory_headline.proofs.Facts.{IsTable, IsPiece}
-use Rattle.directory_headline.proofs.TableEntries.{found_own}
+use Rattle.directory_headline.proofs.TableEntries.{found_own, none_above, table_again}
 use Rattle.directory_headline.proofs.HashPieces.{is_hashed_so, only_piece}
 
 -- ---- a table whose grains rise
--- a grain below all of them has no entry
-none_below : (g : Grain) (es : Table) → AllByRecursion (λ k. grain_cmp g k ≡ Less) (keys_of es) → entry_at g es ≡ None
-none_below g [] above = refl
-none_below g (e ∷ es) above = ap (λ r. cond (is_eq r) (Some e.1) (entry_at g es)) above.0 ∙ none_below g es above.1
-
 -- the first grain has no other entry
 first_alone : (g : Grain) (e : Grain × Entry) (es : Table) → is_at (grain_cmp g) e.0 ≡ true → AllByRecursion (λ k. grain_cmp e.0 k ≡ Less) (keys_of es) → entry_at g es ≡ None
-first_alone g e es at above = ap (λ k. entry_at k es) (same_key grain_cmp grain_cmp_exact g e.0 at) ∙ none_below e.0 es above
+first_alone g e es at above = ap (λ k. entry_at k es) (same_key grain_cmp grain_cmp_exact g e.0 at) ∙ none_above e.0 es above
 
 -- the entry, if it passes the test
 abbrev pub if_passes : (Entry → Bool) → Option Entry → Option Entry
@@ -164,13 +159,6 @@ unfolding IsStrictlySortedBy
 rises [] sorted own = refl
 rises (e ∷ es) sorted own =
     ap (λ b. b && rise_by_grain (entries_of es)) (first_lower e es sorted own) ∙ rises es sorted.1 (All-tail (λ (y : Grain × Entry). y.0 ≡ y.1.grain) e es own)
-
--- a table made of its own entries
-table_again : (es : Table) → All (λ x. x.0 ≡ x.1.grain) es → table_of (entries_of es) ≡ es
-table_again [] own = refl
-table_again (e ∷ es) own =
-    ap (λ g. (g, e.1) ∷ table_of (entries_of es)) (sym (All-head (λ (y : Grain × Entry). y.0 ≡ y.1.grain) e es own))
-    ∙ ap (λ t. e ∷ t) (table_again es (All-tail (λ (y : Grain × Entry). y.0 ≡ y.1.grain) e es own))
 
 entries_all : (P : Entry → Type 0) (es : Table) → All (λ e. P e.1) es → All P (entries_of es)
 entries_all P [] all = All-nil P

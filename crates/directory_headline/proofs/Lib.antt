@@ -27,6 +27,7 @@ pub mod Seeing
 pub mod FactsHold
 pub mod FirmEntries
 pub mod Telling
+pub mod Counting
 pub mod PieceAt
 pub mod Answering
 pub mod Serving

@@ -31,7 +31,7 @@ use Rattle.directory_rules.proofs.Cases.{on_bool}
 use Rattle.directory_facts.proofs.Collecting.{found_or}
 use Rattle.directory_facts.proofs.Entries.{all_put, found_so}
 use Rattle.directory_facts.proofs.Ways.{HasPiece, IsPageTaken}
-use Rattle.directory_headline.specs.Silo_state.{state_of}
+use Rattle.directory_headline.specs.SiloState.{state_of}
 use Rattle.directory_headline.specs.Shown.{IsShownNode, IsShownLetter, IsShownBody, IsShownSnapshot, IsShownPage, IsShownWhole, IsShownGathering, HasSealed, HasNoPage, IsListOf}
 use Rattle.directory_headline.proofs.Facts.{IsPiece}
 use Rattle.directory_headline.proofs.SameTables.{one_list}

@@ -1,6 +1,6 @@
 -- The piece that has a hash: what is known of it, and what a changed piece leaves.
-use Rattle.std.proofs.Common.{arith, ◌≡◌, refl, sym, ap, subst, ◌∙◌, ℕ, ◌+◌, ◌<◌, ◌≤◌, List, [], ◌∷◌}
-use Rattle.std.specs.Prelude.{Bool, true, false, cond, find, count_by, All, AllPairs, Option, Some, None}
+use Rattle.std.proofs.Common.{arith, ◌≡◌, refl, sym, ap, subst, ◌∙◌, ℕ, ◌<◌, List, [], ◌∷◌}
+use Rattle.std.specs.Prelude.{Bool, true, false, cond, find, All, AllPairs, Option, Some, None}
 use Rattle.std.specs.Option.{option_map}
 use Rattle.std.specs.List.{AllByRecursion}
 use Rattle.std.specs.List.Sorted.{IsStrictlySortedBy}
@@ -10,7 +10,6 @@ use Rattle.std.specs.Map.{keys_of}
 use Rattle.std.proofs.lemmas.Cmp.{ranked}
 use Rattle.std.proofs.lemmas.List.Elements.{All-nil, All-cons, All-head, All-tail}
 use Rattle.std.proofs.lemmas.List.Kept.{AllPairs-cons}
-use Rattle.std.proofs.lemmas.List.Sums.{sum_by-cons}
 use Rattle.ring_range.specs.Range.{Range, holds}
 use Rattle.directory_rules.specs.declared.piece_state.PieceState.{PieceState}
 use Rattle.directory_rules.specs.Piece.{Piece}
@@ -73,20 +72,3 @@ state_outlined hash (e ∷ es) =
 -- pieces of the same ranges and states
 pub states_same : (hash : ℕ) (before after : List (ℕ × Piece)) → outline_of after ≡ outline_of before → state_with hash after ≡ state_with hash before
 states_same hash before after same = state_outlined hash after ∙ ap (state_in hash) same ∙ sym (state_outlined hash before)
-
--- ---- a hash is held at most once
-abbrev holding : ℕ → List (ℕ × Piece) → ℕ
-holding hash pieces = count_by (λ e. holds e.1.range hash) pieces
-
-pub counted_first : (hash : ℕ) (e : ℕ × Piece) (es : List (ℕ × Piece)) → count_by (λ x. holds x.1.range hash) (e ∷ es) ≡ cond (holds e.1.range hash) 1 0 + count_by (λ x. holds x.1.range hash) es
-counted_first hash e es = sum_by-cons (λ (x : ℕ × Piece). cond (holds x.1.range hash) 1 0) e es
-
--- a piece that is found is counted
-pub found_counted : (hash : ℕ) (pieces : List (ℕ × Piece)) (piece : Piece) → piece_with hash pieces ≡ Some piece → 1 ≤ count_by (λ e. holds e.1.range hash) pieces
-found_counted hash [] piece found = absurd (cc (found))
-found_counted hash (e ∷ es) piece found = at (holds e.1.range hash) refl found (λ later. found_counted hash es piece later)
-  where
-    at : (b : Bool) → holds e.1.range hash ≡ b → option_map (λ x. x.1) (cond b (Some e) (find (λ x. holds x.1.range hash) es)) ≡ Some piece
-        → (piece_with hash es ≡ Some piece → 1 ≤ count_by (λ x. holds x.1.range hash) es) → 1 ≤ count_by (λ x. holds x.1.range hash) (e ∷ es)
-    at true held here rest = let all = counted_first hash e es ∙ ap (λ b. cond {A = ℕ} b 1 0 + holding hash es) held in omega (all, arith)
-    at false held here rest = let all = counted_first hash e es ∙ ap (λ b. cond {A = ℕ} b 1 0 + holding hash es) held in let some = rest here in omega (all, some, arith)

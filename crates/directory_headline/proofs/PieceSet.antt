@@ -1,22 +1,15 @@
 -- Pieces, when the one that stands under a start is changed: which piece has a hash then.
-use Rattle.std.proofs.Common.{arith, ◌≡◌, ℕ, ◌+◌, ◌≤◌, List, [], ◌∷◌, refl, sym, ap, ◌∙◌}
-use Rattle.std.specs.Prelude.{Bool, true, false, cond, Some, count_by, find}
+use Rattle.std.proofs.Common.{arith, ◌≡◌, ℕ, ◌≤◌, List, [], ◌∷◌, refl, sym, ap, ◌∙◌}
+use Rattle.std.specs.Prelude.{true, false, cond, Some, find}
 use Rattle.std.specs.Option.{option_map}
 use Rattle.std.specs.Ordering.{nat_cmp}
 use Rattle.std.specs.Map.{lookup, set_value}
 use Rattle.std.specs.BTreeMap.{is_at}
-use Rattle.std.proofs.lemmas.List.Sums.{sum_by-cons}
 use Rattle.ring_range.specs.Range.{holds}
 use Rattle.directory_rules.specs.Piece.{Piece}
 use Rattle.directory_rules.specs.Answer.{piece_with}
 use Rattle.directory_rules.proofs.Cases.{on_bool}
-
--- how many of the pieces hold the hash
-abbrev holding : ℕ → List (ℕ × Piece) → ℕ
-holding h pieces = count_by (λ e. holds e.1.range h) pieces
-
-counted : (h : ℕ) (e : ℕ × Piece) (es : List (ℕ × Piece)) (b : Bool) → holds e.1.range h ≡ b → holding h (e ∷ es) ≡ cond {A = ℕ} b 1 0 + holding h es
-counted h e es b is = sum_by-cons (λ (x : ℕ × Piece). cond (holds x.1.range h) 1 0) e es ∙ ap (λ b. cond {A = ℕ} b 1 0 + holding h es) is
+use Rattle.directory_headline.proofs.Counting.{holding, counted}
 
 module _ (start h : ℕ) where
   -- a piece that stands under the start and holds the hash is counted

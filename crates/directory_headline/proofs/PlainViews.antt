@@ -2,7 +2,7 @@
 use Rattle.std.proofs.Common.{arith, ◌≡◌, ◌⊎◌, ◌<◌, IsSome, inl, inr, refl, sym, ap, subst, ◌∙◌}
 use Rattle.std.specs.Prelude.{true, false, is_some, Option, Some, None}
 use Rattle.std.specs.Option.{option_map, option_and_then}
-use Rattle.std.specs.Map.{lookup, remove_entry}
+use Rattle.std.specs.Map.{lookup}
 use Rattle.std.specs.BTreeMap.{is_at, insert_entry}
 use Rattle.silo_address.specs.Silo.{Silo, silo_cmp}
 use Rattle.silo_address.specs.Grain.{Grain}
@@ -22,10 +22,10 @@ use Rattle.directory_rules.specs.World.{World}
 use Rattle.directory_rules.specs.Happens.{node_of, after_joining, without_replaced, died}
 use Rattle.directory_rules.specs.Laws.{ArePeopled, is_live}
 use Rattle.directory_rules.specs.PlainMachine.{life_on, plain_of, ViewChanges}
-use Rattle.directory_rules.proofs.Removed.{lookup_removed}
 use Rattle.directory_headline.proofs.Settings.{GoesOnTo}
 use Rattle.directory_headline.proofs.Statuses.{live_there, dead_not_live, there_live}
-use Rattle.directory_headline.proofs.Lookups.{found_put, found_beside_put, found_beside_removed}
+use Rattle.directory_headline.proofs.Lookups.{found_put, found_beside_put}
+use Rattle.directory_headline.proofs.Viewed.{still_there, replaced_there}
 
 nobody : (o : Option Node) → is_some o ≡ false → o ≡ None
 nobody None is = refl
@@ -93,21 +93,6 @@ module _ (f later : World) (before : ArePeopled f.views f.nodes) (after : ArePeo
 
 -- ---- each change
 module _ (f : World) (peopled : ArePeopled f.views f.nodes) where
-  -- a node that is there after another was taken out was there
-  still_there : (taken silo : Silo) (node : Node) → lookup (is_at (silo_cmp silo)) (remove_entry (is_at (silo_cmp taken)) f.nodes) ≡ Some node → node_of f silo ≡ Some node
-  still_there taken silo node there =
-      elim (silo_cases silo taken) [
-        | inl same ↦
-            let gone = lookup_removed silo_cmp silo_cmp_total taken f.nodes peopled.by_address in
-            let found = subst (λ s. lookup (is_at (silo_cmp s)) (remove_entry (is_at (silo_cmp taken)) f.nodes) ≡ Some node) same there in
-            absurd (cc (gone, found))
-        | inr apart ↦ sym (found_beside_removed silo_cmp silo_cmp_total silo_cmp_exact taken f.nodes silo apart) ∙ there
-      ]
-
-  replaced_there : (old : Option Silo) (silo : Silo) (node : Node) → node_of (without_replaced f old) silo ≡ Some node → node_of f silo ≡ Some node
-  replaced_there None silo node there = there
-  replaced_there (Some old) silo node there = still_there old silo node there
-
   -- who joins wasn't there
   newcomer : (silo : Silo) (next : ViewsValue) → Joins silo (view_at f.views f.views.version) (view_at next next.version) → node_of f silo ≡ None
   newcomer silo next step = nobody (node_of f silo) (peopled.live silo ∙ by (status_at f.views f.views.version silo) refl)
@@ -134,9 +119,9 @@ module _ (f : World) (peopled : ArePeopled f.views f.nodes) where
             let its : new_node f.settings silo ≡ node = cc (one) in
             inr (ap (node_of f) same ∙ newcomer silo next step, sym its ∙ ap (new_node f.settings) (sym same))
         | inr apart ↦
-            inl (replaced_there old q node
+            inl (replaced_there f peopled old q node
             (sym (found_beside_put silo_cmp silo_cmp_total silo_cmp_exact silo (new_node f.settings silo) (without_replaced f old).nodes q apart) ∙ made silo next added old q node there))
       ]
 
   pub death_kept : (silo : Silo) (q : Silo) (node : Node) → node_of (died f silo).world q ≡ Some node → WasThere f q node
-  death_kept silo q node there = inl (still_there silo q node there)
+  death_kept silo q node there = inl (still_there f peopled silo q node there)

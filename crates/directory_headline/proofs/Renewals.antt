@@ -28,7 +28,7 @@ use Rattle.directory_rules.specs.Laws.{AreNumbered}
 use Rattle.directory_rules.proofs.Cases.{on_bool}
 use Rattle.directory_facts.specs.Own.{HoldsOnce}
 use Rattle.directory_facts.proofs.Entries.{found_so, same_key}
-use Rattle.directory_headline.specs.Silo_state.{state_of}
+use Rattle.directory_headline.specs.SiloState.{state_of}
 use Rattle.directory_headline.specs.Shown.{held_in, held_as, IsShownHost}
 use Rattle.directory_headline.proofs.Actors.{IsBy, AllBy}
 use Rattle.directory_headline.proofs.Lookups.{find_looked}

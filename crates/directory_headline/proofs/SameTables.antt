@@ -19,12 +19,8 @@ use Rattle.directory_facts.proofs.Tabling.{order_rising}
 use Rattle.directory_headline.specs.Shown.{IsListOf, activation_in}
 use Rattle.directory_headline.proofs.Facts.{IsTable}
 use Rattle.directory_headline.proofs.Lookups.{absent_found, lookup_first, lookup_later}
-use Rattle.directory_headline.proofs.TableEntries.{table_tail, head_apart, found_own, found_holds}
+use Rattle.directory_headline.proofs.TableEntries.{table_tail, head_apart, found_own, found_holds, none_above}
 use Rattle.directory_protocol.proofs.Changes.{grain_cases}
-
-none_above : (grain : Grain) (es : Table) → AllByRecursion (λ other. grain_cmp grain other ≡ Less) (keys_of es) → entry_at grain es ≡ None
-none_above grain [] above = refl
-none_above grain (e ∷ es) above = ap (λ r. cond (is_eq r) (Some e.1) (entry_at grain es)) above.0 ∙ none_above grain es above.1
 
 below_all : (grain first : Grain) (es : Table) → grain_cmp grain first ≡ Less → AllByRecursion (λ other. grain_cmp first other ≡ Less) (keys_of es) → AllByRecursion (λ other. grain_cmp grain other ≡ Less) (keys_of es)
 below_all grain first [] less above = tt

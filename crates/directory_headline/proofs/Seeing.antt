@@ -36,7 +36,7 @@ use Rattle.directory_rules.proofs.Cases.{on_bool}
 use Rattle.directory_facts.proofs.Carried.{IsSight}
 use Rattle.directory_facts.proofs.Serving.{found_holds}
 use Rattle.directory_headline.specs.Setting.{is_member_in}
-use Rattle.directory_headline.specs.Silo_state.{state_of}
+use Rattle.directory_headline.specs.SiloState.{state_of}
 use Rattle.directory_headline.specs.Shown.{activation_in, IsShownHost, IsShownHolding, IsListOf, IsShownSnapshot, IsShownGathering, IsShownRecovery, IsShownLetter}
 use Rattle.directory_headline.proofs.Settings.{view_by_address}
 use Rattle.directory_headline.proofs.Actors.{leaves_after, leaves_run}

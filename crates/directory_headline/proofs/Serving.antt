@@ -41,7 +41,7 @@ use Rattle.directory_facts.specs.Whole.{LeavesOthers}
 use Rattle.directory_facts.proofs.Hashes.{grains_have_hashes}
 use Rattle.directory_facts.proofs.Leaving.{answers_leave_others}
 use Rattle.directory_facts.proofs.Serving.{Serves, serves, found_holds}
-use Rattle.directory_headline.specs.Silo_state.{state_of}
+use Rattle.directory_headline.specs.SiloState.{state_of}
 use Rattle.directory_headline.specs.Shown.{activation_in, is_settled_piece, request_as, IsShownBody, IsShownHolding, IsShownReply, IsShownRequest, IsShownLetter}
 use Rattle.directory_headline.proofs.Facts.{ArePieces, IsPiece, IsTable}
 use Rattle.directory_headline.proofs.Actors.{leaves_after}

@@ -1,6 +1,6 @@
 -- A piece that wasn't settled is settled: what an installation and a recovery have in common.
 use Rattle.std.proofs.Common.{arith, ◌≡◌, ℕ, ◌<◌, ◌≤◌, refl, sym, ap, subst, ◌∙◌}
-use Rattle.std.specs.Prelude.{◌&&◌, nat_lt, Bool, true, false, cond, if◌then◌else◌, Option, Some, None, count_by}
+use Rattle.std.specs.Prelude.{◌&&◌, nat_lt, Bool, true, false, cond, Option, Some, None, count_by}
 use Rattle.std.specs.Ordering.{nat_cmp}
 use Rattle.std.specs.BTreeMap.{is_at}
 use Rattle.silo_address.specs.Silo.{Silo}
@@ -30,24 +30,17 @@ use Rattle.directory_rules.proofs.Cases.{on_bool}
 use Rattle.directory_facts.proofs.Entries.{all_removed}
 use Rattle.directory_facts.proofs.Hashes.{grains_have_hashes}
 use Rattle.directory_facts.proofs.Ways.{HasPiece}
-use Rattle.directory_headline.specs.Silo_state.{state_of}
+use Rattle.directory_headline.specs.SiloState.{state_of}
 use Rattle.directory_headline.specs.Shown.{IsShownNode, IsShownHolding, IsShownGathering, IsShownRecovery, is_settled_piece, has_settled, activation_in}
+use Rattle.directory_headline.proofs.Counting.{at_most_one, some_owned}
 use Rattle.directory_headline.proofs.PieceSet.{looked_counted, looked_found, set_found, set_elsewhere}
 use Rattle.directory_headline.proofs.Frame.{Here, node_shown, node_facts, host_is, hash_is, seen_is, owner_is, alive}
 
-lt_true : (a b : ℕ) → nat_lt a b ≡ true → a < b
+pub lt_true : (a b : ℕ) → nat_lt a b ≡ true → a < b
 lt_true a b is = grind arith
 
 lt_from : (a b : ℕ) → a < b → nat_lt a b ≡ true
 lt_from a b less = grind arith
-
-few : (b : Bool) (n : ℕ) → n ≡ (if b then 1 else 0) → n ≤ 1
-few true n is = omega (is, arith)
-few false n is = omega (is, arith)
-
-some_owner : (b : Bool) (n : ℕ) → n ≡ (if b then 1 else 0) → 1 ≤ n → b ≡ true
-some_owner true n is more = refl
-some_owner false n is more = absurd (omega (is, more, arith))
 
 owner_of_silo : (silo : Silo) (o : Option Silo) → is_owner silo o ≡ true → o ≡ Some silo
 owner_of_silo silo None is = absurd (cc (is))
@@ -60,7 +53,7 @@ part_of_range range h = holds range h && nat_lt h circle
 module _ (m : Setting) (f : World) (w : protocol.World) (silo : Silo) (node : Node) (here : Here m f w silo node) where
   -- each hash of the circle is in one piece at most
   pub held_once : (h : ℕ) → h < circle → count_by (λ e. holds e.1.range h) node.holding.pieces ≤ 1
-  held_once h below = few (is_owner node.host.silo (owner_silo node.ring.points h)) _ ((node_facts m f w silo node here).once h below)
+  held_once h below = at_most_one (is_owner node.host.silo (owner_silo node.ring.points h)) _ ((node_facts m f w silo node here).once h below)
 
   pub grain_below : (grain : Grain) → m.hash grain < circle
   grain_below grain = subst (λ hash. hash grain < circle) (sym (hash_is m f w silo node here)) (grains_have_hashes node.settings.hashing grain)
@@ -77,7 +70,7 @@ module _ (m : Setting) (f : World) (w : protocol.World) (silo : Silo) (node : No
     owns_piece : (h : ℕ) → h < circle → holds range h ≡ true → m.owner (w.seen silo) h ≡ Some silo
     owns_piece h below held =
         let counted = looked_counted range.start h node.holding.pieces piece has.found (held_by_piece h held) in
-        let owner = some_owner (is_owner node.host.silo (owner_silo node.ring.points h)) _ ((node_facts m f w silo node here).once h below) counted in
+        let owner = some_owned (is_owner node.host.silo (owner_silo node.ring.points h)) _ ((node_facts m f w silo node here).once h below) counted in
         ap (λ v. m.owner v h) (seen_is m f w silo node here) ∙ owner_is m f w silo node here h ∙ owner_of_silo node.host.silo (owner_silo node.ring.points h) owner
         ∙ ap Some (host_is m f w silo node here)
 

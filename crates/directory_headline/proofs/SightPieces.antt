@@ -1,10 +1,9 @@
 -- The pieces after a sight, and what it seals, against the pieces before it: what is settled afterwards or sealed was settled.
-use Rattle.std.proofs.Common.{arith, ◌≡◌, ℕ, ◌+◌, ◌<◌, ◌≤◌, List, [], ◌∷◌, refl, ap, ◌∙◌}
+use Rattle.std.proofs.Common.{arith, ◌≡◌, ℕ, ◌<◌, ◌≤◌, List, [], ◌∷◌, refl, ap, ◌∙◌}
 use Rattle.std.specs.Prelude.{◌&&◌, ◌||◌, Bool, true, false, cond, not, nat_lt, is_some, find, filter, flat_map, All, Option, Some, None}
 use Rattle.std.specs.Option.{option_map}
 use Rattle.std.proofs.lemmas.Bool.{lt-ltb, ltb-true}
 use Rattle.std.proofs.lemmas.List.Elements.{All-nil, All-cons, All-head, All-tail, All-append, All-map, All-filter, All-weaker}
-use Rattle.std.proofs.lemmas.List.Sums.{sum_by-cons}
 use Rattle.texts.proofs.Decided.{both}
 use Rattle.silo_address.specs.Silo.{Silo, silo_eq}
 use Rattle.membership_view.specs.View.{ViewValue}
@@ -24,8 +23,7 @@ use Rattle.directory_rules.specs.Laws.{lies_settled}
 use Rattle.directory_rules.proofs.Cases.{on_bool}
 use Rattle.directory_rules.proofs.Pieces.{under}
 use Rattle.directory_headline.specs.Shown.{is_settled_piece, has_settled}
-use Rattle.directory_headline.proofs.PieceAt.{found_counted}
-use Rattle.directory_headline.proofs.HashPieces.{holding}
+use Rattle.directory_headline.proofs.Counting.{holding, counted, found_counted}
 
 -- ---- the settled piece that has a hash
 pub record HasSettledPiece (h : ℕ) (pieces : List (ℕ × Piece)) : Type 0 where
@@ -50,9 +48,6 @@ of_settled h pieces is =
     by : (o : Option Piece) → piece_with h pieces ≡ o → is_settled_piece o ≡ true → HasSettledPiece h pieces
     by None found is = absurd (cc (is))
     by (Some piece) found is = record { piece = piece; found = found; settled = settled_is piece.state is }
-
-counted : (h : ℕ) (e : ℕ × Piece) (es : List (ℕ × Piece)) (b : Bool) → holds e.1.range h ≡ b → holding h (e ∷ es) ≡ cond {A = ℕ} b 1 0 + holding h es
-counted h e es b is = sum_by-cons (λ (x : ℕ × Piece). cond (holds x.1.range h) 1 0) e es ∙ ap (λ b. cond {A = ℕ} b 1 0 + holding h es) is
 
 -- where a hash is in one piece at most, the one that is settled is found
 pub lies_in_one : (h : ℕ) (pieces : List (ℕ × Piece)) → holding h pieces ≤ 1 → lies_settled h pieces ≡ true → HasSettledPiece h pieces

@@ -37,8 +37,8 @@ use Rattle.directory_headline.specs.Setting.{is_member_in, is_alive_in, owner_in
 use Rattle.directory_headline.specs.Shown.{has_settled}
 use Rattle.directory_headline.proofs.Facts.{NodeFacts}
 use Rattle.directory_headline.proofs.Frame.{Here, alive, node_facts, node_shown, host_is, seen_is, live_now, owner_is}
-use Rattle.directory_headline.proofs.PieceAt.{of_found, found_counted}
-use Rattle.directory_headline.proofs.HashPieces.{holding}
+use Rattle.directory_headline.proofs.PieceAt.{of_found}
+use Rattle.directory_headline.proofs.Counting.{holding, found_counted, at_most_one, some_owned}
 use Rattle.directory_headline.proofs.Members.{live_since}
 use Rattle.directory_headline.proofs.SightPieces.{HasSettledPiece, has_piece, of_settled, lies_in_one, IsMade, all_made, IsSealed, all_sealed}
 
@@ -46,14 +46,6 @@ use Rattle.directory_headline.proofs.SightPieces.{HasSettledPiece, has_piece, of
 owner_of_it : (s : Silo) (o : Option Silo) → is_owner s o ≡ true → o ≡ Some s
 owner_of_it s None is = absurd (cc (is))
 owner_of_it s (Some owner) is = ap Some ((Decides-silo owner s).0 is)
-
-at_most_one : (b : Bool) (n : ℕ) → n ≡ cond b 1 0 → n ≤ 1
-at_most_one true n is = omega (is, arith)
-at_most_one false n is = omega (is, arith)
-
-some_owned : (b : Bool) (n : ℕ) → n ≡ cond b 1 0 → 1 ≤ n → b ≡ true
-some_owned true n is some = refl
-some_owned false n is some = absurd (omega (is, some, arith))
 
 module _ (points : List Point) (s : Silo) (pieces : List (ℕ × Piece)) (once : HoldOnce points s pieces) (h : ℕ) (below : h < circle) where
   held_once : holding h pieces ≤ 1

@@ -1,10 +1,11 @@
 -- The entries of a table whose grains rise, of which a test picks some.
 use Rattle.std.proofs.Common.{arith, ◌≡◌, ◌≢◌, suc, List, [], ◌∷◌, refl, sym, ap, subst, ◌∙◌}
-use Rattle.std.specs.Prelude.{Bool, true, false, cond, All, AllPairs, Contains, Some, filter}
+use Rattle.std.specs.Prelude.{Bool, true, false, cond, All, AllPairs, Contains, Some, None, filter}
 use Rattle.std.specs.List.{AllByRecursion}
 use Rattle.std.specs.List.Sorted.{IsStrictlySortedBy}
 use Rattle.std.specs.Map.{lookup, keys_of}
 use Rattle.std.specs.BTreeMap.{is_at}
+use Rattle.std.specs.Ordering.{is_eq}
 use Rattle.std.specs.declared.cmp.Ordering.TheVariants.{Less}
 use Rattle.std.proofs.lemmas.Cmp.{tied_itself}
 use Rattle.std.proofs.lemmas.List.Elements.{All-nil, All-cons, All-head, All-tail}
@@ -12,7 +13,7 @@ use Rattle.std.proofs.lemmas.List.Kept.{AllPairs-cons, AllPairs-filter}
 use Rattle.silo_address.specs.Grain.{Grain, grain_cmp}
 use Rattle.silo_address.specs.declared.Entry.{Entry}
 use Rattle.silo_address.proofs.Order.{grain_cmp_total, grain_cmp_exact}
-use Rattle.directory_rules.specs.Table.{Table, entry_at, entries_of}
+use Rattle.directory_rules.specs.Table.{Table, entry_at, entries_of, table_of}
 use Rattle.directory_rules.proofs.Cases.{on_bool}
 use Rattle.directory_facts.proofs.Entries.{same_key}
 use Rattle.directory_headline.proofs.Facts.{IsTable}
@@ -69,6 +70,19 @@ found_holds P grain (x ∷ xs) e all found =
     (λ t at is. let same : x.1 ≡ e = cc (is) in subst (λ y. P (grain, y)) same (subst (λ g. P (g, x.1)) (sym (same_key grain_cmp grain_cmp_exact grain x.0 at)) (All-head P x xs all)))
     (λ f at is. found_holds P grain xs e (All-tail P x xs all) is)
     refl found
+
+-- ---- the table again
+-- a table whose entries stand under their own grains is made of them again
+pub table_again : (table : Table) → All (λ e. e.0 ≡ e.1.grain) table → table_of (entries_of table) ≡ table
+table_again [] all = refl
+table_again (e ∷ es) all =
+    ap (λ (g : Grain). (g, e.1) ∷ table_of (entries_of es)) (sym (All-head (λ (x : Grain × Entry). x.0 ≡ x.1.grain) e es all))
+    ∙ ap (λ t. e ∷ t) (table_again es (All-tail (λ (x : Grain × Entry). x.0 ≡ x.1.grain) e es all))
+
+-- a grain below all of them has no entry
+pub none_above : (grain : Grain) (es : Table) → AllByRecursion (λ other. grain_cmp grain other ≡ Less) (keys_of es) → entry_at grain es ≡ None
+none_above grain [] above = refl
+none_above grain (e ∷ es) above = ap (λ r. cond (is_eq r) (Some e.1) (entry_at grain es)) above.0 ∙ none_above grain es above.1
 
 -- ---- the entries that pass a test
 module _ (test : Entry → Bool) where

@@ -17,7 +17,7 @@ use Rattle.directory_rules.specs.Letter.{Letter, Report_letter}
 use Rattle.directory_rules.specs.Node.{Node}
 use Rattle.directory_rules.specs.Transfer.{answering, answer_to, report_of}
 use Rattle.directory_rules.specs.World.{World}
-use Rattle.directory_headline.specs.Silo_state.{state_of}
+use Rattle.directory_headline.specs.SiloState.{state_of}
 use Rattle.directory_headline.specs.Shown.{IsShownLetter}
 use Rattle.directory_headline.proofs.Actors.{leaves_after}
 use Rattle.directory_headline.proofs.Growing.{node_still}

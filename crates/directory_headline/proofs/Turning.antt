@@ -24,7 +24,7 @@ use Rattle.directory_rules.specs.World.{World}
 use Rattle.directory_rules.proofs.Cases.{on_bool}
 use Rattle.directory_facts.proofs.Entries.{all_put, all_removed}
 use Rattle.directory_facts.proofs.Ways.{HasPiece}
-use Rattle.directory_headline.specs.Silo_state.{state_of}
+use Rattle.directory_headline.specs.SiloState.{state_of}
 use Rattle.directory_headline.specs.Shown.{activation_in, IsShownHolding, IsShownLetter, IsShownGathering, IsShownRecovery}
 use Rattle.directory_headline.proofs.Frame.{Here, Moves, stays, node_shown}
 use Rattle.directory_headline.proofs.SettledPiece.{grain_below, changed_has, others_have, settled_changed}

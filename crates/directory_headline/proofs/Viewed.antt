@@ -29,8 +29,9 @@ use Rattle.directory_rules.specs.Node.{Node, new_node}
 use Rattle.directory_rules.specs.Settings.{Settings}
 use Rattle.directory_rules.specs.World.{World, Posted}
 use Rattle.directory_rules.specs.Happens.{node_of, after_joining, without_replaced, counted, died}
+use Rattle.directory_rules.specs.Laws.{ArePeopled}
 use Rattle.directory_rules.proofs.Removed.{lookup_removed}
-use Rattle.directory_headline.specs.Silo_state.{state_of, first_state}
+use Rattle.directory_headline.specs.SiloState.{state_of, first_state}
 use Rattle.directory_headline.specs.Shown.{Shown, IsShownNode, IsShownLetter, IsShownSnapshot, IsShownGathering, IsShownRecovery}
 use Rattle.directory_headline.proofs.Actors.{Grows}
 use Rattle.directory_headline.proofs.Growing.{letter_still, node_still}
@@ -107,20 +108,26 @@ newcomer silo views next step = by (status_at views views.version silo) refl
         let newer : silo.generation < silo.generation = step.newest silo (refl, refl) (subst (λ o. IsSome o) (sym is) refl) in
         absurd (omega arith)
 
-module _ (m : Setting) (f : World) (facts : WorldFacts m.hash f) (carried : Carried m f) where
-  go_on : (later : World) → Shown m later (viewed m carried.world) → Carried m later
-  go_on later shown = record { world = viewed m carried.world; reached = reached_after m carried.world New_view carried.reached tt; shown = shown }
-
+-- ---- nodes
+module _ (f : World) (peopled : ArePeopled f.views f.nodes) where
   -- a node that is there after another was taken out was there
-  still_there : (taken : Silo) (silo : Silo) (node : Node) → lookup (is_at (silo_cmp silo)) (remove_entry (is_at (silo_cmp taken)) f.nodes) ≡ Some node → node_of f silo ≡ Some node
+  pub still_there : (taken silo : Silo) (node : Node) → lookup (is_at (silo_cmp silo)) (remove_entry (is_at (silo_cmp taken)) f.nodes) ≡ Some node → node_of f silo ≡ Some node
   still_there taken silo node there =
       elim (silo_cases silo taken) [
         | inl same ↦
-            let gone = lookup_removed silo_cmp silo_cmp_total taken f.nodes facts.peopled.by_address in
+            let gone = lookup_removed silo_cmp silo_cmp_total taken f.nodes peopled.by_address in
             let found = subst (λ s. lookup (is_at (silo_cmp s)) (remove_entry (is_at (silo_cmp taken)) f.nodes) ≡ Some node) same there in
-            absurd (cc)
+            absurd (cc (gone, found))
         | inr apart ↦ sym (found_beside_removed silo_cmp silo_cmp_total silo_cmp_exact taken f.nodes silo apart) ∙ there
       ]
+
+  pub replaced_there : (old : Option Silo) (silo : Silo) (node : Node) → node_of (without_replaced f old) silo ≡ Some node → node_of f silo ≡ Some node
+  replaced_there None silo node there = there
+  replaced_there (Some old) silo node there = still_there old silo node there
+
+module _ (m : Setting) (f : World) (facts : WorldFacts m.hash f) (carried : Carried m f) where
+  go_on : (later : World) → Shown m later (viewed m carried.world) → Carried m later
+  go_on later shown = record { world = viewed m carried.world; reached = reached_after m carried.world New_view carried.reached tt; shown = shown }
 
   pub carried_leaving : (silo : Silo) → change.after f.views (change.Leave silo) ≡ Ok (change.with_leave f.views silo) → Carried m (counted (record f { views = change.with_leave f.views silo }))
   carried_leaving silo is =
@@ -139,15 +146,11 @@ module _ (m : Setting) (f : World) (facts : WorldFacts m.hash f) (carried : Carr
       let accepts : Accepts f.views (change.Die silo) next = record { whole = facts.peopled.whole; is = is } in
       let step : Dies silo (view_at f.views f.views.version) (view_at next next.version) = changes_are_steps f.views (change.Die silo) next accepts in
       go_on (died f silo).world (view_shown m carried.world f (died f silo).world carried.shown (versions_rise f.views (change.Die silo) next accepts) refl
-      (λ q node there. carried.shown.live q node (still_there silo q node there)) (λ q none.
+      (λ q node there. carried.shown.live q node (still_there f facts.peopled silo q node there)) (λ q none.
       elim (silo_cases q silo) [
         | inl same ↦ let dead = step.dead in let nothing = subst (λ s. status_at next next.version s ≡ None) same none in absurd (cc)
         | inr apart ↦ sym (step.others q apart) ∙ none
       ]))
-
-  replaced_there : (old : Option Silo) (silo : Silo) (node : Node) → node_of (without_replaced f old) silo ≡ Some node → node_of f silo ≡ Some node
-  replaced_there None silo node there = there
-  replaced_there (Some old) silo node there = still_there old silo node there
 
   pub carried_joining : (silo : Silo) (next : ViewsValue) (added : PlacesValue) → change.after_join f.views silo ≡ Ok next → (old : Option Silo) → Carried m (counted (after_joining f silo old next added))
   carried_joining silo next added is old =
@@ -163,7 +166,7 @@ module _ (m : Setting) (f : World) (facts : WorldFacts m.hash f) (carried : Carr
             let first : state_of carried.world q ≡ first_state = ap (state_of carried.world) same ∙ carried.shown.absent silo (newcomer silo f.views next step) in
             subst (λ n. IsShownNode m carried.world n (state_of carried.world q)) its (subst (IsShownNode m carried.world (new_node f.settings silo)) (sym first) (new_shown m carried.world f.settings silo))
         | inr apart ↦
-            carried.shown.live q node (replaced_there old q node
+            carried.shown.live q node (replaced_there f facts.peopled old q node
             (sym (found_beside_put silo_cmp silo_cmp_total silo_cmp_exact silo (new_node f.settings silo) (without_replaced f old).nodes q apart) ∙ made old q node there))
       ]) (was_absent silo f.views next step))
     where

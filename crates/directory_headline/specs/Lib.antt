@@ -1,4 +1,4 @@
 pub mod Setting
-pub mod Silo_state
+pub mod SiloState
 pub mod Shown
 pub mod Refined

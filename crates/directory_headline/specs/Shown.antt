@@ -34,7 +34,7 @@ use Rattle.directory_rules.specs.Letter.{Letter, Body, Request_letter, Reply_let
 use Rattle.directory_rules.specs.Node.{Node}
 use Rattle.directory_rules.specs.World.{World}
 use Rattle.directory_rules.specs.Happens.{node_of}
-use Rattle.directory_headline.specs.Silo_state.{SiloState, state_of, first_state}
+use Rattle.directory_headline.specs.SiloState.{SiloState, state_of, first_state}
 
 -- ---- activations and pieces
 
