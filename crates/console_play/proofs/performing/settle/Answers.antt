@@ -1,5 +1,6 @@
-use Rattle.std.proofs.Common.{arith}
+use Rattle.std.proofs.Common.{refl, arith, rules}
 use Rattle.console_play.specs.Performing.{delivery_turn}
+use Rattle.console_play.proofs.Lines.{begins_with_itself}
 use Rattle.console_play.proofs.Turns.{settles_at_last, settles_at_most, settles_on, turn_begins}
 use Rattle.console_play.proofs.performing.settle.Goals as goal
 
@@ -7,6 +8,13 @@ pub returns-then-not-branch-clause-performed : goal.returns-then-not-branch-clau
 returns-then-not-branch-clause-performed c =
     settles_at_last c.args.world.now c.args.out.now.items c.letters-most.result c.loop-delivered._delivered _ _ _ _ c.in_ok-deliver_next.field-0
     c.if-not-branch.true (omega arith) c.loop-delivered.invariant.settles c.in_ok-deliver_next.ensures.taken
+
+pub loop-delivered-init : goal.loop-delivered-init
+loop-delivered-init c = record {
+  within = omega arith;
+  settles = search rules;
+  begins = begins_with_itself _ _ refl;
+}
 
 pub loop-delivered-preserved : goal.loop-delivered-preserved
 loop-delivered-preserved c = record {

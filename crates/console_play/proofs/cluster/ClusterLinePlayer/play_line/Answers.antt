@@ -26,3 +26,6 @@ returns-in_ok-write_fault-in-Err-Fault-clause-played c =
     (rw c.in-Err-Fault.field-0-is at c.in-Err-Fault.ensures.reads)
     (c.in_ok-write_fault-in-Err-Fault.ensures.written ∙ (ap (λ (n : ℕ). out ++ printed (fault_line number n)) c.number.ensures
     ∙ ap (λ (f : ScriptFault). out ++ printed (fault_line number (script_fault_number f))) c.in-Err-Fault.fault-is)))
+
+pub returns-in-Err-OutOfMemory-clause-played : goal.returns-in-Err-OutOfMemory-clause-played
+returns-in-Err-OutOfMemory-clause-played c = tt

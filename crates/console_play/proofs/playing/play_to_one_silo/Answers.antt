@@ -1,0 +1,8 @@
+use Rattle.std.proofs.Common.{rules}
+use Rattle.console_play.proofs.playing.play_to_one_silo.Goals as goal
+
+pub returns-clause-ends : goal.returns-clause-ends
+returns-clause-ends g c = search rules
+
+pub returns-in_err-world-clause-in_range : goal.returns-in_err-world-clause-in_range
+returns-in_err-world-clause-in_range g c = search rules
