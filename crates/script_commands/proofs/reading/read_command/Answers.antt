@@ -18,3 +18,11 @@ returns-then-is_remark-clause-reads c = search rules
 pub returns-clause-reads : goal.returns-clause-reads
 unfolding read_line
 returns-clause-reads c = grind (arith, common_steps)
+
+pub returns-in_err-command-clause-reads : goal.returns-in_err-command-clause-reads
+unfolding read_line
+returns-in_err-command-clause-reads c = grind (arith, common_steps)
+
+pub returns-in_err-command-clause-memory : goal.returns-in_err-command-clause-memory
+unfolding read_line
+returns-in_err-command-clause-memory c = grind (arith, common_steps)
