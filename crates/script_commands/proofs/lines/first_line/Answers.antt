@@ -1,3 +1,4 @@
+use Rattle.std.proofs.Common.{rules}
 use Rattle.script_commands.proofs.LineLaws.{lines_of-first, lines_of-more, lines_of-one}
 use Rattle.script_commands.proofs.lines.first_line.Goals as goal
 
@@ -9,3 +10,6 @@ returns-clause-lines c = lines_of-first c.args.bytes.now c.in_ok-end.end c.witho
 
 pub returns-clause-later : goal.returns-clause-later
 returns-clause-later c more = lines_of-more c.args.bytes.now c.in_ok-end.end c.without_return.result.now c.in_ok-end.ensures c.without_return.ensures more
+
+pub returns-clause-shorter : goal.returns-clause-shorter
+returns-clause-shorter c = search rules
