@@ -1,3 +1,5 @@
 pub mod Orders
 pub mod Rows
 pub mod Shape
+pub mod RowShape
+pub mod NodeShape
