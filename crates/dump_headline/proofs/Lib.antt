@@ -3,3 +3,4 @@ pub mod Rows
 pub mod Shape
 pub mod RowShape
 pub mod NodeShape
+pub mod RightPieces
