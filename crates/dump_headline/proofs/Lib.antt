@@ -4,3 +4,4 @@ pub mod Shape
 pub mod RowShape
 pub mod NodeShape
 pub mod RightPieces
+pub mod Placed

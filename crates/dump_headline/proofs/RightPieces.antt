@@ -2,6 +2,7 @@
 use Rattle.std.proofs.Common.{◌≡◌, ℕ, ◌+◌, List, [], ◌∷◌, map, refl, sym, ap, subst, ◌∙◌}
 use Rattle.std.specs.Prelude.{Bool, cond, count_by, if◌then◌else◌, All, Option, Some, None, true}
 use Rattle.std.specs.Option.{option_map}
+use Rattle.std.proofs.lemmas.List.Elements.{All-map, All-weaker}
 use Rattle.std.proofs.lemmas.List.Sums.{sum_by-cons}
 use Rattle.silo_address.specs.Silo.{Silo}
 use Rattle.silo_address.specs.Grain.{Grain}
@@ -40,3 +41,13 @@ module _ (hash : Grain → ℕ) (f : World) (facts : WorldFacts hash f) (silo : 
   has_its_ranges h below =
       as_many h node.holding.pieces ∙ is.once h below
       ∙ ap (λ b. if b then 1 else 0) (ap (λ s. is_owner s (owner_silo node.ring.points h)) is.own.host_is ∙ owner_is silo (owner_of node.ring.points h))
+
+-- the entries of the dump's pieces are hashed into them
+pub entries_inside : (f : World) → WorldFacts (hash_grain f.settings.hashing) f → (silo : Silo) (node : Node) → node_of f silo ≡ Some node
+    → All (λ piece. All (IsHashedInto (dump_of f) piece) piece.entries) (dump_node silo node).pieces
+unfolding dump_of
+entries_inside f facts silo node there =
+    All-map (λ piece. All (IsHashedInto (dump_of f) piece) piece.entries) (λ (e : ℕ × Piece). dump_piece e.1) node.holding.pieces
+    (All-weaker (λ (e : ℕ × Piece). IsPiece (hash_grain f.settings.hashing) e.1) (λ (e : ℕ × Piece). All (IsHashedInto (dump_of f) (dump_piece e.1)) (dump_piece e.1).entries)
+    (λ e is. All-map (IsHashedInto (dump_of f) (dump_piece e.1)) (λ (x : Grain × Entry). x.1) e.1.entries is.inside)
+    node.holding.pieces (facts.nodes silo node there).pieces.each)
