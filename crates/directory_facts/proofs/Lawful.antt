@@ -16,10 +16,11 @@ use Rattle.directory_rules.specs.Laws.{NamesHashes, HoldOnce}
 use Rattle.directory_rules.proofs.Kept.{run_keeps}
 use Rattle.directory_rules.proofs.Reached.{nodes_hold_once}
 use Rattle.directory_facts.specs.Pieces.{IsPiece, IsHashedInto}
-use Rattle.directory_facts.specs.Laws.{world_by, SettingsStay, NodesAreOwn, LettersAreOwn, NodesSeeTheirVersions, RowsHavePlaces, NodesHavePieces, PiecesAreOwned, EventsNameHashes}
+use Rattle.directory_facts.specs.Laws.{world_by, SettingsStay, NodesAreOwn, CountsAreApart, LettersAreOwn, NodesSeeTheirVersions, RowsHavePlaces, NodesHavePieces, PiecesAreOwned, EventsNameHashes}
 use Rattle.directory_facts.proofs.Carried.{Facts, Keeps}
 use Rattle.directory_facts.proofs.Reached.{everywhere, found_node, found_letter}
 use Rattle.directory_facts.proofs.Owning.{own_facts, own_keep, is_own_node}
+use Rattle.directory_facts.proofs.Counts.{counts_once, counted_facts, counted_keep}
 use Rattle.directory_facts.proofs.Placing.{added_row}
 use Rattle.directory_facts.proofs.Seeing.{AreViews, seen_facts, seen_keep}
 use Rattle.directory_facts.proofs.PiecesKept.{all_facts, all_keep, has_pieces}
@@ -47,6 +48,10 @@ module _ (F : Facts) (k : Keeps F) (settings : Settings) (events : List Event) (
 
 pub nodes_are_own : NodesAreOwn
 nodes_are_own settings events silo node there = is_own_node settings silo node (node_by own_facts own_keep settings events tt (λ k d below. tt) silo node there)
+
+pub counts_are_apart : CountsAreApart
+counts_are_apart settings events silo node there =
+    counts_once node.host (nodes_are_own settings events silo node there).once (node_by counted_facts counted_keep settings events tt (λ k d below. tt) silo node there)
 
 pub letters_are_own : LettersAreOwn
 letters_are_own settings events number letter there = letter_by own_facts own_keep settings events tt (λ k d below. tt) number letter there

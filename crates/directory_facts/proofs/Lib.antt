@@ -5,6 +5,7 @@ pub mod Ways
 pub mod Stepping
 pub mod Hosts
 pub mod Owning
+pub mod Counts
 pub mod Placing
 pub mod Seeing
 pub mod Tabling

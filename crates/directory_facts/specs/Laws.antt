@@ -14,7 +14,7 @@ use Rattle.directory_rules.specs.Mail.{letter_of}
 use Rattle.directory_rules.specs.Happens.{node_of}
 use Rattle.directory_rules.specs.Run.{run_from_start}
 use Rattle.directory_rules.specs.Laws.{NamesHashes, IsReached, HoldOwned}
-use Rattle.directory_facts.specs.Own.{IsOwnNode, IsOwnLetter}
+use Rattle.directory_facts.specs.Own.{IsOwnNode, CountsOnce, IsOwnLetter}
 use Rattle.directory_facts.specs.Seen.{SeesItsVersion, ArePlaced}
 use Rattle.directory_facts.specs.Pieces.{HasPieces}
 
@@ -28,6 +28,10 @@ SettingsStay = (settings : Settings) (events : List Event) → (world_by setting
 
 abbrev pub NodesAreOwn : Type 0
 NodesAreOwn = (settings : Settings) (events : List Event) (silo : Silo) (node : Node) → node_of (world_by settings events) silo ≡ Some node → IsOwnNode settings silo node
+
+-- no two activations that a node holds have one count, so they are two
+abbrev pub CountsAreApart : Type 0
+CountsAreApart = (settings : Settings) (events : List Event) (silo : Silo) (node : Node) → node_of (world_by settings events) silo ≡ Some node → CountsOnce node.host
 
 -- each letter in the mail is its sender's own
 abbrev pub LettersAreOwn : Type 0

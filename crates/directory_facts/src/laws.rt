@@ -1,11 +1,16 @@
 //! The laws. Each holds for all settings and all lists of events, and says what it asks of them.
-ghost use Rattle.directory_facts.specs.Laws.{SettingsStay, NodesAreOwn, LettersAreOwn, NodesSeeTheirVersions, RowsHavePlaces, NodesHavePieces, PiecesAreOwned, EventsNameHashes, GrainsHaveHashes};
+ghost use Rattle.directory_facts.specs.Laws.{SettingsStay, NodesAreOwn, CountsAreApart, LettersAreOwn, NodesSeeTheirVersions, RowsHavePlaces, NodesHavePieces, PiecesAreOwned, EventsNameHashes, GrainsHaveHashes};
 ghost use Rattle.directory_facts.specs.Whole.{WasSettledIsSettled, AnswersLeaveOthers};
 
 /// The world keeps its settings. A silo's node is that silo's, by these settings, and it holds one activation a grain.
 pub fn nodes_are_own()
     ensures settings { SettingsStay }
     ensures nodes { NodesAreOwn }
+{}
+
+/// No two activations that a silo's node holds have one count.
+pub fn counts_are_apart()
+    ensures { CountsAreApart }
 {}
 
 /// A request in the mail is its sender's, under the hash of its grain; what it registers or deregisters is an activation of the
