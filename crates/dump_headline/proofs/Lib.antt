@@ -5,3 +5,7 @@ pub mod RowShape
 pub mod NodeShape
 pub mod RightPieces
 pub mod Placed
+pub mod Listed
+pub mod Nodes
+pub mod Rings
+pub mod Singles
