@@ -84,6 +84,12 @@ pub none_above : (grain : Grain) (es : Table) → AllByRecursion (λ other. grai
 none_above grain [] above = refl
 none_above grain (e ∷ es) above = ap (λ r. cond (is_eq r) (Some e.1) (entry_at grain es)) above.0 ∙ none_above grain es above.1
 
+-- what holds of each entry that is found under its grain
+pub each_found : (P : Entry → Type 0) (table : Table) → IsTable table → ((e : Entry) → entry_at e.grain table ≡ Some e → P e) → All P (entries_of table)
+each_found P [] table each = All-nil P
+each_found P (x ∷ xs) table each =
+    All-cons P x.1 (entries_of xs) (each x.1 (first_found x xs table)) (each_found P xs (table_tail x xs table) (λ e found. each e (later_found x xs e table found)))
+
 -- ---- one entry a grain
 apart_entries : (grain : Grain) (es : Table) → All (λ e. e.0 ≡ e.1.grain) es → All (λ e. grain ≢ e.0) es → All (λ e. grain ≢ e.grain) (entries_of es)
 apart_entries grain [] own apart = All-nil (λ (e : Entry). grain ≢ e.grain)

@@ -9,3 +9,5 @@ pub mod Listed
 pub mod Nodes
 pub mod Rings
 pub mod Singles
+pub mod Found
+pub mod Known

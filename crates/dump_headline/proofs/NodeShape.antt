@@ -58,7 +58,7 @@ module _ (hash : Grain → ℕ) (f : World) (facts : WorldFacts hash f) where
   has_row None live = absurd (cc (live))
   has_row (Some row) live = refl
 
-  joined : (silo : Silo) (node : Node) → node_of f silo ≡ Some node → Contains (keys_of f.views.rows) silo
+  pub joined : (silo : Silo) (node : Node) → node_of f silo ≡ Some node → Contains (keys_of f.views.rows) silo
   joined silo node there =
       let whole = facts.peopled.whole in
       let live : is_live (status_at f.views f.views.version silo) ≡ true = sym (facts.peopled.live silo) ∙ ap is_some there in
