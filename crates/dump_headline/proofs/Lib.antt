@@ -11,3 +11,5 @@ pub mod Rings
 pub mod Singles
 pub mod Found
 pub mod Known
+pub mod Right
+pub mod Ending
