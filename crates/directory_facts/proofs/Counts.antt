@@ -19,7 +19,7 @@ use Rattle.directory_facts.proofs.Ways.{Ways}
 use Rattle.directory_facts.proofs.Stepping.{by_way}
 
 -- what holds of each activation's grain and count
-abbrev Each : (Grain → ℕ → Type 0) → List (Grain × Held) → Type 0
+abbrev pub Each : (Grain → ℕ → Type 0) → List (Grain × Held) → Type 0
 Each P held = All (λ e. P e.0 e.1.count) held
 
 -- no other grain's activation has the count
@@ -40,7 +40,7 @@ counts_once host once is = λ i j d lt below same.
 
 -- ---- activations that were there
 -- whatever holds of all that were there holds of all that are
-abbrev AreOf : List (Grain × Held) → List (Grain × Held) → Type 1
+abbrev pub AreOf : List (Grain × Held) → List (Grain × Held) → Type 1
 AreOf before now = (P : Grain → ℕ → Type 0) → Each P before → Each P now
 
 still : (next : ℕ) (before now : List (Grain × Held)) → AreOf before now → Counted next before → Counted next now
@@ -66,6 +66,23 @@ set_of grain its held there = λ P all.
     all_set (λ e. P e.0 e.1.count) (is_at (grain_cmp grain)) its held
     (λ key old at so. subst (λ g. P g its.count) (same_key grain_cmp grain_cmp_exact grain key at) (there P all)) all
 
+-- each change of a host but a beginning
+module _ (host : Host) where
+  pub closed_are : (grain : Grain) (its : Held) → held_of host grain ≡ Some its → AreOf host.held (set_value (is_at (grain_cmp grain)) host.held (record its { phase = Closing host.next_number }))
+  closed_are grain its found =
+      set_of grain (record its { phase = Closing host.next_number }) host.held (λ P all.
+      let there = found_so (λ (e : Grain × Held). P e.0 e.1.count) (is_at (grain_cmp grain)) its host.held all found in
+      subst (λ g. P g its.count) (sym (same_key grain_cmp grain_cmp_exact grain there.0 there.1)) there.2)
+
+  pub confirmed_are : (number : ℕ) (e : Grain × Held) → asking_under host number ≡ Some e → AreOf host.held (set_value (is_at (grain_cmp e.0)) host.held (record e.1 { phase = Firm; previous = None }))
+  confirmed_are number e found = set_of e.0 (record e.1 { phase = Firm; previous = None }) host.held (λ P all. find_so (λ (x : Grain × Held). P x.0 x.1.count) _ host.held e all found)
+
+  pub less_are : (grain : Grain) → AreOf host.held (remove_entry (is_at (grain_cmp grain)) host.held)
+  less_are grain = λ P all. all_removed (λ (e : Grain × Held). P e.0 e.1.count) (is_at (grain_cmp grain)) host.held all
+
+  pub renewed_are : AreOf host.held (map (λ e. (e.0, record e.1 { phase = renewed_phase host e.1.phase })) host.held)
+  renewed_are = λ P all. All-map (λ (e : Grain × Held). P e.0 e.1.count) (λ (e : Grain × Held). (e.0, record e.1 { phase = renewed_phase host e.1.phase })) host.held all
+
 module _ (node : Node) (is : CountedNode node) where
   abbrev held : List (Grain × Held)
   held = node.host.held
@@ -86,42 +103,25 @@ module _ (node : Node) (is : CountedNode node) where
             (All-weaker (λ (e : Grain × Held). e.1.count < next) (λ (e : Grain × Held). e.1.count ≡ next → e.0 ≡ grain) (λ e low same. absurd (omega (arith, low, same))) held is.below) (λ same. refl));
       }
 
-  closed : (grain : Grain) (its : Held) → held_of node.host grain ≡ Some its → Counted node.host.next_count (set_value (is_at (grain_cmp grain)) held (record its { phase = Closing node.host.next_number }))
-  closed grain its found =
-      still node.host.next_count held _
-      (set_of grain (record its { phase = Closing node.host.next_number }) held (λ P all.
-      let there = found_so (λ (e : Grain × Held). P e.0 e.1.count) (is_at (grain_cmp grain)) its held all found in
-      subst (λ g. P g its.count) (sym (same_key grain_cmp grain_cmp_exact grain there.0 there.1)) there.2)) is
-
-  confirmed : (number : ℕ) (e : Grain × Held) → asking_under node.host number ≡ Some e → Counted node.host.next_count (set_value (is_at (grain_cmp e.0)) held (record e.1 { phase = Firm; previous = None }))
-  confirmed number e found =
-      still node.host.next_count held _
-      (set_of e.0 (record e.1 { phase = Firm; previous = None }) held (λ P all. find_so (λ (x : Grain × Held). P x.0 x.1.count) _ held e all found)) is
-
-  less : (grain : Grain) → Counted node.host.next_count (remove_entry (is_at (grain_cmp grain)) held)
-  less grain = still node.host.next_count held _ (λ P all. all_removed (λ (e : Grain × Held). P e.0 e.1.count) (is_at (grain_cmp grain)) held all) is
-
-  renewed : Counted node.host.next_count (map (λ e. (e.0, record e.1 { phase = renewed_phase node.host e.1.phase })) held)
-  renewed =
-      still node.host.next_count held _
-      (λ P all. All-map (λ (e : Grain × Held). P e.0 e.1.count) (λ (e : Grain × Held). (e.0, record e.1 { phase = renewed_phase node.host e.1.phase })) held all) is
+  of_same : (now : List (Grain × Held)) → AreOf held now → Counted node.host.next_count now
+  of_same now are = still node.host.next_count held now are is
 
   ways : Ways node (λ input stepped. CountedNode stepped.node)
   ways = record {
     nothing = λ input effect plain. is;
-    sees = λ before view places newer numbers. renewed;
+    sees = λ before view places newer numbers. of_same _ (renewed_are node.host);
     wakes = λ grain may. begun grain None;
-    closes = λ grain its may. closed grain its may.found;
-    offers = λ grain its to may active other. closed grain its may.found;
+    closes = λ grain its may. of_same _ (closed_are node.host grain its may.found);
+    offers = λ grain its to may active other. of_same _ (closed_are node.host grain its may.found);
     uses_hint = λ grain activation hint. is;
     finds = λ grain room numbers. is;
     forgets = λ grain activation hint. is;
-    nudges = λ numbers. renewed;
+    nudges = λ numbers. of_same _ (renewed_are node.host);
     answers = λ letter request body sender version. is;
-    confirms = λ letter number entry e of_it there. confirmed number e there;
-    yields = λ letter number entry e of_it there. less e.0;
-    removes = λ letter number e of_it there. less e.0;
-    misses = λ letter number e of_it there. less e.0;
+    confirms = λ letter number entry e of_it there. of_same _ (confirmed_are node.host number e there);
+    yields = λ letter number entry e of_it there. of_same _ (less_are node.host e.0);
+    removes = λ letter number e of_it there. of_same _ (less_are node.host e.0);
+    misses = λ letter number e of_it there. of_same _ (less_are node.host e.0);
     learns = λ letter number entry of_it there. is;
     notes = λ letter number of_it there. is;
     hands = λ letter range number page body so. is;

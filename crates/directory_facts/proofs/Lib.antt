@@ -13,6 +13,10 @@ pub mod Serving
 pub mod Collecting
 pub mod Piecing
 pub mod PiecesKept
+pub mod NamedTables
+pub mod Naming
+pub mod NamedSights
+pub mod NamesKept
 pub mod Hashes
 pub mod Throughout
 pub mod Leaving
