@@ -12,4 +12,5 @@ pub mod Singles
 pub mod Found
 pub mod Known
 pub mod Right
+pub mod Named
 pub mod Ending
