@@ -1,9 +1,7 @@
 -- Tables whose grains rise are one where they have the same entries; so all that is said of a range has one list.
 use Rattle.std.proofs.Common.{◌≡◌, ℕ, List, [], ◌∷◌, inl, inr, refl, sym, ap, ◌∙◌}
 use Rattle.std.specs.Prelude.{true, false, cond, Option, Some, None}
-use Rattle.std.specs.List.{AllByRecursion}
 use Rattle.std.specs.List.Sorted.{IsStrictlySortedBy}
-use Rattle.std.specs.Map.{keys_of}
 use Rattle.std.specs.Ordering.{is_eq, ordering_reverse}
 use Rattle.std.specs.declared.cmp.Ordering.{Ordering}
 use Rattle.std.specs.declared.cmp.Ordering.TheVariants.{Less, Equal, Greater}
@@ -15,22 +13,18 @@ use Rattle.silo_address.proofs.Order.{grain_cmp_total, grain_cmp_exact}
 use Rattle.ring_range.specs.Range.{Range, holds}
 use Rattle.directory_rules.specs.Table.{Table, entry_at, entries_of, table_of}
 use Rattle.directory_rules.proofs.Cases.{on_bool}
-use Rattle.directory_facts.proofs.Tabling.{order_rising}
+use Rattle.directory_facts.proofs.Tabling.{order_rising, above_all}
 use Rattle.directory_headline.specs.Shown.{IsListOf, activation_in}
 use Rattle.directory_headline.proofs.Facts.{IsTable}
 use Rattle.directory_headline.proofs.Lookups.{absent_found, lookup_first, lookup_later}
 use Rattle.directory_headline.proofs.TableEntries.{table_tail, head_apart, found_own, found_holds, none_above}
 use Rattle.directory_protocol.proofs.Changes.{grain_cases}
 
-below_all : (grain first : Grain) (es : Table) → grain_cmp grain first ≡ Less → AllByRecursion (λ other. grain_cmp first other ≡ Less) (keys_of es) → AllByRecursion (λ other. grain_cmp grain other ≡ Less) (keys_of es)
-below_all grain first [] less above = tt
-below_all grain first (e ∷ es) less above = (grain_cmp_total.trans grain first e.0 less above.0, below_all grain first es less above.1)
-
 -- a grain below the first one has no entry
 none_below : (grain : Grain) (e : Grain × Entry) (es : Table) → IsTable (e ∷ es) → grain_cmp grain e.0 ≡ Less → entry_at grain (e ∷ es) ≡ None
 unfolding IsStrictlySortedBy
 none_below grain e es is less =
-    ap (λ r. cond (is_eq r) (Some e.1) (entry_at grain es)) less ∙ none_above grain es (below_all grain e.0 es less is.rising.0)
+    ap (λ r. cond (is_eq r) (Some e.1) (entry_at grain es)) less ∙ none_above grain es (above_all grain e.0 es less is.rising.0)
 
 pub same_tables : (one other : Table) → IsTable one → IsTable other → ((grain : Grain) → entry_at grain one ≡ entry_at grain other) → one ≡ other
 same_tables [] [] is its same = refl
