@@ -206,8 +206,9 @@ module _ (m : Setting) (f : World) (setting : IsSettingOf m f) (facts : WorldFac
       one_a_grain = picked_once its at.piece.entries piece_is.table;
     })
 
-    pub right_now : version ≡ f.views.version → IsRightTable f number (entries_with number node)
-    right_now current = subst (IsRightTable f number) (sym entries_are) (record {
+    -- so is the piece's own, at the current version
+    pub piece_right : version ≡ f.views.version → IsRightTable f number (filter its (entries_of at.piece.entries))
+    piece_right current = record {
       complete = is_complete;
       held = each_entry (λ e. IsHeld f e.grain e.activation) (λ e hashed there.
           let lives = (right e.grain hashed).live e.activation there (seen_is m f w silo node (here silo node at.live) ∙ at.seen ∙ current ∙ sym carried.shown.now) in
@@ -215,14 +216,17 @@ module _ (m : Setting) (f : World) (setting : IsSettingOf m f) (facts : WorldFac
           let one = holder_there e.activation.silo e.grain holds.0 lives holds.1 in
           node_holds e.grain e.activation one.0 one.1 holds.0 holds.1 holds.2);
       one_a_grain = picked_once its at.piece.entries piece_is.table;
-    })
+    }
+
+    pub right_now : version ≡ f.views.version → IsRightTable f number (entries_with number node)
+    right_now current = subst (IsRightTable f number) (sym entries_are) (piece_right current)
 
   one_silo_has_it : OneSettles f
   one_silo_has_it v u number s t x y one other =
       holds_where_reached safe.OneSettles one_silo_settles m w carried.reached (hash_for number) s t (is_settled_so v number s x one) (is_settled_so u number t y other)
 
   -- ---- retries
-  owns_in : (silo : Silo) (node : Node) (number : ℕ) (piece : Piece) → HasNode f silo node → piece_with number node.holding.pieces ≡ Some piece → OwnsIn f node.view.version silo number
+  pub owns_in : (silo : Silo) (node : Node) (number : ℕ) (piece : Piece) → HasNode f silo node → piece_with number node.holding.pieces ≡ Some piece → OwnsIn f node.view.version silo number
   owns_in silo node number piece has found =
       let own = facts.nodes silo node has in
       let ranged = All-weaker (λ e. IsPiece m.hash e.1) (λ (e : ℕ × Piece). IsRange e.1.range) (λ e is. is.range) node.holding.pieces own.pieces.each in

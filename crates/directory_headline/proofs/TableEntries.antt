@@ -84,6 +84,28 @@ pub none_above : (grain : Grain) (es : Table) → AllByRecursion (λ other. grai
 none_above grain [] above = refl
 none_above grain (e ∷ es) above = ap (λ r. cond (is_eq r) (Some e.1) (entry_at grain es)) above.0 ∙ none_above grain es above.1
 
+-- what holds of each entry that is found under its grain
+pub each_found : (P : Entry → Type 0) (table : Table) → IsTable table → ((e : Entry) → entry_at e.grain table ≡ Some e → P e) → All P (entries_of table)
+each_found P [] table each = All-nil P
+each_found P (x ∷ xs) table each =
+    All-cons P x.1 (entries_of xs) (each x.1 (first_found x xs table)) (each_found P xs (table_tail x xs table) (λ e found. each e (later_found x xs e table found)))
+
+-- ---- one entry a grain
+apart_entries : (grain : Grain) (es : Table) → All (λ e. e.0 ≡ e.1.grain) es → All (λ e. grain ≢ e.0) es → All (λ e. grain ≢ e.grain) (entries_of es)
+apart_entries grain [] own apart = All-nil (λ (e : Entry). grain ≢ e.grain)
+apart_entries grain (e ∷ es) own apart =
+    All-cons (λ (x : Entry). grain ≢ x.grain) e.1 (entries_of es)
+    (subst (λ g. grain ≢ g) (All-head (λ (x : Grain × Entry). x.0 ≡ x.1.grain) e es own) (All-head (λ x. grain ≢ x.0) e es apart))
+    (apart_entries grain es (All-tail (λ (x : Grain × Entry). x.0 ≡ x.1.grain) e es own) (All-tail (λ x. grain ≢ x.0) e es apart))
+
+pub each_once : (table : Table) → IsTable table → AllPairs (λ e later. e.grain ≢ later.grain) (entries_of table)
+each_once [] table = λ i j d less below. absurd (omega (arith, below))
+each_once (x ∷ xs) table =
+    AllPairs-cons (λ (e later : Entry). e.grain ≢ later.grain) x.1 (entries_of xs)
+    (subst (λ g. All (λ (e : Entry). g ≢ e.grain) (entries_of xs)) (first_own x xs table)
+    (apart_entries x.0 xs (All-tail (λ (e : Grain × Entry). e.0 ≡ e.1.grain) x xs table.own) (head_apart x xs table)))
+    (each_once xs (table_tail x xs table))
+
 -- ---- the entries that pass a test
 module _ (test : Entry → Bool) where
   contains_more : (x y : Entry) (xs : List Entry) → Contains xs y → Contains (x ∷ xs) y
@@ -111,21 +133,6 @@ module _ (test : Entry → Bool) where
       let later = picked_all P xs (table_tail x xs table) (λ e found passes. each e (later_found x xs e table found) passes) in
       on_bool (λ b. test x.1 ≡ b → All P (cond b (x.1 ∷ filter test (entries_of xs)) (filter test (entries_of xs)))) (test x.1)
       (λ t passes. All-cons P x.1 (filter test (entries_of xs)) (each x.1 (first_found x xs table) passes) later) (λ f fails. later) refl
-
-  apart_entries : (grain : Grain) (es : Table) → All (λ e. e.0 ≡ e.1.grain) es → All (λ e. grain ≢ e.0) es → All (λ e. grain ≢ e.grain) (entries_of es)
-  apart_entries grain [] own apart = All-nil (λ (e : Entry). grain ≢ e.grain)
-  apart_entries grain (e ∷ es) own apart =
-      All-cons (λ (x : Entry). grain ≢ x.grain) e.1 (entries_of es)
-      (subst (λ g. grain ≢ g) (All-head (λ (x : Grain × Entry). x.0 ≡ x.1.grain) e es own) (All-head (λ x. grain ≢ x.0) e es apart))
-      (apart_entries grain es (All-tail (λ (x : Grain × Entry). x.0 ≡ x.1.grain) e es own) (All-tail (λ x. grain ≢ x.0) e es apart))
-
-  each_once : (table : Table) → IsTable table → AllPairs (λ e later. e.grain ≢ later.grain) (entries_of table)
-  each_once [] table = λ i j d less below. absurd (omega (arith, below))
-  each_once (x ∷ xs) table =
-      AllPairs-cons (λ (e later : Entry). e.grain ≢ later.grain) x.1 (entries_of xs)
-      (subst (λ g. All (λ (e : Entry). g ≢ e.grain) (entries_of xs)) (first_own x xs table)
-      (apart_entries x.0 xs (All-tail (λ (e : Grain × Entry). e.0 ≡ e.1.grain) x xs table.own) (head_apart x xs table)))
-      (each_once xs (table_tail x xs table))
 
   pub picked_once : (table : Table) → IsTable table → AllPairs (λ e later. e.grain ≢ later.grain) (filter test (entries_of table))
   picked_once table is = AllPairs-filter (λ (e later : Entry). e.grain ≢ later.grain) test (entries_of table) (each_once table is)
