@@ -27,10 +27,9 @@ use Rattle.directory_rules.specs.World.{World}
 use Rattle.directory_rules.proofs.Cases.{on_bool}
 use Rattle.directory_facts.proofs.Collecting.{found_or, IsTaken, TakenSo, taken_so}
 use Rattle.directory_facts.proofs.Entries.{all_put}
-use Rattle.directory_facts.proofs.Tabling.{all_from, order_rising}
+use Rattle.directory_facts.proofs.Tabling.{all_from, order_rising, InOrder}
 use Rattle.directory_facts.proofs.Ways.{IsReportTaken}
 use Rattle.directory_headline.specs.Shown.{IsShownLetter, IsShownBody, IsShownReport, IsShownRecovery, IsGathered, HasReported}
-use Rattle.directory_headline.proofs.Facts.{IsTable}
 use Rattle.directory_headline.proofs.TableEntries.{found_own, found_holds}
 use Rattle.directory_headline.proofs.Unions.{union_stays, union_came, union_has}
 use Rattle.directory_headline.proofs.NewRecoveries.{recovery_begins}
@@ -82,7 +81,7 @@ rest_false silo gone silos is =
 -- ---- the recovery with the report
 -- what the report's letter is known to be, in the words of the setting
 pub record IsSound (hash : Grain → ℕ) (report : Report) : Type 0 where
-  pub table : IsTable (table_of report.entries)
+  pub table : InOrder (table_of report.entries)
   pub lies : (grain : Grain) (e : Entry) → entry_at grain (table_of report.entries) ≡ Some e → holds report.range (hash grain) ≡ true
   pub own : (grain : Grain) (e : Entry) → entry_at grain (table_of report.entries) ≡ Some e → e.activation.silo ≡ report.silo
 
@@ -181,7 +180,7 @@ module _ (m : Setting) (f : World) (w : protocol.World) (silo : Silo) (node : No
   report_sound =
       let order = order_rising report.entries taken.rise in
       record {
-        table = record { rising = order.by_grain; own = order.own_grain };
+        table = order;
         lies = λ grain e found.
             let all = All-map (λ (x : Grain × Entry). holds report.range (hash_grain node.settings.hashing x.1.grain) ≡ true) keyed report.entries
             (all_from (λ (x : Entry). holds report.range (hash_grain node.settings.hashing x.grain)) report.entries taken.lie) in

@@ -36,7 +36,7 @@ use Rattle.directory_facts.proofs.Tabling.{InOrder, order_nil, order_filtered}
 use Rattle.directory_facts.proofs.Piecing.{all_ordered}
 use Rattle.directory_headline.specs.Setting.{is_alive_in}
 use Rattle.directory_headline.specs.Shown.{activation_in}
-use Rattle.directory_headline.proofs.Facts.{IsTable, IsPiece}
+use Rattle.directory_headline.proofs.Facts.{IsPiece}
 use Rattle.directory_headline.proofs.TableEntries.{found_own, none_above, table_again}
 use Rattle.directory_headline.proofs.HashPieces.{is_hashed_so, only_piece}
 
@@ -102,13 +102,13 @@ all_in_order pieces = all_ordered (flat_map (λ e. entries_of e.1.entries) piece
 
 -- ---- the entries of pieces, each hash in one of them at most
 module _ (hashed : Grain → ℕ) (pieces : List (ℕ × Piece)) (each : All (λ e. IsPiece hashed e.1) pieces) (g : Grain) (once : count_by (λ e. holds e.1.range (hashed g)) pieces ≤ 1) (piece : Piece) (found : piece_with (hashed g) pieces ≡ Some piece) where
-  all_at : IsTable piece.entries → entry_at g (all_entries pieces) ≡ entry_at g piece.entries
+  all_at : InOrder piece.entries → entry_at g (all_entries pieces) ≡ entry_at g piece.entries
   all_at table =
       let passes = λ (e : Entry) (same : e.grain ≡ g). eq-eqb (hashed e.grain) (hashed g) (ap hashed same) in
       picked g (is_hashed_so hashed (hashed g)) passes (flat_map (λ e. entries_of e.1.entries) pieces) [] [] refl
       ∙ ap (λ es. entry_at g (fold with_entry [] es)) (only_piece hashed (hashed g) pieces piece each once found)
       ∙ sym (picked g (is_hashed_so hashed (hashed g)) passes (entries_of piece.entries) [] [] refl)
-      ∙ folded g piece.entries [] table.rising table.own ∙ or_nothing (entry_at g piece.entries)
+      ∙ folded g piece.entries [] table.by_grain table.own_grain ∙ or_nothing (entry_at g piece.entries)
 
 -- ---- what is kept of pieces for a range
 abbrev is_dead_there : ViewValue → Entry → Bool
@@ -133,11 +133,11 @@ module _ (m : Setting) (hashing : Hashing) (hash_is : m.hash ≡ hash_grain hash
 
   pub kept_at :
       (pieces : List (ℕ × Piece)) (range : Range) (g : Grain) (piece : Piece) → All (λ e. IsPiece m.hash e.1) pieces → count_by (λ e. holds e.1.range (m.hash g)) pieces ≤ 1
-      → piece_with (m.hash g) pieces ≡ Some piece → IsTable piece.entries → holds range (m.hash g) ≡ true
+      → piece_with (m.hash g) pieces ≡ Some piece → InOrder piece.entries → holds range (m.hash g) ≡ true
       → activation_in (entry_at g (kept_entries hashing view pieces range)) ≡ surviving m version (activation_in (entry_at g piece.entries))
   kept_at pieces range g piece each once found table held =
       ap activation_in (filtered_at (is_kept hashing view range) g (all_entries pieces) (all_in_order pieces).by_grain ∙ ap (if_passes (is_kept hashing view range)) (all_at m.hash pieces each g once piece found table))
-      ∙ survives g range (entry_at g piece.entries) (λ e is. found_own g piece.entries e table.own is) held
+      ∙ survives g range (entry_at g piece.entries) (λ e is. found_own g piece.entries e table.own_grain is) held
 
 -- ---- as a list
 first_lower : (e : Grain × Entry) (es : Table) → IsStrictlySortedBy grain_cmp (keys_of (e ∷ es)) → All (λ x. x.0 ≡ x.1.grain) (e ∷ es) → is_before_first e.1 (entries_of es) ≡ true

@@ -49,7 +49,7 @@ use Rattle.directory_headline.specs.Shown.{held_in, held_as, activation_in, is_s
 use Rattle.directory_headline.proofs.Facts.{WorldFacts, IsPiece}
 use Rattle.directory_headline.proofs.Frame.{Here, node_shown, seen_is, hash_is, alive}
 use Rattle.directory_headline.proofs.Viewed.{Carried}
-use Rattle.directory_headline.proofs.Statuses.{there_live}
+use Rattle.directory_headline.proofs.Statuses.{alive_live}
 use Rattle.directory_headline.proofs.PieceAt.{of_found}
 use Rattle.directory_headline.proofs.HighHashes.{hash_for, hash_below, is_hash, owns_by, found_hash, found_owned, held_once}
 use Rattle.directory_headline.proofs.HashPieces.{is_hashed_so, only_piece}
@@ -125,12 +125,8 @@ module _ (m : Setting) (f : World) (setting : IsSettingOf m f) (facts : WorldFac
   holder_there silo grain x lives there =
       let known : not (is_known_dead (status_at f.views f.views.version silo)) ≡ true =
       sym (ap (λ version. m.alive version silo) carried.shown.now ∙ setting.alive f.views.version silo (omega arith)) ∙ lives in
-      some_node (node_of f silo) (facts.peopled.live silo ∙ there_live (status_at f.views f.views.version silo) (row (status_at f.views f.views.version silo) refl) (not_not (is_known_dead (status_at f.views f.views.version silo)) known))
+      some_node (node_of f silo) (facts.peopled.live silo ∙ alive_live (status_at f.views f.views.version silo) (row (status_at f.views f.views.version silo) refl) known)
     where
-      not_not : (b : Bool) → not b ≡ true → b ≡ false
-      not_not true is = absurd (cc (is))
-      not_not false is = refl
-
       row : (status : Option Status) → status_at f.views f.views.version silo ≡ status → IsSome (status_at f.views f.views.version silo)
       row None none = let first = ap (λ s. s.held grain) (carried.shown.absent silo none) in absurd (cc (first, there))
       row (Some status) is = subst (λ o. IsSome o) (sym is) refl
@@ -186,7 +182,7 @@ module _ (m : Setting) (f : World) (setting : IsSettingOf m f) (facts : WorldFac
         by so (Some e) found is =
             let some : Some e.activation ≡ Some (activation_on t held.count) = sym (ap activation_in found) ∙ is in
             let one : e.activation ≡ activation_on t held.count = cc (some) in
-            let own : e.grain ≡ grain = found_own grain at.piece.entries e piece_is.table.own found in
+            let own : e.grain ≡ grain = found_own grain at.piece.entries e piece_is.table.own_grain found in
             let passes : its e ≡ true = eq-eqb (m.hash e.grain) number (ap m.hash own ∙ so) in
             subst (Contains (filter its (entries_of at.piece.entries))) (same_entry e (entry_on t grain held) own one)
             (picked_found its grain at.piece.entries e found passes)

@@ -48,7 +48,7 @@ pub is_piece : (hash : Grain → ℕ) (piece : Piece) → IsPiece hash piece →
 is_piece hash piece is = record {
   entries = settled_or_bare piece.state piece.entries is.empty;
   from = tells piece.state;
-  in_order = subst (λ (grains : List Grain). IsSorted grain_cmp grains) (sym (grains_of piece.entries is.table.own)) (sorted_in_order grain_cmp grain_cmp_total (keys_of piece.entries) is.table.rising);
+  in_order = subst (λ (grains : List Grain). IsSorted grain_cmp grains) (sym (grains_of piece.entries is.table.own_grain)) (sorted_in_order grain_cmp grain_cmp_total (keys_of piece.entries) is.table.by_grain);
 }
 
 starts_of : (pieces : List (ℕ × Piece)) → All (λ e. e.0 ≡ e.1.range.start) pieces → map (λ piece. piece.range.start) (map (λ e. dump_piece e.1) pieces) ≡ keys_of pieces
