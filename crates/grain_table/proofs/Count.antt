@@ -1,12 +1,11 @@
 -- A table has as many entries in either order.
-use Rattle.std.proofs.Common.{◌≡◌, sym, ap, ◌∙◌, List, [], ◌∷◌, length, ◌+◌, arith, refl}
+use Rattle.std.proofs.Common.{◌≡◌, sym, ap, ◌∙◌, [], ◌∷◌, length, arith, refl}
 use Rattle.std.specs.Prelude.{None}
 use Rattle.std.specs.Option.{option_map}
-use Rattle.std.specs.List.{AllByRecursion}
-use Rattle.std.specs.Map.{lookup, keys_of}
+use Rattle.std.specs.Map.{keys_of}
 use Rattle.std.specs.BTreeMap.{is_at}
 use Rattle.std.proofs.lemmas.Map.{lookup-none}
-use Rattle.std.proofs.lemmas.Map.Keys.{sorted_head, sorted_tail, IsDistinct-from_sorted}
+use Rattle.std.proofs.lemmas.Map.Keys.{sorted_tail, IsDistinct-from_sorted}
 use Rattle.std.proofs.lemmas.Map.Entries.{none_past_head}
 use Rattle.std.proofs.lemmas.Cmp.{eq_by_cmp_equiv, tied_itself}
 use Rattle.std.specs.Ordering.{is_eq}
@@ -16,7 +15,7 @@ use Rattle.membership_view.proofs.Entries.{length-insert_entry}
 use Rattle.hash_ring.specs.declared.Hashing.{Hashing}
 use Rattle.directory_rules.specs.Table.{entry_at}
 use Rattle.grain_table.specs.declared.hashed_grain.HashedGrain.{HashedGrain}
-use Rattle.grain_table.specs.Hashed.{AreHashed, Hashed, IsKeyOf, by_grain, entry_under, hashed_cmp, key_of}
+use Rattle.grain_table.specs.Hashed.{AreHashed, Hashed, by_grain, entry_under, hashed_cmp}
 use Rattle.grain_table.proofs.Order.{hashed_cmp_total}
 use Rattle.grain_table.proofs.ByGrain.{entry_of, found_at}
 

@@ -1,5 +1,5 @@
 -- A table with what stands in a map under the hashes of a range, in the words of the rule.
-use Rattle.std.proofs.Common.{arith, ◌≡◌, sym, ap, ◌∙◌, subst, ℕ, ◌+◌, ◌-◌, ◌<◌, ◌≤◌, []}
+use Rattle.std.proofs.Common.{arith, ◌≡◌, sym, ap, ◌∙◌, ℕ, ◌+◌, ◌-◌, ◌<◌, ◌≤◌, []}
 use Rattle.std.specs.Prelude.{filter, not, Result, Ok, Err, IfOk}
 use Rattle.membership_view.specs.View.{ViewValue}
 use Rattle.ring_range.specs.Range.{Range, IsRange, circle, holds}

@@ -1,14 +1,9 @@
-ghost use Rattle.std.specs.Prelude.{◌≡◌, ◌↔◌, [], IsTrue, IfOk, OnOk, OnErr, length, filter, fold, is_none, not};
 ghost use Rattle.std.specs.List.Sorted.{IsStrictlySortedBy};
 ghost use Rattle.std.specs.Map.{keys_of};
+ghost use Rattle.std.specs.Prelude.{◌≡◌, [], IfOk, OnOk, OnErr, length, is_none};
 ghost use Rattle.silo_address.specs.Grain.{grain_cmp};
-ghost use Rattle.directory_rules.specs.Answer.{deregistered_from, found_reply, is_previous, registered_over, turned};
-ghost use Rattle.directory_rules.specs.Membership.{is_dead_in};
 ghost use Rattle.directory_rules.specs.Recovery.{with_reported};
-ghost use Rattle.directory_rules.specs.Sight.{is_kept};
-ghost use Rattle.directory_rules.specs.Table.{entries_of, entry_at, with_entry, without_grain};
-ghost use Rattle.hash_ring.specs.Hash.{hash_grain};
-ghost use Rattle.ring_range.specs.Range.{holds};
+ghost use Rattle.directory_rules.specs.Table.{entry_at, with_entry, without_grain};
 ghost use Rattle.grain_table.specs.Hashed.{IsKeyOf};
 
 mod order;

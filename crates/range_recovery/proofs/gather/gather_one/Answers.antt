@@ -1,4 +1,4 @@
-use Rattle.std.proofs.Common.{◌≡◌, ◌++◌, ◌∷◌, [], cond, ◌∙◌, ap, sym}
+use Rattle.std.proofs.Common.{◌++◌, ◌∷◌, [], cond, ◌∙◌, ap}
 use Rattle.std.specs.Result.{is_ok}
 use Rattle.directory_rules.specs.Table.{without_grain}
 use Rattle.grain_table.specs.Table.{TableValue}

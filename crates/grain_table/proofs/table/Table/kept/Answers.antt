@@ -1,4 +1,4 @@
-use Rattle.std.proofs.Common.{◌≡◌, ◌∙◌, ap, subst, []}
+use Rattle.std.proofs.Common.{◌∙◌, ap, subst, []}
 use Rattle.std.specs.Prelude.{filter, not}
 use Rattle.ring_range.specs.Range.{holds}
 use Rattle.hash_ring.specs.Hash.{hash_grain}

@@ -1,4 +1,4 @@
-use Rattle.std.proofs.Common.{◌≡◌, ◌∙◌, ap, length}
+use Rattle.std.proofs.Common.{◌∙◌, ap, length}
 use Rattle.grain_table.specs.Table.{TableValue}
 use Rattle.grain_table.proofs.Count.{length_by_grain}
 use Rattle.grain_table.proofs.table.Table.len.Goals as goal

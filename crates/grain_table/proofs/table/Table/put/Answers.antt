@@ -1,4 +1,4 @@
-use Rattle.std.proofs.Common.{◌≡◌, ◌∙◌, ap, sym, subst}
+use Rattle.std.proofs.Common.{◌∙◌, ap, sym, subst}
 use Rattle.directory_rules.specs.Table.{with_entry}
 use Rattle.grain_table.specs.Hashed.{AreHashed, Hashed, IsKeyOf, by_grain}
 use Rattle.grain_table.specs.Table.{TableValue}

@@ -1,4 +1,4 @@
-use Rattle.std.proofs.Common.{◌≡◌, ◌∙◌, ap, sym, subst}
+use Rattle.std.proofs.Common.{◌∙◌, ap, sym, subst}
 use Rattle.std.specs.BTreeMap.{is_at}
 use Rattle.directory_rules.specs.Table.{without_grain}
 use Rattle.grain_table.specs.Hashed.{AreHashed, Hashed, IsKeyOf, by_grain, hashed_cmp}

@@ -1,4 +1,4 @@
-use Rattle.std.proofs.Common.{◌≡◌, ◌∙◌, ap, subst, [], IfOk}
+use Rattle.std.proofs.Common.{◌≡◌, ◌∙◌, ap, subst, IfOk}
 use Rattle.std.specs.Prelude.{filter}
 use Rattle.ring_range.specs.Range.{holds}
 use Rattle.hash_ring.specs.Hash.{hash_grain}
