@@ -7,6 +7,3 @@ mod line;
 
 pub use error::LineError;
 pub use line::{Line, read_line};
-
-#[cfg(test)]
-mod tests;

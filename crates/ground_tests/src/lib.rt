@@ -1,7 +1,9 @@
-//! Tests of the crates below the directory's rules, through their public calls: a file for each crate that they test. They
-//! are in a crate of their own so that each of those crates is proved once.
+//! Tests of the crates below the directory's rules, and of the command line, through their public calls: a file for each
+//! crate that they test. They are in a crate of their own so that each of those crates is proved once.
 #![tactic(auto)]
 
+#[cfg(test)]
+mod command_line_tests;
 #[cfg(test)]
 mod hash_ring_tests;
 #[cfg(test)]
