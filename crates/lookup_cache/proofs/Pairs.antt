@@ -1,5 +1,5 @@
 -- What the bounded map does to its pairs, in the words of the rule's cache.
-use Rattle.std.proofs.Common.{◌≡◌, ℕ, zero, suc, ◌+◌, ◌-◌, ◌<◌, ◌≤◌, Bool, true, false, not, ◌&&◌, cond, List, [], ◌∷◌, filter, option_map, length, take, Option, Some, None, refl, sym, ◌∙◌, ap, subst, arith}
+use Rattle.std.proofs.Common.{◌≡◌, ℕ, zero, suc, ◌+◌, ◌-◌, ◌<◌, ◌≤◌, Bool, true, false, not, ◌&&◌, cond, List, [], ◌∷◌, filter, option_map, length, take, slice_get, is_some, Option, Some, None, refl, sym, ◌∙◌, ap, subst, arith}
 use Rattle.std.specs.Cmp.{IsEquivalence}
 use Rattle.std.specs.List.{AllByRecursion, IsDistinct}
 use Rattle.std.specs.Option.{option_map_or}
@@ -38,6 +38,15 @@ module _ {K V : Type 0} where
           → length (cond b es (e ∷ remove_entry test es)) + 1 ≡ length (e ∷ es)
       by true found later = omega arith
       by false found later = let less = later found in omega arith
+
+  -- what comes to the front is the pair that was found
+  pub first-promoted : (test : K → Bool) (es : List (K × V)) → is_some (lookup test es) ≡ true → option_map (λ e. e.1) (slice_get (promoted test es) 0) ≡ lookup test es
+  first-promoted test es there = by (lookup_entry test es) (lookup-lookup_entry test es) there
+    where
+      by : (o : Option (K × V)) → option_map (λ e. e.1) o ≡ lookup test es → is_some (lookup test es) ≡ true
+          → option_map (λ e. e.1) (slice_get (option_map_or (λ e. e ∷ remove_entry test es) o es) 0) ≡ lookup test es
+      by None is there = let no : true ≡ false = sym there ∙ ap is_some (sym is) in cc
+      by (Some e) is there = is
 
   module _ (eq : K → K → Bool) (exact : (a b : K) → eq a b ≡ true → a ≡ b) where
     -- the pair that is found has this very key

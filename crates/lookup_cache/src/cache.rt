@@ -4,7 +4,7 @@ ghost use Rattle.lookup_cache.specs.Capacity.{IsCache, IsCapacity};
 ghost use Rattle.lookup_cache.specs.Used.{used};
 
 use crate::CacheError;
-use crate::hints::{copy_of, drop_dead, has_dead, same_hints};
+use crate::hints::{copy_of, drop_dead, has_dead, same_hints, use_hint};
 use lru::LruCache;
 use membership_view::View;
 use silo_address::{ActivationId, Entry, GrainId};
@@ -79,9 +79,7 @@ impl Cache {
         ensures used { self.new ≡ used self.old grain.now }
     {
         let _len = self.hints.len();
-        let hint = self.hints.peek(grain).copied();
-        self.hints.promote(grain);
-        hint
+        use_hint(&mut self.hints, grain)
     }
 
     /// Learns where a grain is: the hint stands in front, in place of one of its grain, and the last one goes where there are too

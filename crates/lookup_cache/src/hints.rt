@@ -1,13 +1,40 @@
 ghost use Rattle.std.specs.List.{list_any};
-ghost use Rattle.std.specs.Prelude.{◌≡◌, ◌↔◌, IsTrue, IfOk};
+ghost use Rattle.std.specs.Map.{lookup};
+ghost use Rattle.std.specs.Prelude.{◌≡◌, ◌↔◌, IsTrue, IfOk, is_some};
 ghost use Rattle.directory_rules.specs.Membership.{is_dead_in, is_dead_status};
 ghost use Rattle.lookup_cache.specs.Hints.{living_hints, turned};
-ghost use Rattle.lru.specs.LruCache.{lru_cache};
+ghost use Rattle.lru.specs.LruCache.{lru_cache, promoted};
+ghost use Rattle.silo_address.specs.Grain.{grain_eq};
 
 use lru::LruCache;
 use membership_view::{Status, View};
 use silo_address::{ActivationId, GrainId, SiloAddress};
 use std::alloc::{AllocError, Global};
+
+/// The hint of the grain, which comes to the front. It is read there, so that its grain is looked up once.
+pub(crate) fn use_hint(
+    hints: &mut LruCache<GrainId, ActivationId>,
+    grain: &GrainId,
+) -> Option<ActivationId>
+    ensures hint { result ≡ lookup (grain_eq grain.now) hints.old.entries }
+    ensures front { hints.new ≡ lru_cache (promoted (grain_eq grain.now) hints.old.entries) hints.old.cap }
+{
+    if !bring_to_front(hints, grain) {
+        return None;
+    }
+    match hints.peek_mru() {
+        Some((_, activation)) => Some(*activation),
+        None => None,
+    }
+}
+
+// The hint of the grain comes to the front; whether there is one.
+fn bring_to_front(hints: &mut LruCache<GrainId, ActivationId>, grain: &GrainId) -> bool
+    ensures found { result ≡ is_some (lookup (grain_eq grain.now) hints.old.entries) }
+    ensures front { hints.new ≡ lru_cache (promoted (grain_eq grain.now) hints.old.entries) hints.old.cap }
+{
+    hints.promote(grain)
+}
 
 /// Drops the hints at silos that are Dead in the view. Once round from the last one: each hint goes to the front, where its order is
 /// kept, or it goes for good. So no memory is needed.
