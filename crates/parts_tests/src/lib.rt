@@ -1,9 +1,11 @@
 //! Tests of the parts of a directory node over their public calls: the types of the rule, what a silo keeps for others, its
-//! activations, its recoveries, and placement. They stand in a crate of their own, since a crate with tests is proved twice.
+//! activations, its recoveries, its cache, and placement. They stand in a crate of their own, since a crate with tests is proved twice.
 #![tactic(auto)]
 
 #[cfg(test)]
 mod activations;
+#[cfg(test)]
+mod cache;
 #[cfg(test)]
 mod partition;
 #[cfg(test)]
