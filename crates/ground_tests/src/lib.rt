@@ -7,8 +7,6 @@ mod command_line_tests;
 #[cfg(test)]
 mod hash_ring_tests;
 #[cfg(test)]
-mod id_keys_tests;
-#[cfg(test)]
 mod membership_view_tests;
 #[cfg(test)]
 mod range_moves_tests;

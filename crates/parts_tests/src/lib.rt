@@ -1,11 +1,16 @@
 //! Tests of the parts of a directory node over their public calls: the types of the rule, tables, what a silo keeps for
-//! others, its activations, and its recoveries. They stand in a crate of their own, since a crate with tests is proved twice.
+//! others, its activations, its recoveries, its cache, and placement. They stand in a crate of their own, since a crate with
+//! tests is proved twice.
 #![tactic(auto)]
 
 #[cfg(test)]
 mod activations;
 #[cfg(test)]
+mod cache;
+#[cfg(test)]
 mod partition;
+#[cfg(test)]
+mod placement;
 #[cfg(test)]
 mod recovery;
 #[cfg(test)]

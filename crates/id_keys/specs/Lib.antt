@@ -1,1 +1,0 @@
--- The callers cite the words of the maps and of the ids.

@@ -1,0 +1,5 @@
+pub mod Pairs
+pub mod Turning
+pub mod Rounds
+pub mod Living
+pub mod Caches

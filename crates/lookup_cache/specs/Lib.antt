@@ -1,0 +1,4 @@
+pub mod Capacity
+pub mod Numbers
+pub mod Used
+pub mod Hints
