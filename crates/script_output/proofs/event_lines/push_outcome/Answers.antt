@@ -1,6 +1,14 @@
-use Rattle.std.proofs.Common.{arith}
-use Rattle.script_output.proofs.Writing.{word_by_word}
+use Rattle.script_output.proofs.Fronts.{begins_with_the_first}
+use Rattle.script_output.proofs.Spacing.{then_spaced}
 use Rattle.script_output.proofs.event_lines.push_outcome.Goals as goal
 
+pub returns-in_err-push_sent-clause-kept : goal.returns-in_err-push_sent-clause-kept
+returns-in_err-push_sent-clause-kept c = begins_with_the_first _ _ _ c.push_happening.ensures.kept c.push_sent.ensures.kept
+
 pub returns-clause-written : goal.returns-clause-written
-returns-clause-written c = grind (arith, word_by_word)
+returns-clause-written c =
+    then_spaced _ _ _ _ _ c.in_ok-push_happening.ensures.written
+    c.in_ok-push_sent.ensures.written
+
+pub returns-clause-kept : goal.returns-clause-kept
+returns-clause-kept c = begins_with_the_first _ _ _ c.push_happening.ensures.kept c.push_sent.ensures.kept
