@@ -7,6 +7,3 @@ mod playing;
 mod showing;
 
 pub use playing::{play, play_to_one_silo};
-
-#[cfg(test)]
-mod tests;

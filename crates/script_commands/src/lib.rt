@@ -15,6 +15,3 @@ pub use command::Command;
 pub use error::{ReadError, ScriptFault};
 pub use lines::{first_line, without_return};
 pub use reading::read_command;
-
-#[cfg(test)]
-mod tests;

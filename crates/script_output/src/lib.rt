@@ -16,6 +16,3 @@ pub use event_lines::{write_fault, write_outcome, write_refusal};
 pub use show_lines::{
     write_held, write_no_owner, write_owner, write_range, write_silo, write_version,
 };
-
-#[cfg(test)]
-mod tests;

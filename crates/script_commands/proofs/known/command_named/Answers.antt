@@ -3,6 +3,3 @@ use Rattle.script_commands.proofs.known.command_named.Goals as goal
 
 pub returns-then-eq-7-clause-memory : goal.returns-then-eq-7-clause-memory
 returns-then-eq-7-clause-memory c = search rules
-
-pub returns-clause-reads : goal.returns-clause-reads
-returns-clause-reads c = search rules

@@ -1,7 +1,7 @@
-use Rattle.std.proofs.Common.{◌∷◌, [], ◌++◌, ap, ◌∙◌}
+use Rattle.std.proofs.Common.{◌∷◌, []}
 use Rattle.silo_address.specs.Marks.{dot}
 use Rattle.script_output.specs.Spaced.{BeginsWith}
-use Rattle.script_output.proofs.Fronts.{begins_with_itself, begins_with_the_first}
+use Rattle.script_output.proofs.Fronts.{begins_with_the_first}
 use Rattle.script_output.proofs.Texts.{span_written}
 use Rattle.script_output.proofs.words.push_span.Goals as goal
 

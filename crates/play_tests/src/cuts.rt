@@ -1,6 +1,6 @@
 //! The first run's script, cut at each of its bytes.
 
-use super::play_stated;
+use crate::plays::play_stated;
 use script_loop::{Ended, LineFault};
 use std::alloc::Global;
 use std::process::Abort;

@@ -1,6 +1,6 @@
 //! The scripts of `examples/` and what they print, as the files there have it.
 
-use super::assert_prints;
+use crate::plays::assert_prints;
 use script_loop::Ended;
 use std::test::Fail;
 

@@ -1,7 +1,7 @@
 //! How plays end, and what they begin with.
 
-use crate::{play, play_to_one_silo};
 use cluster_events::Event;
+use console_play::{play, play_to_one_silo};
 use directory_core::World;
 use hash_ring::Hashing;
 use script_commands::ScriptFault;

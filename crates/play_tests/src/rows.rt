@@ -1,6 +1,6 @@
 //! Scripts with all that they print: worked by hand, and kept beside the rules.
 
-use super::play_stated;
+use crate::plays::play_stated;
 use std::alloc::{AllocError, Global};
 use std::process::Abort;
 use std::test::Fail;

@@ -1,15 +1,16 @@
-use crate::{
-    laws, write_fault, write_held, write_no_owner, write_outcome, write_owner, write_range,
-    write_refusal, write_silo, write_version,
-};
+//! The lines that a script prints.
 use cluster_events::{Happening, Outcome, Span};
 use directory_rules::{Effect, Held, LetterKind, Phase, Why};
 use hash_ring::Point;
 use membership_view::Status;
 use ring_range::RingRange;
+use script_output::{
+    laws, write_fault, write_held, write_no_owner, write_outcome, write_owner, write_range,
+    write_refusal, write_silo, write_version,
+};
 use silo_address::{ActivationId, Entry, GrainId, SiloAddress};
 use std::alloc::Global;
-use std::test::Fail;
+use std::process::Abort;
 
 const A: &str = "10.0.0.1:1000@1";
 
@@ -17,44 +18,42 @@ const B: &str = "10.0.0.2:1000@1";
 
 const GRAIN: &str = "user/t#3000000000";
 
-fn silo(text: &str) -> Result<SiloAddress, Fail> {
-    Ok(SiloAddress::parse(text.as_bytes())?)
+fn silo(rt: &impl Abort, text: &str) -> SiloAddress {
+    SiloAddress::parse(text.as_bytes()).expect(rt, text)
 }
 
-fn grain(text: &str) -> Result<GrainId, Fail> {
-    Ok(GrainId::parse(text.as_bytes())?)
+fn grain(rt: &impl Abort) -> GrainId {
+    GrainId::parse(GRAIN.as_bytes()).expect(rt, GRAIN)
 }
 
 // The entry of the grain's first activation on A.
-fn entry() -> Result<Entry, Fail> {
-    Ok(Entry {
-        grain: grain(GRAIN)?,
+fn entry(rt: &impl Abort) -> Entry {
+    Entry {
+        grain: grain(rt),
         activation: ActivationId {
-            silo: silo(A)?,
+            silo: silo(rt, A),
             count: 1,
         },
-    })
+    }
 }
 
 fn span(first: u64, last: u64) -> Option<Span> {
     Some(Span { first, last })
 }
 
-// A buffer in which a line stands already.
-fn begun(alloc: Global) -> Result<Vec<u8>, Fail> {
-    Ok(Vec::from_slice(alloc, b"check ok\n")?)
-}
-
-// Whether the buffer has that line and then this one.
-fn has_behind(alloc: Global, out: &Vec<u8>, line: &str) -> Result<bool, Fail> {
-    let text = format!(in alloc; "check ok\n{line}\n")?;
-    Ok(out.as_slice() == text.as_bytes())
+// The outcome's line is this, and is written behind one that stands already.
+fn prints(rt: &impl Abort, alloc: Global, outcome: &Outcome, line: &str) {
+    let mut out = Vec::from_slice(alloc, b"check ok\n").expect(rt, "memory");
+    write_outcome(&mut out, outcome).expect(rt, "memory");
+    let text = format!(in alloc; "check ok\n{line}\n").expect(rt, "memory");
+    assert!(rt; out.as_slice() == text.as_bytes(), "{line}");
 }
 
 // The lines of docs/RULES.md, each kind of it once.
 #[test]
-fn lines_of_versions(rt: HostRuntime) -> Result<(), Fail> {
-    let (a, b) = (silo(A)?, silo(B)?);
+fn lines_of_versions(rt: HostRuntime) {
+    let (a, b) = (silo(&rt, A), silo(&rt, B));
+    let other = silo(&rt, "255.0.10.9:65535@2147483647");
     let table: [(&str, Happening, Option<Span>); 5] = [
         (
             "view 1 joined 10.0.0.2:1000@1",
@@ -69,7 +68,7 @@ fn lines_of_versions(rt: HostRuntime) -> Result<(), Fail> {
             "view 18446744073709551615 joined 255.0.10.9:65535@2147483647 dead 10.0.0.1:1000@1",
             Happening::Joined {
                 version: u64::MAX,
-                silo: silo("255.0.10.9:65535@2147483647")?,
+                silo: other,
                 replaced: Some(a),
             },
             None,
@@ -103,60 +102,51 @@ fn lines_of_versions(rt: HostRuntime) -> Result<(), Fail> {
         ),
     ];
     for (line, happening, sent) in table {
-        let mut out = begun(rt.alloc())?;
-        write_outcome(&mut out, &Outcome { happening, sent })?;
-        assert!(rt; has_behind(rt.alloc(), &out, line)?, "{line}");
+        prints(&rt, rt.alloc(), &Outcome { happening, sent }, line);
     }
-    Ok(())
+}
+
+// A's own step has this effect, which is told so.
+fn tells(rt: &impl Abort, alloc: Global, effect: Effect, line: &str) {
+    let silo = silo(rt, A);
+    let happening = Happening::Did { silo, effect };
+    let sent = None;
+    prints(rt, alloc, &Outcome { happening, sent }, line);
 }
 
 #[test]
-fn lines_of_own_steps(rt: HostRuntime) -> Result<(), Fail> {
-    let (a, b, entry) = (silo(A)?, silo(B)?, entry()?);
-    let grain = entry.grain;
-    let table: [(&str, Effect); 8] = [
-        (
-            "started 10.0.0.1:1000@1!1 user/t#3000000000",
-            Effect::Started(entry),
-        ),
-        (
-            "closing 10.0.0.1:1000@1!1 user/t#3000000000",
-            Effect::Closing(entry),
-        ),
-        (
-            "offered 10.0.0.1:1000@1!1 user/t#3000000000 to 10.0.0.2:1000@1",
-            Effect::Offered { entry, to: b },
-        ),
-        (
-            "cached 10.0.0.1:1000@1!1 user/t#3000000000",
-            Effect::Cached(entry),
-        ),
-        ("finding user/t#3000000000", Effect::Finding(grain)),
-        ("forgot user/t#3000000000", Effect::Forgot(grain)),
-        (
-            "nothing cached user/t#3000000000",
-            Effect::NothingCached(grain),
-        ),
-        ("nudged 10.0.0.1:1000@1", Effect::Nudged),
-    ];
-    for (line, effect) in table {
-        let happening = Happening::Did { silo: a, effect };
-        let mut out = begun(rt.alloc())?;
-        write_outcome(
-            &mut out,
-            &Outcome {
-                happening,
-                sent: None,
-            },
-        )?;
-        assert!(rt; has_behind(rt.alloc(), &out, line)?, "{line}");
-    }
-    Ok(())
+fn lines_of_activations(rt: HostRuntime) {
+    let alloc = rt.alloc();
+    let entry = &entry(&rt);
+    let to = silo(&rt, B);
+    let started = "started 10.0.0.1:1000@1!1 user/t#3000000000";
+    tells(&rt, alloc, Effect::Started(*entry), started);
+    let closing = "closing 10.0.0.1:1000@1!1 user/t#3000000000";
+    tells(&rt, alloc, Effect::Closing(*entry), closing);
+    let offered = "offered 10.0.0.1:1000@1!1 user/t#3000000000 to 10.0.0.2:1000@1";
+    let effect = Effect::Offered { entry: *entry, to };
+    tells(&rt, alloc, effect, offered);
+    let cached = "cached 10.0.0.1:1000@1!1 user/t#3000000000";
+    tells(&rt, alloc, Effect::Cached(*entry), cached);
+}
+
+#[test]
+fn lines_of_grains(rt: HostRuntime) {
+    let alloc = rt.alloc();
+    let grain = &grain(&rt);
+    let finding = "finding user/t#3000000000";
+    tells(&rt, alloc, Effect::Finding(*grain), finding);
+    let forgot = "forgot user/t#3000000000";
+    tells(&rt, alloc, Effect::Forgot(*grain), forgot);
+    let nothing = "nothing cached user/t#3000000000";
+    tells(&rt, alloc, Effect::NothingCached(*grain), nothing);
+    tells(&rt, alloc, Effect::Nudged, "nudged 10.0.0.1:1000@1");
 }
 
 // Each kind of letter, and each of its effects.
 #[test]
-fn lines_of_letters(rt: HostRuntime) -> Result<(), Fail> {
+fn lines_of_letters(rt: HostRuntime) {
+    let started = Effect::Started(entry(&rt));
     let table: [(&str, LetterKind, Effect); 35] = [
         (
             "register registered",
@@ -222,11 +212,7 @@ fn lines_of_letters(rt: HostRuntime) -> Result<(), Fail> {
         ("report complete", LetterKind::Report, Effect::Complete),
         ("behind noted", LetterKind::Behind, Effect::Noted),
         ("ahead noted", LetterKind::Ahead, Effect::Noted),
-        (
-            "offer started",
-            LetterKind::Offer,
-            Effect::Started(entry()?),
-        ),
+        ("offer started", LetterKind::Offer, started),
         ("offer ignored", LetterKind::Offer, Effect::Ignored),
         ("page ignored", LetterKind::Page, Effect::Ignored),
     ];
@@ -236,57 +222,53 @@ fn lines_of_letters(rt: HostRuntime) -> Result<(), Fail> {
             kind,
             effect,
         };
-        let mut out = begun(rt.alloc())?;
-        write_outcome(
-            &mut out,
-            &Outcome {
-                happening,
-                sent: span(9, 12),
-            },
-        )?;
-        let line = format!(in rt.alloc(); "delivered 7 {words} sent 9..12")?;
-        assert!(rt; has_behind(rt.alloc(), &out, line.as_str())?, "{words}");
+        let sent = span(9, 12);
+        let line = format!(in rt.alloc(); "delivered 7 {words} sent 9..12").expect(&rt, "memory");
+        prints(&rt, rt.alloc(), &Outcome { happening, sent }, line.as_str());
     }
-    Ok(())
 }
 
-// The lines that `show` prints of two silos, and those of refusals, faults and owners.
-#[test]
-fn lines_of_the_world(rt: HostRuntime) -> Result<(), Fail> {
-    let (a, b, grain) = (silo(A)?, silo(B)?, grain(GRAIN)?);
-    let mut out = Vec::new(rt.alloc());
-    write_version(&mut out, 3)?;
-    write_silo(&mut out, &a, Status::Leaving, Some((3, 2)))?;
-    for (count, phase) in [
-        (1, Phase::Asking(9)),
-        (2, Phase::Firm),
-        (3, Phase::Closing(10)),
-    ] {
-        let held = Held {
-            count,
-            phase,
-            previous: None,
-        };
-        write_held(&mut out, &a, &grain, &held)?;
-    }
-    write_silo(&mut out, &b, Status::Active, Some((2, 0)))?;
-    write_silo(&mut out, &b, Status::Dead, None)?;
-    write_range(&mut out, &RingRange::new(0, 2147483648)?, &a, Some(12))?;
-    write_range(&mut out, &RingRange::new(2147483648, 4294967296)?, &b, None)?;
-    write_no_owner(&mut out)?;
-    write_refusal(&mut out, 905)?;
-    write_owner(
-        &mut out,
-        4294967295,
-        Some(Point {
-            place: 7,
-            silo: b,
-            index: 29,
-        }),
-    )?;
-    write_owner(&mut out, 1, None)?;
-    write_fault(&mut out, 17, 921)?;
-    let expected = "version 3
+// The silo's activation of that count, in the phase.
+fn write_phase(rt: &impl Abort, out: &mut Vec<u8>, silo: &SiloAddress, count: u64, phase: Phase) {
+    let held = Held {
+        count,
+        phase,
+        previous: None,
+    };
+    write_held(out, silo, &grain(rt), &held).expect(rt, "memory");
+}
+
+// The lines of two silos.
+fn write_silos(rt: &impl Abort, out: &mut Vec<u8>, a: &SiloAddress, b: &SiloAddress) {
+    write_silo(out, a, Status::Leaving, Some((3, 2))).expect(rt, "memory");
+    write_phase(rt, out, a, 1, Phase::Asking(9));
+    write_phase(rt, out, a, 2, Phase::Firm);
+    write_phase(rt, out, a, 3, Phase::Closing(10));
+    write_silo(out, b, Status::Active, Some((2, 0))).expect(rt, "memory");
+    write_silo(out, b, Status::Dead, None).expect(rt, "memory");
+}
+
+// Those of their ranges.
+fn write_ranges(rt: &impl Abort, out: &mut Vec<u8>, a: &SiloAddress, b: &SiloAddress) {
+    let lower = RingRange::new(0, 2147483648).expect(rt, "a range");
+    let upper = RingRange::new(2147483648, 4294967296).expect(rt, "a range");
+    write_range(out, &lower, a, Some(12)).expect(rt, "memory");
+    write_range(out, &upper, b, None).expect(rt, "memory");
+}
+
+// Those of owners.
+fn write_owners(rt: &impl Abort, out: &mut Vec<u8>, silo: SiloAddress) {
+    let owner = Point {
+        place: 7,
+        silo,
+        index: 29,
+    };
+    write_no_owner(out).expect(rt, "memory");
+    write_owner(out, 4294967295, Some(owner)).expect(rt, "memory");
+    write_owner(out, 1, None).expect(rt, "memory");
+}
+
+const SHOWN: &str = "version 3
 silo 10.0.0.1:1000@1 leaving seen 3 held 2
 held 10.0.0.1:1000@1!1 user/t#3000000000 asking
 held 10.0.0.1:1000@1!2 user/t#3000000000 firm
@@ -296,13 +278,24 @@ silo 10.0.0.2:1000@1 dead
 range 0+2147483648 10.0.0.1:1000@1 settled entries 12
 range 2147483648+4294967296 10.0.0.2:1000@1 unsettled
 no owner
-refused 905
 owner 4294967295 10.0.0.2:1000@1 29
 owner 1 none
+refused 905
 line 17 fault 921
 ";
-    assert_eq!(rt; out.as_slice(), expected.as_bytes());
-    Ok(())
+
+// The lines that `show` prints of two silos, and those of owners, refusals and faults.
+#[test]
+fn lines_of_the_world(rt: HostRuntime) {
+    let (a, b) = (silo(&rt, A), silo(&rt, B));
+    let mut out = Vec::new(rt.alloc());
+    write_version(&mut out, 3).expect(&rt, "memory");
+    write_silos(&rt, &mut out, &a, &b);
+    write_ranges(&rt, &mut out, &a, &b);
+    write_owners(&rt, &mut out, b);
+    write_refusal(&mut out, 905).expect(&rt, "memory");
+    write_fault(&mut out, 17, 921).expect(&rt, "memory");
+    assert_eq!(rt; out.as_slice(), SHOWN.as_bytes());
 }
 
 #[test]

@@ -1,6 +1,6 @@
 //! Lines with faults. Each is told by its line, and ends the script.
 
-use super::{assert_prints, padded, play_stated};
+use crate::plays::{assert_prints, padded, play_stated};
 use script_commands::ScriptFault;
 use script_loop::{Ended, LineFault};
 use silo_address::{GrainError, SiloError};

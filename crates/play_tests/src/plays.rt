@@ -1,11 +1,6 @@
-mod cuts;
-mod endings;
-mod examples;
-mod faults;
-mod limits;
-mod rows;
+//! What the tests of plays share.
 
-use crate::play_to_one_silo;
+use console_play::play_to_one_silo;
 use hash_ring::Hashing;
 use script_loop::Ended;
 use std::alloc::{AllocError, Global};
@@ -17,7 +12,7 @@ use std::test::Fail;
 const POINTS: usize = 30;
 
 // Plays a script to one silo whose place is stated.
-fn play_stated(
+pub(crate) fn play_stated(
     alloc: Global,
     reader: &mut impl Read,
     writer: &mut impl Write,
@@ -29,7 +24,7 @@ fn play_stated(
 }
 
 // Plays a script from one slice to one buffer: this must be printed, and so it must end.
-fn assert_prints(
+pub(crate) fn assert_prints(
     rt: &impl Abort,
     alloc: Global,
     name: &str,
@@ -48,7 +43,7 @@ fn assert_prints(
 }
 
 // A line of so many spaces and then these words.
-fn padded(alloc: Global, spaces: usize, words: &[u8]) -> Result<Vec<u8>, AllocError> {
+pub(crate) fn padded(alloc: Global, spaces: usize, words: &[u8]) -> Result<Vec<u8>, AllocError> {
     let mut line = vec![in alloc; b' '; spaces]?;
     line.extend_from_slice(words)?;
     Ok(line)

@@ -1,5 +1,0 @@
-use Rattle.std.proofs.Common.{rules}
-use Rattle.script_commands.proofs.known.join.Goals as goal
-
-pub returns : goal.returns
-returns c = search rules
