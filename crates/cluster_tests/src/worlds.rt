@@ -213,7 +213,7 @@ fn questions_to_a_world(rt: HostRuntime) {
     let node = world.node(&silo(&rt)).expect(&rt, "a node");
     assert_eq!(rt; node.view().version(), 1);
     let letter = world.letter(1).expect(&rt, "a query");
-    assert_eq!(rt; letter.kind(), LetterKind::Query);
+    assert_eq!(rt; letter.letter().kind(), LetterKind::Query);
     assert_eq!(rt; world.least_deliverable(), Some(1));
 }
 

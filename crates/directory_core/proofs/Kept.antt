@@ -19,7 +19,7 @@ use Rattle.directory_rules.specs.Mail.{has_room_for}
 use Rattle.directory_rules.specs.Happens.{after_joining, counted, node_of}
 use Rattle.directory_rules.proofs.People.{peopled_join, peopled_put, without}
 use Rattle.directory_core.specs.Whole.{IsWorld}
-use Rattle.directory_core.specs.Mail.{MailValue}
+use Rattle.letter_mail.specs.Mail.{MailValue}
 use Rattle.directory_core.specs.Joining.{with_admitted}
 use Rattle.directory_core.proofs.Entries.{taken_back}
 

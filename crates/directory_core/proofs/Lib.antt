@@ -1,4 +1,4 @@
-pub mod Posted
+pub mod Sending
 pub mod Entries
 pub mod Kept
 pub mod FirstSight

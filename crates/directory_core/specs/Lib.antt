@@ -1,6 +1,4 @@
 pub mod Numbers
-pub mod Mail
-pub mod MailModel
 pub mod OwnModel
 pub mod Stepping
 pub mod Joining

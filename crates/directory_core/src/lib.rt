@@ -3,8 +3,8 @@
 
 mod apply;
 mod join;
-mod mail;
 mod own;
+mod posting;
 mod refusal;
 mod run;
 mod sight;

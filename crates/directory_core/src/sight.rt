@@ -9,14 +9,14 @@ ghost use Rattle.directory_rules.specs.Mail.{has_room_for};
 ghost use Rattle.directory_node.specs.Follows.{Follows};
 ghost use Rattle.directory_node.specs.Saying.{stepped_of};
 ghost use Rattle.directory_core.specs.Applying.{IsOkOrFull, accepted_as};
-ghost use Rattle.directory_core.specs.Mail.{with_posted};
+ghost use Rattle.letter_mail.specs.Mail.{with_posted};
 ghost use Rattle.directory_core.specs.Numbers.{event_refusal_number};
 ghost use Rattle.directory_core.specs.Stepping.{after_step};
 
-use crate::mail::Mail;
 use crate::{EventRefusal, World};
 use cluster_events::{Happening, Outcome};
 use directory_node::{Input, Letter, Node, StepRefusal, Stepped};
+use letter_mail::Mail;
 use membership_view::View;
 use silo_address::SiloAddress;
 use std::alloc::AllocError;

@@ -14,16 +14,17 @@ ghost use Rattle.directory_node.specs.Saying.{left_by};
 ghost use Rattle.cluster_events.specs.OutcomeModel.{span_of as code_span};
 ghost use Rattle.std.specs.Option.{option_map, option_or};
 ghost use Rattle.directory_core.specs.Applying.{accepted_as};
-ghost use Rattle.directory_core.specs.Mail.{letter_in, with_posted, with_stale};
+ghost use Rattle.letter_mail.specs.Mail.{letter_in, with_posted, with_stale};
 ghost use Rattle.directory_core.specs.OwnModel.{input_of_own};
 ghost use Rattle.directory_core.specs.Numbers.{event_refusal_number};
 ghost use Rattle.directory_core.specs.Stepping.{after_step, one_letter_number};
 
-use crate::mail::Mail;
 use crate::own::{self, Own};
+use crate::posting::{absorb_and_post, receive_and_post};
 use crate::{EventRefusal, World};
 use cluster_events::{Happening, Outcome, Span};
 use directory_node::{Letter, Node, StepRefusal};
+use letter_mail::Mail;
 use silo_address::SiloAddress;
 use std::alloc::{AllocError, Global};
 use std::collections::BTreeMap;
@@ -133,9 +134,10 @@ impl World {
         ensures told { Follows (accepted_as self.new) event_refusal_number IsOk (deliver self.old number) result }
         ensures unchanged { OnErr result (self.new ≡ self.old) }
     {
-        let Some(letter) = self.letter(number) else {
+        let Some(mailed) = self.letter(number) else {
             return Err(EventRefusal::NoSuchLetter);
         };
+        let letter = mailed.letter();
         let to = letter.to();
         let kind = letter.kind();
         let Some(node) = self.node(&to) else {
@@ -144,6 +146,7 @@ impl World {
         let Ok(response) = node.respond_letter(self.allocator(), letter) else {
             return Err(self.refused_one());
         };
+        drop(mailed);
         if !self.has_room_for(&response.letters) {
             return Err(EventRefusal::MailFull);
         }
@@ -219,7 +222,7 @@ fn absorb_at(
     let Some(node) = nodes.get_mut(silo) else {
         unreachable!()
     };
-    mail.absorb(node, own, letters)?;
+    absorb_and_post(node, own, mail, letters)?;
     Ok(())
 }
 
@@ -242,6 +245,6 @@ fn deliver_at(
     let Some(node) = nodes.get_mut(to) else {
         unreachable!()
     };
-    mail.deliver(node, number, letters)?;
+    receive_and_post(node, number, mail, letters)?;
     Ok(())
 }

@@ -1,5 +1,5 @@
 ghost use Rattle.std.specs.Prelude.{◌≡◌, ◌↔◌, ◌≤◌, IsSome, IfSome, IfOk};
-ghost use Rattle.std.specs.Option.{option_copied};
+ghost use Rattle.std.specs.Option.{option_copied, option_map};
 ghost use Rattle.hash_ring.specs.Owner.{owner_of};
 ghost use Rattle.directory_rules.specs.Settings.{directory_settings};
 ghost use Rattle.directory_rules.specs.World.{first_world};
@@ -7,12 +7,13 @@ ghost use Rattle.directory_rules.specs.Happens.{node_of};
 ghost use Rattle.directory_rules.specs.Mail.{letter_of};
 ghost use Rattle.directory_rules.specs.World.{current_ring};
 ghost use Rattle.directory_rules.specs.Happens.{least_deliverable};
+ghost use Rattle.letter_mail.specs.MailedModel.{letter_seen};
 ghost use Rattle.directory_core.specs.Whole.{IsWorld};
 
-use crate::mail::Mail;
-use directory_node::{Letter, Node};
+use directory_node::Node;
 use directory_rules::Settings;
 use hash_ring::{Hashing, Places, Point, Ring};
+use letter_mail::{Mail, MailedLetter};
 use membership_view::Views;
 use silo_address::SiloAddress;
 use std::alloc::{AllocError, Global};
@@ -123,8 +124,8 @@ impl World {
     }
 
     /// The letter of that number; `None` where no such letter is in the mail.
-    pub fn letter(&self, number: u64) -> Option<&Letter>
-        ensures { option_copied result ≡ letter_of self.now number }
+    pub fn letter(&self, number: u64) -> Option<MailedLetter<'_>>
+        ensures { option_map letter_seen result ≡ letter_of self.now number }
     {
         self.mail.letter(number)
     }

@@ -1,9 +1,8 @@
 -- The hash of a grain is a hash.
-use Rattle.std.proofs.Common.{◌≡◌, refl, ℕ, ◌+◌, ◌*◌, ◌%◌, ◌<◌, ◌≤◌, List, arith}
+use Rattle.std.proofs.Common.{◌≡◌, refl, ℕ, ◌<◌, ◌≤◌, List, arith}
 use Rattle.std.specs.Prelude.{Bool, true, false, cond, nat_le, Option, Some, None, Result, Ok, Err}
 use Rattle.std.specs.List.{list_any, after_last}
 use Rattle.std.proofs.lemmas.Bool.{leb-true}
-use Rattle.sha2.specs.Sha256.{sha256, digest_bytes}
 use Rattle.texts.specs.declared.number.NumberError.{NumberError}
 use Rattle.texts.specs.declared.number.NumberError.TheVariants.{NotANumber, OutOfRange}
 use Rattle.texts.specs.Numeral.{is_numeral, numeral_value, read_number}
@@ -11,16 +10,10 @@ use Rattle.silo_address.specs.Grain.{Grain}
 use Rattle.silo_address.specs.StatedHash.{is_number_sign, number_in, stated_hash}
 use Rattle.ring_range.specs.Range.{circle}
 use Rattle.hash_ring.specs.declared.hashing.Hashing.TheVariants.{Sha256, Stated}
-use Rattle.hash_ring.specs.Hash.{hash_text, hash_stated}
+use Rattle.hash_ring.specs.Hash.{hash_stated}
 use Rattle.directory_rules.proofs.Cases.{on_bool}
+use Rattle.directory_rules.proofs.PlacesRun.{hash_below}
 use Rattle.directory_facts.specs.Laws.{GrainsHaveHashes}
-
-four_below : (a b c d : ℕ) → a % 256 * 16777216 + b % 256 * 65536 + c % 256 * 256 + d % 256 < 4294967296
-four_below a b c d = omega arith
-
-text_below : (bytes : List ℕ) → hash_text bytes < circle
-unfolding sha256 digest_bytes
-text_below bytes = four_below _ _ _ _
 
 read_within : (numeral within : Bool) (value most number : ℕ) → nat_le value most ≡ within → ◌≡◌ {A = Result ℕ NumberError} (cond numeral (cond within (Ok value) (Err OutOfRange)) (Err NotANumber)) (Ok number) → number ≤ most
 read_within true true value most number within is = let same : value ≡ number = cc (is) in let least = leb-true value most within in omega arith
@@ -40,8 +33,8 @@ stated_within key hash is =
 
 stated_below : (stated : Option ℕ) (grain : Grain) → stated_hash grain.key ≡ stated → hash_stated stated grain < circle
 stated_below (Some hash) grain is = stated_within grain.key hash is
-stated_below None grain is = text_below _
+stated_below None grain is = hash_below _
 
 pub grains_have_hashes : GrainsHaveHashes
-grains_have_hashes Sha256 grain = text_below _
+grains_have_hashes Sha256 grain = hash_below _
 grains_have_hashes Stated grain = stated_below (stated_hash grain.key) grain refl

@@ -1,11 +1,14 @@
 -- The laws, from what is carried.
-use Rattle.std.proofs.Common.{◌≡◌, refl, subst, ℕ, List}
-use Rattle.std.specs.Prelude.{All, Some, IfSome}
+use Rattle.std.proofs.Common.{◌≡◌, refl, sym, ap, subst, ℕ, List}
+use Rattle.std.specs.Prelude.{⊤, true, All, Some, IfSome}
 use Rattle.std.specs.Ordering.{nat_cmp}
+use Rattle.std.specs.Map.{keys_of}
 use Rattle.std.specs.BTreeMap.{is_at}
 use Rattle.std.proofs.lemmas.List.Elements.{All-weaker}
-use Rattle.silo_address.specs.Silo.{Silo}
-use Rattle.directory_rules.specs.Settings.{Settings}
+use Rattle.silo_address.specs.Silo.{Silo, IsSilo}
+use Rattle.hash_ring.specs.declared.point.Point.{Point}
+use Rattle.hash_ring.specs.Places.{is_added}
+use Rattle.directory_rules.specs.Settings.{Settings, AreSettings}
 use Rattle.directory_rules.specs.Letter.{Letter}
 use Rattle.directory_rules.specs.Node.{Node}
 use Rattle.directory_rules.specs.Event.{Event, Join, Leave, Kill, See, Wake, Close, Find, Forget, Deliver, Lose, Nudge, Offer, IsEvent}
@@ -16,12 +19,15 @@ use Rattle.directory_rules.specs.Laws.{NamesHashes, HoldOnce}
 use Rattle.directory_rules.proofs.Kept.{run_keeps}
 use Rattle.directory_rules.proofs.Reached.{nodes_hold_once}
 use Rattle.directory_facts.specs.Pieces.{IsPiece, IsHashedInto}
-use Rattle.directory_facts.specs.Laws.{world_by, SettingsStay, NodesAreOwn, LettersAreOwn, NodesSeeTheirVersions, RowsHavePlaces, NodesHavePieces, PiecesAreOwned, EventsNameHashes}
+use Rattle.directory_facts.specs.Laws.{world_by, SettingsStay, NodesAreOwn, CountsAreApart, LettersAreOwn, NodesSeeTheirVersions, RowsHavePlaces, NodesHavePieces, PiecesAreOwned, NamesAreInRange, EventsNameHashes}
 use Rattle.directory_facts.proofs.Carried.{Facts, Keeps}
 use Rattle.directory_facts.proofs.Reached.{everywhere, found_node, found_letter}
 use Rattle.directory_facts.proofs.Owning.{own_facts, own_keep, is_own_node}
+use Rattle.directory_facts.proofs.Counts.{counts_once, counted_facts, counted_keep}
 use Rattle.directory_facts.proofs.Placing.{added_row}
 use Rattle.directory_facts.proofs.Seeing.{AreViews, seen_facts, seen_keep}
+use Rattle.directory_facts.proofs.Naming.{has_names, place_silo, ring_silos}
+use Rattle.directory_facts.proofs.NamesKept.{all_names, names_keep}
 use Rattle.directory_facts.proofs.PiecesKept.{all_facts, all_keep, has_pieces}
 
 pub settings_stay : SettingsStay
@@ -48,6 +54,10 @@ module _ (F : Facts) (k : Keeps F) (settings : Settings) (events : List Event) (
 pub nodes_are_own : NodesAreOwn
 nodes_are_own settings events silo node there = is_own_node settings silo node (node_by own_facts own_keep settings events tt (λ k d below. tt) silo node there)
 
+pub counts_are_apart : CountsAreApart
+counts_are_apart settings events silo node there =
+    counts_once node.host (nodes_are_own settings events silo node there).once (node_by counted_facts counted_keep settings events tt (λ k d below. tt) silo node there)
+
 pub letters_are_own : LettersAreOwn
 letters_are_own settings events number letter there = letter_by own_facts own_keep settings events tt (λ k d below. tt) number letter there
 
@@ -72,6 +82,19 @@ pieces_are_owned settings events silo node is =
       once = subst (λ s. HoldOnce node.ring.points s node.holding.pieces) own.host_is (nodes_hold_once settings events silo node is);
       placed = All-weaker (λ e. IsPiece settings.hashing e.0 e.1) (λ e. All (λ x. IsHashedInto settings.hashing e.1.range x.1) e.1.entries) (λ e piece. piece.table.placed) node.holding.pieces has.pieces.each;
     }
+
+pub names_are_in_range : NamesAreInRange
+names_are_in_range settings events are named =
+    let f = world_by settings events in
+    let asked : (⊤ × AreSettings settings) × AreSettings settings = ((tt, are), are) in
+    let ways : All (all_names).named events = λ k d below. ((tt, tt), named k d below) in
+    let shared = shared_by all_names names_keep settings events asked ways in
+    let silos = shared.1.silos in (
+      All-weaker (λ silo. is_added f.places silo ≡ true) IsSilo (λ silo added. place_silo f.places silo silos added) (keys_of f.views.rows) shared.0.1.added,
+      λ silo node there.
+          let is = node_by all_names names_keep settings events asked ways silo node there in
+          has_names node is.1 (subst (λ (points : List Point). All (λ p. IsSilo p.silo) points) (sym (ap (λ r. r.points) is.0.1.ring_is)) (ring_silos node.view f.places silos)),
+    )
 
 named : (event : Event) → IsEvent event → NamesHashes event
 named (Join silo places) is = is.1

@@ -5,6 +5,7 @@ pub mod Ways
 pub mod Stepping
 pub mod Hosts
 pub mod Owning
+pub mod Counts
 pub mod Placing
 pub mod Seeing
 pub mod Tabling
@@ -12,6 +13,10 @@ pub mod Serving
 pub mod Collecting
 pub mod Piecing
 pub mod PiecesKept
+pub mod NamedTables
+pub mod Naming
+pub mod NamedSights
+pub mod NamesKept
 pub mod Hashes
 pub mod Throughout
 pub mod Leaving

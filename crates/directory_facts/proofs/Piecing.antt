@@ -79,7 +79,8 @@ pub no_pieces : (hashing : Hashing) → Pieces hashing []
 no_pieces hashing = record { spans = All-nil _; rising = tt; tables = All-nil _ }
 
 -- ---- the pieces of a sight
-all_ordered : (entries : List Entry) (table : Table) → InOrder table → InOrder (fold with_entry table entries)
+-- entries that are put in, one after the other
+pub all_ordered : (entries : List Entry) (table : Table) → InOrder table → InOrder (fold with_entry table entries)
 all_ordered [] table is = is
 all_ordered (entry ∷ entries) table is = all_ordered entries (with_entry table entry) (order_put table entry is)
 

@@ -27,6 +27,7 @@ use Rattle.directory_rules.specs.Mail.{fresh_letter, numbered, letter_of, has_ro
 use Rattle.directory_rules.specs.Happens as rule
 use Rattle.directory_rules.specs.Run.{run, run_from_start, world_after}
 use Rattle.directory_rules.proofs.Cases.{on_bool}
+use Rattle.directory_rules.proofs.Nodes.{placed_added}
 use Rattle.directory_facts.proofs.Entries.{all_put, all_removed, all_set, found_so, same_key}
 use Rattle.directory_facts.proofs.Carried.{Facts, Brings, After, GoesOn, IsGoing, Keeps, Everywhere}
 
@@ -143,11 +144,6 @@ after_joining F (Some old) world silo next added all on = record {
       (all_removed (λ e. F.node world.settings next added e.0 e.1) (is_at (silo_cmp old)) world.nodes (nodes_on F world.settings world.views next world.places added world.nodes on.0 all.nodes)) on.1;
   letters = all.letters;
 }
-
--- places that the settings let are those of a silo that is added
-placed_added : (b : Bool) (places : Result PlacesValue ℕ) (next : PlacesValue) → cond b (Err 402) places ≡ Ok next → places ≡ Ok next
-placed_added true places next is = absurd (cc)
-placed_added false places next is = is
 
 joined : (F : Facts) → Keeps F → (placed : Result PlacesValue ℕ) (next : ViewsValue) (world : World) (silo : Silo) (given : List ℕ) → F.named (Join silo given) → Everywhere F world → change.after_join world.views silo ≡ Ok next
     → rule.placed world silo given ≡ placed → Held F (rule.joined placed next world silo)

@@ -78,7 +78,7 @@ less_is Less is = refl
 less_is Equal is = absurd (cc (is))
 less_is Greater is = absurd (cc (is))
 
-above_all : (low first : Grain) (es : Table) → grain_cmp low first ≡ Less → AllByRecursion (λ y. grain_cmp first y ≡ Less) (keys_of es) → AllByRecursion (λ y. grain_cmp low y ≡ Less) (keys_of es)
+pub above_all : (low first : Grain) (es : Table) → grain_cmp low first ≡ Less → AllByRecursion (λ y. grain_cmp first y ≡ Less) (keys_of es) → AllByRecursion (λ y. grain_cmp low y ≡ Less) (keys_of es)
 above_all low first [] less above = tt
 above_all low first (e ∷ es) less above = (grain_cmp_total.trans low first e.0 less above.0, above_all low first es less above.1)
 

@@ -98,16 +98,17 @@ all_to : {X : Type 0} (test : X → Bool) (xs : List X) → All (λ x. test x �
 all_to test [] all = refl
 all_to test (x ∷ xs) all = ap (λ b. b && list_all test xs) (All-head (λ y. test y ≡ true) x xs all) ∙ all_to test xs (All-tail (λ y. test y ≡ true) x xs all)
 
--- a part's hashes are the range's
-counted : (b : Bool) (count : ℕ) → 1 ≤ count → count ≡ cond b 1 0 → b ≡ true
-counted true count some is = refl
-counted false count some is = absurd (omega (some, is, arith))
+-- what is counted is there
+pub some_counted : (b : Bool) (count : ℕ) → count ≡ cond b 1 0 → 1 ≤ count → b ≡ true
+some_counted true count is some = refl
+some_counted false count is some = absurd (omega (is, some, arith))
 
+-- a part's hashes are the range's
 part_held : (range : Range) (parts : List Range) (k : ℕ) (d : Range) (hash : ℕ) → count_by (λ part. holds part hash) parts ≡ cond (holds range hash) 1 0 → k < length parts → holds (slice_index_or parts k d) hash ≡ true → holds range hash ≡ true
 part_held range parts k d hash once below held =
     let least = get_or-le-sum_by (λ (part : Range). cond (holds part hash) 1 0) parts k d below in
     let one = ap (λ b. cond {A = ℕ} b 1 0) held in
-    counted (holds range hash) (count_by (λ part. holds part hash) parts) (omega (least, one, arith)) once
+    some_counted (holds range hash) (count_by (λ part. holds part hash) parts) once (omega (least, one, arith))
 
 pub settled_both : WasSettledIsSettled
 settled_both pieces under ranged range ok =

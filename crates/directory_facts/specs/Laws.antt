@@ -1,6 +1,7 @@
 -- What holds in every world that a run reaches, whatever the settings and the events.
 use Rattle.std.specs.Prelude.{◌≡◌, ℕ, ◌<◌, List, All, Some}
-use Rattle.silo_address.specs.Silo.{Silo}
+use Rattle.std.specs.Map.{keys_of}
+use Rattle.silo_address.specs.Silo.{Silo, IsSilo}
 use Rattle.silo_address.specs.Grain.{Grain}
 use Rattle.ring_range.specs.Range.{circle}
 use Rattle.hash_ring.specs.declared.Hashing.{Hashing}
@@ -14,9 +15,10 @@ use Rattle.directory_rules.specs.Mail.{letter_of}
 use Rattle.directory_rules.specs.Happens.{node_of}
 use Rattle.directory_rules.specs.Run.{run_from_start}
 use Rattle.directory_rules.specs.Laws.{NamesHashes, IsReached, HoldOwned}
-use Rattle.directory_facts.specs.Own.{IsOwnNode, IsOwnLetter}
+use Rattle.directory_facts.specs.Own.{IsOwnNode, CountsOnce, IsOwnLetter}
 use Rattle.directory_facts.specs.Seen.{SeesItsVersion, ArePlaced}
 use Rattle.directory_facts.specs.Pieces.{HasPieces}
+use Rattle.directory_facts.specs.Named.{HasNames}
 
 -- the world after such events
 abbrev pub world_by : Settings → List Event → World
@@ -28,6 +30,15 @@ SettingsStay = (settings : Settings) (events : List Event) → (world_by setting
 
 abbrev pub NodesAreOwn : Type 0
 NodesAreOwn = (settings : Settings) (events : List Event) (silo : Silo) (node : Node) → node_of (world_by settings events) silo ≡ Some node → IsOwnNode settings silo node
+
+-- no two activations that a node holds have one count, so they are two
+abbrev pub CountsAreApart : Type 0
+CountsAreApart = (settings : Settings) (events : List Event) (silo : Silo) (node : Node) → node_of (world_by settings events) silo ≡ Some node → CountsOnce node.host
+
+-- each silo that ever joined is in its range, and so is all that a node names
+abbrev pub NamesAreInRange : Type 0
+NamesAreInRange = (settings : Settings) (events : List Event) → AreSettings settings → All IsEvent events
+    → All IsSilo (keys_of (world_by settings events).views.rows) × ((silo : Silo) (node : Node) → node_of (world_by settings events) silo ≡ Some node → HasNames node)
 
 -- each letter in the mail is its sender's own
 abbrev pub LettersAreOwn : Type 0

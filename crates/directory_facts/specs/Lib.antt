@@ -1,5 +1,6 @@
 pub mod Own
 pub mod Seen
 pub mod Pieces
+pub mod Named
 pub mod Whole
 pub mod Laws

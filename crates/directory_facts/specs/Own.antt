@@ -16,6 +16,10 @@ use Rattle.directory_rules.specs.Node.{Node}
 abbrev pub HoldsOnce : Host → Type 0
 HoldsOnce host = AllPairs (λ e later. e.0 ≢ later.0) host.held
 
+-- no two of the activations that the host holds have one count
+abbrev pub CountsOnce : Host → Type 0
+CountsOnce host = AllPairs (λ e later. e.1.count ≢ later.1.count) host.held
+
 -- the node is that of the silo, by the settings
 pub record IsOwnNode (settings : Settings) (silo : Silo) (node : Node) : Type 0 where
   pub settings_are : node.settings ≡ settings

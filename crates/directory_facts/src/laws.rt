@@ -1,11 +1,16 @@
 //! The laws. Each holds for all settings and all lists of events, and says what it asks of them.
-ghost use Rattle.directory_facts.specs.Laws.{SettingsStay, NodesAreOwn, LettersAreOwn, NodesSeeTheirVersions, RowsHavePlaces, NodesHavePieces, PiecesAreOwned, EventsNameHashes, GrainsHaveHashes};
+ghost use Rattle.directory_facts.specs.Laws.{SettingsStay, NodesAreOwn, CountsAreApart, LettersAreOwn, NodesSeeTheirVersions, RowsHavePlaces, NodesHavePieces, PiecesAreOwned, NamesAreInRange, EventsNameHashes, GrainsHaveHashes};
 ghost use Rattle.directory_facts.specs.Whole.{WasSettledIsSettled, AnswersLeaveOthers};
 
 /// The world keeps its settings. A silo's node is that silo's, by these settings, and it holds one activation a grain.
 pub fn nodes_are_own()
     ensures settings { SettingsStay }
     ensures nodes { NodesAreOwn }
+{}
+
+/// No two activations that a silo's node holds have one count.
+pub fn counts_are_apart()
+    ensures { CountsAreApart }
 {}
 
 /// A request in the mail is its sender's, under the hash of its grain; what it registers or deregisters is an activation of the
@@ -33,6 +38,12 @@ pub fn nodes_have_pieces()
 /// A node's pieces hold each hash that its silo owns by its ring, once, and no other, and each entry lies in its piece.
 pub fn pieces_are_owned()
     ensures { PiecesAreOwned }
+{}
+
+/// Where the values of all events are in range, so are the silos that ever joined, and the silos, grains and counts that a node names: in
+/// its ring, its activations, its tables, and where its pieces await other silos.
+pub fn names_are_in_range()
+    ensures { NamesAreInRange }
 {}
 
 /// Events whose values are in range name hashes, which is all that the laws ask of them.

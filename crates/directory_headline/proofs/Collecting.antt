@@ -1,26 +1,23 @@
 -- A report is taken: what is gathered then is shown by what was told.
 use Rattle.std.proofs.Common.{◌≡◌, ◌≢◌, ℕ, List, [], ◌∷◌, inl, inr, refl, sym, ap, subst, ◌∙◌}
-use Rattle.std.specs.Prelude.{◌==◌, ◌&&◌, ◌||◌, Bool, true, false, cond, not, Option, Some, None, filter}
+use Rattle.std.specs.Prelude.{◌||◌, true, false, cond, not, Option, Some, None, filter}
 use Rattle.std.specs.Option.{option_map}
 use Rattle.std.specs.Ordering.{nat_cmp}
 use Rattle.std.specs.BTreeMap.{is_at}
-use Rattle.std.proofs.lemmas.Bool.{eqb-true}
 use Rattle.std.proofs.lemmas.Map.Lookups.{exact_unsigned}
 use Rattle.std.proofs.lemmas.List.Elements.{All-map}
-use Rattle.texts.proofs.Decided.{both}
 use Rattle.silo_address.specs.Silo.{Silo, silo_eq}
 use Rattle.silo_address.specs.Grain.{Grain}
 use Rattle.silo_address.specs.declared.Entry.{Entry}
 use Rattle.silo_address.proofs.Same.{Decides-silo}
-use Rattle.ring_range.specs.Range.{range_eq, holds}
-use Rattle.ring_range.proofs.Same.{Decides-range}
+use Rattle.ring_range.specs.Range.{holds}
 use Rattle.hash_ring.specs.Hash.{hash_grain}
 use Rattle.directory_protocol.specs.Setting.{Setting}
 use Rattle.directory_protocol.specs.World as protocol
 use Rattle.directory_protocol.proofs.Changes.{silo_cases}
 use Rattle.directory_rules.specs.declared.effect.Effect.TheVariants as effect
 use Rattle.directory_rules.specs.Table.{entry_at, table_of}
-use Rattle.directory_rules.specs.Recovery.{Report, Recovery, Recovered, Awaits_more, Has_union, Rejects, is_among, with_report, awaits_still, new_recovery, recovered}
+use Rattle.directory_rules.specs.Recovery.{Report, Recovery, Awaits_more, is_among, with_report, new_recovery, recovered}
 use Rattle.directory_rules.specs.Letter.{Letter}
 use Rattle.directory_rules.specs.Node.{Node}
 use Rattle.directory_rules.specs.Sending.{recovery_of}
@@ -28,65 +25,15 @@ use Rattle.directory_rules.specs.Step.{silently}
 use Rattle.directory_rules.specs.Transfer.{with_recovery}
 use Rattle.directory_rules.specs.World.{World}
 use Rattle.directory_rules.proofs.Cases.{on_bool}
-use Rattle.directory_facts.proofs.Collecting.{found_or}
+use Rattle.directory_facts.proofs.Collecting.{found_or, IsTaken, TakenSo, taken_so}
 use Rattle.directory_facts.proofs.Entries.{all_put}
-use Rattle.directory_facts.proofs.Tabling.{all_from, order_rising}
+use Rattle.directory_facts.proofs.Tabling.{all_from, order_rising, InOrder}
 use Rattle.directory_facts.proofs.Ways.{IsReportTaken}
 use Rattle.directory_headline.specs.Shown.{IsShownLetter, IsShownBody, IsShownReport, IsShownRecovery, IsGathered, HasReported}
-use Rattle.directory_headline.proofs.Facts.{IsTable}
 use Rattle.directory_headline.proofs.TableEntries.{found_own, found_holds}
 use Rattle.directory_headline.proofs.Unions.{union_stays, union_came, union_has}
 use Rattle.directory_headline.proofs.NewRecoveries.{recovery_begins}
 use Rattle.directory_headline.proofs.Frame.{Here, Comes, Moves, stays, node_shown, hash_is, no_letters}
-
--- ---- what the tests of a report say
-pub record IsTaken (recovery : Recovery) (report : Report) : Type 0 where
-  pub version : report.version ≡ recovery.version
-  pub range : report.range ≡ recovery.range
-  pub awaited : is_among report.silo recovery.awaiting ≡ true
-
--- what comes of it, if it isn't refused
-abbrev pub TakenSo : Recovery → Report → Recovered → Type 0
-TakenSo recovery report (Awaits_more next) = IsTaken recovery report × (next ≡ with_report recovery report)
-TakenSo recovery report (Has_union table) = IsTaken recovery report × ((with_report recovery report).awaiting ≡ []) × (table ≡ (with_report recovery report).gathered)
-TakenSo recovery report (Rejects number) = Unit {0}
-
-awaited_if : (a b : Bool) → (a || b) ≡ true → b ≡ false → a ≡ true
-awaited_if true b or not = refl
-awaited_if false true or not = absurd (cc (not))
-awaited_if false false or not = absurd (cc (or))
-
-still_taken : (recovery : Recovery) (report : Report) → IsTaken recovery report → (silos : List Silo) → (with_report recovery report).awaiting ≡ silos → TakenSo recovery report (awaits_still silos (with_report recovery report))
-still_taken recovery report is [] none = (is, none, refl)
-still_taken recovery report is (silo ∷ silos) some = (is, refl)
-
-pub taken_so : (recovery : Recovery) (report : Report) → TakenSo recovery report (recovered recovery report)
-taken_so recovery report =
-    on_bool (λ b. ((report.version == recovery.version) && range_eq report.range recovery.range) ≡ b → So (cond (not b) (Rejects 751) (cond (not known) (Rejects 752) (cond done (Rejects 753) taken))))
-    ((report.version == recovery.version) && range_eq report.range recovery.range)
-    (λ t same. on_bool (λ b. known ≡ b → So (cond (not b) (Rejects 752) (cond done (Rejects 753) taken))) known
-    (λ t knows. on_bool (λ b. done ≡ b → So (cond b (Rejects 753) taken)) done (λ t is. tt)
-    (λ u is.
-    let so = both (report.version == recovery.version) (range_eq report.range recovery.range) same in
-    still_taken recovery report (record {
-      version = eqb-true report.version recovery.version so.0;
-      range = (Decides-range report.range recovery.range).0 so.1;
-      awaited = awaited_if (is_among report.silo recovery.awaiting) done knows is;
-    }) (with_report recovery report).awaiting refl) refl)
-    (λ u is. tt) refl)
-    (λ u is. tt) refl
-  where
-    known : Bool
-    known = is_among report.silo recovery.awaiting || is_among report.silo recovery.reported
-
-    done : Bool
-    done = is_among report.silo recovery.reported
-
-    taken : Recovered
-    taken = awaits_still (with_report recovery report).awaiting (with_report recovery report)
-
-    So : Recovered → Type 0
-    So result = TakenSo recovery report result
 
 -- ---- who is awaited still
 among_rest : (silo gone : Silo) (silos : List Silo) → is_among silo (filter (λ s. not (silo_eq s gone)) silos) ≡ true → is_among silo silos ≡ true
@@ -134,7 +81,7 @@ rest_false silo gone silos is =
 -- ---- the recovery with the report
 -- what the report's letter is known to be, in the words of the setting
 pub record IsSound (hash : Grain → ℕ) (report : Report) : Type 0 where
-  pub table : IsTable (table_of report.entries)
+  pub table : InOrder (table_of report.entries)
   pub lies : (grain : Grain) (e : Entry) → entry_at grain (table_of report.entries) ≡ Some e → holds report.range (hash grain) ≡ true
   pub own : (grain : Grain) (e : Entry) → entry_at grain (table_of report.entries) ≡ Some e → e.activation.silo ≡ report.silo
 
@@ -233,7 +180,7 @@ module _ (m : Setting) (f : World) (w : protocol.World) (silo : Silo) (node : No
   report_sound =
       let order = order_rising report.entries taken.rise in
       record {
-        table = record { rising = order.by_grain; own = order.own_grain };
+        table = order;
         lies = λ grain e found.
             let all = All-map (λ (x : Grain × Entry). holds report.range (hash_grain node.settings.hashing x.1.grain) ≡ true) keyed report.entries
             (all_from (λ (x : Entry). holds report.range (hash_grain node.settings.hashing x.grain)) report.entries taken.lie) in

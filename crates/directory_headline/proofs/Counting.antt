@@ -1,11 +1,14 @@
 -- How many pieces hold a hash: none, or the silo's own one.
 use Rattle.std.proofs.Common.{arith, ◌≡◌, ℕ, ◌+◌, ◌≤◌, List, [], ◌∷◌, refl, ap, ◌∙◌}
-use Rattle.std.specs.Prelude.{Bool, true, false, cond, count_by, find, Some}
+use Rattle.std.specs.Prelude.{Bool, true, false, cond, count_by, find, Some, Option, None}
 use Rattle.std.specs.Option.{option_map}
 use Rattle.std.proofs.lemmas.List.Sums.{sum_by-cons}
+use Rattle.silo_address.specs.Silo.{Silo}
+use Rattle.silo_address.proofs.Same.{Decides-silo}
 use Rattle.ring_range.specs.Range.{holds}
 use Rattle.directory_rules.specs.Piece.{Piece}
 use Rattle.directory_rules.specs.Answer.{piece_with}
+use Rattle.directory_rules.specs.Sight.{is_owner}
 
 -- how many of the pieces hold the hash
 abbrev pub holding : ℕ → List (ℕ × Piece) → ℕ
@@ -31,6 +34,7 @@ pub at_most_one : (b : Bool) (n : ℕ) → n ≡ cond b 1 0 → n ≤ 1
 at_most_one true n is = omega (is, arith)
 at_most_one false n is = omega (is, arith)
 
-pub some_owned : (b : Bool) (n : ℕ) → n ≡ cond b 1 0 → 1 ≤ n → b ≡ true
-some_owned true n is some = refl
-some_owned false n is some = absurd (omega (is, some, arith))
+-- the owner that is the silo
+pub owner_silo_is : (silo : Silo) (o : Option Silo) → is_owner silo o ≡ true → o ≡ Some silo
+owner_silo_is silo None is = absurd (cc (is))
+owner_silo_is silo (Some owner) is = ap Some ((Decides-silo owner silo).0 is)

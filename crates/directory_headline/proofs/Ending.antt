@@ -41,6 +41,21 @@ module _ (settings : Settings) (events : List Event) (are : AreSettings settings
   carried : Carried setting f
   carried = carried_after facts_hold settings are setting all_move events named is_its
 
+-- a world with all that is known of it: its facts, and a reached world of the protocol that shows it
+pub record IsCarried (f : World) : Type 0 where
+  pub setting : Setting
+  pub is_its : IsSettingOf setting f
+  pub facts : WorldFacts setting.hash f
+  pub carried : Carried setting f
+
+pub carried_so : AfterAnyEvents IsCarried
+carried_so settings events are named = record {
+  setting = setting settings events are named;
+  is_its = is_its settings events are named;
+  facts = facts settings events are named;
+  carried = carried settings events are named;
+}
+
 pub refined_after : AfterAnyEvents IsRefined
 refined_after settings events are named =
     let its = carried settings events are named in

@@ -17,6 +17,7 @@ use Rattle.directory_rules.specs.Input.{Input, Sees, Wakes, Closes, Finds, Forge
 use Rattle.directory_rules.specs.World.{World, Accepted}
 use Rattle.directory_rules.specs.Mail.{letter_of, with_sent, has_room_for, span_of, with_delivered, with_lost}
 use Rattle.directory_rules.specs.Happens as rule
+use Rattle.directory_rules.proofs.Nodes.{placed_added}
 use Rattle.directory_facts.proofs.Carried.{IsSight}
 
 -- an input that is the silo's own doing: it brings neither a view nor a letter
@@ -109,10 +110,6 @@ module _ (world : World) (P : Accepted → Type 0) (w : EventWays world P) where
         is_view = refl;
         is_brought = refl;
       }) refl))
-
-  placed_added : (b : Bool) (places : Result PlacesValue ℕ) (next : PlacesValue) → cond b (Err 402) places ≡ Ok next → places ≡ Ok next
-  placed_added true places next is = absurd (cc)
-  placed_added false places next is = is
 
   joined : (placed : Result PlacesValue ℕ) (next : ViewsValue) (silo : Silo) (given : List ℕ) → change.after_join world.views silo ≡ Ok next → rule.placed world silo given ≡ placed → Held (rule.joined placed next world silo)
   joined (Err number) next silo given viewed is = tt

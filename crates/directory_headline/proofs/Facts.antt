@@ -5,12 +5,11 @@ use Rattle.std.specs.Ordering.{nat_cmp}
 use Rattle.std.specs.List.Sorted.{IsStrictlySortedBy}
 use Rattle.std.specs.Map.{keys_of}
 use Rattle.silo_address.specs.Silo.{Silo}
-use Rattle.silo_address.specs.Grain.{Grain, grain_cmp}
+use Rattle.silo_address.specs.Grain.{Grain}
 use Rattle.ring_range.specs.Range.{IsRange, holds}
 use Rattle.hash_ring.specs.Places.{IsPlaces}
 use Rattle.directory_rules.specs.declared.piece_state.PieceState.TheVariants.{Settled}
 use Rattle.directory_rules.specs.Settings.{AreSettings}
-use Rattle.directory_rules.specs.Table.{Table}
 use Rattle.directory_rules.specs.Piece.{Piece}
 use Rattle.directory_rules.specs.Letter.{Letter}
 use Rattle.directory_rules.specs.Node.{Node}
@@ -21,17 +20,13 @@ use Rattle.directory_rules.specs.Laws.{ArePeopled, IsOfOneVersion, AreNumbered, 
 use Rattle.directory_facts.specs.Own.{IsOwnNode, IsOwnLetter}
 use Rattle.directory_facts.specs.Seen.{SeesItsVersion}
 use Rattle.directory_facts.proofs.Seeing.{AreViews}
-
--- a table whose grains rise, each entry under its own grain
-pub record IsTable (table : Table) : Type 0 where
-  pub rising : IsStrictlySortedBy grain_cmp (keys_of table)
-  pub own : All (λ e. e.0 ≡ e.1.grain) table
+use Rattle.directory_facts.proofs.Tabling.{InOrder}
 
 -- the piece's entries lie in it; one that isn't settled has none
 pub record IsPiece (hash : Grain → ℕ) (piece : Piece) : Type 0 where
   pub range : IsRange piece.range
   pub present : 0 < piece.range.size
-  pub table : IsTable piece.entries
+  pub table : InOrder piece.entries
   pub inside : All (λ e. holds piece.range (hash e.1.grain) ≡ true) piece.entries
   pub empty : ¬ (piece.state ≡ Settled) → piece.entries ≡ []
 

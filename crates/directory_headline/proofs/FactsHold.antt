@@ -65,7 +65,7 @@ facts_hold settings events are named =
               each = All-weaker (λ e. facts.IsPiece settings.hashing e.0 e.1) (λ e. IsPiece (hash_grain settings.hashing) e.1) (λ e p. record {
                 range = p.range_is;
                 present = p.present;
-                table = record { rising = p.table.by_grain; own = p.table.own_grain };
+                table = record { by_grain = p.table.by_grain; own_grain = p.table.own_grain };
                 inside = p.table.placed;
                 empty = p.bare;
               }) node.holding.pieces has.pieces.each;

@@ -1,11 +1,9 @@
 -- What a step of a silo may use, and what it has to show: a list of actions of that silo, all allowed, after which the silo's
 -- new node and the letters that it sends are shown.
-use Rattle.std.proofs.Common.{◌≡◌, ℕ, true, List, [], ◌∷◌, sym, refl, ap, ◌∙◌, arith}
-use Rattle.std.specs.Prelude.{⊤, not, is_some, All, Option, Some, None}
+use Rattle.std.proofs.Common.{◌≡◌, ℕ, true, List, [], ◌∷◌, sym, ap, ◌∙◌, arith}
+use Rattle.std.specs.Prelude.{⊤, is_some, All, Some}
 use Rattle.std.proofs.lemmas.List.Elements.{All-nil, All-cons}
 use Rattle.silo_address.specs.Silo.{Silo}
-use Rattle.membership_view.specs.declared.status.Status.{Status}
-use Rattle.membership_view.specs.declared.status.Status.TheVariants.{Active, Leaving, Dead}
 use Rattle.membership_view.specs.Views.{status_at}
 use Rattle.hash_ring.specs.Hash.{hash_grain}
 use Rattle.range_moves.specs.Arcs.{owner_silo}
@@ -14,7 +12,6 @@ use Rattle.directory_protocol.specs.World as protocol
 use Rattle.directory_protocol.specs.Actions.{Action, Allowed}
 use Rattle.directory_protocol.specs.Effects.{after, run, AllAllowed}
 use Rattle.directory_protocol.specs.Safety.{IsReached}
-use Rattle.directory_rules.specs.Membership.{is_known_dead}
 use Rattle.directory_rules.specs.Letter.{Letter}
 use Rattle.directory_rules.specs.Node.{Node}
 use Rattle.directory_rules.specs.Step.{Stepped}
@@ -29,6 +26,7 @@ use Rattle.directory_headline.specs.SiloState.{state_of}
 use Rattle.directory_headline.specs.Shown.{Shown, IsShownNode, IsShownLetter}
 use Rattle.directory_headline.proofs.Actors.{IsBy, AllBy}
 use Rattle.directory_headline.proofs.Facts.{WorldFacts, NodeFacts}
+use Rattle.directory_headline.proofs.Statuses.{live_alive}
 
 -- a silo of the world f, which w shows, has this node
 pub record Here (m : Setting) (f : World) (w : protocol.World) (silo : Silo) (node : Node) : Type 0 where
@@ -81,13 +79,6 @@ one_letter P letter is = All-cons P letter [] is (All-nil P)
 
 -- ---- what is known of the silo
 
--- who is live is there and isn't Dead
-live_not_dead : (status : Option Status) → is_live status ≡ true → not (is_known_dead status) ≡ true
-live_not_dead None is = absurd (cc)
-live_not_dead (Some Active) is = refl
-live_not_dead (Some Leaving) is = refl
-live_not_dead (Some Dead) is = absurd (cc)
-
 module _ (m : Setting) (f : World) (w : protocol.World) (silo : Silo) (node : Node) (here : Here m f w silo node) where
   pub node_facts : NodeFacts m.hash f silo node
   node_facts = here.facts.nodes silo node here.there
@@ -107,7 +98,7 @@ module _ (m : Setting) (f : World) (w : protocol.World) (silo : Silo) (node : No
   pub alive : m.alive w.now silo ≡ true
   alive =
       ap (λ version. m.alive version silo) here.shown.now ∙ here.setting.alive f.views.version silo (omega arith)
-      ∙ live_not_dead (status_at f.views f.views.version silo) live_now
+      ∙ live_alive (status_at f.views f.views.version silo) live_now
 
   -- of the version that it has seen
   pub seen_is : w.seen silo ≡ node.view.version

@@ -21,8 +21,9 @@ use Rattle.directory_rules.specs.Answer.{piece_with}
 use Rattle.directory_rules.specs.Sight.{is_owner}
 use Rattle.directory_rules.specs.Laws.{HoldOnce}
 use Rattle.directory_facts.proofs.Serving.{found_holds}
+use Rattle.directory_facts.proofs.Throughout.{some_counted}
 use Rattle.directory_headline.proofs.PieceAt.{of_found}
-use Rattle.directory_headline.proofs.Counting.{counted_first, found_counted, at_most_one, some_owned}
+use Rattle.directory_headline.proofs.Counting.{counted_first, found_counted, at_most_one}
 use Rattle.directory_headline.proofs.HashPieces.{one_piece}
 
 -- the hash itself; for a number above the circle the highest hash
@@ -108,7 +109,7 @@ module _ (points : List Point) (silo : Silo) (pieces : List (ℕ × Piece)) (onc
   -- the silo owns what lies in its pieces
   pub found_owned : (number : ℕ) (piece : Piece) → piece_with number pieces ≡ Some piece → is_owner silo (owner_silo points (hash_for number)) ≡ true
   found_owned number piece found =
-      some_owned (is_owner silo (owner_silo points (hash_for number))) _ (once (hash_for number) (is_hash number)) (found_counted (hash_for number) pieces piece (found_hash number piece found))
+      some_counted (is_owner silo (owner_silo points (hash_for number))) _ (once (hash_for number) (is_hash number)) (found_counted (hash_for number) pieces piece (found_hash number piece found))
 
   -- no number lies in two pieces
   pub held_once : (number : ℕ) → count_by (λ e. holds e.1.range number) pieces ≤ 1

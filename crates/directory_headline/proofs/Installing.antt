@@ -21,9 +21,10 @@ use Rattle.directory_rules.specs.Sending.{gathering_of}
 use Rattle.directory_rules.specs.Transfer.{answering, answer_to, with_settled}
 use Rattle.directory_rules.specs.World.{World}
 use Rattle.directory_facts.proofs.Ways.{IsPageTaken}
+use Rattle.directory_facts.proofs.Collecting.{GatheredSo, gathered_so}
 use Rattle.directory_headline.specs.Shown.{IsShownLetter, activation_in}
 use Rattle.directory_headline.proofs.SettledPiece.{lt_true, settling, settled_world, may_settle, node_settled}
-use Rattle.directory_headline.proofs.PagesTaken.{GatheredSo, gathered_so, page_more, all_pages}
+use Rattle.directory_headline.proofs.PagesTaken.{page_more, all_pages}
 use Rattle.directory_headline.proofs.Paging.{next_page}
 use Rattle.directory_headline.proofs.Frame.{Here, Comes, Moves, acts, seen_is, one_letter}
 

@@ -10,6 +10,7 @@ use Rattle.std.specs.BTreeMap.{is_at}
 use Rattle.std.specs.declared.cmp.Ordering.TheVariants.{Less}
 use Rattle.std.proofs.lemmas.Bool.{eq-eqb}
 use Rattle.std.proofs.lemmas.List.Elements.{All-nil, All-cons, All-head, All-tail, All-weaker, filter_passes}
+use Rattle.std.specs.Option.{option_or}
 use Rattle.texts.proofs.Decided.{both}
 use Rattle.silo_address.specs.Grain.{Grain, grain_cmp}
 use Rattle.silo_address.specs.Silo.{Silo}
@@ -31,10 +32,11 @@ use Rattle.directory_rules.specs.Answer.{piece_with}
 use Rattle.directory_rules.proofs.Cases.{on_bool}
 use Rattle.directory_rules.proofs.Tables.{other_than_put}
 use Rattle.directory_facts.proofs.Entries.{same_key}
-use Rattle.directory_facts.proofs.Tabling.{InOrder, order_nil, order_put, order_filtered}
+use Rattle.directory_facts.proofs.Tabling.{InOrder, order_nil, order_filtered}
+use Rattle.directory_facts.proofs.Piecing.{all_ordered}
 use Rattle.directory_headline.specs.Setting.{is_alive_in}
 use Rattle.directory_headline.specs.Shown.{activation_in}
-use Rattle.directory_headline.proofs.Facts.{IsTable, IsPiece}
+use Rattle.directory_headline.proofs.Facts.{IsPiece}
 use Rattle.directory_headline.proofs.TableEntries.{found_own, none_above, table_again}
 use Rattle.directory_headline.proofs.HashPieces.{is_hashed_so, only_piece}
 
@@ -63,25 +65,21 @@ filtered_at test g (e ∷ es) sorted =
     (λ u. ap (λ c. cond c (Some e.1) (entry_at g (filter (λ x. test x.1) es))) at ∙ later) (λ u. later)) refl
 
 -- ---- entries that are put in, one after the other
-abbrev or_of : Option Entry → Option Entry → Option Entry
-or_of None other = other
-or_of (Some e) other = Some e
-
-or_nothing : (o : Option Entry) → or_of o None ≡ o
+pub or_nothing : (o : Option Entry) → option_or o None ≡ o
 or_nothing None = refl
 or_nothing (Some e) = refl
 
 -- those of a table
-folded : (g : Grain) (es table : Table) → IsStrictlySortedBy grain_cmp (keys_of es) → All (λ e. e.0 ≡ e.1.grain) es → entry_at g (fold with_entry table (entries_of es)) ≡ or_of (entry_at g es) (entry_at g table)
+folded : (g : Grain) (es table : Table) → IsStrictlySortedBy grain_cmp (keys_of es) → All (λ e. e.0 ≡ e.1.grain) es → entry_at g (fold with_entry table (entries_of es)) ≡ option_or (entry_at g es) (entry_at g table)
 unfolding IsStrictlySortedBy
 folded g [] table sorted own = refl
 folded g (e ∷ es) table sorted own =
     let its = All-head (λ (x : Grain × Entry). x.0 ≡ x.1.grain) e es own in
     let later = folded g es (with_entry table e.1) sorted.1 (All-tail (λ (x : Grain × Entry). x.0 ≡ x.1.grain) e es own) in
     let put = lookup-insert_entry grain_cmp_total e.1.grain e.1 g table ∙ ap (λ k. cond (is_at (grain_cmp g) k) (Some e.1) (entry_at g table)) (sym its) in
-    later ∙ ap (or_of (entry_at g es)) put
-    ∙ on_bool (λ b. is_at (grain_cmp g) e.0 ≡ b → or_of (entry_at g es) (cond b (Some e.1) (entry_at g table)) ≡ or_of (cond b (Some e.1) (entry_at g es)) (entry_at g table)) (is_at (grain_cmp g) e.0)
-    (λ t at. ap (λ o. or_of o (Some e.1)) (first_alone g e es at sorted.0)) (λ f at. refl) refl
+    later ∙ ap (option_or (entry_at g es)) put
+    ∙ on_bool (λ b. is_at (grain_cmp g) e.0 ≡ b → option_or (entry_at g es) (cond b (Some e.1) (entry_at g table)) ≡ option_or (cond b (Some e.1) (entry_at g es)) (entry_at g table)) (is_at (grain_cmp g) e.0)
+    (λ t at. ap (λ o. option_or o (Some e.1)) (first_alone g e es at sorted.0)) (λ f at. refl) refl
 
 -- only those of the grain count
 picked : (g : Grain) (test : Entry → Bool) → ((e : Entry) → e.grain ≡ g → test e ≡ true) → (entries : List Entry) (one other : Table) → entry_at g one ≡ entry_at g other
@@ -99,22 +97,18 @@ picked g test passes (e ∷ es) one other same =
           (λ f. picked g test passes es (with_entry one e) other (other_than_put one e g apart ∙ same))
     ]
 
-fold_in_order : (entries : List Entry) (table : Table) → InOrder table → InOrder (fold with_entry table entries)
-fold_in_order [] table is = is
-fold_in_order (entry ∷ entries) table is = fold_in_order entries (with_entry table entry) (order_put table entry is)
-
 all_in_order : (pieces : List (ℕ × Piece)) → InOrder (all_entries pieces)
-all_in_order pieces = fold_in_order (flat_map (λ e. entries_of e.1.entries) pieces) [] order_nil
+all_in_order pieces = all_ordered (flat_map (λ e. entries_of e.1.entries) pieces) [] order_nil
 
 -- ---- the entries of pieces, each hash in one of them at most
 module _ (hashed : Grain → ℕ) (pieces : List (ℕ × Piece)) (each : All (λ e. IsPiece hashed e.1) pieces) (g : Grain) (once : count_by (λ e. holds e.1.range (hashed g)) pieces ≤ 1) (piece : Piece) (found : piece_with (hashed g) pieces ≡ Some piece) where
-  all_at : IsTable piece.entries → entry_at g (all_entries pieces) ≡ entry_at g piece.entries
+  all_at : InOrder piece.entries → entry_at g (all_entries pieces) ≡ entry_at g piece.entries
   all_at table =
       let passes = λ (e : Entry) (same : e.grain ≡ g). eq-eqb (hashed e.grain) (hashed g) (ap hashed same) in
       picked g (is_hashed_so hashed (hashed g)) passes (flat_map (λ e. entries_of e.1.entries) pieces) [] [] refl
       ∙ ap (λ es. entry_at g (fold with_entry [] es)) (only_piece hashed (hashed g) pieces piece each once found)
       ∙ sym (picked g (is_hashed_so hashed (hashed g)) passes (entries_of piece.entries) [] [] refl)
-      ∙ folded g piece.entries [] table.rising table.own ∙ or_nothing (entry_at g piece.entries)
+      ∙ folded g piece.entries [] table.by_grain table.own_grain ∙ or_nothing (entry_at g piece.entries)
 
 -- ---- what is kept of pieces for a range
 abbrev is_dead_there : ViewValue → Entry → Bool
@@ -139,11 +133,11 @@ module _ (m : Setting) (hashing : Hashing) (hash_is : m.hash ≡ hash_grain hash
 
   pub kept_at :
       (pieces : List (ℕ × Piece)) (range : Range) (g : Grain) (piece : Piece) → All (λ e. IsPiece m.hash e.1) pieces → count_by (λ e. holds e.1.range (m.hash g)) pieces ≤ 1
-      → piece_with (m.hash g) pieces ≡ Some piece → IsTable piece.entries → holds range (m.hash g) ≡ true
+      → piece_with (m.hash g) pieces ≡ Some piece → InOrder piece.entries → holds range (m.hash g) ≡ true
       → activation_in (entry_at g (kept_entries hashing view pieces range)) ≡ surviving m version (activation_in (entry_at g piece.entries))
   kept_at pieces range g piece each once found table held =
       ap activation_in (filtered_at (is_kept hashing view range) g (all_entries pieces) (all_in_order pieces).by_grain ∙ ap (if_passes (is_kept hashing view range)) (all_at m.hash pieces each g once piece found table))
-      ∙ survives g range (entry_at g piece.entries) (λ e is. found_own g piece.entries e table.own is) held
+      ∙ survives g range (entry_at g piece.entries) (λ e is. found_own g piece.entries e table.own_grain is) held
 
 -- ---- as a list
 first_lower : (e : Grain × Entry) (es : Table) → IsStrictlySortedBy grain_cmp (keys_of (e ∷ es)) → All (λ x. x.0 ≡ x.1.grain) (e ∷ es) → is_before_first e.1 (entries_of es) ≡ true

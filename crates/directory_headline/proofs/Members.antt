@@ -1,5 +1,5 @@
 -- The members of a view: who is awaited by a recovery, and who is there from the version in which it joined.
-use Rattle.std.proofs.Common.{arith, ◌≡◌, ◌≢◌, ℕ, ◌≤◌, List, [], ◌∷◌, IsSome, inl, inr, refl, sym, ap, ◌∙◌}
+use Rattle.std.proofs.Common.{arith, ◌≡◌, ◌≢◌, ℕ, ◌≤◌, List, [], ◌∷◌, inl, inr, refl, sym, ap, ◌∙◌}
 use Rattle.std.specs.Prelude.{option_and_then, ◌||◌, true, false, cond, not, filter, Option, Some, None}
 use Rattle.std.specs.Option.{unwrap_or, option_map}
 use Rattle.std.specs.Ordering.{is_eq}
@@ -27,6 +27,7 @@ use Rattle.directory_rules.specs.Membership.{is_dead_status, is_known_dead, memb
 use Rattle.directory_rules.specs.Recovery.{is_among}
 use Rattle.directory_rules.specs.Laws.{is_live}
 use Rattle.directory_rules.proofs.Cases.{on_bool}
+use Rattle.directory_headline.proofs.Statuses.{alive_live}
 
 -- ---- who is among the members
 not_same : (q s : Silo) → q ≢ s → silo_eq q s ≡ false
@@ -72,12 +73,6 @@ pub members_are : (view : ViewValue) (silo : Silo) → IsByAddress view → is_a
 members_are view silo by_address = among_rows silo view.rows by_address
 
 -- ---- who is there at a version
-alive_member : (status : Option Status) → IsSome status → not (is_known_dead status) ≡ true → is_live status ≡ true
-alive_member None there alive = absurd (cc)
-alive_member (Some Active) there alive = refl
-alive_member (Some Leaving) there alive = refl
-alive_member (Some Dead) there alive = absurd (cc)
-
 nothing : (o : Option Row) → option_map (λ row. row.joined) o ≡ None → o ≡ None
 nothing None is = refl
 nothing (Some row) is = absurd (cc (is))
@@ -98,4 +93,4 @@ module _ (views : ViewsValue) (whole : IsViews views) where
       by None is le =
           let nobody = ap is_live (never_there silo (nothing (row_of views silo) is)) in
           absurd (cc (sym nobody ∙ live))
-      by (Some j) is le = alive_member (status_at views version silo) ((joined_from views whole silo j is version within).1 le) alive
+      by (Some j) is le = alive_live (status_at views version silo) ((joined_from views whole silo j is version within).1 le) alive

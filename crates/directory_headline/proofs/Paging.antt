@@ -1,5 +1,5 @@
 -- Pages: one is handed over, one is taken, and one empties what was gathered.
-use Rattle.std.proofs.Common.{arith, ◌≡◌, ℕ, suc, ◌+◌, ◌-◌, ◌*◌, ◌<◌, List, [], ◌∷◌, ◌++◌, length, take, refl, sym, ap, subst, ◌∙◌}
+use Rattle.std.proofs.Common.{arith, ◌≡◌, ℕ, suc, ◌+◌, ◌-◌, ◌*◌, ◌<◌, List, [], ◌∷◌, ◌++◌, length, take, refl, sym, ap, subst, ◌∙◌, inl, inr}
 use Rattle.std.specs.Prelude.{nat_lt, Bool, true, cond, All, Option, Some, None, find}
 use Rattle.std.specs.Ordering.{nat_cmp}
 use Rattle.std.specs.BTreeMap.{is_at}
@@ -28,14 +28,14 @@ use Rattle.directory_rules.specs.Step.{silently}
 use Rattle.directory_rules.specs.Transfer.{answering, asking_on, with_gathering}
 use Rattle.directory_rules.specs.World.{World}
 use Rattle.directory_rules.proofs.Cases.{on_bool}
-use Rattle.directory_facts.proofs.Collecting.{found_or}
+use Rattle.directory_facts.proofs.Collecting.{found_or, IsInTurn, GatheredSo, gathered_so}
 use Rattle.directory_facts.proofs.Entries.{all_put, found_so}
 use Rattle.directory_facts.proofs.Ways.{HasPiece, IsPageTaken}
 use Rattle.directory_headline.specs.SiloState.{state_of}
-use Rattle.directory_headline.specs.Shown.{IsShownNode, IsShownLetter, IsShownBody, IsShownSnapshot, IsShownPage, IsShownWhole, IsShownGathering, HasSealed, HasNoPage, IsListOf}
+use Rattle.directory_headline.specs.Shown.{IsShownNode, IsShownLetter, IsShownBody, IsShownSnapshot, IsShownPage, IsShownWhole, IsShownGathering, HasSealed, IsListOf}
 use Rattle.directory_headline.proofs.Facts.{IsPiece}
 use Rattle.directory_headline.proofs.SameTables.{one_list}
-use Rattle.directory_headline.proofs.PagesTaken.{IsInTurn, GatheredSo, gathered_so, page_more}
+use Rattle.directory_headline.proofs.PagesTaken.{page_more}
 use Rattle.directory_headline.proofs.Staying.{answers_so}
 use Rattle.directory_headline.proofs.Frame.{Here, Comes, Moves, stays, node_shown, node_facts, no_letters, one_letter}
 
@@ -180,12 +180,9 @@ module _ (m : Setting) (f : World) (w : protocol.World) (silo : Silo) (node : No
         stays m w silo (asking_on letter page.range its) (with_shown more (subst (IsShownGathering m.hash w.snapshots) (sym so.1) (more_shown so.0)))
         (one_letter (IsShownLetter m.hash w) (letter_to letter.from its (Ask_letter page.range (gathering_of its page.range).next)) tt)
 
-    no_page : (left : Gathering) (whole : Option Whole) → left.whole ≡ whole → HasNoPage left → whole ≡ None → IsShownWhole m.hash w.snapshots left whole
-    no_page left None is none same = none
-    no_page left (Some whole) is none same = absurd (cc (same))
-
     pub drops : (left : Gathering) → gathered gathering page ≡ Refuses 701 left → Moves m w silo (silently (with_gathering node left) (effect.Refused 701))
     drops left is =
         let so : GatheredSo gathering page (Refuses 701 left) = subst (GatheredSo gathering page) is (gathered_so gathering page) in
-        let none = so refl in
-        stays m w silo (silently (with_gathering node left) (effect.Refused 701)) (with_shown left (no_page left left.whole refl none.1 none.0)) (no_letters (IsShownLetter m.hash w))
+        let anew : left ≡ new_gathering gathering.version gathering.range = elim so [ inl kept ↦ absurd (kept.0 refl) | inr anew ↦ anew ] in
+        stays m w silo (silently (with_gathering node left) (effect.Refused 701))
+        (with_shown left (subst (IsShownGathering m.hash w.snapshots) (sym anew) (record { next = refl; entries = refl }))) (no_letters (IsShownLetter m.hash w))

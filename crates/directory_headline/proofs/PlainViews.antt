@@ -1,31 +1,25 @@
 -- A join, a leaving and a death change the plain machine's view, and its activations by the silos that are Dead alone.
-use Rattle.std.proofs.Common.{arith, ◌≡◌, ◌⊎◌, ◌<◌, IsSome, inl, inr, refl, sym, ap, subst, ◌∙◌}
+use Rattle.std.proofs.Common.{arith, ◌≡◌, ◌⊎◌, IsSome, inl, inr, refl, sym, ap, subst, ◌∙◌}
 use Rattle.std.specs.Prelude.{true, false, is_some, Option, Some, None}
 use Rattle.std.specs.Option.{option_map, option_and_then}
-use Rattle.std.specs.Map.{lookup}
-use Rattle.std.specs.BTreeMap.{is_at, insert_entry}
-use Rattle.silo_address.specs.Silo.{Silo, silo_cmp}
+use Rattle.silo_address.specs.Silo.{Silo}
 use Rattle.silo_address.specs.Grain.{Grain}
-use Rattle.silo_address.proofs.Order.{silo_cmp_total, silo_cmp_exact}
-use Rattle.membership_view.specs.declared.status.Status.{Status}
 use Rattle.membership_view.specs.View.{status_of}
 use Rattle.membership_view.specs.Views.{ViewsValue, view_at, status_at}
 use Rattle.membership_view.specs.Changes as change
 use Rattle.membership_view.specs.Step.{Joins, MembershipStep}
 use Rattle.membership_view.proofs.Staying.{rows_stay}
 use Rattle.hash_ring.specs.Places.{PlacesValue}
-use Rattle.directory_protocol.proofs.Changes.{silo_cases}
 use Rattle.directory_rules.specs.Membership.{is_dead_in}
 use Rattle.directory_rules.specs.Node.{Node, new_node}
 use Rattle.directory_rules.specs.Input.{step}
 use Rattle.directory_rules.specs.World.{World}
-use Rattle.directory_rules.specs.Happens.{node_of, after_joining, without_replaced, died}
+use Rattle.directory_rules.specs.Happens.{node_of, after_joining, died}
 use Rattle.directory_rules.specs.Laws.{ArePeopled, is_live}
 use Rattle.directory_rules.specs.PlainMachine.{life_on, plain_of, ViewChanges}
 use Rattle.directory_headline.proofs.Settings.{GoesOnTo}
 use Rattle.directory_headline.proofs.Statuses.{live_there, dead_not_live, there_live}
-use Rattle.directory_headline.proofs.Lookups.{found_put, found_beside_put}
-use Rattle.directory_headline.proofs.Viewed.{still_there, replaced_there}
+use Rattle.directory_headline.proofs.Viewed.{still_there, newcomer, joining_node}
 
 nobody : (o : Option Node) → is_some o ≡ false → o ≡ None
 nobody None is = refl
@@ -94,33 +88,15 @@ module _ (f later : World) (before : ArePeopled f.views f.nodes) (after : ArePeo
 -- ---- each change
 module _ (f : World) (peopled : ArePeopled f.views f.nodes) where
   -- who joins wasn't there
-  newcomer : (silo : Silo) (next : ViewsValue) → Joins silo (view_at f.views f.views.version) (view_at next next.version) → node_of f silo ≡ None
-  newcomer silo next step = nobody (node_of f silo) (peopled.live silo ∙ by (status_at f.views f.views.version silo) refl)
-    where
-      by : (status : Option Status) → status_at f.views f.views.version silo ≡ status → is_live status ≡ false
-      by None is = refl
-      by (Some status) is =
-          let newer : silo.generation < silo.generation = step.newest silo (refl, refl) (subst (λ o. IsSome o) (sym is) refl) in
-          absurd (omega (newer, arith))
-
-  made : (silo : Silo) (next : ViewsValue) (added : PlacesValue) (old : Option Silo) (q : Silo) (node : Node) → node_of (after_joining f silo old next added) q ≡ Some node
-      → lookup (is_at (silo_cmp q)) (insert_entry silo_cmp (without_replaced f old).nodes silo (new_node f.settings silo)) ≡ Some node
-  made silo next added None q node there = there
-  made silo next added (Some old) q node there = there
+  no_node : (silo : Silo) (next : ViewsValue) → Joins silo (view_at f.views f.views.version) (view_at next next.version) → node_of f silo ≡ None
+  no_node silo next step = nobody (node_of f silo) (peopled.live silo ∙ ap is_live (newcomer silo f.views next step))
 
   pub joining_kept : (silo : Silo) (next : ViewsValue) (added : PlacesValue) (old : Option Silo) → Joins silo (view_at f.views f.views.version) (view_at next next.version)
       → (q : Silo) (node : Node) → node_of (after_joining f silo old next added) q ≡ Some node → WasThere f q node
   joining_kept silo next added old step q node there =
-      elim (silo_cases q silo) [
-        | inl same ↦
-            let one : Some (new_node f.settings silo) ≡ Some node =
-            sym (found_put silo_cmp silo_cmp_total silo_cmp_exact silo (new_node f.settings silo) (without_replaced f old).nodes)
-            ∙ ap (λ s. lookup (is_at (silo_cmp s)) (insert_entry silo_cmp (without_replaced f old).nodes silo (new_node f.settings silo))) (sym same) ∙ made silo next added old q node there in
-            let its : new_node f.settings silo ≡ node = cc (one) in
-            inr (ap (node_of f) same ∙ newcomer silo next step, sym its ∙ ap (new_node f.settings) (sym same))
-        | inr apart ↦
-            inl (replaced_there f peopled old q node
-            (sym (found_beside_put silo_cmp silo_cmp_total silo_cmp_exact silo (new_node f.settings silo) (without_replaced f old).nodes q apart) ∙ made silo next added old q node there))
+      elim (joining_node f peopled silo next added old q node there) [
+        | inl its ↦ inr (ap (node_of f) its.0 ∙ no_node silo next step, its.1 ∙ ap (new_node f.settings) (sym its.0))
+        | inr was ↦ inl was
       ]
 
   pub death_kept : (silo : Silo) (q : Silo) (node : Node) → node_of (died f silo).world q ≡ Some node → WasThere f q node

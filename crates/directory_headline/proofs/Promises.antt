@@ -49,7 +49,7 @@ use Rattle.directory_headline.specs.Shown.{held_in, held_as, activation_in, is_s
 use Rattle.directory_headline.proofs.Facts.{WorldFacts, IsPiece}
 use Rattle.directory_headline.proofs.Frame.{Here, node_shown, seen_is, hash_is, alive}
 use Rattle.directory_headline.proofs.Viewed.{Carried}
-use Rattle.directory_headline.proofs.Statuses.{there_live}
+use Rattle.directory_headline.proofs.Statuses.{alive_live}
 use Rattle.directory_headline.proofs.PieceAt.{of_found}
 use Rattle.directory_headline.proofs.HighHashes.{hash_for, hash_below, is_hash, owns_by, found_hash, found_owned, held_once}
 use Rattle.directory_headline.proofs.HashPieces.{is_hashed_so, only_piece}
@@ -125,12 +125,8 @@ module _ (m : Setting) (f : World) (setting : IsSettingOf m f) (facts : WorldFac
   holder_there silo grain x lives there =
       let known : not (is_known_dead (status_at f.views f.views.version silo)) ≡ true =
       sym (ap (λ version. m.alive version silo) carried.shown.now ∙ setting.alive f.views.version silo (omega arith)) ∙ lives in
-      some_node (node_of f silo) (facts.peopled.live silo ∙ there_live (status_at f.views f.views.version silo) (row (status_at f.views f.views.version silo) refl) (not_not (is_known_dead (status_at f.views f.views.version silo)) known))
+      some_node (node_of f silo) (facts.peopled.live silo ∙ alive_live (status_at f.views f.views.version silo) (row (status_at f.views f.views.version silo) refl) known)
     where
-      not_not : (b : Bool) → not b ≡ true → b ≡ false
-      not_not true is = absurd (cc (is))
-      not_not false is = refl
-
       row : (status : Option Status) → status_at f.views f.views.version silo ≡ status → IsSome (status_at f.views f.views.version silo)
       row None none = let first = ap (λ s. s.held grain) (carried.shown.absent silo none) in absurd (cc (first, there))
       row (Some status) is = subst (λ o. IsSome o) (sym is) refl
@@ -186,7 +182,7 @@ module _ (m : Setting) (f : World) (setting : IsSettingOf m f) (facts : WorldFac
         by so (Some e) found is =
             let some : Some e.activation ≡ Some (activation_on t held.count) = sym (ap activation_in found) ∙ is in
             let one : e.activation ≡ activation_on t held.count = cc (some) in
-            let own : e.grain ≡ grain = found_own grain at.piece.entries e piece_is.table.own found in
+            let own : e.grain ≡ grain = found_own grain at.piece.entries e piece_is.table.own_grain found in
             let passes : its e ≡ true = eq-eqb (m.hash e.grain) number (ap m.hash own ∙ so) in
             subst (Contains (filter its (entries_of at.piece.entries))) (same_entry e (entry_on t grain held) own one)
             (picked_found its grain at.piece.entries e found passes)
@@ -206,8 +202,9 @@ module _ (m : Setting) (f : World) (setting : IsSettingOf m f) (facts : WorldFac
       one_a_grain = picked_once its at.piece.entries piece_is.table;
     })
 
-    pub right_now : version ≡ f.views.version → IsRightTable f number (entries_with number node)
-    right_now current = subst (IsRightTable f number) (sym entries_are) (record {
+    -- so is the piece's own, at the current version
+    pub piece_right : version ≡ f.views.version → IsRightTable f number (filter its (entries_of at.piece.entries))
+    piece_right current = record {
       complete = is_complete;
       held = each_entry (λ e. IsHeld f e.grain e.activation) (λ e hashed there.
           let lives = (right e.grain hashed).live e.activation there (seen_is m f w silo node (here silo node at.live) ∙ at.seen ∙ current ∙ sym carried.shown.now) in
@@ -215,14 +212,17 @@ module _ (m : Setting) (f : World) (setting : IsSettingOf m f) (facts : WorldFac
           let one = holder_there e.activation.silo e.grain holds.0 lives holds.1 in
           node_holds e.grain e.activation one.0 one.1 holds.0 holds.1 holds.2);
       one_a_grain = picked_once its at.piece.entries piece_is.table;
-    })
+    }
+
+    pub right_now : version ≡ f.views.version → IsRightTable f number (entries_with number node)
+    right_now current = subst (IsRightTable f number) (sym entries_are) (piece_right current)
 
   one_silo_has_it : OneSettles f
   one_silo_has_it v u number s t x y one other =
       holds_where_reached safe.OneSettles one_silo_settles m w carried.reached (hash_for number) s t (is_settled_so v number s x one) (is_settled_so u number t y other)
 
   -- ---- retries
-  owns_in : (silo : Silo) (node : Node) (number : ℕ) (piece : Piece) → HasNode f silo node → piece_with number node.holding.pieces ≡ Some piece → OwnsIn f node.view.version silo number
+  pub owns_in : (silo : Silo) (node : Node) (number : ℕ) (piece : Piece) → HasNode f silo node → piece_with number node.holding.pieces ≡ Some piece → OwnsIn f node.view.version silo number
   owns_in silo node number piece has found =
       let own = facts.nodes silo node has in
       let ranged = All-weaker (λ e. IsPiece m.hash e.1) (λ (e : ℕ × Piece). IsRange e.1.range) (λ e is. is.range) node.holding.pieces own.pieces.each in

@@ -22,9 +22,10 @@ use Rattle.directory_rules.specs.Step.{silently}
 use Rattle.directory_rules.specs.Transfer.{with_settled}
 use Rattle.directory_rules.specs.World.{World}
 use Rattle.directory_facts.proofs.Ways.{IsReportTaken}
+use Rattle.directory_facts.proofs.Collecting.{TakenSo, taken_so}
 use Rattle.directory_headline.specs.Shown.{IsShownLetter, IsShownRecovery, HasReported, activation_in}
 use Rattle.directory_headline.proofs.SettledPiece.{settling, settled_world, may_settle, node_settled}
-use Rattle.directory_headline.proofs.Collecting.{TakenSo, taken_so, more_shown, report_shown}
+use Rattle.directory_headline.proofs.Collecting.{more_shown, report_shown}
 use Rattle.directory_headline.proofs.Frame.{Here, Comes, Moves, acts, seen_is, no_letters}
 
 some_entry : (o : Option Entry) (a : ActivationId) → activation_in o ≡ Some a → (e : Entry) × (o ≡ Some e) × (e.activation ≡ a)

@@ -1,9 +1,7 @@
 -- Tables whose grains rise are one where they have the same entries; so all that is said of a range has one list.
 use Rattle.std.proofs.Common.{◌≡◌, ℕ, List, [], ◌∷◌, inl, inr, refl, sym, ap, ◌∙◌}
 use Rattle.std.specs.Prelude.{true, false, cond, Option, Some, None}
-use Rattle.std.specs.List.{AllByRecursion}
 use Rattle.std.specs.List.Sorted.{IsStrictlySortedBy}
-use Rattle.std.specs.Map.{keys_of}
 use Rattle.std.specs.Ordering.{is_eq, ordering_reverse}
 use Rattle.std.specs.declared.cmp.Ordering.{Ordering}
 use Rattle.std.specs.declared.cmp.Ordering.TheVariants.{Less, Equal, Greater}
@@ -15,24 +13,19 @@ use Rattle.silo_address.proofs.Order.{grain_cmp_total, grain_cmp_exact}
 use Rattle.ring_range.specs.Range.{Range, holds}
 use Rattle.directory_rules.specs.Table.{Table, entry_at, entries_of, table_of}
 use Rattle.directory_rules.proofs.Cases.{on_bool}
-use Rattle.directory_facts.proofs.Tabling.{order_rising}
+use Rattle.directory_facts.proofs.Tabling.{order_rising, above_all, InOrder}
 use Rattle.directory_headline.specs.Shown.{IsListOf, activation_in}
-use Rattle.directory_headline.proofs.Facts.{IsTable}
 use Rattle.directory_headline.proofs.Lookups.{absent_found, lookup_first, lookup_later}
 use Rattle.directory_headline.proofs.TableEntries.{table_tail, head_apart, found_own, found_holds, none_above}
 use Rattle.directory_protocol.proofs.Changes.{grain_cases}
 
-below_all : (grain first : Grain) (es : Table) → grain_cmp grain first ≡ Less → AllByRecursion (λ other. grain_cmp first other ≡ Less) (keys_of es) → AllByRecursion (λ other. grain_cmp grain other ≡ Less) (keys_of es)
-below_all grain first [] less above = tt
-below_all grain first (e ∷ es) less above = (grain_cmp_total.trans grain first e.0 less above.0, below_all grain first es less above.1)
-
 -- a grain below the first one has no entry
-none_below : (grain : Grain) (e : Grain × Entry) (es : Table) → IsTable (e ∷ es) → grain_cmp grain e.0 ≡ Less → entry_at grain (e ∷ es) ≡ None
+none_below : (grain : Grain) (e : Grain × Entry) (es : Table) → InOrder (e ∷ es) → grain_cmp grain e.0 ≡ Less → entry_at grain (e ∷ es) ≡ None
 unfolding IsStrictlySortedBy
 none_below grain e es is less =
-    ap (λ r. cond (is_eq r) (Some e.1) (entry_at grain es)) less ∙ none_above grain es (below_all grain e.0 es less is.rising.0)
+    ap (λ r. cond (is_eq r) (Some e.1) (entry_at grain es)) less ∙ none_above grain es (above_all grain e.0 es less is.by_grain.0)
 
-pub same_tables : (one other : Table) → IsTable one → IsTable other → ((grain : Grain) → entry_at grain one ≡ entry_at grain other) → one ≡ other
+pub same_tables : (one other : Table) → InOrder one → InOrder other → ((grain : Grain) → entry_at grain one ≡ entry_at grain other) → one ≡ other
 same_tables [] [] is its same = refl
 same_tables [] (y ∷ ys) is its same = absurd (cc (same y.0 ∙ lookup_first grain_cmp grain_cmp_total y.0 y.1 ys))
 same_tables (x ∷ xs) [] is its same = absurd (cc (sym (same x.0) ∙ lookup_first grain_cmp grain_cmp_total x.0 x.1 xs))
@@ -73,14 +66,14 @@ table_is [] = refl
 table_is (e ∷ es) = ap (λ l. e ∷ l) (table_is es)
 
 module _ (hash : Grain → ℕ) (range : Range) (says : Grain → Option ActivationId) where
-  list_table : (entries : List Entry) → IsListOf hash range says entries → IsTable (table_of entries)
-  list_table entries is = let order = order_rising entries is.rising in record { rising = order.by_grain; own = order.own_grain }
+  list_table : (entries : List Entry) → IsListOf hash range says entries → InOrder (table_of entries)
+  list_table entries is = order_rising entries is.rising
 
   -- an entry of the list is of the range
   lies_in : (entries : List Entry) → IsListOf hash range says entries → (grain : Grain) (e : Entry) → entry_at grain (table_of entries) ≡ Some e → holds range (hash grain) ≡ true
   lies_in entries is grain e found =
       let table = list_table entries is in
-      ap (λ g. holds range (hash g)) (sym (found_own grain (table_of entries) e table.own found))
+      ap (λ g. holds range (hash g)) (sym (found_own grain (table_of entries) e table.own_grain found))
       ∙ found_holds (λ x. holds range (hash x.1.grain) ≡ true) grain (table_of entries) e
       (All-map (λ (x : Grain × Entry). holds range (hash x.1.grain) ≡ true) (λ entry. (entry.grain, entry)) entries is.inside) found
 
@@ -107,7 +100,7 @@ module _ (hash : Grain → ℕ) (range : Range) (says : Grain → Option Activat
       ∙ ap entries_of (same_tables (table_of one) (table_of other) (list_table one is) (list_table other its) (λ grain.
       on_bool (λ b. holds range (hash grain) ≡ b → entry_at grain (table_of one) ≡ entry_at grain (table_of other)) (holds range (hash grain))
       (λ t held. same_entry_of grain (entry_at grain (table_of one)) (entry_at grain (table_of other))
-      (λ e found. found_own grain (table_of one) e (list_table one is).own found) (λ e found. found_own grain (table_of other) e (list_table other its).own found)
+      (λ e found. found_own grain (table_of one) e (list_table one is).own_grain found) (λ e found. found_own grain (table_of other) e (list_table other its).own_grain found)
       (sym (is.exact grain held) ∙ its.exact grain held))
       (λ u apart. outside one is grain apart ∙ sym (outside other its grain apart)) refl))
       ∙ table_is other

@@ -125,7 +125,7 @@ module _ (m : Setting) (f : World) (w : protocol.World) (silo : Silo) (node : No
       let piece = (of_found (λ e. IsPiece m.hash e.1) (m.hash grain) pieces has.piece facts.pieces.each has.found).1 in
       ap (surviving m view.version) ((node_shown m f w silo node here).holding.table grain has.piece has.found has.settled)
       ∙ sym (kept_at m node.settings.hashing its view view.version (sights.alive_there m f w silo node here before view places newer brings) pieces range grain has.piece facts.pieces.each
-      (sights.once_before m f w silo node here before view places newer brings (m.hash grain) below) has.found piece.table held)
+      (sights.once_before m f w silo node here before view places newer brings (m.hash grain)) has.found piece.table held)
 
   holding_shown : IsShownHolding m.hash made.holding (state_of seen silo)
   holding_shown =

@@ -41,9 +41,10 @@ use Rattle.directory_facts.specs.Whole.{LeavesOthers}
 use Rattle.directory_facts.proofs.Hashes.{grains_have_hashes}
 use Rattle.directory_facts.proofs.Leaving.{answers_leave_others}
 use Rattle.directory_facts.proofs.Serving.{Serves, serves, found_holds}
+use Rattle.directory_facts.proofs.Tabling.{InOrder}
 use Rattle.directory_headline.specs.SiloState.{state_of}
 use Rattle.directory_headline.specs.Shown.{activation_in, is_settled_piece, request_as, IsShownBody, IsShownHolding, IsShownReply, IsShownRequest, IsShownLetter}
-use Rattle.directory_headline.proofs.Facts.{ArePieces, IsPiece, IsTable}
+use Rattle.directory_headline.proofs.Facts.{ArePieces, IsPiece}
 use Rattle.directory_headline.proofs.Actors.{leaves_after}
 use Rattle.directory_headline.proofs.Growing.{shelf_still, gatherings_still, recoveries_still}
 use Rattle.directory_headline.proofs.Lookups.{found_put, found_beside_put}
@@ -84,7 +85,7 @@ module _ (m : Setting) (f : World) (w : protocol.World) (silo : Silo) (node : No
   grain_below : (grain : Grain) → m.hash grain < circle
   grain_below grain = subst (λ hash. hash grain < circle) (sym (hash_is m f w silo node here)) (grains_have_hashes node.settings.hashing grain)
 
-  piece_table : (hash : ℕ) (piece : Piece) → piece_with hash node.holding.pieces ≡ Some piece → IsTable piece.entries
+  piece_table : (hash : ℕ) (piece : Piece) → piece_with hash node.holding.pieces ≡ Some piece → InOrder piece.entries
   piece_table hash piece found = (of_found (λ e. IsPiece m.hash e.1) hash node.holding.pieces piece pieces_are.each found).1.table
 
   module _
@@ -245,7 +246,7 @@ module _ (m : Setting) (f : World) (w : protocol.World) (silo : Silo) (node : No
           sent = shown_so (act.Deregister entry) same;
           hash = hash_so (act.Deregister entry) same;
           own = own_so (act.Deregister entry) same;
-          turns = deregisters entry piece.entries (piece_table request.hash piece its.found).rising;
+          turns = deregisters entry piece.entries (piece_table request.hash piece its.found).by_grain;
           leaves = leaves;
         })
     by_act piece is (act.Find grain) same leaves = finds request (entry_at grain piece.entries)

@@ -1,5 +1,5 @@
 -- The views and places of a world make a setting; and that of a later world is that of an earlier one, as far as its versions go.
-use Rattle.std.proofs.Common.{arith, ◌≡◌, ◌≢◌, ℕ, ◌≤◌, true, [], IsSome, refl, sym, ap, ◌∙◌, subst}
+use Rattle.std.proofs.Common.{arith, ◌≡◌, ◌≢◌, ℕ, ◌≤◌, true, [], refl, sym, ap, ◌∙◌, subst}
 use Rattle.std.specs.Prelude.{nat_le, not, if◌then◌else◌, Contains, Option, Some, None}
 use Rattle.std.specs.Option.{option_map}
 use Rattle.std.specs.List.Sorted.{IsStrictlySortedBy}
@@ -29,6 +29,7 @@ use Rattle.directory_rules.specs.World.{World}
 use Rattle.directory_rules.specs.Laws.{is_live}
 use Rattle.directory_rules.proofs.Cases.{on_bool}
 use Rattle.directory_headline.specs.Setting.{is_member_in, is_alive_in, owner_in, view_up_to, IsSettingOf}
+use Rattle.directory_headline.proofs.Statuses.{live_alive, live_there, alive_live}
 
 -- ---- versions up to the last
 up_to : ViewsValue → ℕ → ℕ
@@ -86,22 +87,6 @@ owner_active views version places hash silo whole is = by (owner_of (sorted_ring
         subst (λ s. status_at views version s ≡ Some Active) same of_view.active
 
 -- ---- statuses
-member_alive : (status : Option Status) → is_live status ≡ true → not (is_known_dead status) ≡ true
-member_alive None is = absurd (cc)
-member_alive (Some Active) is = refl
-member_alive (Some Leaving) is = refl
-member_alive (Some Dead) is = absurd (cc)
-
-member_there : (status : Option Status) → is_live status ≡ true → IsSome status
-member_there None is = absurd (cc)
-member_there (Some status) is = refl
-
-alive_member : (status : Option Status) → IsSome status → not (is_known_dead status) ≡ true → is_live status ≡ true
-alive_member None there alive = absurd (cc)
-alive_member (Some Active) there alive = refl
-alive_member (Some Leaving) there alive = refl
-alive_member (Some Dead) there alive = absurd (cc)
-
 alive_before : (before after : Option Status) → (before ≡ Some Dead → after ≡ Some Dead) → not (is_known_dead after) ≡ true → not (is_known_dead before) ≡ true
 alive_before None after stays alive = refl
 alive_before (Some Active) after stays alive = refl
@@ -121,7 +106,7 @@ setting_of end whole = record {
   owner_is_member = λ version hash silo is.
       let active = owner_active end.views (up_to end.views version) end.places hash silo whole (ap (λ view. owner_in view end.places hash) (sym (view_up_to-is end.views version)) ∙ is) in
       ap (λ view. is_member_in view silo) (view_up_to-is end.views version) ∙ ap is_live active;
-  member_is_alive = λ version silo is. member_alive (status_of (view_up_to end.views version) silo) is;
+  member_is_alive = λ version silo is. live_alive (status_of (view_up_to end.views version) silo) is;
   dead_stays_dead = λ j k silo le alive.
       let later = subst (λ view. is_alive_in view silo ≡ true) (view_up_to-is end.views k) alive in
       let before = alive_before (status_at end.views (up_to end.views j) silo) (status_at end.views (up_to end.views k) silo)
@@ -130,8 +115,8 @@ setting_of end whole = record {
   member_until_death = λ j k silo le member alive.
       let before = subst (λ view. is_member_in view silo ≡ true) (view_up_to-is end.views j) member in
       let later = subst (λ view. is_alive_in view silo ≡ true) (view_up_to-is end.views k) alive in
-      let there = rows_stay end.views whole silo (up_to end.views j) (up_to end.views k) (up_to-rises end.views j k le) (up_to-made end.views k) (member_there (status_at end.views (up_to end.views j) silo) before) in
-      let so = alive_member (status_at end.views (up_to end.views k) silo) there later in
+      let there = rows_stay end.views whole silo (up_to end.views j) (up_to end.views k) (up_to-rises end.views j k le) (up_to-made end.views k) (live_there (status_at end.views (up_to end.views j) silo) before) in
+      let so = alive_live (status_at end.views (up_to end.views k) silo) there later in
       subst (λ view. is_member_in view silo ≡ true) (sym (view_up_to-is end.views k)) so;
 }
 

@@ -1,12 +1,11 @@
 -- A piece that wasn't settled is settled: what an installation and a recovery have in common.
 use Rattle.std.proofs.Common.{arith, ◌≡◌, ℕ, ◌<◌, ◌≤◌, refl, sym, ap, subst, ◌∙◌}
-use Rattle.std.specs.Prelude.{◌&&◌, nat_lt, Bool, true, false, cond, Option, Some, None, count_by}
+use Rattle.std.specs.Prelude.{◌&&◌, nat_lt, Bool, true, false, cond, Option, Some, count_by}
 use Rattle.std.specs.Ordering.{nat_cmp}
 use Rattle.std.specs.BTreeMap.{is_at}
 use Rattle.silo_address.specs.Silo.{Silo}
 use Rattle.silo_address.specs.Grain.{Grain}
 use Rattle.silo_address.specs.declared.ActivationId.{ActivationId}
-use Rattle.silo_address.proofs.Same.{Decides-silo}
 use Rattle.texts.proofs.Decided.{both}
 use Rattle.ring_range.specs.Range.{circle, Range, holds}
 use Rattle.range_moves.specs.Arcs.{owner_silo}
@@ -30,11 +29,13 @@ use Rattle.directory_rules.proofs.Cases.{on_bool}
 use Rattle.directory_facts.proofs.Entries.{all_removed}
 use Rattle.directory_facts.proofs.Hashes.{grains_have_hashes}
 use Rattle.directory_facts.proofs.Ways.{HasPiece}
+use Rattle.directory_facts.proofs.Throughout.{some_counted}
 use Rattle.directory_headline.specs.SiloState.{state_of}
 use Rattle.directory_headline.specs.Shown.{IsShownNode, IsShownHolding, IsShownGathering, IsShownRecovery, is_settled_piece, has_settled, activation_in}
-use Rattle.directory_headline.proofs.Counting.{at_most_one, some_owned}
+use Rattle.directory_headline.proofs.Counting.{owner_silo_is}
 use Rattle.directory_headline.proofs.PieceSet.{looked_counted, looked_found, set_found, set_elsewhere}
 use Rattle.directory_headline.proofs.Frame.{Here, node_shown, node_facts, host_is, hash_is, seen_is, owner_is, alive}
+use Rattle.directory_headline.proofs.HighHashes.{held_once}
 
 pub lt_true : (a b : ℕ) → nat_lt a b ≡ true → a < b
 lt_true a b is = grind arith
@@ -42,18 +43,16 @@ lt_true a b is = grind arith
 lt_from : (a b : ℕ) → a < b → nat_lt a b ≡ true
 lt_from a b less = grind arith
 
-owner_of_silo : (silo : Silo) (o : Option Silo) → is_owner silo o ≡ true → o ≡ Some silo
-owner_of_silo silo None is = absurd (cc (is))
-owner_of_silo silo (Some owner) is = ap Some ((Decides-silo owner silo).0 is)
-
 -- the hashes of the circle that the range holds
 abbrev pub part_of_range : Range → (hash : ℕ) → Bool
 part_of_range range h = holds range h && nat_lt h circle
 
 module _ (m : Setting) (f : World) (w : protocol.World) (silo : Silo) (node : Node) (here : Here m f w silo node) where
-  -- each hash of the circle is in one piece at most
-  pub held_once : (h : ℕ) → h < circle → count_by (λ e. holds e.1.range h) node.holding.pieces ≤ 1
-  held_once h below = at_most_one (is_owner node.host.silo (owner_silo node.ring.points h)) _ ((node_facts m f w silo node here).once h below)
+  -- each hash is in one piece at most
+  in_one_piece : (h : ℕ) → count_by (λ e. holds e.1.range h) node.holding.pieces ≤ 1
+  in_one_piece =
+      let facts = node_facts m f w silo node here in
+      held_once node.ring.points node.host.silo node.holding.pieces facts.once (λ k d below. (facts.pieces.each k d below).range)
 
   pub grain_below : (grain : Grain) → m.hash grain < circle
   grain_below grain = subst (λ hash. hash grain < circle) (sym (hash_is m f w silo node here)) (grains_have_hashes node.settings.hashing grain)
@@ -70,12 +69,12 @@ module _ (m : Setting) (f : World) (w : protocol.World) (silo : Silo) (node : No
     owns_piece : (h : ℕ) → h < circle → holds range h ≡ true → m.owner (w.seen silo) h ≡ Some silo
     owns_piece h below held =
         let counted = looked_counted range.start h node.holding.pieces piece has.found (held_by_piece h held) in
-        let owner = some_owned (is_owner node.host.silo (owner_silo node.ring.points h)) _ ((node_facts m f w silo node here).once h below) counted in
-        ap (λ v. m.owner v h) (seen_is m f w silo node here) ∙ owner_is m f w silo node here h ∙ owner_of_silo node.host.silo (owner_silo node.ring.points h) owner
+        let owner = some_counted (is_owner node.host.silo (owner_silo node.ring.points h)) _ ((node_facts m f w silo node here).once h below) counted in
+        ap (λ v. m.owner v h) (seen_is m f w silo node here) ∙ owner_is m f w silo node here h ∙ owner_silo_is node.host.silo (owner_silo node.ring.points h) owner
         ∙ ap Some (host_is m f w silo node here)
 
     piece_has : (h : ℕ) → h < circle → holds range h ≡ true → piece_with h node.holding.pieces ≡ Some piece
-    piece_has h below held = looked_found range.start h node.holding.pieces piece has.found (held_by_piece h held) (held_once h below)
+    piece_has h below held = looked_found range.start h node.holding.pieces piece has.found (held_by_piece h held) (in_one_piece h)
 
     -- the piece with another state and table
     abbrev changed : PieceState → Table → Piece
@@ -83,7 +82,7 @@ module _ (m : Setting) (f : World) (w : protocol.World) (silo : Silo) (node : No
 
     pub changed_has : (its : PieceState) (table : Table) (h : ℕ) → h < circle → holds range h ≡ true → piece_with h (with_state node range its table).holding.pieces ≡ Some (changed its table)
     changed_has its table h below held =
-        set_found range.start h node.holding.pieces piece (changed its table) has.found (sym has.same) (held_by_piece h held) (held_once h below)
+        set_found range.start h node.holding.pieces piece (changed its table) has.found (sym has.same) (held_by_piece h held) (in_one_piece h)
 
     pub others_have : (its : PieceState) (table : Table) (h : ℕ) → holds range h ≡ false → piece_with h (with_state node range its table).holding.pieces ≡ piece_with h node.holding.pieces
     others_have its table h apart =

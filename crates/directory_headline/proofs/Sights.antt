@@ -1,12 +1,11 @@
 -- A sight is allowed: what the silo keeps settled, and what it seals, it had settled.
 use Rattle.std.proofs.Common.{arith, ◌≡◌, ◌≢◌, ◌⊎◌, ℕ, suc, ◌+◌, ◌<◌, ◌≤◌, List, [], ◌∷◌, inl, inr, refl, sym, ap, subst, ◌∙◌}
-use Rattle.std.specs.Prelude.{◌&&◌, ◌||◌, ◌==◌, Bool, true, false, cond, not, nat_lt, is_none, is_some, All, Option, Some, None}
+use Rattle.std.specs.Prelude.{◌&&◌, ◌||◌, ◌==◌, Bool, true, false, cond, not, nat_lt, is_none, is_some, All, Some}
 use Rattle.std.specs.List.{list_any}
 use Rattle.std.proofs.lemmas.Bool.{eqb-true, ltb-true}
 use Rattle.std.proofs.lemmas.List.Elements.{All-nil, All-head, All-tail}
 use Rattle.texts.proofs.Decided.{both}
 use Rattle.silo_address.specs.Silo.{Silo}
-use Rattle.silo_address.proofs.Same.{Decides-silo}
 use Rattle.membership_view.specs.View.{ViewValue, status_of}
 use Rattle.membership_view.specs.Views.{view_at}
 use Rattle.ring_range.specs.Range.{circle, Range, IsRange, holds}
@@ -32,28 +31,22 @@ use Rattle.directory_rules.proofs.Pieces.{pieces_are_owned}
 use Rattle.directory_rules.proofs.Sights.{on_circle, compared}
 use Rattle.directory_facts.proofs.Carried.{IsSight}
 use Rattle.directory_facts.proofs.Serving.{found_holds}
-use Rattle.directory_facts.proofs.Throughout.{settled_both}
+use Rattle.directory_facts.proofs.Throughout.{settled_both, some_counted}
 use Rattle.directory_headline.specs.Setting.{is_member_in, is_alive_in, owner_in}
 use Rattle.directory_headline.specs.Shown.{has_settled}
 use Rattle.directory_headline.proofs.Facts.{NodeFacts}
 use Rattle.directory_headline.proofs.Frame.{Here, alive, node_facts, node_shown, host_is, seen_is, live_now, owner_is}
 use Rattle.directory_headline.proofs.PieceAt.{of_found}
-use Rattle.directory_headline.proofs.Counting.{holding, found_counted, at_most_one, some_owned}
+use Rattle.directory_headline.proofs.Counting.{holding, found_counted, owner_silo_is}
 use Rattle.directory_headline.proofs.Members.{live_since}
 use Rattle.directory_headline.proofs.SightPieces.{HasSettledPiece, has_piece, of_settled, lies_in_one, IsMade, all_made, IsSealed, all_sealed}
+use Rattle.directory_headline.proofs.HighHashes.{held_once}
 
 -- ---- pieces that hold each hash that is owned once
-owner_of_it : (s : Silo) (o : Option Silo) → is_owner s o ≡ true → o ≡ Some s
-owner_of_it s None is = absurd (cc (is))
-owner_of_it s (Some owner) is = ap Some ((Decides-silo owner s).0 is)
-
 module _ (points : List Point) (s : Silo) (pieces : List (ℕ × Piece)) (once : HoldOnce points s pieces) (h : ℕ) (below : h < circle) where
-  held_once : holding h pieces ≤ 1
-  held_once = at_most_one (is_owner s (owner_silo points h)) (holding h pieces) (once h below)
-
   held_owned : (piece : Piece) → piece_with h pieces ≡ Some piece → owner_silo points h ≡ Some s
   held_owned piece found =
-      owner_of_it s (owner_silo points h) (some_owned (is_owner s (owner_silo points h)) (holding h pieces) (once h below) (found_counted h pieces piece found))
+      owner_silo_is s (owner_silo points h) (some_counted (is_owner s (owner_silo points h)) (holding h pieces) (once h below) (found_counted h pieces piece found))
 
 -- ---- some of them
 some_of : {X : Type 0} (P : X → Type 0) (test : X → Bool) (xs : List X) → All P xs → list_any test xs ≡ true → (x : X) × P x × (test x ≡ true)
@@ -152,14 +145,14 @@ module _ (m : Setting) (f : World) (w : protocol.World) (silo : Silo) (node : No
   each_sealed = sealed_where next
 
   -- ---- what was settled
-  pub once_before : (h : ℕ) → h < circle → holding h pieces ≤ 1
-  once_before h below = held_once node.ring.points node.host.silo pieces facts.once h below
-
   ranged : All (λ e. IsRange e.1.range) pieces
   ranged = λ k d below. (facts.pieces.each k d below).range
 
+  pub once_before : (h : ℕ) → holding h pieces ≤ 1
+  once_before = held_once node.ring.points node.host.silo pieces facts.once ranged
+
   pub had_settled : (range : Range) → IsRange range → was_settled pieces range ≡ true → (h : ℕ) → h < circle → holds range h ≡ true → HasSettledPiece h pieces
-  had_settled range is was h below held = lies_in_one h pieces (once_before h below) ((settled_both pieces facts.pieces.under_start ranged range is).0 was h below held)
+  had_settled range is was h below held = lies_in_one h pieces (once_before h) ((settled_both pieces facts.pieces.under_start ranged range is).0 was h below held)
 
   settled_so : (h : ℕ) → HasSettledPiece h pieces → h < circle → w.settled silo h ≡ true
   settled_so h has below = (node_shown m f w silo node here).holding.settled h ∙ has_piece h pieces has below

@@ -16,7 +16,7 @@ use Rattle.silo_address.proofs.Order.{grain_cmp_total, grain_cmp_exact}
 use Rattle.directory_rules.specs.Table.{Table, entry_at, entries_of, table_of}
 use Rattle.directory_rules.proofs.Cases.{on_bool}
 use Rattle.directory_facts.proofs.Entries.{same_key}
-use Rattle.directory_headline.proofs.Facts.{IsTable}
+use Rattle.directory_facts.proofs.Tabling.{InOrder}
 use Rattle.directory_headline.proofs.Lookups.{absent_found, lookup_first, lookup_later}
 
 -- ---- the first entry and the later ones
@@ -30,22 +30,22 @@ apart_from grain (e ∷ es) above =
     absurd (cc (sym less ∙ tied)))
     (apart_from grain es above.1)
 
-pub head_apart : (e : Grain × Entry) (es : Table) → IsTable (e ∷ es) → All (λ x. e.0 ≢ x.0) es
+pub head_apart : (e : Grain × Entry) (es : Table) → InOrder (e ∷ es) → All (λ x. e.0 ≢ x.0) es
 unfolding IsStrictlySortedBy
-head_apart e es table = apart_from e.0 es table.rising.0
+head_apart e es table = apart_from e.0 es table.by_grain.0
 
-pub table_tail : (e : Grain × Entry) (es : Table) → IsTable (e ∷ es) → IsTable es
+pub table_tail : (e : Grain × Entry) (es : Table) → InOrder (e ∷ es) → InOrder es
 unfolding IsStrictlySortedBy
-table_tail e es table = record { rising = table.rising.1; own = All-tail (λ (x : Grain × Entry). x.0 ≡ x.1.grain) e es table.own }
+table_tail e es table = record { by_grain = table.by_grain.1; own_grain = All-tail (λ (x : Grain × Entry). x.0 ≡ x.1.grain) e es table.own_grain }
 
-first_own : (e : Grain × Entry) (es : Table) → IsTable (e ∷ es) → e.0 ≡ e.1.grain
-first_own e es table = All-head (λ (x : Grain × Entry). x.0 ≡ x.1.grain) e es table.own
+first_own : (e : Grain × Entry) (es : Table) → InOrder (e ∷ es) → e.0 ≡ e.1.grain
+first_own e es table = All-head (λ (x : Grain × Entry). x.0 ≡ x.1.grain) e es table.own_grain
 
-first_found : (e : Grain × Entry) (es : Table) → IsTable (e ∷ es) → entry_at e.1.grain (e ∷ es) ≡ Some e.1
+first_found : (e : Grain × Entry) (es : Table) → InOrder (e ∷ es) → entry_at e.1.grain (e ∷ es) ≡ Some e.1
 first_found e es table = ap (λ g. entry_at g (e ∷ es)) (sym (first_own e es table)) ∙ lookup_first grain_cmp grain_cmp_total e.0 e.1 es
 
 -- what is found among the later ones is found
-later_found : (e : Grain × Entry) (es : Table) (x : Entry) → IsTable (e ∷ es) → entry_at x.grain es ≡ Some x → entry_at x.grain (e ∷ es) ≡ Some x
+later_found : (e : Grain × Entry) (es : Table) (x : Entry) → InOrder (e ∷ es) → entry_at x.grain es ≡ Some x → entry_at x.grain (e ∷ es) ≡ Some x
 later_found e es x table found =
     lookup_later grain_cmp grain_cmp_exact x.grain e.0 e.1 es (λ same.
     let none = absent_found grain_cmp grain_cmp_exact e.0 es (head_apart e es table) in
@@ -84,6 +84,28 @@ pub none_above : (grain : Grain) (es : Table) → AllByRecursion (λ other. grai
 none_above grain [] above = refl
 none_above grain (e ∷ es) above = ap (λ r. cond (is_eq r) (Some e.1) (entry_at grain es)) above.0 ∙ none_above grain es above.1
 
+-- what holds of each entry that is found under its grain
+pub each_found : (P : Entry → Type 0) (table : Table) → InOrder table → ((e : Entry) → entry_at e.grain table ≡ Some e → P e) → All P (entries_of table)
+each_found P [] table each = All-nil P
+each_found P (x ∷ xs) table each =
+    All-cons P x.1 (entries_of xs) (each x.1 (first_found x xs table)) (each_found P xs (table_tail x xs table) (λ e found. each e (later_found x xs e table found)))
+
+-- ---- one entry a grain
+apart_entries : (grain : Grain) (es : Table) → All (λ e. e.0 ≡ e.1.grain) es → All (λ e. grain ≢ e.0) es → All (λ e. grain ≢ e.grain) (entries_of es)
+apart_entries grain [] own apart = All-nil (λ (e : Entry). grain ≢ e.grain)
+apart_entries grain (e ∷ es) own apart =
+    All-cons (λ (x : Entry). grain ≢ x.grain) e.1 (entries_of es)
+    (subst (λ g. grain ≢ g) (All-head (λ (x : Grain × Entry). x.0 ≡ x.1.grain) e es own) (All-head (λ x. grain ≢ x.0) e es apart))
+    (apart_entries grain es (All-tail (λ (x : Grain × Entry). x.0 ≡ x.1.grain) e es own) (All-tail (λ x. grain ≢ x.0) e es apart))
+
+pub each_once : (table : Table) → InOrder table → AllPairs (λ e later. e.grain ≢ later.grain) (entries_of table)
+each_once [] table = λ i j d less below. absurd (omega (arith, below))
+each_once (x ∷ xs) table =
+    AllPairs-cons (λ (e later : Entry). e.grain ≢ later.grain) x.1 (entries_of xs)
+    (subst (λ g. All (λ (e : Entry). g ≢ e.grain) (entries_of xs)) (first_own x xs table)
+    (apart_entries x.0 xs (All-tail (λ (e : Grain × Entry). e.0 ≡ e.1.grain) x xs table.own_grain) (head_apart x xs table)))
+    (each_once xs (table_tail x xs table))
+
 -- ---- the entries that pass a test
 module _ (test : Entry → Bool) where
   contains_more : (x y : Entry) (xs : List Entry) → Contains xs y → Contains (x ∷ xs) y
@@ -105,27 +127,12 @@ module _ (test : Entry → Bool) where
       (λ f at is. picked_more (test x.1) x.1 e (filter test (entries_of xs)) (picked_found grain xs e is passes))
       refl found
 
-  pub picked_all : (P : Entry → Type 0) (table : Table) → IsTable table → ((e : Entry) → entry_at e.grain table ≡ Some e → test e ≡ true → P e) → All P (filter test (entries_of table))
+  pub picked_all : (P : Entry → Type 0) (table : Table) → InOrder table → ((e : Entry) → entry_at e.grain table ≡ Some e → test e ≡ true → P e) → All P (filter test (entries_of table))
   picked_all P [] table each = All-nil P
   picked_all P (x ∷ xs) table each =
       let later = picked_all P xs (table_tail x xs table) (λ e found passes. each e (later_found x xs e table found) passes) in
       on_bool (λ b. test x.1 ≡ b → All P (cond b (x.1 ∷ filter test (entries_of xs)) (filter test (entries_of xs)))) (test x.1)
       (λ t passes. All-cons P x.1 (filter test (entries_of xs)) (each x.1 (first_found x xs table) passes) later) (λ f fails. later) refl
 
-  apart_entries : (grain : Grain) (es : Table) → All (λ e. e.0 ≡ e.1.grain) es → All (λ e. grain ≢ e.0) es → All (λ e. grain ≢ e.grain) (entries_of es)
-  apart_entries grain [] own apart = All-nil (λ (e : Entry). grain ≢ e.grain)
-  apart_entries grain (e ∷ es) own apart =
-      All-cons (λ (x : Entry). grain ≢ x.grain) e.1 (entries_of es)
-      (subst (λ g. grain ≢ g) (All-head (λ (x : Grain × Entry). x.0 ≡ x.1.grain) e es own) (All-head (λ x. grain ≢ x.0) e es apart))
-      (apart_entries grain es (All-tail (λ (x : Grain × Entry). x.0 ≡ x.1.grain) e es own) (All-tail (λ x. grain ≢ x.0) e es apart))
-
-  each_once : (table : Table) → IsTable table → AllPairs (λ e later. e.grain ≢ later.grain) (entries_of table)
-  each_once [] table = λ i j d less below. absurd (omega (arith, below))
-  each_once (x ∷ xs) table =
-      AllPairs-cons (λ (e later : Entry). e.grain ≢ later.grain) x.1 (entries_of xs)
-      (subst (λ g. All (λ (e : Entry). g ≢ e.grain) (entries_of xs)) (first_own x xs table)
-      (apart_entries x.0 xs (All-tail (λ (e : Grain × Entry). e.0 ≡ e.1.grain) x xs table.own) (head_apart x xs table)))
-      (each_once xs (table_tail x xs table))
-
-  pub picked_once : (table : Table) → IsTable table → AllPairs (λ e later. e.grain ≢ later.grain) (filter test (entries_of table))
+  pub picked_once : (table : Table) → InOrder table → AllPairs (λ e later. e.grain ≢ later.grain) (filter test (entries_of table))
   picked_once table is = AllPairs-filter (λ (e later : Entry). e.grain ≢ later.grain) test (entries_of table) (each_once table is)

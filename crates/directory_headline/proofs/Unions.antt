@@ -8,7 +8,7 @@ use Rattle.directory_protocol.proofs.Changes.{grain_cases}
 use Rattle.directory_rules.specs.Table.{Table, entry_at, with_entry, table_of}
 use Rattle.directory_rules.specs.Recovery.{with_reported}
 use Rattle.directory_rules.proofs.Cases.{on_bool}
-use Rattle.directory_headline.proofs.Facts.{IsTable}
+use Rattle.directory_facts.proofs.Tabling.{InOrder}
 use Rattle.directory_headline.proofs.Lookups.{found_put, found_beside_put, absent_found, lookup_first, lookup_later}
 use Rattle.directory_headline.proofs.TableEntries.{table_tail, head_apart}
 
@@ -49,7 +49,7 @@ union_stays grain (x ∷ xs) table e found = union_stays grain xs (with_reported
 
 -- what is there was there, or is the report's
 pub union_came :
-    (grain : Grain) (entries : List Entry) (table : Table) (e : Entry) → IsTable (table_of entries) → entry_at grain (fold with_reported table entries) ≡ Some e
+    (grain : Grain) (entries : List Entry) (table : Table) (e : Entry) → InOrder (table_of entries) → entry_at grain (fold with_reported table entries) ≡ Some e
     → (entry_at grain table ≡ Some e) ⊎ (entry_at grain (table_of entries) ≡ Some e)
 union_came grain [] table e is found = inl found
 union_came grain (x ∷ xs) table e is found =

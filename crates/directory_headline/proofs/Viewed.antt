@@ -1,5 +1,5 @@
 -- A join, a leaving and a death are the next view: `Shown` is carried on.
-use Rattle.std.proofs.Common.{arith, ◌≡◌, ℕ, ◌+◌, ◌<◌, IsSome, inl, inr, refl, sym, ap, ◌∙◌, subst}
+use Rattle.std.proofs.Common.{arith, ◌≡◌, ℕ, ◌+◌, ◌<◌, IsSome, inl, inr, refl, sym, ap, ◌∙◌, subst, ◌⊎◌}
 use Rattle.std.specs.Prelude.{All, Option, Some, None, Ok}
 use Rattle.std.specs.Option.{option_map}
 use Rattle.std.specs.Map.{lookup, remove_entry}
@@ -99,7 +99,7 @@ was_absent silo views next step q none =
     ]
 
 -- who joins wasn't there
-newcomer : (silo : Silo) (views next : ViewsValue) → Joins silo (view_at views views.version) (view_at next next.version) → status_at views views.version silo ≡ None
+pub newcomer : (silo : Silo) (views next : ViewsValue) → Joins silo (view_at views views.version) (view_at next next.version) → status_at views views.version silo ≡ None
 newcomer silo views next step = by (status_at views views.version silo) refl
   where
     by : (status : Option Status) → status_at views views.version silo ≡ status → status ≡ None
@@ -124,6 +124,27 @@ module _ (f : World) (peopled : ArePeopled f.views f.nodes) where
   pub replaced_there : (old : Option Silo) (silo : Silo) (node : Node) → node_of (without_replaced f old) silo ≡ Some node → node_of f silo ≡ Some node
   replaced_there None silo node there = there
   replaced_there (Some old) silo node there = still_there old silo node there
+
+  -- a node that is there after a join is that of the silo that joins, or was there
+  pub joining_node :
+      (silo : Silo) (next : ViewsValue) (added : PlacesValue) (old : Option Silo) (q : Silo) (node : Node) → node_of (after_joining f silo old next added) q ≡ Some node
+      → ((q ≡ silo) × (node ≡ new_node f.settings silo)) ⊎ (node_of f q ≡ Some node)
+  joining_node silo next added old q node there =
+      elim (silo_cases q silo) [
+        | inl same ↦
+            let one : Some (new_node f.settings silo) ≡ Some node =
+            sym (found_put silo_cmp silo_cmp_total silo_cmp_exact silo (new_node f.settings silo) (without_replaced f old).nodes)
+            ∙ ap (λ s. lookup (is_at (silo_cmp s)) (insert_entry silo_cmp (without_replaced f old).nodes silo (new_node f.settings silo))) (sym same) ∙ made old there in
+            let its : new_node f.settings silo ≡ node = cc (one) in
+            inl (same, sym its)
+        | inr apart ↦
+            inr (replaced_there old q node (sym (found_beside_put silo_cmp silo_cmp_total silo_cmp_exact silo (new_node f.settings silo) (without_replaced f old).nodes q apart) ∙ made old there))
+      ]
+    where
+      made : (old : Option Silo) → node_of (after_joining f silo old next added) q ≡ Some node
+          → lookup (is_at (silo_cmp q)) (insert_entry silo_cmp (without_replaced f old).nodes silo (new_node f.settings silo)) ≡ Some node
+      made None there = there
+      made (Some old) there = there
 
 module _ (m : Setting) (f : World) (facts : WorldFacts m.hash f) (carried : Carried m f) where
   go_on : (later : World) → Shown m later (viewed m carried.world) → Carried m later
@@ -157,24 +178,13 @@ module _ (m : Setting) (f : World) (facts : WorldFacts m.hash f) (carried : Carr
       let accepts : Accepts f.views (change.Join silo) next = record { whole = facts.peopled.whole; is = is } in
       let step : Joins silo (view_at f.views f.views.version) (view_at next next.version) = changes_are_steps f.views (change.Join silo) next accepts in
       go_on (counted (after_joining f silo old next added)) (view_shown m carried.world f (counted (after_joining f silo old next added)) carried.shown (versions_rise f.views (change.Join silo) next accepts) (mail_same old) (λ q node there.
-      elim (silo_cases q silo) [
-        | inl same ↦
-            let one : Some (new_node f.settings silo) ≡ Some node =
-            sym (found_put silo_cmp silo_cmp_total silo_cmp_exact silo (new_node f.settings silo) (without_replaced f old).nodes)
-            ∙ ap (λ s. lookup (is_at (silo_cmp s)) (insert_entry silo_cmp (without_replaced f old).nodes silo (new_node f.settings silo))) (sym same) ∙ made old q node there in
-            let its : new_node f.settings silo ≡ node = cc in
-            let first : state_of carried.world q ≡ first_state = ap (state_of carried.world) same ∙ carried.shown.absent silo (newcomer silo f.views next step) in
-            subst (λ n. IsShownNode m carried.world n (state_of carried.world q)) its (subst (IsShownNode m carried.world (new_node f.settings silo)) (sym first) (new_shown m carried.world f.settings silo))
-        | inr apart ↦
-            carried.shown.live q node (replaced_there f facts.peopled old q node
-            (sym (found_beside_put silo_cmp silo_cmp_total silo_cmp_exact silo (new_node f.settings silo) (without_replaced f old).nodes q apart) ∙ made old q node there))
+      elim (joining_node f facts.peopled silo next added old q node there) [
+        | inl its ↦
+            let first : state_of carried.world q ≡ first_state = ap (state_of carried.world) its.0 ∙ carried.shown.absent silo (newcomer silo f.views next step) in
+            subst (λ n. IsShownNode m carried.world n (state_of carried.world q)) (sym its.1) (subst (IsShownNode m carried.world (new_node f.settings silo)) (sym first) (new_shown m carried.world f.settings silo))
+        | inr was ↦ carried.shown.live q node was
       ]) (was_absent silo f.views next step))
     where
       mail_same : (old : Option Silo) → (after_joining f silo old next added).mail ≡ f.mail
       mail_same None = refl
       mail_same (Some old) = refl
-
-      made : (old : Option Silo) (q : Silo) (node : Node) → node_of (after_joining f silo old next added) q ≡ Some node
-          → lookup (is_at (silo_cmp q)) (insert_entry silo_cmp (without_replaced f old).nodes silo (new_node f.settings silo)) ≡ Some node
-      made None q node there = there
-      made (Some old) q node there = there

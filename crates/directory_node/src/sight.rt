@@ -19,7 +19,7 @@ use crate::step::Stepped;
 use crate::{Body, Letter, Node, StepRefusal};
 use directory_rules::{Act, Effect};
 use grain_partition::Holding;
-use hash_ring::{Places, Ring};
+use hash_ring::{Hashing, Places, Ring};
 use host_activations::Host;
 use membership_view::View;
 use range_moves::{Arc, arcs};
@@ -163,7 +163,7 @@ impl Node {
         let hashing = self.settings.hashing();
         let holding = self.holding.sight(alloc, next, hashing, view, &silo, arcs)?;
         holding.whole();
-        let recoveries = new_recoveries(alloc, view, &holding)?;
+        let recoveries = new_recoveries(alloc, hashing, view, &holding)?;
         let host = self.renewed_host()?;
         let view = view.copy()?;
         Ok(Node {
@@ -248,7 +248,10 @@ impl Node {
     {
         match self.recoveries.get(&range.start()) {
             Some(recovery) => recovery.awaiting(alloc),
-            None => Recovery::new(alloc, &self.view, range)?.awaiting(alloc),
+            None => {
+                let hashing = self.settings.hashing();
+                Recovery::new(alloc, hashing, &self.view, range)?.awaiting(alloc)
+            }
         }
     }
 }
@@ -256,6 +259,7 @@ impl Node {
 // The recoveries of the pieces that recover.
 fn new_recoveries(
     alloc: Global,
+    hashing: Hashing,
     view: &View,
     holding: &Holding,
 ) -> Result<BTreeMap<u32, Recovery>, AllocError>
@@ -268,7 +272,7 @@ fn new_recoveries(
             put(
                 &mut recoveries,
                 *start,
-                Recovery::new(alloc, view, piece.range())?,
+                Recovery::new(alloc, hashing, view, piece.range())?,
             )?;
         }
     }

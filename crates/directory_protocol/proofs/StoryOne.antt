@@ -1,9 +1,10 @@
 -- One silo: it registers an activation, closes it, and old letters come again.
-use Rattle.std.proofs.Common.{◌≡◌, Some, None, List, [], ◌∷◌, ◌++◌, inl, inr, refl, arith}
+use Rattle.std.proofs.Common.{◌≡◌, ◌≢◌, Bool, true, false, cond, Some, None, List, [], ◌∷◌, ◌++◌, inl, inr, refl, ap, ◌∙◌, arith}
+use Rattle.silo_address.specs.Grain.{grain_eq}
 use Rattle.silo_address.specs.declared.activation.ActivationId.{ActivationId}
 use Rattle.directory_protocol.specs.Change.{put, put_grain, put_at}
-use Rattle.directory_protocol.specs.Letters.{activation_on, Deregister, Registered, Removed, Request}
-use Rattle.directory_protocol.specs.World.{start, Asking, Closing}
+use Rattle.directory_protocol.specs.Letters.{activation_on, Register, Deregister, Registered, Removed, Request}
+use Rattle.directory_protocol.specs.World.{start, Held, Asking, Firm, Closing, outstanding}
 use Rattle.directory_protocol.specs.Actions.{Action, New_view, See, Start, Close, Confirm, Leave}
 use Rattle.directory_protocol.specs.Effects.{after, run, AllAllowed}
 use Rattle.directory_protocol.specs.Safety.{SettledIsRight}
@@ -92,7 +93,7 @@ closed = allowed_append cluster (opening ++ registering) closing start registere
 pub refuses_old_number : CanBe RefusesOldNumber
 unfolding put put_at put_grain
 refuses_old_number =
-    (cluster, (opening ++ registering) ++ closing, closed, (first, registration 1 1 first 1 None, inr (inl refl), refl, refl, refl, omega arith))
+    (cluster, (opening ++ registering) ++ closing, closed, (first, registration 1 1 first 1 None, inr (inl refl), refl, λ x held. absurd cc, refl, refl, refl, omega arith))
 
 -- then another one starts
 starting_allowed : AllAllowed cluster (Start first ann None ∷ []) (run cluster ((opening ++ registering) ++ closing) start)
@@ -102,10 +103,38 @@ starting_allowed = (record { alive = refl; member = refl; free = refl; offered =
 started : AllAllowed cluster (((opening ++ registering) ++ closing) ++ (Start first ann None ∷ [])) start
 started = allowed_append cluster ((opening ++ registering) ++ closing) (Start first ann None ∷ []) start closed starting_allowed
 
+-- the silo holds the new one alone, under another number
+not_under_one :
+    (b : Bool) (x : Held)
+    → cond b (Some (Asking 2 3 None)) (cond b None (cond b (Some (Closing 1 2)) (cond b (Some (Firm 1)) (cond b (Some (Asking 1 1 None)) None)))) ≡ Some x
+    → outstanding Register x ≢ Some 1
+not_under_one true x held number =
+    let same : Asking 2 3 None ≡ x = cc in
+    let e : outstanding Register (Asking 2 3 None) ≡ Some 1 = ap (outstanding Register) same ∙ number in
+    cc
+not_under_one false x held number = cc
+
 pub ignores_stale_reply : CanBe IgnoresStaleReply
 unfolding put put_at put_grain
-ignores_stale_reply =
-    (cluster, ((opening ++ registering) ++ closing) ++ (Start first ann None ∷ []), started, (reply Registered 1 1 first, ann, Asking 2 3 None, 3, inr (inl refl), refl, refl, refl, refl, refl, omega arith))
+ignores_stale_reply = (
+  cluster,
+  ((opening ++ registering) ++ closing) ++ (Start first ann None ∷ []),
+  started,
+  (
+    reply Registered 1 1 first,
+    ann,
+    Asking 2 3 None,
+    3,
+    inr (inl refl),
+    refl,
+    refl,
+    refl,
+    refl,
+    refl,
+    omega arith,
+    λ h z counts. not_under_one (grain_eq h ann) z counts.held_there counts.same_number,
+  ),
+)
 
 -- three views come, and the silo skips two of them
 viewed : AllAllowed cluster ((opening ++ registering) ++ (New_view ∷ New_view ∷ New_view ∷ [])) start

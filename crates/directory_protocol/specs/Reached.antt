@@ -5,8 +5,8 @@ use Rattle.silo_address.specs.Grain.{Grain}
 use Rattle.silo_address.specs.declared.activation.ActivationId.{ActivationId}
 use Rattle.directory_protocol.specs.Setting.{Setting}
 use Rattle.directory_protocol.specs.Letters.{Register, Registered, Taken, Request, Reply, Snapshot, Report, Sent}
-use Rattle.directory_protocol.specs.World.{World, start, Held, outstanding, previous_of, surviving}
-use Rattle.directory_protocol.specs.Actions.{Action, Serve, Service, See, Confirm, Install, Recover, Sight, Settling, Allowed}
+use Rattle.directory_protocol.specs.World.{World, start, Held, count_of, outstanding, previous_of, surviving}
+use Rattle.directory_protocol.specs.Actions.{Action, Serve, Service, See, Confirm, Install, Recover, Sight, Settling, Counts, Allowed}
 use Rattle.directory_protocol.specs.Safety.{IsFirmOn}
 use Rattle.directory_protocol.specs.Effects.{run, AllAllowed}
 
@@ -43,12 +43,15 @@ abbrev pub FindsPlaceTaken : Setting → World → Action → Type 0
 FindsPlaceTaken m w a =
     (x : Service) × (t : Silo) × (c : ℕ) × (a ≡ Serve x) × (x.answer ≡ Taken) × IsFirmOn m w x.request.grain t c × (t ≢ x.request.sender)
 
--- a registration is refused for its number alone
+-- a registration of an activation that its sender holds no more is refused for its number alone
 abbrev pub RefusesOldNumber : Setting → World → Type 0
 RefusesOldNumber m w =
-    (s : Silo) × (r : Request) × Sent r w.requests × (m.alive w.now s ≡ true) × (w.seen s ≡ r.version) × (w.settled s (m.hash r.grain) ≡ true) × (r.number ≤ w.served s r.sender)
+    (s : Silo) × (r : Request) × Sent r w.requests × (r.purpose ≡ Register) × ((x : Held) → w.held r.sender r.grain ≡ Some x → count_of x ≢ r.count)
+    × (m.alive w.now s ≡ true) × (w.seen s ≡ r.version) × (w.settled s (m.hash r.grain) ≡ true) × (r.number ≤ w.served s r.sender)
 
--- a reply to an asking activation's silo, of the version that it has seen, isn't accepted: its number is an older one
+-- a reply to an asking activation's silo, of the version that it has seen, has an older number than that activation's
+-- request, and counts for no activation there
 abbrev pub IgnoresStaleReply : Setting → World → Type 0
 IgnoresStaleReply m w =
-    (y : Reply) × (g : Grain) × (x : Held) × (n : ℕ) × Sent y w.replies × (m.alive w.now y.receiver ≡ true) × (y.answer ≡ Registered) × (y.version ≡ w.seen y.receiver) × (w.held y.receiver g ≡ Some x) × (outstanding Register x ≡ Some n) × (y.number < n)
+    (y : Reply) × (g : Grain) × (x : Held) × (n : ℕ) × Sent y w.replies × (m.alive w.now y.receiver ≡ true) × (y.answer ≡ Registered) × (y.version ≡ w.seen y.receiver)
+    × (w.held y.receiver g ≡ Some x) × (outstanding Register x ≡ Some n) × (y.number < n) × ((h : Grain) (z : Held) → ¬ Counts w.seen w.held y h z)

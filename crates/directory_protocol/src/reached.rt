@@ -32,7 +32,7 @@ pub fn old_number_is_refused()
     ensures { CanBe RefusesOldNumber }
 {}
 
-/// A reply of the seen version isn't accepted, for its number is an older one.
+/// A reply of the seen version counts for no activation of its receiver, for its number is an older one.
 pub fn stale_reply_is_ignored()
     ensures { CanBe IgnoresStaleReply }
 {}

@@ -90,15 +90,15 @@ replaced P Q world None each = each.nodes
 replaced P Q world (Some old) each = All-map-remove_entry (is_at (silo_cmp old)) (λ e. e.1) Q world.nodes each.nodes
 
 -- places that the settings let are those of a silo that is added
-added : (b : Bool) (places : Result PlacesValue ℕ) (next : PlacesValue) → cond b (Err 402) places ≡ Ok next → places ≡ Ok next
-added true places next is = absurd (cc)
-added false places next is = is
+pub placed_added : (b : Bool) (places : Result PlacesValue ℕ) (next : PlacesValue) → cond b (Err 402) places ≡ Ok next → places ≡ Ok next
+placed_added true places next is = absurd (cc)
+placed_added false places next is = is
 
 joined : (E : Event → Type 0) (P : PlacesValue → Type 0) (Q : Node → Type 0) (k : StepsKeepBy E P Q) (places : Result PlacesValue ℕ) (views : ViewsValue) (world : World) (silo : Silo) (given : List ℕ) → E (Join silo given) → Each P Q world → rule.placed world silo given ≡ places
     → After P Q (rule.joined places views world silo)
 joined E P Q k (Err number) views world silo given so each is = tt
 joined E P Q k (Ok places) views world silo given so each is = record {
-  places = k.adding world.places silo given places so each.places (added (nat_lt world.settings.places (length given)) (after_add world.places silo given) places is);
+  places = k.adding world.places silo given places so each.places (placed_added (nat_lt world.settings.places (length given)) (after_add world.places silo given) places is);
   nodes = All-values-insert_entry silo_cmp silo (new_node world.settings silo) Q (rule.without_replaced world (occupant silo world.views.rows)).nodes (replaced P Q world (occupant silo world.views.rows) each) (k.new world.settings silo);
 }
 

@@ -14,12 +14,12 @@ use Rattle.hash_ring.specs.declared.Point.{Point}
 use Rattle.hash_ring.specs.declared.Hashing.{Hashing}
 use Rattle.hash_ring.specs.Hash.{hash_grain}
 use Rattle.range_moves.specs.declared.Arc.{Arc}
-use Rattle.range_moves.specs.Arcs.{owner_silo, all_places, arcs_per_hash}
+use Rattle.range_moves.specs.Arcs.{owner_silo, all_places, arcs_per_hash, AreArcs}
 use Rattle.directory_rules.specs.declared.piece_state.PieceState.TheVariants.{Settled}
 use Rattle.directory_rules.specs.Membership.{is_dead_in}
 use Rattle.directory_rules.specs.Piece.{Piece}
 use Rattle.directory_rules.specs.Sight.{is_owner, is_kept, kept_entries, all_entries, was_settled, missing_state, piece_of, pieces_after}
-use Rattle.directory_rules.specs.Laws.{PiecesAreOwned}
+use Rattle.directory_rules.specs.Laws.{HoldOwned}
 use Rattle.directory_rules.proofs.Cases.{on_bool}
 
 -- the hash's owner, where the arc holds it
@@ -108,7 +108,9 @@ count_owned silo old [] hash = refl
 count_owned silo [] (p ∷ new) hash = refl
 count_owned silo (q ∷ old) (p ∷ new) hash = refl
 
-pub pieces_are_owned : PiecesAreOwned
+-- so pieces that are made of the arcs between two rings are what the silo owns in the new one
+pub pieces_are_owned : (next : Bool) (hashing : Hashing) (view : ViewValue) (silo : Silo) (pieces : List (ℕ × Piece)) (old new : List Point) (arcs : List Arc) → AreArcs old new arcs
+    → HoldOwned hashing new silo (pieces_after next hashing view silo pieces arcs)
 pieces_are_owned next hashing view silo pieces old new arcs are = record {
   once = λ hash below. counted_arcs next hashing view silo pieces hash (owner_silo new hash) arcs (λ k d within held. sym ((are.owners k d within) hash below held).after)
       ∙ ap (λ c. cond (is_owner silo (owner_silo new hash)) c 0) (are.once hash below) ∙ count_owned silo old new hash;

@@ -18,7 +18,8 @@ use Rattle.directory_rules.specs.World.{first_world}
 four_below : (a b c d : ℕ) → a % 256 * 16777216 + b % 256 * 65536 + c % 256 * 256 + d % 256 < 4294967296
 four_below a b c d = omega arith
 
-hash_below : (bytes : List ℕ) → hash_text bytes < circle
+-- the hash of a text is a hash
+pub hash_below : (bytes : List ℕ) → hash_text bytes < circle
 unfolding sha256 digest_bytes
 hash_below bytes = four_below _ _ _ _
 

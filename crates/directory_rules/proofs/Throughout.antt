@@ -6,13 +6,13 @@ use Rattle.std.specs.Map.{keys_of}
 use Rattle.std.proofs.lemmas.List.Elements.{All-head, All-tail}
 use Rattle.std.proofs.lemmas.List.Sums.{sum_by-cons}
 use Rattle.texts.proofs.Decided.{both}
-use Rattle.ring_range.specs.Range.{circle, Range, IsRange, holds, within}
+use Rattle.ring_range.specs.Range.{circle, Range, IsRange, EachHash, holds, within}
 use Rattle.ring_range.specs.Cut.{cut_parts}
 use Rattle.ring_range.proofs.Circle.{Decides-holds, Decides-within}
 use Rattle.ring_range.proofs.Cutting.{is_cut, ranges}
 use Rattle.directory_rules.specs.Piece.{Piece}
-use Rattle.directory_rules.specs.Sight.{is_settled, is_in_settled}
-use Rattle.directory_rules.specs.Laws.{lies_settled, WasSettledThroughout}
+use Rattle.directory_rules.specs.Sight.{is_settled, is_in_settled, was_settled}
+use Rattle.directory_rules.specs.Laws.{lies_settled}
 use Rattle.directory_rules.proofs.Cases.{on_bool}
 
 -- what lies within a range that holds no other hashes
@@ -50,7 +50,8 @@ in_parts pieces (part ∷ parts) hash oks ranged below all one =
     (λ f held count. in_parts pieces parts hash (All-tail IsRange part parts oks) ranged below split.1 (omega (count, arith)))
     refl (sym (sum_by-cons (λ (part : Range). cond (holds part hash) 1 0) part parts) ∙ one)
 
-pub settled_throughout : WasSettledThroughout
+pub settled_throughout : (pieces : List (ℕ × Piece)) (range : Range) → IsRange range → All (λ e. IsRange e.1.range) pieces → All (λ start. start < circle) (keys_of pieces) → was_settled pieces range ≡ true
+    → EachHash (λ hash. holds range hash ≡ true → lies_settled hash pieces ≡ true)
 settled_throughout pieces range ok ranged starts was hash below held =
     in_parts pieces (cut_parts range (keys_of pieces)) hash (ranges range (keys_of pieces) ok) ranged below was
     ((is_cut range (keys_of pieces) ok starts).once hash below ∙ ap (λ b. cond b 1 0) held)

@@ -9,28 +9,25 @@ use Rattle.membership_view.specs.declared.status.Status.{Status}
 use Rattle.membership_view.specs.declared.status.Status.TheVariants.{Active, Leaving, Dead}
 use Rattle.membership_view.specs.Views.{ViewsValue, status_at}
 use Rattle.membership_view.specs.Whole.{IsViews}
-use Rattle.silo_address.specs.Grain.{Grain}
 use Rattle.membership_view.specs.View.{ViewValue}
 use Rattle.hash_ring.specs.declared.Hashing.{Hashing}
-use Rattle.ring_range.specs.Range.{circle, Range, IsRange, EachHash, holds}
+use Rattle.ring_range.specs.Range.{circle, EachHash, holds}
 use Rattle.hash_ring.specs.declared.Point.{Point}
 use Rattle.hash_ring.specs.Hash.{hash_grain}
 use Rattle.hash_ring.specs.Point.{IsOnCircle}
 use Rattle.hash_ring.specs.Places.{PlacesValue, IsPlaces}
 use Rattle.range_moves.specs.declared.Arc.{Arc}
-use Rattle.range_moves.specs.Arcs.{owner_silo, AreArcs}
+use Rattle.range_moves.specs.Arcs.{owner_silo}
 use Rattle.directory_rules.specs.declared.act.Act.{Act}
 use Rattle.directory_rules.specs.declared.act.Request.{Request}
 use Rattle.directory_rules.specs.declared.reply.Why.{Why}
 use Rattle.directory_rules.specs.declared.reply.Reply.TheVariants.{Retry}
 use Rattle.directory_rules.specs.declared.piece_state.PieceState.TheVariants.{Settled}
 use Rattle.directory_rules.specs.Settings.{Settings, AreSettings}
-use Rattle.directory_rules.specs.Table.{Table, entry_at}
 use Rattle.directory_rules.specs.Piece.{Piece, Holding}
 use Rattle.directory_rules.specs.Snapshot.{Snapshot}
-use Rattle.directory_rules.specs.Sight.{is_settled, was_settled, is_owner, pieces_after, sealed}
-use Rattle.directory_rules.specs.Answer.{turned, piece_with, answered}
-use Rattle.directory_rules.specs.Sending.{grain_of}
+use Rattle.directory_rules.specs.Sight.{is_settled, was_settled, is_owner, sealed}
+use Rattle.directory_rules.specs.Answer.{piece_with, answered}
 use Rattle.directory_rules.specs.Host.{Host, held_acts, find_acts, outstanding}
 use Rattle.directory_rules.specs.Node.{Node}
 use Rattle.directory_rules.specs.Step.{Stepped, see}
@@ -68,12 +65,7 @@ pub record HoldOwned (hashing : Hashing) (points : List Point) (silo : Silo) (pi
   pub once : HoldOnce points silo pieces
   pub placed : All (λ e. All (λ x. holds e.1.range (hash_grain hashing x.1.grain) ≡ true) e.1.entries) pieces
 
--- so do the pieces after a sight, which are made of the arcs between two rings
-abbrev pub PiecesAreOwned : Type 0
-PiecesAreOwned = (next : Bool) (hashing : Hashing) (view : ViewValue) (silo : Silo) (pieces : List (ℕ × Piece)) (old new : List Point) (arcs : List Arc) → AreArcs old new arcs
-    → HoldOwned hashing new silo (pieces_after next hashing view silo pieces arcs)
-
--- so they do after every sight: the pieces are what the silo owns in the view that it has seen
+-- so it is after every sight: the pieces are what the silo owns in the view that it has seen
 abbrev pub PiecesOfSightsAreOwned : Type 0
 PiecesOfSightsAreOwned = (node : Node) (before view : ViewValue) (places : PlacesValue) (stepped : Stepped) → All IsOnCircle node.ring.points → IsPlaces places
     → see node before view places ≡ Ok stepped
@@ -109,10 +101,6 @@ abbrev pub SightsOfRunsAreOwned : Type 0
 SightsOfRunsAreOwned = (settings : Settings) (events : List Event) (silo : Silo) (node : Node) (before view : ViewValue) (stepped : Stepped) → IsReached settings events silo node
     → see node before view (run_from_start settings events).world.places ≡ Ok stepped
     → HoldOwned node.settings.hashing stepped.node.ring.points node.host.silo stepped.node.holding.pieces
-
--- a served request leaves every other grain's entry as it was
-abbrev pub ServedLeavesOthers : Type 0
-ServedLeavesOthers = (act : Act) (table : Table) (grain : Grain) → grain ≢ grain_of act → entry_at grain (turned act table).table ≡ entry_at grain table
 
 -- letters whose numbers rise, from above one number to another at most
 abbrev pub RiseBetween : (low high : ℕ) → List (ℕ × Posted) → Type 0
@@ -184,8 +172,3 @@ UnsettledPieceServesNothing = (holding : Holding) (request : Request) (piece : P
 -- whether the hash lies in a settled piece
 abbrev pub lies_settled : ℕ → List (ℕ × Piece) → Bool
 lies_settled hash pieces = list_any (λ e. is_settled e.1.state && holds e.1.range hash) pieces
-
--- a range that was settled has each of its hashes in a settled piece
-abbrev pub WasSettledThroughout : Type 0
-WasSettledThroughout = (pieces : List (ℕ × Piece)) (range : Range) → IsRange range → All (λ e. IsRange e.1.range) pieces → All (λ start. start < circle) (keys_of pieces) → was_settled pieces range ≡ true
-    → EachHash (λ hash. holds range hash ≡ true → lies_settled hash pieces ≡ true)

@@ -1,6 +1,6 @@
 //! What holds of the rule. Each function here does nothing: its contract is a law on the definitions, for the proofs of
 //! crates above.
-ghost use Rattle.directory_rules.specs.Laws.{RefusalsChangeNothing, AcceptedChange, PiecesAreOwned, PiecesOfSightsAreOwned, NodesHoldOnce, SightsOfRunsAreOwned, SealedWasSettled, ServedLeavesOthers, MailIsNumbered, LostIsLost, LiveHaveNodes, NodesAreOfOneVersion, NumbersAreDistinct, UnsettledPieceServesNothing, WasSettledThroughout};
+ghost use Rattle.directory_rules.specs.Laws.{RefusalsChangeNothing, AcceptedChange, PiecesOfSightsAreOwned, NodesHoldOnce, SightsOfRunsAreOwned, SealedWasSettled, MailIsNumbered, LostIsLost, LiveHaveNodes, NodesAreOfOneVersion, NumbersAreDistinct, UnsettledPieceServesNothing};
 ghost use Rattle.directory_rules.specs.Worked.{RefusalsCompute};
 
 /// A refused event leaves the world as it was, and an accepted one leaves the world that it made.
@@ -9,11 +9,10 @@ pub fn runs_go_on()
     ensures accepted { AcceptedChange }
 {}
 
-/// Pieces that are made of the arcs between two rings hold each hash that the silo owns in the new one, once, and no other;
-/// so do the pieces after every sight.
+/// The pieces after every sight hold each hash that the silo owns in the ring that it then has, once, and no other; and each
+/// entry lies in its piece.
 pub fn pieces_are_owned()
-    ensures of_arcs { PiecesAreOwned }
-    ensures of_sights { PiecesOfSightsAreOwned }
+    ensures { PiecesOfSightsAreOwned }
 {}
 
 /// After any run whose joins name hashes the pieces of every node hold each hash that its silo owns, once, and no other; and
@@ -26,11 +25,6 @@ pub fn nodes_hold_what_they_own()
 /// What a sight seals was wholly settled, and its new owner is another silo.
 pub fn sealed_was_settled()
     ensures { SealedWasSettled }
-{}
-
-/// A request that is served leaves every other grain's entry as it was.
-pub fn served_leaves_others()
-    ensures { ServedLeavesOthers }
 {}
 
 /// The mail's numbers rise, and the limit bounds how many there are.
@@ -66,9 +60,4 @@ pub fn numbers_are_distinct()
 /// A piece that isn't settled serves no request, of any version.
 pub fn unsettled_piece_serves_nothing()
     ensures { UnsettledPieceServesNothing }
-{}
-
-/// A range that was settled has each of its hashes in a settled piece.
-pub fn was_settled_throughout()
-    ensures { WasSettledThroughout }
 {}

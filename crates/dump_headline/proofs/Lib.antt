@@ -5,3 +5,12 @@ pub mod RowShape
 pub mod NodeShape
 pub mod RightPieces
 pub mod Placed
+pub mod Listed
+pub mod Nodes
+pub mod Rings
+pub mod Singles
+pub mod Found
+pub mod Known
+pub mod Right
+pub mod Named
+pub mod Ending

@@ -1,8 +1,7 @@
 -- A world's dump is a dump where the activations that each node names are of silos with rows, and those that it holds differ.
-use Rattle.std.proofs.Common.{arith, ◌≡◌, ℕ, ◌<◌, ◌≤◌, List, ◌++◌, IsSome, map, refl, sym, ap, subst, ◌∙◌}
-use Rattle.std.specs.Prelude.{◌^◌, Bool, true, is_some, option_and_then, length, slice_index, All, Contains, Option, Some, None}
-use Rattle.std.specs.Map.{lookup, keys_of}
-use Rattle.std.specs.BTreeMap.{is_at}
+use Rattle.std.proofs.Common.{arith, ◌≡◌, ℕ, ◌<◌, ◌≤◌, List, IsSome, map, refl, sym, ap, subst, ◌∙◌}
+use Rattle.std.specs.Prelude.{true, is_some, option_and_then, All, Contains, Option, Some, None}
+use Rattle.std.specs.Map.{keys_of}
 use Rattle.std.proofs.lemmas.List.Elements.{All-map, All-weaker, All-contains_itself}
 use Rattle.std.proofs.lemmas.Map.Views.{Contains-keys_from_lookup}
 use Rattle.silo_address.specs.Silo.{Silo, silo_cmp}
@@ -15,7 +14,6 @@ use Rattle.membership_view.specs.Views.{row_of, view_at, status_at}
 use Rattle.membership_view.proofs.Known.{status_at-made}
 use Rattle.ring_range.specs.Range.{circle}
 use Rattle.hash_ring.specs.declared.point.Point.{Point}
-use Rattle.hash_ring.specs.Places.{places_of}
 use Rattle.hash_ring.specs.Ring.{points_of, sorted_ring, ring_of, IsPointOf}
 use Rattle.hash_ring.proofs.Lawful.{points_are, is_sorted_anew}
 use Rattle.directory_rules.specs.Laws.{is_live}
@@ -26,10 +24,10 @@ use Rattle.directory_facts.proofs.Entries.{same_key}
 use Rattle.directory_headline.proofs.Facts.{NodeFacts, WorldFacts}
 use Rattle.directory_headline.proofs.Settings.{view_by_address}
 use Rattle.dump_rules.specs.Dump.{dump_node, dump_of}
-use Rattle.dump_rules.specs.DumpShape.{row_silos, activation_silos}
+use Rattle.dump_rules.specs.DumpShape.{activation_silos}
 use Rattle.dump_rules.specs.RightShape as right
 use Rattle.dump_headline.proofs.Orders.{all_found}
-use Rattle.dump_headline.proofs.Shape.{is_piece, pieces_in_order, are_pieces, are_ranges, grains_once, holds_its_own, rows_of, rows_once, nodes_once, rows_in_order, nodes_in_order}
+use Rattle.dump_headline.proofs.Shape.{pieces_in_order, are_pieces, are_ranges, grains_once, holds_its_own, rows_of, rows_once, nodes_once, rows_in_order, nodes_in_order}
 use Rattle.dump_headline.proofs.RowShape.{few_versions, small, rows_numbers, rows_are}
 
 -- what the dump needs besides the facts of the world: the activations that the node names are of silos that ever joined, and
@@ -60,7 +58,7 @@ module _ (hash : Grain → ℕ) (f : World) (facts : WorldFacts hash f) where
   has_row None live = absurd (cc (live))
   has_row (Some row) live = refl
 
-  joined : (silo : Silo) (node : Node) → node_of f silo ≡ Some node → Contains (keys_of f.views.rows) silo
+  pub joined : (silo : Silo) (node : Node) → node_of f silo ≡ Some node → Contains (keys_of f.views.rows) silo
   joined silo node there =
       let whole = facts.peopled.whole in
       let live : is_live (status_at f.views f.views.version silo) ≡ true = sym (facts.peopled.live silo) ∙ ap is_some there in

@@ -1,6 +1,6 @@
 -- Lists in strict order: no item stands twice, none is below the one before it, and what is found under a key stands there.
-use Rattle.std.proofs.Common.{arith, ◌≡◌, ◌≢◌, ℕ, ◌+◌, ◌<◌, List, [], ◌∷◌, map, suc, refl, sym, ap, subst, ◌∙◌}
-use Rattle.std.specs.Prelude.{Bool, false, cond, length, All, AllPairs, Some}
+use Rattle.std.proofs.Common.{arith, ◌≡◌, ◌≢◌, ◌+◌, List, [], ◌∷◌, map, refl, sym, ap, ◌∙◌}
+use Rattle.std.specs.Prelude.{false, cond, All, AllPairs, Some}
 use Rattle.std.specs.List.{AllByRecursion}
 use Rattle.std.specs.List.Sorted.{IsSorted, IsStrictlySortedBy}
 use Rattle.std.specs.Cmp.{IsTotalOrder}
@@ -13,6 +13,7 @@ use Rattle.std.proofs.lemmas.Cmp.{tied_itself}
 use Rattle.std.proofs.lemmas.Map.Keys.{Less-from_sorted}
 use Rattle.std.proofs.lemmas.Map.Lookups.{CmpEqualImpliesEq}
 use Rattle.std.proofs.lemmas.List.Elements.{All-nil, All-cons}
+use Rattle.std.proofs.lemmas.List.Kept.{AllPairs-cons}
 use Rattle.silo_address.proofs.Order.{apart_in_order}
 use Rattle.directory_facts.proofs.Entries.{found_so, same_key}
 
@@ -34,6 +35,12 @@ module _ {K X : Type 0} (R : K → K → Ordering) (o : IsTotalOrder R) (exact :
   apart_from : (key : K) (es : List (K × X)) → AllByRecursion (λ other. R key other ≡ Less) (keys_of es) → All (λ e. key ≢ e.0) es
   apart_from key [] above = All-nil (λ (e : K × X). key ≢ e.0)
   apart_from key (e ∷ es) above = All-cons (λ (x : K × X). key ≢ x.0) e es (less_is_apart R o key e.0 above.0) (apart_from key es above.1)
+
+  -- no two entries are of one key
+  pub entries_apart : (es : List (K × X)) → IsStrictlySortedBy R (keys_of es) → AllPairs (λ e later. e.0 ≢ later.0) es
+  unfolding IsStrictlySortedBy
+  entries_apart [] sorted = λ i j d lt below. absurd (omega (arith, below))
+  entries_apart (e ∷ es) sorted = AllPairs-cons (λ (x later : K × X). x.0 ≢ later.0) e es (apart_from e.0 es sorted.0) (entries_apart es sorted.1)
 
   -- what holds of all that is found holds of each entry
   pub all_found : (P : K × X → Type 0) (es : List (K × X)) → IsStrictlySortedBy R (keys_of es) → ((key : K) (x : X) → lookup (is_at (R key)) es ≡ Some x → P (key, x)) → All P es

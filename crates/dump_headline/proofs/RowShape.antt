@@ -1,6 +1,6 @@
 -- The rows of a world's dump have the shape that they must have.
-use Rattle.std.proofs.Common.{arith, ◌≡◌, ℕ, suc, ◌+◌, ◌<◌, ◌≤◌, List, [], ◌∷◌, IsSome, refl, sym, ap, subst, ◌∙◌}
-use Rattle.std.specs.Prelude.{◌^◌, Bool, true, if◌then◌else◌, is_some, sum_by, length, All, Option, Some, None}
+use Rattle.std.proofs.Common.{arith, ◌≡◌, ℕ, suc, ◌+◌, ◌<◌, ◌≤◌, List, [], ◌∷◌, IsSome, refl, sym, ap, subst}
+use Rattle.std.specs.Prelude.{◌^◌, true, if◌then◌else◌, is_some, length, All, Option, Some, None}
 use Rattle.std.specs.Option.{unwrap_or}
 use Rattle.std.specs.List.{slice_index_or}
 use Rattle.std.specs.Map.{values_of}

@@ -1,6 +1,6 @@
 -- The rows of a world's dump say what the world's views say.
 use Rattle.std.proofs.Common.{arith, ◌≡◌, ℕ, ◌<◌, ◌≤◌, List, [], ◌∷◌, refl, sym, ap, ◌∙◌}
-use Rattle.std.specs.Prelude.{false, ◌==◌, map, nat_le, if◌then◌else◌, All, Option, Some, None}
+use Rattle.std.specs.Prelude.{false, ◌==◌, map, if◌then◌else◌, All, Option, Some, None}
 use Rattle.std.specs.Option.{unwrap_or}
 use Rattle.std.proofs.lemmas.Bool.{le-leb}
 use Rattle.std.proofs.lemmas.Bool.Decides.{Decides-eqb}
@@ -8,13 +8,12 @@ use Rattle.std.proofs.lemmas.List.Elements.{All-head, All-tail}
 use Rattle.silo_address.specs.Silo.{Silo, silo_cmp}
 use Rattle.silo_address.proofs.Order.{silo_cmp_total, silo_cmp_exact}
 use Rattle.membership_view.specs.declared.row.Row.{Row}
-use Rattle.membership_view.specs.View.{ViewValue}
 use Rattle.membership_view.specs.Views.{ViewsValue, rows_in, view_at}
 use Rattle.membership_view.specs.Whole.{IsViews, IsInTime}
 use Rattle.hash_ring.specs.Places.{PlacesValue}
 use Rattle.directory_rules.specs.World.{World}
 use Rattle.directory_rules.proofs.Cases.{on_bool}
-use Rattle.dump_rules.specs.Dump.{DumpRow, dump_row, dump_of}
+use Rattle.dump_rules.specs.Dump.{dump_row, dump_of}
 use Rattle.dump_rules.specs.Verdict.{unless_never, row_in_dump, dump_view}
 use Rattle.dump_headline.proofs.Orders.{all_found}
 

@@ -1,28 +1,31 @@
 -- The nodes of a world's dump have the shape that they must have, as far as the facts of the world say it.
-use Rattle.std.proofs.Common.{arith, ◌≡◌, ◌≢◌, ◌⊎◌, inl, inr, ℕ, suc, ◌<◌, ◌≤◌, List, [], ◌∷◌, map, refl, sym, ap, subst, ◌∙◌}
-use Rattle.std.specs.Prelude.{◌^◌, length, All, AllPairs, Contains, Some}
+use Rattle.std.proofs.Common.{arith, ◌≡◌, ◌≢◌, ◌⊎◌, inl, inr, ℕ, suc, List, [], ◌∷◌, map, refl, sym, ap, subst}
+use Rattle.std.specs.Prelude.{All, AllPairs}
 use Rattle.std.specs.Ordering.{nat_cmp}
-use Rattle.std.specs.List.Sorted.{IsSorted, IsStrictlySortedBy}
+use Rattle.std.specs.List.Sorted.{IsSorted}
 use Rattle.std.specs.Map.{keys_of}
 use Rattle.std.proofs.lemmas.Cmp.{nat_cmp_total}
-use Rattle.std.proofs.lemmas.List.Elements.{All-nil, All-head, All-tail, All-map, All-weaker}
+use Rattle.std.proofs.lemmas.List.Elements.{All-head, All-tail, All-map, All-weaker}
 use Rattle.std.proofs.lemmas.List.Kept.{AllPairs-cons}
 use Rattle.silo_address.specs.Silo.{Silo, silo_cmp}
 use Rattle.silo_address.specs.Grain.{Grain, grain_cmp}
+use Rattle.silo_address.specs.declared.ActivationId.{ActivationId}
 use Rattle.silo_address.specs.declared.Entry.{Entry}
-use Rattle.silo_address.proofs.Order.{silo_cmp_total, silo_cmp_exact, grain_cmp_total}
+use Rattle.silo_address.proofs.Order.{silo_cmp_total, grain_cmp_total}
 use Rattle.ring_range.specs.Range.{IsRange}
 use Rattle.directory_rules.specs.declared.held.Held.{Held}
 use Rattle.directory_rules.specs.declared.piece_state.PieceState.{PieceState}
 use Rattle.directory_rules.specs.declared.piece_state.PieceState.TheVariants as state
+use Rattle.directory_rules.specs.Host.{Host}
 use Rattle.directory_rules.specs.Table.{Table, entries_of}
 use Rattle.directory_rules.specs.Piece.{Piece}
-use Rattle.directory_rules.specs.Node.{Node}
 use Rattle.directory_rules.specs.World.{World}
-use Rattle.dump_rules.specs.Dump.{Settled, dump_state, awaited_from, dump_held, dump_piece, dump_node, dump_of}
+use Rattle.directory_facts.specs.Own.{CountsOnce}
+use Rattle.dump_rules.specs.Dump.{DumpHeld, Settled, dump_state, awaited_from, dump_held, dump_piece, dump_of}
 use Rattle.dump_rules.specs.DumpShape.{node_silos, row_silos}
 use Rattle.dump_rules.specs.RightShape as right
-use Rattle.directory_headline.proofs.Facts.{IsPiece, ArePieces, NodeFacts, WorldFacts}
+use Rattle.directory_headline.proofs.Facts.{IsPiece, ArePieces, WorldFacts}
+use Rattle.dump_headline.proofs.Listed.{pairs_map}
 use Rattle.dump_headline.proofs.Orders.{mapped_keys, sorted_once, sorted_in_order}
 
 -- ---- pieces
@@ -45,7 +48,7 @@ pub is_piece : (hash : Grain → ℕ) (piece : Piece) → IsPiece hash piece →
 is_piece hash piece is = record {
   entries = settled_or_bare piece.state piece.entries is.empty;
   from = tells piece.state;
-  in_order = subst (λ (grains : List Grain). IsSorted grain_cmp grains) (sym (grains_of piece.entries is.table.own)) (sorted_in_order grain_cmp grain_cmp_total (keys_of piece.entries) is.table.rising);
+  in_order = subst (λ (grains : List Grain). IsSorted grain_cmp grains) (sym (grains_of piece.entries is.table.own_grain)) (sorted_in_order grain_cmp grain_cmp_total (keys_of piece.entries) is.table.by_grain);
 }
 
 starts_of : (pieces : List (ℕ × Piece)) → All (λ e. e.0 ≡ e.1.range.start) pieces → map (λ piece. piece.range.start) (map (λ e. dump_piece e.1) pieces) ≡ keys_of pieces
@@ -80,6 +83,12 @@ grains_once silo held once =
 
 pub holds_its_own : (silo : Silo) (held : List (Grain × Held)) → All (λ x. x.activation.silo ≡ silo) (map (λ e. dump_held silo e.0 e.1) held)
 holds_its_own silo held = All-map (λ x. x.activation.silo ≡ silo) (λ (e : Grain × Held). dump_held silo e.0 e.1) held (λ k d below. refl)
+
+pub activations_once : (silo : Silo) (host : Host) → CountsOnce host → right.AreDistinct (map (λ x. x.activation) (map (λ e. dump_held silo e.0 e.1) host.held))
+activations_once silo host once =
+    pairs_map (λ a later. a ≢ later) (λ (x : DumpHeld). x.activation) (map (λ e. dump_held silo e.0 e.1) host.held)
+    (pairs_map (λ (x later : DumpHeld). x.activation ≢ later.activation) (λ (e : Grain × Held). dump_held silo e.0 e.1) host.held
+    (λ i j d lt below same. once i j d lt below (ap (λ (a : ActivationId). a.count) same)))
 
 -- ---- silos of rows and nodes
 pub rows_of : (f : World) → row_silos (dump_of f) ≡ keys_of f.views.rows

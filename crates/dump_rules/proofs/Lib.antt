@@ -1,7 +1,7 @@
 mod TurningHashes
-mod Contained
+pub mod Contained
 mod RightDumps
-mod Shapes
-mod RightShapes
+pub mod Shapes
+pub mod RightShapes
 pub mod Computed
 pub mod Opened

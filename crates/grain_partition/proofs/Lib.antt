@@ -1,6 +1,5 @@
 pub mod OnePiece
 pub mod PieceSearch
-pub mod Turning
 pub mod Undone
 pub mod Kept
 pub mod ServedFrom
@@ -10,8 +9,5 @@ pub mod SettledParts
 pub mod Walking
 pub mod FromArcs
 pub mod AtTheEnd
-pub mod Bare
-pub mod BareSteps
-pub mod Handing
 pub mod Sighted
 pub mod Within

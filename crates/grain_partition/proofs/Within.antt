@@ -1,6 +1,6 @@
 -- The entries of a table whose grains are hashed into a range, put in one by one.
-use Rattle.std.proofs.Common.{◌≡◌, refl, sym, ap, ◌∙◌, List, [], ◌∷◌}
-use Rattle.std.specs.Prelude.{Bool, true, false, cond, fold, filter, if◌then◌else◌}
+use Rattle.std.proofs.Common.{◌≡◌, refl, sym, ap, ◌∙◌, ℕ, List, [], ◌∷◌, ◌++◌}
+use Rattle.std.specs.Prelude.{Bool, true, false, cond, fold, filter, flat_map, if◌then◌else◌}
 use Rattle.std.specs.Cmp.{IsTotalOrder}
 use Rattle.std.specs.List.{AllByRecursion}
 use Rattle.std.specs.List.Sorted.{IsStrictlySortedBy}
@@ -11,14 +11,16 @@ use Rattle.std.specs.declared.cmp.Ordering.{Ordering}
 use Rattle.std.specs.declared.cmp.Ordering.TheVariants.{Less, Equal, Greater}
 use Rattle.std.proofs.lemmas.Map.Keys.{sorted_head, sorted_tail}
 use Rattle.std.proofs.lemmas.Map.Lookups.{CmpEqualImpliesEq}
-use Rattle.silo_address.specs.Grain.{grain_cmp}
+use Rattle.silo_address.specs.Grain.{Grain, grain_cmp}
 use Rattle.silo_address.specs.declared.Entry.{Entry}
 use Rattle.silo_address.proofs.Order.{grain_cmp_exact, grain_cmp_total}
 use Rattle.membership_view.proofs.Entries.{sorted-insert_entry}
-use Rattle.ring_range.specs.Range.{Range}
+use Rattle.ring_range.specs.Range.{Range, holds}
 use Rattle.hash_ring.specs.declared.Hashing.{Hashing}
-use Rattle.directory_rules.specs.Table.{Table, with_entry}
-use Rattle.grain_partition.specs.Within.{with_within, within_range}
+use Rattle.hash_ring.specs.Hash.{hash_grain}
+use Rattle.directory_rules.specs.Piece.{Piece}
+use Rattle.directory_rules.specs.Sight.{is_settled, settled_pieces}
+use Rattle.directory_rules.specs.Table.{Table, entries_of, with_entry}
 
 module _ {K X : Type 0} {R : K → K → Ordering} (o : IsTotalOrder R) (exact : CmpEqualImpliesEq R) (p : K → Bool) where
   abbrev passed : List (K × X) → List (K × X)
@@ -77,7 +79,26 @@ module _ {K X : Type 0} {R : K → K → Ordering} (o : IsTotalOrder R) (exact :
           ap (λ b. cond b ((e.0, v) ∷ passed es) (passed es)) here ∙ sym (ap (λ b. cond b (e ∷ passed es) (passed es)) here)
       by Greater is later = ap (λ l. cond (p e.0) (e ∷ l) l) later
 
+-- whether the grain is hashed into the range
+abbrev pub within_range : Hashing → Range → Grain → Bool
+within_range hashing range grain = holds range (hash_grain hashing grain)
+
+-- the table with the entry, where its grain is
+abbrev pub with_within : Hashing → Range → Table → Entry → Table
+with_within hashing range table entry = if within_range hashing range entry.grain then with_entry table entry else table
+
 module _ (hashing : Hashing) (range : Range) where
+  -- to put in those within the range is to put in each that is
+  pub put_within : (entries : List Entry) (table : Table) → fold with_entry table (filter (λ e. within_range hashing range e.grain) entries) ≡ fold (with_within hashing range) table entries
+  put_within [] table = refl
+  put_within (entry ∷ entries) table = by (within_range hashing range entry.grain) (λ t. put_within entries t)
+    where
+      by : (b : Bool) → ((t : Table) → fold with_entry t (filter (λ e. within_range hashing range e.grain) entries) ≡ fold (with_within hashing range) t entries)
+          → fold with_entry table (cond b (entry ∷ filter (λ e. within_range hashing range e.grain) entries) (filter (λ e. within_range hashing range e.grain) entries))
+          ≡ fold (with_within hashing range) (cond b (with_entry table entry) table) entries
+      by true rest = rest (with_entry table entry)
+      by false rest = rest table
+
   -- of all entries put in those within the range are those within it put in
   pub within-fold : (entries : List Entry) (table : Table) → IsStrictlySortedBy grain_cmp (keys_of table)
       → filter (λ e. within_range hashing range e.0) (fold with_entry table entries) ≡ fold (with_within hashing range) (filter (λ e. within_range hashing range e.0) table) entries
@@ -91,3 +112,19 @@ module _ (hashing : Hashing) (range : Range) where
           ≡ (if b then with_entry (filter (λ e. within_range hashing range e.0) table) entry else filter (λ e. within_range hashing range e.0) table)
       by true is = passed-insert_entry grain_cmp_total grain_cmp_exact (within_range hashing range) entry.grain entry is table s
       by false is = passed-other grain_cmp_total grain_cmp_exact (within_range hashing range) entry.grain entry is table
+
+  fold_behind : (one other : List Entry) (table : Table) → fold (with_within hashing range) table (one ++ other) ≡ fold (with_within hashing range) (fold (with_within hashing range) table one) other
+  fold_behind [] other table = refl
+  fold_behind (entry ∷ entries) other table = fold_behind entries other (with_within hashing range table entry)
+
+  abbrev all_of : List (ℕ × Piece) → List Entry
+  all_of pieces = flat_map (λ e. entries_of e.1.entries) (settled_pieces pieces)
+
+  -- the entries of one settled piece more
+  pub one_more_within : (start : ℕ) (piece : Piece) (rest : List (ℕ × Piece)) → is_settled piece.state ≡ true → (table new : Table)
+      → new ≡ fold with_entry table (filter (λ e. within_range hashing range e.grain) (entries_of piece.entries))
+      → fold (with_within hashing range) new (all_of rest) ≡ fold (with_within hashing range) table (all_of ((start, piece) ∷ rest))
+  one_more_within start piece rest settled table new put =
+      ap (λ t. fold (with_within hashing range) t (all_of rest)) (put ∙ put_within (entries_of piece.entries) table)
+      ∙ sym (fold_behind (entries_of piece.entries) (all_of rest) table)
+      ∙ ap (λ b. fold (with_within hashing range) table (flat_map (λ e. entries_of e.1.entries) (cond b ((start, piece) ∷ settled_pieces rest) (settled_pieces rest)))) (sym settled)

@@ -1,9 +1,5 @@
 pub mod Holding
 pub mod Search
-pub mod Turn
 pub mod Serving
 pub mod Settled
 pub mod Sight
-pub mod HandingOut
-pub mod Entering
-pub mod Within

@@ -21,11 +21,12 @@ use crate::served::serve_numbered;
 use crate::settled::are_settled;
 use crate::sight::pieces_after;
 use directory_rules::{Act, Reply, Request, Why};
+use grain_table::Table;
 use hash_ring::Hashing;
 use membership_view::View;
 use range_moves::Arc;
 use ring_range::RingRange;
-use silo_address::{Entry, GrainId, SiloAddress};
+use silo_address::SiloAddress;
 use std::alloc::{AllocError, Global};
 use std::collections::BTreeMap;
 use std::collections::btree_map::Iter;
@@ -114,12 +115,14 @@ impl Holding {
     {
         self.whole();
         let start = match self.serving_piece(request) {
-            Ok(piece) => piece.range().start(),
+            Ok(piece) => {
+                if !is_numbered(&request.act) {
+                    return Ok(piece.reply_to(&request.act));
+                }
+                piece.range().start()
+            }
             Err(why) => return Ok(Reply::Retry(why)),
         };
-        if !is_numbered(&request.act) {
-            return Ok(self.answer(request));
-        }
         self.serve_from(start, request)
     }
 
@@ -144,7 +147,7 @@ impl Holding {
     }
 
     /// The piece of just this range has its entries now: it is settled. Asks of its caller that there is such a piece.
-    pub fn install(&mut self, range: RingRange, entries: BTreeMap<GrainId, Entry>)
+    pub fn install(&mut self, range: RingRange, entries: Table)
         requires { HasPiece range self.old.pieces }
         ensures { self.new ≡ record self.old { pieces = with_piece (record { range = range; state = Settled; entries = entries.entries }) self.old.pieces } }
     {

@@ -9,7 +9,6 @@ mod search;
 mod served;
 mod settled;
 mod sight;
-mod table;
 
 pub use holding::Holding;
 pub use piece::Piece;

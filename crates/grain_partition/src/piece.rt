@@ -3,14 +3,13 @@ ghost use Rattle.directory_rules.specs.Answer.{turned};
 ghost use Rattle.directory_rules.specs.declared.PieceState.TheVariants.{Settled};
 ghost use Rattle.directory_rules.specs.Sight.{is_settled};
 ghost use Rattle.directory_rules.specs.Table.{entry_at};
-ghost use Rattle.grain_partition.specs.Entering.{entered};
 
-use crate::table;
 use directory_rules::{Act, PieceState, Reply};
+use grain_table::Table;
+use hash_ring::Hashing;
 use ring_range::RingRange;
 use silo_address::{Entry, GrainId};
 use std::alloc::{AllocError, Global};
-use std::collections::BTreeMap;
 use std::marker::Model;
 
 /// A piece of what a silo owns: a range of hashes, its state, and the entries of its grains, which it has where it is
@@ -19,7 +18,7 @@ use std::marker::Model;
 pub struct Piece {
     range: RingRange,
     state: PieceState,
-    entries: BTreeMap<GrainId, Entry>,
+    entries: Table,
 }
 
 impl Model for Piece {
@@ -32,7 +31,7 @@ impl Model for Piece {
 
 impl Piece {
     // A settled piece.
-    pub(crate) fn settled(range: RingRange, entries: BTreeMap<GrainId, Entry>) -> Piece
+    pub(crate) fn settled(range: RingRange, entries: Table) -> Piece
         ensures { result ≡ record { range = range; state = Settled; entries = entries.entries } }
     {
         Piece {
@@ -43,13 +42,18 @@ impl Piece {
     }
 
     // A piece without entries.
-    pub(crate) fn bare(alloc: Global, range: RingRange, state: PieceState) -> Piece
+    pub(crate) fn bare(
+        alloc: Global,
+        hashing: Hashing,
+        range: RingRange,
+        state: PieceState,
+    ) -> Piece
         ensures { result ≡ record { range = range; state = state; entries = [] } }
     {
         Piece {
             range,
             state,
-            entries: BTreeMap::new(alloc),
+            entries: Table::new(alloc, hashing),
         }
     }
 
@@ -67,8 +71,8 @@ impl Piece {
         self.state
     }
 
-    /// The entries under their grains, in the order of the grains.
-    pub fn entries(&self) -> &BTreeMap<GrainId, Entry>
+    /// The entries.
+    pub fn entries(&self) -> &Table
         ensures { result.now.entries ≡ self.now.entries }
     {
         &self.entries
@@ -78,7 +82,7 @@ impl Piece {
     pub fn find(&self, grain: &GrainId) -> Option<Entry>
         ensures { result ≡ entry_at grain.now self.now.entries }
     {
-        self.entries.get(grain).copied()
+        self.entries.get(grain)
     }
 
     // Whether the piece is settled.
@@ -95,15 +99,7 @@ impl Piece {
     pub(crate) fn reply_to(&self, act: &Act) -> Reply
         ensures { result ≡ (turned act.now self.now.entries).reply }
     {
-        table::reply_to(&self.entries, act)
-    }
-
-    // Puts the entry in under the grain. Fails only when memory runs out.
-    pub(crate) fn enter(&mut self, grain: &GrainId, entry: &Entry) -> Result<(), AllocError>
-        ensures { OnOk result (self.new ≡ entered grain.now entry.now self.old) }
-    {
-        self.entries.insert(*grain, *entry)?;
-        Ok(())
+        self.entries.reply_to(act)
     }
 
     // Answers an act, and makes its change. Fails only when memory runs out, and then changes nothing.
@@ -112,7 +108,7 @@ impl Piece {
         ensures table { OnOk result (self.new ≡ record self.old { entries = (turned act.now self.old.entries).table }) }
         ensures unchanged { OnErr result (self.new ≡ self.old) }
     {
-        table::turn(&mut self.entries, act)
+        self.entries.turn(act)
     }
 
     /// An equal piece. Fails only when memory runs out.
@@ -128,12 +124,6 @@ impl Piece {
     {
         other.range.same(&self.range)
             && self.state.same(&other.state)
-            && same_entries(&self.entries, &other.entries)
+            && self.entries.has_same_entries(&other.entries)
     }
-}
-
-fn same_entries(one: &BTreeMap<GrainId, Entry>, other: &BTreeMap<GrainId, Entry>) -> bool
-    ensures { IsTrue result ↔ (one.now.entries ≡ other.now.entries) }
-{
-    *one == *other
 }

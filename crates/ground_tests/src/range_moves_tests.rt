@@ -58,14 +58,14 @@ fn told_move(rt: &impl Abort, told: &Told<'_>) -> Move {
 }
 
 fn check_arcs(rt: &impl Abort, found: &[Arc], wanted: &[Told<'_>]) {
-    assert_eq!(rt; found.len(), wanted.len());
+    assert!(rt; found.len() == wanted.len());
     for (arc, told) in found.iter().zip(wanted) {
         assert!(rt; arc.same(&told_arc(rt, told)));
     }
 }
 
 fn check_moves(rt: &impl Abort, found: &[Move], wanted: &[Told<'_>]) {
-    assert_eq!(rt; found.len(), wanted.len());
+    assert!(rt; found.len() == wanted.len());
     for (one, told) in found.iter().zip(wanted) {
         assert!(rt; one.same(&told_move(rt, told)));
     }
@@ -171,39 +171,12 @@ fn arcs_and_moves(rt: HostRuntime) {
     }
 }
 
-// B alone; then A, which joins at the place of B; and B alone again, when A has left.
-fn three_rings(rt: &impl Abort, alloc: Global) -> (Ring, Ring, Ring) {
-    let (mut views, mut places) = no_silos(rt, alloc);
-    join(rt, &mut views, &mut places, silo(rt, B), &[5]);
-    let alone = ring_now(rt, alloc, &views, &places);
-    join(rt, &mut views, &mut places, silo(rt, A), &[5]);
-    let tied = ring_now(rt, alloc, &views, &places);
-    views.leave(&silo(rt, A)).expect(rt, "A is Active");
-    let again = ring_now(rt, alloc, &views, &places);
-    (alone, tied, again)
-}
-
-fn check_between(rt: &impl Abort, alloc: Global, old: &Ring, new: &Ring, wanted: &[Told<'_>]) {
-    let found = moves(alloc, old, new).expect(rt, "memory");
-    check_moves(rt, &found, wanted);
-}
-
-// A silo joins at the place of a later one, takes over the full circle, and gives it back when it leaves.
-#[test]
-fn a_tied_silo_joins_and_leaves(rt: HostRuntime) {
-    let (alone, tied, again) = three_rings(&rt, rt.alloc());
-    check_between(&rt, rt.alloc(), &alone, &tied, &[("5+4294967296", B, A)]);
-    check_between(&rt, rt.alloc(), &tied, &again, &[("5+4294967296", A, B)]);
-    check_between(&rt, rt.alloc(), &alone, &again, &[]);
-}
-
 #[test]
 fn one_arc_and_its_move(rt: HostRuntime) {
     let arc = told_arc(&rt, &("3+4", A, B));
     let wanted = told_move(&rt, &("3+4", A, B));
-    assert_eq!(rt; arc.copy(), arc);
-    assert_eq!(rt; arc.moved(), Some(wanted));
-    assert_eq!(rt; wanted.copy(), wanted);
+    assert!(rt; arc.copy() == arc);
+    assert!(rt; arc.moved() == Some(wanted.copy()));
 }
 
 #[test]

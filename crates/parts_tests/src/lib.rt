@@ -1,5 +1,5 @@
-//! Tests of the parts of a directory node over their public calls: the types of the rule, what a silo keeps for others, its
-//! activations, and its recoveries. They stand in a crate of their own, since a crate with tests is proved twice.
+//! Tests of the parts of a directory node over their public calls: the types of the rule, tables, what a silo keeps for
+//! others, its activations, and its recoveries. They stand in a crate of their own, since a crate with tests is proved twice.
 #![tactic(auto)]
 
 #[cfg(test)]
@@ -10,3 +10,5 @@ mod partition;
 mod recovery;
 #[cfg(test)]
 mod rules;
+#[cfg(test)]
+mod tables;

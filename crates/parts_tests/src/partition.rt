@@ -1,13 +1,13 @@
 //! What a silo keeps for others: its pieces, and the requests that it serves from them.
 use directory_rules::{Act, PieceState, Reply, Request, Why};
 use grain_partition::{Holding, Piece};
+use grain_table::Table;
 use hash_ring::{Hashing, Places, Ring};
 use membership_view::{View, Views};
 use range_moves::arcs;
 use ring_range::RingRange;
 use silo_address::{ActivationId, Entry, GrainId, SiloAddress};
 use std::alloc::Global;
-use std::collections::BTreeMap;
 use std::process::Abort;
 
 // Texts of silos, by address.
@@ -92,7 +92,7 @@ fn sees_first(rt: &impl Abort, alloc: Global, who: &str, (from, to): (u64, u64))
     sees(rt, alloc, &Holding::new(alloc), who, (from, to))
 }
 
-fn install(rt: &impl Abort, holding: &mut Holding, text: &str, entries: BTreeMap<GrainId, Entry>) {
+fn install(rt: &impl Abort, holding: &mut Holding, text: &str, entries: Table) {
     let range = range(rt, text);
     assert!(rt; holding.has_piece(&range), "no piece {text}");
     holding.install(range, entries);
@@ -101,7 +101,12 @@ fn install(rt: &impl Abort, holding: &mut Holding, text: &str, entries: BTreeMap
 // A at version 2 with its one piece settled, without entries.
 fn of_a(rt: &impl Abort, alloc: Global) -> Holding {
     let mut holding = sees_first(rt, alloc, A, (0, 2));
-    install(rt, &mut holding, "10+90", BTreeMap::new(alloc));
+    install(
+        rt,
+        &mut holding,
+        "10+90",
+        Table::new(alloc, Hashing::Stated),
+    );
     holding
 }
 
@@ -156,7 +161,7 @@ fn starts_with_nothing(rt: HostRuntime) {
 fn check_bare(rt: &impl Abort, piece: &Piece, range: &RingRange, state: PieceState) {
     assert!(rt; piece.range().same(range));
     assert!(rt; piece.state().same(&state));
-    assert!(rt; piece.entries().is_empty());
+    assert_eq!(rt; piece.entries().len(), 0);
 }
 
 // The silo's one piece at version 2, which has or hasn't the hash.
@@ -346,7 +351,12 @@ fn pieces_at_newer_views(rt: HostRuntime) {
     let skipped = sees_first(&rt, alloc, C, (1, 3));
     let unsettled = sees(&rt, alloc, &first, C, (3, 4));
     let mut settled = first.copy().expect(&rt, "memory");
-    install(&rt, &mut settled, "60+40", BTreeMap::new(alloc));
+    install(
+        &rt,
+        &mut settled,
+        "60+40",
+        Table::new(alloc, Hashing::Stated),
+    );
     let settled = sees(&rt, alloc, &settled, C, (3, 4));
     let awaits = PieceState::Awaiting(silo(&rt, A));
     let table: [(&Holding, &str, PieceState); 6] = [
@@ -363,11 +373,9 @@ fn pieces_at_newer_views(rt: HostRuntime) {
 }
 
 // A table with EVE's entry on A.
-fn one_entry(rt: &impl Abort, alloc: Global) -> BTreeMap<GrainId, Entry> {
-    let mut entries = BTreeMap::new(alloc);
-    let entry = entry(rt, EVE, A);
-    let put: Result<_, _> = entries.insert(entry.grain, entry);
-    put.expect(rt, "memory");
+fn one_entry(rt: &impl Abort, alloc: Global) -> Table {
+    let mut entries = Table::new(alloc, Hashing::Stated);
+    entries.insert(&entry(rt, EVE, A)).expect(rt, "memory");
     entries
 }
 

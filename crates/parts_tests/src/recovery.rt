@@ -1,10 +1,11 @@
 //! A recovery of a range, and the reports that it takes.
+use grain_table::Table;
+use hash_ring::Hashing;
 use membership_view::{View, Views};
 use range_recovery::{Progress, Recovery, RecoveryError, Report};
 use ring_range::RingRange;
 use silo_address::{ActivationId, Entry, GrainId, SiloAddress};
 use std::alloc::Global;
-use std::collections::BTreeMap;
 use std::process::Abort;
 
 // Three silos of the view, one that is Dead in it, and one that joined later.
@@ -51,7 +52,8 @@ fn view(rt: &impl Abort, alloc: Global) -> View {
 }
 
 fn recovery(rt: &impl Abort, alloc: Global) -> Recovery {
-    Recovery::new(alloc, &view(rt, alloc), upper_half(rt)).expect(rt, "memory")
+    let recovery = Recovery::new(alloc, Hashing::Sha256, &view(rt, alloc), upper_half(rt));
+    recovery.expect(rt, "memory")
 }
 
 fn entry(rt: &impl Abort, silo: SiloAddress, grain: &str, count: u64) -> Entry {
@@ -106,9 +108,10 @@ fn assert_judged(
 }
 
 // The counts of the activations that were gathered, by grain.
-fn counts(rt: &impl Abort, alloc: Global, gathered: &BTreeMap<GrainId, Entry>) -> Vec<u64> {
+fn counts(rt: &impl Abort, alloc: Global, gathered: &Table) -> Vec<u64> {
+    let entries = gathered.in_order(alloc).expect(rt, "memory");
     let mut counts = Vec::new(alloc);
-    for (_, entry) in gathered {
+    for entry in &entries {
         counts.push(entry.activation.count).expect(rt, "memory");
     }
     counts
@@ -131,7 +134,7 @@ fn a_new_recovery(rt: HostRuntime) {
     let awaiting = recovery.awaiting(rt.alloc()).expect(&rt, "memory");
     let want = [silo(&rt, A), silo(&rt, B), silo(&rt, C)];
     assert_eq!(rt; awaiting.as_slice(), want.as_slice());
-    assert!(rt; recovery.gathered().is_empty());
+    assert_eq!(rt; recovery.gathered().len(), 0);
     recovery.whole();
 }
 

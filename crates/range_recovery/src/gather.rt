@@ -2,14 +2,14 @@ ghost use Rattle.std.specs.Prelude.{◌≡◌, ◌+◌, ◌<◌, ◌≤◌, fold
 ghost use Rattle.directory_rules.specs.Recovery.{with_reported};
 ghost use Rattle.range_recovery.specs.Gathered.{without_grains};
 
+use grain_table::Table;
 use silo_address::{Entry, GrainId};
 use std::alloc::{AllocError, Global};
-use std::collections::BTreeMap;
 
 /// Puts in the entries of a report, each whose grain has none yet. What was put in is taken out again when memory runs out.
 pub(crate) fn gather(
     alloc: Global,
-    gathered: &mut BTreeMap<GrainId, Entry>,
+    gathered: &mut Table,
     entries: &[Entry],
 ) -> Result<(), AllocError>
     ensures gathered { OnOk result (gathered.new.entries ≡ fold with_reported gathered.old.entries entries.now) }
@@ -27,7 +27,7 @@ pub(crate) fn gather(
 
 // Puts in each entry whose grain has none yet, and notes the grains that are new.
 fn gather_each(
-    gathered: &mut BTreeMap<GrainId, Entry>,
+    gathered: &mut Table,
     entries: &[Entry],
     new: &mut Vec<GrainId>,
 ) -> Result<(), AllocError>
@@ -42,27 +42,23 @@ fn gather_each(
 }
 
 // Puts in the entry where its grain has none yet, and notes the grain then.
-fn gather_one(
-    gathered: &mut BTreeMap<GrainId, Entry>,
-    entry: &Entry,
-    new: &mut Vec<GrainId>,
-) -> Result<(), AllocError>
+fn gather_one(gathered: &mut Table, entry: &Entry, new: &mut Vec<GrainId>) -> Result<(), AllocError>
     requires { vec_len new.old < vec_capacity new.old }
     ensures gathered { OnOk result (gathered.new.entries ≡ with_reported gathered.old.entries entry.now) }
     ensures noted { without_grains new.new.items gathered.new.entries ≡ without_grains new.old.items gathered.old.entries }
     ensures len { vec_len new.new ≤ vec_len new.old + 1 }
     ensures room { vec_capacity new.old ≤ vec_capacity new.new }
 {
-    if gathered.contains_key(&entry.grain) {
+    let is_new = gathered.insert_new(entry)?;
+    if !is_new {
         return Ok(());
     }
-    gathered.insert(entry.grain, *entry)?;
     new.push(entry.grain).unwrap();
     Ok(())
 }
 
 // Takes out grains, from the last one to the first.
-fn take_out(gathered: &mut BTreeMap<GrainId, Entry>, mut grains: Vec<GrainId>)
+fn take_out(gathered: &mut Table, mut grains: Vec<GrainId>)
     ensures { gathered.new.entries ≡ without_grains grains.items gathered.old.entries }
 {
     while let Some(grain) = grains.pop() {

@@ -8,11 +8,12 @@ ghost use Rattle.range_recovery.specs.Progress.{Reaches, Refuses, RefusesOrLacks
 use crate::gather::gather;
 use crate::silos::AwaitedSilos;
 use crate::{Progress, RecoveryError, Report};
+use grain_table::Table;
+use hash_ring::Hashing;
 use membership_view::View;
 use ring_range::RingRange;
-use silo_address::{Entry, GrainId, SiloAddress};
+use silo_address::SiloAddress;
 use std::alloc::{AllocError, Global};
-use std::collections::BTreeMap;
 use std::marker::Model;
 
 /// What an owner has been reported so far of a range that nobody hands over (`docs/RULES.md#recovery`).
@@ -22,7 +23,7 @@ pub struct Recovery {
     version: u64,
     range: RingRange,
     silos: AwaitedSilos,
-    gathered: BTreeMap<GrainId, Entry>,
+    gathered: Table,
 }
 
 impl Model for Recovery {
@@ -34,8 +35,14 @@ impl Model for Recovery {
 }
 
 impl Recovery {
-    /// Awaits each silo of the view that isn't Dead there; nothing is reported yet. Fails only when memory runs out.
-    pub fn new(alloc: Global, view: &View, range: RingRange) -> Result<Recovery, AllocError>
+    /// Awaits each silo of the view that isn't Dead there; nothing is reported yet, and what comes is kept by the cluster's
+    /// hashing. Fails only when memory runs out.
+    pub fn new(
+        alloc: Global,
+        hashing: Hashing,
+        view: &View,
+        range: RingRange,
+    ) -> Result<Recovery, AllocError>
         ensures { IfOk result (λ recovery. recovery ≡ new_recovery view.now range) }
     {
         let silos = AwaitedSilos::of(alloc, view)?;
@@ -44,7 +51,7 @@ impl Recovery {
             version: view.version(),
             range,
             silos,
-            gathered: BTreeMap::new(alloc),
+            gathered: Table::new(alloc, hashing),
         })
     }
 
@@ -70,7 +77,7 @@ impl Recovery {
     }
 
     /// What was reported so far.
-    pub fn gathered(&self) -> &BTreeMap<GrainId, Entry>
+    pub fn gathered(&self) -> &Table
         ensures { result.now.entries ≡ self.now.gathered }
     {
         &self.gathered
@@ -133,7 +140,7 @@ impl Recovery {
     }
 
     /// The entries that were reported.
-    pub fn into_entries(self) -> BTreeMap<GrainId, Entry>
+    pub fn into_entries(self) -> Table
         ensures { result.entries ≡ self.gathered }
     {
         self.gathered
@@ -144,7 +151,8 @@ impl Recovery {
         ensures { IsRecovery self.now }
     {
         self.silos.whole();
-        let _len = self.gathered.len();
+        let gathered = &self.gathered;
+        gathered.whole();
     }
 
     /// An equal recovery. Fails only when memory runs out.
@@ -152,7 +160,7 @@ impl Recovery {
         ensures { IfOk result (λ recovery. recovery ≡ self.now) }
     {
         let silos = self.silos.copy()?;
-        let gathered = self.gathered.clone()?;
+        let gathered = self.gathered.copy()?;
         Ok(Recovery {
             alloc: self.alloc,
             version: self.version,
@@ -169,12 +177,6 @@ impl Recovery {
         other.version == self.version
             && self.range.same(&other.range)
             && self.silos.same(&other.silos)
-            && same_entries(&self.gathered, &other.gathered)
+            && self.gathered.has_same_entries(&other.gathered)
     }
-}
-
-fn same_entries(one: &BTreeMap<GrainId, Entry>, other: &BTreeMap<GrainId, Entry>) -> bool
-    ensures { IsTrue result ↔ (one.now.entries ≡ other.now.entries) }
-{
-    *one == *other
 }

@@ -1,5 +1,6 @@
 -- What is read of a text is what is written: by the tests, and by the words.
-use Rattle.std.proofs.Common.{◌≡◌, ◌≢◌, ℕ, suc, ◌+◌, ◌<◌, ◌≤◌, ◌&&◌, ◌↔◌, Bool, true, false, cond, nat_lt, nat_le, List, ◌∷◌, ◌++◌, length, get_or, drop, Result, Ok, Err, IfOk, refl, sym, ◌∙◌, ap, subst, arith, length-append}
+use Rattle.std.proofs.Common.{◌≡◌, ◌≢◌, ℕ, suc, ◌+◌, ◌<◌, ◌≤◌, ◌&&◌, ◌↔◌, Bool, true, false, cond, nat_lt, nat_le, List, ◌∷◌, ◌++◌, length, get_or, take, drop, Result, Ok, Err, IfOk, refl, sym, ◌∙◌, ap, subst, arith, length-append}
+use Rattle.std.specs.Prelude.{if◌then◌else◌, ◌-◌}
 use Rattle.std.specs.Bool.{Decides}
 use Rattle.std.specs.List.{position_or_len}
 use Rattle.std.specs.Fmt.{decimal}
@@ -13,7 +14,8 @@ use Rattle.ring_range.specs.Range.{circle, Range, IsRange}
 use Rattle.ring_range.specs.declared.text.RangeTextError.{RangeTextError}
 use Rattle.ring_range.specs.declared.text.RangeTextError.TheVariants.{Shape, NotANumber, OutOfRange}
 use Rattle.texts.specs.Numeral.{IsNumeral, numeral_value, is_numeral}
-use Rattle.ring_range.specs.Text.{plus_sign, range_text, HasWords, IsInShape, IsNotOfNumbers, IsOutOfRange, range_by_words, is_plus, start_word, size_word, has_words, is_range, read_range}
+use Rattle.ring_range.specs.Text.{plus_sign, range_text, HasWords, IsInShape, IsNotOfNumbers, IsOutOfRange, range_by_words, is_plus, start_word, size_word, has_words, is_range, if_range, read_range}
+use Rattle.texts.proofs.Cuts.{rest_from}
 use Rattle.texts.proofs.NumeralLaws.{Decides-is_numeral, decimal-numeral_value, numeral_value-decimal, decimal_is_numeral}
 
 -- the two words of a text are those on either side of its first plus
@@ -62,6 +64,21 @@ words_of text e =
   where
     both_lt : (plus len : ℕ) → (nat_lt 0 plus && nat_lt (plus + 1) len) ≡ true → (0 < plus) × (plus + 1 < len)
     both_lt plus len e = grind (arith, nat_tests)
+
+-- the reading by its two words
+abbrev pub by_numerals : List ℕ → List ℕ → Result Range RangeTextError
+by_numerals start size = if is_numeral start && is_numeral size then if_range (range_by_words start size) else Err NotANumber
+
+-- the reading of a text that has something on both sides of its first plus
+pub read_range-words : (text : List ℕ) (plus : ℕ) → plus ≡ position_or_len is_plus text → ¬ (plus ≡ 0) → plus + 1 < length text
+    → read_range text ≡ by_numerals (take plus text) (take (length text - (plus + 1)) (drop (plus + 1) text))
+unfolding read_range
+read_range-words text plus first some more =
+    let shape : has_words text ≡ true = shaped (position_or_len is_plus text) (length text) (omega (arith, first, some)) (omega (arith, first, more)) in
+    rw (shape, rest_from text (plus + 1), first) refl
+  where
+    shaped : (plus len : ℕ) → 0 < plus → plus + 1 < len → (nat_lt 0 plus && nat_lt (plus + 1) len) ≡ true
+    shaped plus len some more = grind (arith, nat_tests)
 
 Decides-numerals : (start size : List ℕ) → Decides (is_numeral start && is_numeral size) (IsNumeral start × IsNumeral size)
 Decides-numerals start size = Decides-and _ _ (Decides-is_numeral start) (Decides-is_numeral size)

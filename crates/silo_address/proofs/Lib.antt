@@ -1,5 +1,6 @@
 pub mod Same
 pub mod SiloLaws
+pub mod SiloNumbers
 pub mod SiloCases
 pub mod GrainCases
 pub mod GrainStored

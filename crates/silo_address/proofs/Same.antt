@@ -1,5 +1,7 @@
 -- `==` decides equality of silos, grains, activations and entries: for the crates above.
-use Rattle.std.proofs.Common.{◌≡◌, ap, ℕ, List}
+use Rattle.std.proofs.Common.{◌≡◌, ap, sym, subst, ℕ, List, Bool}
+use Rattle.std.specs.Prelude.{◌==◌, ◌&&◌}
+use Rattle.std.specs.Cmp.Lexicographic.{pointwise}
 use Rattle.std.specs.Bool.{Decides}
 use Rattle.std.proofs.lemmas.Bool.Decides.{Decides-like, Decides-and, Decides-eqb}
 use Rattle.std.proofs.lemmas.Slice.Eq.{bytes_eq-Decides}
@@ -53,3 +55,8 @@ pub Decides-entry : (a b : Entry) → Decides (entry_eq a b) (a ≡ b)
 Decides-entry a b =
     Decides-like _ (λ e. same_entry a b e.0 e.1) (λ e. (ap (λ (x : Entry). x.grain) e, ap (λ (x : Entry). x.activation) e))
     (Decides-and _ _ (Decides-grain a.grain b.grain) (Decides-activation a.activation b.activation))
+
+-- What tells whether two endpoints are one.
+pub Decides-endpoint : (same : Bool) (ip other_ip : List ℕ) (port other_port : ℕ) → same ≡ (pointwise ◌==◌ ip other_ip && (port == other_port)) → Decides same ((ip ≡ other_ip) × (port ≡ other_port))
+Decides-endpoint same ip other_ip port other_port is =
+    subst (λ b. Decides b ((ip ≡ other_ip) × (port ≡ other_port))) (sym is) (Decides-and _ _ (bytes_eq-Decides ip other_ip) (Decides-eqb port other_port))

@@ -8,6 +8,6 @@ use Rattle.directory_core.proofs.steps.deliver_at.Goals as goal
 
 pub returns-clause-left : goal.returns-clause-left
 returns-clause-left c = λ letter node is found.
-    (c.get_mut.follows.holds c.deliver.new.node).0
-    ∙ put_at silo_cmp silo_cmp_total c.args.to.now c.args.nodes.now.entries c.get_mut.ensures.ordered c.in-Some.node.now node c.deliver.new.node
-    (λ (n : Node). (received n letter).node) c.in-Some.ensures.value found (c.in_ok-deliver.ensures.left letter is)
+    (c.get_mut.follows.holds c.receive_and_post.new.node).0
+    ∙ put_at silo_cmp silo_cmp_total c.args.to.now c.args.nodes.now.entries c.get_mut.ensures.ordered c.in-Some.node.now node c.receive_and_post.new.node
+    (λ (n : Node). (received n letter).node) c.in-Some.ensures.value found (c.in_ok-receive_and_post.ensures.left letter is)

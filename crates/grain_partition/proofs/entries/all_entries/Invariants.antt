@@ -6,4 +6,7 @@ use Rattle.grain_partition.proofs.entries.all_entries.Given as goal
 
 -- the rest put in gives the whole
 abbrev pub invariant-pieces : goal.invariant-pieces
-invariant-pieces l = fold with_entry l.all.entries (flat_map (λ e. entries_of e.1.entries) l.piece-iterator) ≡ all_entries l.pieces.entries
+invariant-pieces l = record {
+  hashing_is : l.all.hashing ≡ l.fn.hashing;
+  whole : fold with_entry l.all.entries (flat_map (λ e. entries_of e.1.entries) l.piece-iterator) ≡ all_entries l.pieces.entries;
+}

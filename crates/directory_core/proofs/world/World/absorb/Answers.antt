@@ -3,7 +3,7 @@ use Rattle.directory_rules.specs.World.{World}
 use Rattle.directory_rules.specs.Happens.{node_of}
 use Rattle.directory_rules.specs.Input.{step}
 use Rattle.directory_node.specs.Saying.{left_by}
-use Rattle.directory_core.specs.Mail.{MailValue}
+use Rattle.letter_mail.specs.Mail.{MailValue}
 use Rattle.directory_core.specs.OwnModel.{input_of_own}
 use Rattle.directory_core.specs.WorldModel.{world_of}
 use Rattle.directory_core.proofs.Kept.{found_of, kept_changed}

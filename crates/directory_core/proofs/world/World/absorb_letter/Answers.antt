@@ -3,7 +3,7 @@ use Rattle.directory_rules.specs.World.{World}
 use Rattle.directory_rules.specs.Happens.{node_of}
 use Rattle.directory_rules.specs.Mail.{letter_of}
 use Rattle.directory_rules.specs.Receive.{received}
-use Rattle.directory_core.specs.Mail.{MailValue}
+use Rattle.letter_mail.specs.Mail.{MailValue}
 use Rattle.directory_core.specs.WorldModel.{world_of}
 use Rattle.directory_core.proofs.Kept.{found_of, kept_changed}
 use Rattle.directory_core.proofs.world.World.absorb_letter.Goals as goal

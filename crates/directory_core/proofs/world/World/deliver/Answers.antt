@@ -1,4 +1,4 @@
-use Rattle.std.proofs.Common.{◌≡◌, true, List, Ok, refl, sym, ◌∙◌, ap, subst, arith}
+use Rattle.std.proofs.Common.{◌≡◌, true, List, Ok, Some, refl, sym, ◌∙◌, ap, subst, arith}
 use Rattle.std.specs.Prelude.{IsOk, is_ok}
 use Rattle.std.specs.Option.{option_map}
 use Rattle.silo_address.specs.Silo.{Silo}
@@ -18,27 +18,27 @@ use Rattle.directory_core.proofs.world.World.deliver.Goals as goal
 pub returns-in_default-respond_letter-clause-told : goal.returns-in_default-respond_letter-clause-told
 returns-in_default-respond_letter-clause-told c =
     subst (λ n. RefusesBy IsOk n (deliver c.args.self.now c.args.number)) (sym c.refused_one.ensures)
-    (delivery_refused c.args.self.now c.args.number c.in-Some.letter.now c.in-Some-node.node.now (sym c.in-Some.ensures)
+    (delivery_refused c.args.self.now c.args.number c.letter-letter.result.now c.in-Some-node.node.now (sym c.in-Some.ensures ∙ ap (λ (l : Letter). Some l) (sym c.letter-letter.ensures))
     (ap (λ (s : Silo). node_of c.args.self.now s) (sym c.to-to.ensures) ∙ sym c.in-Some-node.ensures) c.in_default-respond_letter.ensures.one)
 
 pub returns-in-Err-clause-told : goal.returns-in-Err-clause-told
 returns-in-Err-clause-told c =
-    let letter = c.in-Some.letter.now in
+    let letter = c.letter-letter.result.now in
     let node = c.in-Some-node.node.now in
     let letters = c.in-Ok.response.letters.items in
     let room : has_room_for c.args.self.now c.deref.result.now ≡ true = grind arith in
-    ap is_ok (delivered_told c.args.self.now c.args.number letter node letters c.in-Ok.response.effect _ (sym c.in-Some.ensures)
+    ap is_ok (delivered_told c.args.self.now c.args.number letter node letters c.in-Ok.response.effect _ (sym c.in-Some.ensures ∙ ap (λ (l : Letter). Some l) (sym c.letter-letter.ensures))
     (ap (λ (s : Silo). node_of c.args.self.now s) (sym c.to-to.ensures) ∙ sym c.in-Some-node.ensures)
     (sym c.in-Ok.ensures.says)
     (ap (λ (l : List Letter). has_room_for c.args.self.now l) (sym c.deref.ensures.value) ∙ room) refl)
 
 pub returns-in-Ok-absorb_letter-clause-told : goal.returns-in-Ok-absorb_letter-clause-told
 returns-in-Ok-absorb_letter-clause-told c =
-    let letter = c.in-Some.letter.now in
+    let letter = c.letter-letter.result.now in
     let node = c.in-Some-node.node.now in
     let letters = c.in-Ok.response.letters.items in
     let room : has_room_for c.args.self.now c.deref.result.now ≡ true = grind arith in
-    delivered_told c.args.self.now c.args.number letter node letters c.in-Ok.response.effect (option_map code_span c.span_of.result) (sym c.in-Some.ensures)
+    delivered_told c.args.self.now c.args.number letter node letters c.in-Ok.response.effect (option_map code_span c.span_of.result) (sym c.in-Some.ensures ∙ ap (λ (l : Letter). Some l) (sym c.letter-letter.ensures))
     (ap (λ (s : Silo). node_of c.args.self.now s) (sym c.to-to.ensures) ∙ sym c.in-Some-node.ensures)
     (sym c.in-Ok.ensures.says)
     (ap (λ (l : List Letter). has_room_for c.args.self.now l) (sym c.deref.ensures.value) ∙ room)
@@ -51,4 +51,4 @@ returns-in-Ok-absorb_letter-clause-told c =
       outcome = record { happening = Delivered c.args.number c.kind-kind.result c.in-Ok.response.effect; sent = option_map code_span c.span_of.result };
       world = w;
     })) (ap (λ (s : Silo). after_step (with_delivered c.args.self.now c.args.number letter) s (received node letter).node letters) (sym c.to-to.ensures)
-    ∙ sym (c.in-Ok-absorb_letter.ensures.made letter node (sym c.in-Some.ensures) (sym c.in-Some-node.ensures)))
+    ∙ sym (c.in-Ok-absorb_letter.ensures.made letter node (sym c.in-Some.ensures ∙ ap (λ (l : Letter). Some l) (sym c.letter-letter.ensures)) (sym c.in-Some-node.ensures)))

@@ -1,6 +1,6 @@
 use Rattle.std.proofs.Common.{ap}
 use Rattle.directory_rules.specs.Happens.{node_of}
-use Rattle.directory_core.specs.Mail.{MailValue}
+use Rattle.letter_mail.specs.Mail.{MailValue}
 use Rattle.directory_core.specs.WorldModel.{world_of}
 use Rattle.directory_core.proofs.Kept.{found_of, kept_changed}
 use Rattle.directory_core.proofs.world.World.replace.Goals as goal

@@ -10,5 +10,5 @@ returns c =
       awaiting_in_order = c.whole.ensures.awaiting_in_order;
       reported_in_order = c.whole.ensures.reported_in_order;
       apart = c.whole.ensures.apart;
-      gathered_in_order = c.len-len.ensures.ordered;
+      gathered_in_order = c.whole-2.ensures;
     })

@@ -1,5 +1,4 @@
-use Rattle.std.proofs.Common.{rules}
 use Rattle.silo_address.proofs.activation.ActivationIdDisplay.fmt.Goals as goal
 
 pub returns-clause-writes : goal.returns-clause-writes
-returns-clause-writes c = search rules
+returns-clause-writes c = λ c' plain ok. c'.write.ensures.writes plain ok

@@ -1,5 +1,5 @@
-use Rattle.std.proofs.Common.{rules}
+use Rattle.std.proofs.Common.{refl}
 use Rattle.silo_address.proofs.grain.GrainIdOrd.cmp.Goals as goal
 
 pub returns : goal.returns
-returns c = search rules
+returns c = rw (c.then.ensures, c.cmp-by_kind.ensures, c.cmp.ensures, c.kind.ensures, c.kind-2.ensures, c.key.ensures, c.key-2.ensures) refl

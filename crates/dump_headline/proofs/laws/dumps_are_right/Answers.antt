@@ -1,0 +1,5 @@
+use Rattle.dump_headline.proofs.Ending.{rightly_told}
+use Rattle.dump_headline.proofs.laws.dumps_are_right.Goals as goal
+
+pub returns : goal.returns
+returns c = rightly_told

@@ -1,0 +1,11 @@
+pub mod Order
+pub mod ByGrain
+pub mod Taken
+pub mod Count
+pub mod Turning
+pub mod Put
+pub mod Filters
+pub mod Stretches
+pub mod Ranges
+pub mod Same
+pub mod Within

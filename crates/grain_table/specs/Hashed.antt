@@ -1,0 +1,47 @@
+-- How a table keeps its entries: activations under hashed grains, in order of hash, then grain.
+use Rattle.std.specs.Prelude.{◌≡◌, ◌<◌, List, [], ◌∷◌}
+use Rattle.std.specs.List.{AllByRecursion}
+use Rattle.std.specs.List.Sorted.{IsStrictlySortedBy}
+use Rattle.std.specs.Map.{keys_of}
+use Rattle.std.specs.Ordering.{nat_cmp, on, then_cmp}
+use Rattle.std.specs.declared.cmp.Ordering.{Ordering}
+use Rattle.silo_address.specs.Grain.{Grain, IsGrain, grain_cmp}
+use Rattle.silo_address.specs.declared.ActivationId.{ActivationId}
+use Rattle.silo_address.specs.declared.Entry.{Entry}
+use Rattle.ring_range.specs.Range.{circle}
+use Rattle.hash_ring.specs.declared.Hashing.{Hashing}
+use Rattle.hash_ring.specs.Hash.{hash_grain}
+use Rattle.directory_rules.specs.Table.{Table, with_entry}
+use Rattle.grain_table.specs.declared.hashed_grain.HashedGrain.{HashedGrain}
+
+-- by hash, then grain
+abbrev pub hashed_cmp : HashedGrain → HashedGrain → Ordering
+hashed_cmp = then_cmp (on (λ k. k.hash) nat_cmp) (on (λ k. k.grain) grain_cmp)
+
+-- activations under hashed grains
+abbrev pub Hashed : Type 0
+Hashed = List (HashedGrain × ActivationId)
+
+-- the grain with its hash
+abbrev pub key_of : Hashing → Grain → HashedGrain
+key_of hashing grain = record { hash = hash_grain hashing grain; grain = grain }
+
+-- what every key of a table keeps: it is a grain with its hash
+pub record IsKeyOf (hashing : Hashing) (key : HashedGrain) : Type 0 where
+  pub hash_is : key.hash ≡ hash_grain hashing key.grain
+  pub below : key.hash < circle
+  pub is_grain : IsGrain key.grain
+
+-- what every table keeps
+pub record AreHashed (hashing : Hashing) (hashed : Hashed) : Type 0 where
+  pub in_order : IsStrictlySortedBy hashed_cmp (keys_of hashed)
+  pub keys : AllByRecursion (IsKeyOf hashing) (keys_of hashed)
+
+-- the entry of an activation that stands under its hashed grain
+abbrev pub entry_under : HashedGrain × ActivationId → Entry
+entry_under e = record { grain = e.0.grain; activation = e.1 }
+
+-- the entries under their grains, in the order of the grains
+abbrev pub by_grain : Hashed → Table
+by_grain [] = []
+by_grain (e ∷ es) = with_entry (by_grain es) (entry_under e)

@@ -1,0 +1,154 @@
+-- Grains get numbers and keep them: what was kept before is the same letter after.
+use Rattle.std.proofs.Common.{◌≡◌, ℕ, zero, suc, ◌<◌, ◌≤◌, List, [], ◌∷◌, ◌++◌, length, get_or, set, take, true, Some, None, refl, sym, ◌∙◌, ap, arith}
+use Rattle.std.specs.Prelude.{slice_get}
+use Rattle.std.specs.List.{enumerate_from}
+use Rattle.std.proofs.Math.ListN.{get_or-append}
+use Rattle.std.proofs.lemmas.List.{append-nil, append_assoc, length-append, map_push, take_at}
+use Rattle.std.proofs.lemmas.Option.{same_Some}
+use Rattle.silo_address.specs.Grain.{Grain}
+use Rattle.silo_address.specs.Silo.{Silo}
+use Rattle.directory_rules.specs.Letter.{Letter, Body, Reply_letter}
+use Rattle.directory_rules.specs.Mail.{fresh_letter}
+use Rattle.directory_rules.specs.World.{Posted}
+use Rattle.directory_rules.specs.declared.Act.TheVariants as act
+use Rattle.directory_rules.specs.declared.Reply.TheVariants as reply
+use Rattle.letter_mail.specs.declared.kept.Says.{Says}
+use Rattle.letter_mail.specs.declared.kept.Says.TheVariants.{Register, Deregister, Find, Registered, Taken, Removed, Absent, Found, Nothing, Retry, Query, Behind, Ahead}
+use Rattle.letter_mail.specs.declared.kept.Kept.{Kept}
+use Rattle.letter_mail.specs.declared.kept.Kept.TheVariants.{Brief, Whole}
+use Rattle.letter_mail.specs.declared.slots.Slot.{Slot}
+use Rattle.letter_mail.specs.Keeping.{Grows}
+use Rattle.letter_mail.specs.Kept.{AreKept, IsKept, IsNumbered, all_posted, grain_at, letter_kept, posted_in, request_by, said_by}
+use Rattle.letter_mail.specs.MailModel.{mail_in}
+
+-- ---- lists that grow
+pub grows_not : {A : Type 0} (before after : List A) → after ≡ before → Grows before after
+grows_not before after same = ([], same ∙ sym (append-nil before))
+
+pub grows_by : {A : Type 0} (before more : List A) → Grows before (before ++ more)
+grows_by before more = (more, refl)
+
+pub grows_on : {A : Type 0} (before between after : List A) → Grows before between → Grows between after → Grows before after
+grows_on {A} before between after first second =
+    (first.0 ++ second.0, second.1 ∙ ap (λ (l : List A). l ++ second.0) first.1 ∙ append_assoc before first.0 second.0)
+
+pub longer : {A : Type 0} (before after : List A) → Grows before after → length before ≤ length after
+longer {A} before after grows = let same = ap (λ (l : List A). length l) grows.1 in omega (arith, length-append before grows.0)
+
+-- ---- numbers stay numbers
+more_says : (count most : ℕ) (says : Says) → count ≤ most → IsNumbered count says → IsNumbered most says
+more_says count most (Register number hash entry) up is = omega arith
+more_says count most (Deregister number hash entry) up is = omega arith
+more_says count most (Find number hash grain) up is = omega arith
+more_says count most (Registered number entry) up is = omega arith
+more_says count most (Taken number entry) up is = omega arith
+more_says count most (Removed number) up is = is
+more_says count most (Absent number) up is = is
+more_says count most (Found number entry) up is = omega arith
+more_says count most (Nothing number) up is = is
+more_says count most (Retry number why) up is = is
+more_says count most (Query range) up is = is
+more_says count most (Behind range) up is = is
+more_says count most (Ahead range) up is = is
+
+more_kept : (count most : ℕ) (kept : Kept) → count ≤ most → IsKept count kept → IsKept most kept
+more_kept count most (Brief brief) up is = more_says count most brief.says up is
+more_kept count most (Whole letter) up is = is
+
+pub are_more : (count most : ℕ) (slots : List Slot) → count ≤ most → AreKept count slots → AreKept most slots
+are_more count most [] up are = are
+are_more count most (s ∷ slots) up are = (more_kept count most s.kept up are.0, are_more count most slots up are.1)
+
+-- ---- and mean the same grains
+same_grain : (grains more : List Grain) (number : ℕ) → number < length grains → grain_at (grains ++ more) number ≡ grain_at grains number
+same_grain grains more number below = get_or-append grains more (record { kind = []; key = [] }) number below
+
+same_said : (grains more : List Grain) (from : Silo) (version : ℕ) (says : Says) → IsNumbered (length grains) says → said_by (grains ++ more) from version says ≡ said_by grains from version says
+same_said grains more from version (Register number hash entry) is =
+    ap (λ (g : Grain). request_by from version number hash (act.Register (record { grain = g; activation = entry.activation }) None)) (same_grain grains more entry.grain is)
+same_said grains more from version (Deregister number hash entry) is =
+    ap (λ (g : Grain). request_by from version number hash (act.Deregister (record { grain = g; activation = entry.activation }))) (same_grain grains more entry.grain is)
+same_said grains more from version (Find number hash grain) is = ap (λ (g : Grain). request_by from version number hash (act.Find g)) (same_grain grains more grain is)
+same_said grains more from version (Registered number entry) is =
+    ap (λ (g : Grain). Reply_letter number (reply.Registered (record { grain = g; activation = entry.activation }))) (same_grain grains more entry.grain is)
+same_said grains more from version (Taken number entry) is =
+    ap (λ (g : Grain). Reply_letter number (reply.Taken (record { grain = g; activation = entry.activation }))) (same_grain grains more entry.grain is)
+same_said grains more from version (Removed number) is = refl
+same_said grains more from version (Absent number) is = refl
+same_said grains more from version (Found number entry) is =
+    ap (λ (g : Grain). Reply_letter number (reply.Found (record { grain = g; activation = entry.activation }))) (same_grain grains more entry.grain is)
+same_said grains more from version (Nothing number) is = refl
+same_said grains more from version (Retry number why) is = refl
+same_said grains more from version (Query range) is = refl
+same_said grains more from version (Behind range) is = refl
+same_said grains more from version (Ahead range) is = refl
+
+same_kept : (grains more : List Grain) (kept : Kept) → IsKept (length grains) kept → letter_kept (grains ++ more) kept ≡ letter_kept grains kept
+same_kept grains more (Brief brief) is =
+    ap (λ (b : Body). record { from = brief.from; to = brief.to; version = brief.version; body = b }) (same_said grains more brief.from brief.version brief.says is)
+same_kept grains more (Whole letter) is = refl
+
+same_posted : (grains more : List Grain) (slots : List Slot) → AreKept (length grains) slots → all_posted (grains ++ more) slots ≡ all_posted grains slots
+same_posted grains more [] are = refl
+same_posted grains more (s ∷ slots) are =
+    ap (λ (l : Letter). record { letter = l; fresh = s.fresh } ∷ all_posted (grains ++ more) slots) (same_kept grains more s.kept are.0)
+    ∙ ap (λ (l : List Posted). posted_in grains s ∷ l) (same_posted grains more slots are.1)
+
+pub posted_again : (grains now : List Grain) (slots : List Slot) → Grows grains now → AreKept (length grains) slots → all_posted now slots ≡ all_posted grains slots
+posted_again grains now slots grows are = ap (λ (g : List Grain). all_posted g slots) grows.1 ∙ same_posted grains grows.0 slots are
+
+-- ---- slots
+pub are_append : (count : ℕ) (slots more : List Slot) → AreKept count slots → AreKept count more → AreKept count (slots ++ more)
+are_append count [] more are those = those
+are_append count (s ∷ slots) more are those = (are.0, are_append count slots more are.1 those)
+
+pub are_taken : (count n : ℕ) (slots : List Slot) → AreKept count slots → AreKept count (take n slots)
+are_taken count zero [] are = are
+are_taken count (suc n) [] are = are
+are_taken count zero (s ∷ slots) are = cc
+are_taken count (suc n) (s ∷ slots) are = (are.0, are_taken count n slots are.1)
+
+pub is_at_index : (count : ℕ) (slots : List Slot) (index : ℕ) (d : Slot) → index < length slots → AreKept count slots → IsKept count (get_or slots index d).kept
+is_at_index count [] index d below are = absurd (omega arith)
+is_at_index count (s ∷ slots) zero d below are = are.0
+is_at_index count (s ∷ slots) (suc index) d below are = is_at_index count slots index d (omega arith) are.1
+
+pub are_set : (count : ℕ) (slots : List Slot) (index : ℕ) (slot : Slot) → IsKept count slot.kept → AreKept count slots → AreKept count (set slots index slot)
+are_set count [] index slot is are = are
+are_set count (s ∷ slots) zero slot is are = (is, are.1)
+are_set count (s ∷ slots) (suc index) slot is are = (are.0, are_set count slots index slot is are.1)
+
+-- ---- a grain that got its number
+pub number_at : (grains : List Grain) (number : ℕ) (grain : Grain) → slice_get grains number ≡ Some grain → (number < length grains) × (grain_at grains number ≡ grain)
+number_at [] zero grain there = absurd (cc (there))
+number_at [] (suc number) grain there = absurd (cc (there))
+number_at (g ∷ grains) zero grain there = (omega arith, same_Some g grain there)
+number_at (g ∷ grains) (suc number) grain there = let at = number_at grains number grain there in (omega (arith, at.0), at.1)
+
+-- ---- a letter behind the slots
+pub some_slot : (slots : List Slot) → 0 < length slots → Slot
+some_slot [] some = absurd (omega arith)
+some_slot (s ∷ slots) some = s
+
+pub are_put : (grains now : List Grain) (slots : List Slot) (slot : Slot) → Grows grains now → AreKept (length grains) slots → IsKept (length now) slot.kept
+    → AreKept (length now) (slots ++ slot ∷ [])
+are_put grains now slots slot grown are is =
+    are_append (length now) slots (slot ∷ []) (are_more (length grains) (length now) slots (longer grains now grown) are) (is, cc)
+
+pub put_posted : (grains now : List Grain) (slots after : List Slot) (kept : Kept) (letter : Letter) → Grows grains now → AreKept (length grains) slots
+    → after ≡ slots ++ record { kept = kept; fresh = true } ∷ [] → letter_kept now kept ≡ letter → all_posted now after ≡ all_posted grains slots ++ fresh_letter letter ∷ []
+put_posted grains now slots after kept letter grown are is exact =
+    ap (λ (l : List Slot). all_posted now l) is
+    ∙ map_push (posted_in now) slots (record { kept = kept; fresh = true })
+    ∙ ap (λ (l : List Posted). l ++ posted_in now (record { kept = kept; fresh = true }) ∷ []) (posted_again grains now slots grown are)
+    ∙ ap (λ (l : Letter). all_posted grains slots ++ fresh_letter l ∷ []) exact
+
+-- letters that were put behind the slots go again
+pub slots_undone : (slots after left : List Slot) (before : ℕ) → Grows slots after → before ≡ length slots → left ≡ take before after → left ≡ slots
+slots_undone slots after left before behind before_is is =
+    is ∙ ap (λ n. take n after) before_is ∙ ap (λ (l : List Slot). take (length slots) l) behind.1 ∙ take_at slots behind.0 (length slots) refl
+
+pub mail_undone : (grains now : List Grain) (slots left : List Slot) → Grows grains now → AreKept (length grains) slots → left ≡ slots → mail_in now left ≡ mail_in grains slots
+mail_undone grains now slots left grown are is =
+    ap (λ (l : List Slot). mail_in now l) is
+    ∙ ap (λ (l : List Posted). record { letters = enumerate_from 1 l; sent = length slots }) (posted_again grains now slots grown are)
