@@ -1,5 +1,6 @@
 -- Where something ends, the new fields keep what every host keeps, and mean the rule's new host.
 use Rattle.std.proofs.Common.{◌≡◌, refl, sym, ap, subst, ◌∙◌, ℕ, ◌-◌, ◌≤◌, List, length, Option, Some, None, option_and_then, is_some, arith}
+use Rattle.std.specs.Prelude.{MatchOption}
 use Rattle.std.specs.List.{IsDistinct}
 use Rattle.std.specs.Map.{keys_of, set_value, remove_entry}
 use Rattle.std.specs.BTreeMap.{is_at}
@@ -13,7 +14,6 @@ use Rattle.host_activations.specs.declared.asked.Asked.TheVariants.{Activation, 
 use Rattle.host_activations.specs.declared.host.Host.TheInside.{Inside}
 use Rattle.host_activations.specs.Numbers.{number_in, number_of}
 use Rattle.host_activations.specs.Asked.{asked_under, find_in, finds_in}
-use Rattle.host_activations.specs.Replying.{without_number}
 use Rattle.host_activations.specs.IsHost.{AreHeld, IsHost}
 use Rattle.host_activations.specs.HostModel.{IsWhole, host_of}
 use Rattle.host_activations.proofs.Numbers.{GivesNumber, changed, gone}
@@ -22,6 +22,15 @@ use Rattle.host_activations.proofs.Kept.{asking_less, resting, finding_less}
 use Rattle.host_activations.proofs.Entries.{remove_absent}
 use Rattle.host_activations.proofs.Finds.{find_under, finds_taken, finds_kept, find_less}
 use Rattle.host_activations.proofs.Fields.{made, meant, asking_has}
+
+-- without what is outstanding under the number, if there is one
+abbrev pub without_number : Option ℕ → List (ℕ × Asked) → List (ℕ × Asked)
+without_number None outstanding = outstanding
+without_number (Some number) outstanding = remove_entry (is_at (nat_cmp number)) outstanding
+
+pub freed : (number : Option ℕ) (old new : List (ℕ × Asked)) → MatchOption number (new ≡ old) (λ taken. new ≡ remove_entry (is_at (nat_cmp taken)) old) → new ≡ without_number number old
+freed None old new is = is
+freed (Some number) old new is = is
 
 no_find_in : (o : Option Asked) (grain : Grain) → o ≡ Some (Activation grain) → option_and_then find_in o ≡ None
 no_find_in o grain is = ap (λ found. option_and_then find_in found) is

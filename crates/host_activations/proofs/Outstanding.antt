@@ -19,13 +19,13 @@ use Rattle.directory_rules.specs.declared.Act.TheVariants as act
 use Rattle.directory_rules.specs.declared.Held.{Held}
 use Rattle.directory_rules.specs.declared.Phase.{Phase}
 use Rattle.directory_rules.specs.declared.Phase.TheVariants.{Asking, Firm, Closing}
-use Rattle.directory_rules.specs.Host.{Host, act_in, find_acts, held_acts, outstanding}
+use Rattle.directory_rules.specs.Host.{Host, act_in, find_acts, held_acts, new_host, outstanding}
 use Rattle.host_activations.specs.declared.asked.Asked.{Asked}
 use Rattle.host_activations.specs.declared.asked.Asked.TheVariants.{Activation, Find}
 use Rattle.host_activations.specs.Numbers.{number_in}
 use Rattle.host_activations.specs.Asked.{asked_under, find_in, finds_in}
-use Rattle.host_activations.specs.Acts.{act_in_phase, act_for, acts_in}
 use Rattle.directory_rules.specs.Host.{entry_on}
+use Rattle.host_activations.specs.Acts.{act_for, acts_in}
 use Rattle.host_activations.specs.IsHost.{AreHeld}
 use Rattle.host_activations.proofs.Numbers.{on_grain, on_number, number_at_itself}
 use Rattle.host_activations.proofs.Asking.{same_activation, no_find, nothing}
@@ -34,6 +34,10 @@ use Rattle.host_activations.proofs.Found.{IsFoundIn, all_map, each_found}
 use Rattle.host_activations.proofs.Finds.{find_under, finds_sorted}
 use Rattle.host_activations.proofs.Fields.{meant}
 use Rattle.host_activations.proofs.PutAll.{at, put_none, put_some, sorted_put_all, all_given, keys-picked, is_some-lookup}
+
+-- what an activation asks in the phase
+abbrev act_in_phase : Phase → Silo → Grain → Held → Option Act
+act_in_phase phase silo grain held = option_map (λ e. e.1) (act_in phase (new_host silo) grain held)
 
 -- an act that an activation has stands under the number of its phase
 numbered : (phase : Phase) (host : Host) (grain : Grain) (held : Held) (x : ℕ × Act) → act_in phase host grain held ≡ Some x → number_in phase ≡ Some x.0

@@ -22,9 +22,8 @@ use Rattle.directory_rules.specs.Host.{Host, new_number, outstanding, renewed, r
 use Rattle.host_activations.specs.declared.asked.Asked.{Asked}
 use Rattle.host_activations.specs.declared.asked.Asked.TheVariants.{Activation, Find}
 use Rattle.host_activations.specs.declared.host.Host.TheInside.{Inside}
-use Rattle.host_activations.specs.Numbers.{number_in, number_of}
+use Rattle.host_activations.specs.Numbers.{number_in, number_of, phase_under}
 use Rattle.host_activations.specs.Asked.{asked_under, finds_in, AreAsked}
-use Rattle.host_activations.specs.Renewal.{phase_under, is_request_of, with_numbers}
 use Rattle.host_activations.specs.IsHost.{AreHeld, IsHost}
 use Rattle.host_activations.specs.HostModel.{IsWhole, host_of}
 use Rattle.host_activations.proofs.Asking.{nothing}
@@ -33,7 +32,7 @@ use Rattle.host_activations.proofs.Found.{IsFoundIn, all_map, each_found}
 use Rattle.host_activations.proofs.Outstanding.{keys_are, as_many}
 use Rattle.host_activations.proofs.Fields.{made, meant}
 use Rattle.host_activations.proofs.Ranks.{Ranks, below, found_behind, ranks_from, rank_found, rank_back, sorted-enumerate_from, finds-enumerate_from}
-use Rattle.host_activations.proofs.Renumbering.{after, each_after, after_resting, after_asking}
+use Rattle.host_activations.proofs.Renumbering.{after, after_asking, after_resting, each_after, is_request_of, with_numbers}
 
 below_keys : {X : Type 0} (k : ℕ) (es : List (ℕ × X)) → below k es ≡ count_by (λ j. nat_lt j k) (keys_of es)
 below_keys k [] = refl
@@ -93,7 +92,7 @@ module _ (h : Inside) (is : IsWhole h) where
   abbrev pub now : List (ℕ × Asked)
   now = enumerate_from h.next_number (values_of out)
 
-  abbrev held_now : List (Grain × Held)
+  abbrev pub held_now : List (Grain × Held)
   held_now = map (λ e. (e.0, renewed_held e.1)) h.held.entries
 
   counts : (k : ℕ) → new k ≡ h.next_number + below k out
@@ -126,7 +125,7 @@ module _ (h : Inside) (is : IsWhole h) where
           after_asking new e.0 e.1 k h.next_number out is.are_held.in_order ranks (only_under e.0 k number) (is.are_held.asked.there e.0 k number)
           ∙ ap (λ (p : Phase). record e.1 { phase = p }) (asks (host_of h) e.1.phase k has)
 
-  held_is : with_numbers now h.held.entries ≡ held_now
+  pub held_is : with_numbers now h.held.entries ≡ held_now
   held_is =
       each_after now h.held.entries
       ∙ map_same (λ e. (e.0, after now e.0 e.1)) (λ e. (e.0, renewed_held e.1)) h.held.entries
@@ -180,21 +179,18 @@ module _ (h : Inside) (is : IsWhole h) where
         let left_here : h.next_number + length (outstanding (host_of h)) ≤ 2 ^ 60 + 1 = subst (λ (x : Host). x.next_number + length (outstanding x) ≤ 2 ^ 60 + 1) (sym means) left in
         let all = many in omega (left_here, all, arith)
 
-    module _ (held_new : List (Grain × Held)) (out_new : List (ℕ × Asked)) (count : ℕ) (held_made : held_new ≡ with_numbers out_new h.held.entries) (out_made : out_new ≡ now) (counted : count ≡ length out) where
-      all_held : held_new ≡ held_now
-      all_held = held_made ∙ ap (λ l. with_numbers l h.held.entries) out_made ∙ held_is
-
+    module _ (held_new : List (Grain × Held)) (out_new : List (ℕ × Asked)) (count : ℕ) (held_made : held_new ≡ held_now) (out_made : out_new ≡ now) (counted : count ≡ length out) where
       pub renewed_is : IsHost (h.next_number + count) h.next_count held_new out_new h.find_count
       renewed_is = record {
         number = let above = is.number.above in record { above = omega (above, arith); within = omega (enough, counted, arith) };
         count = is.count;
         are_held = subst (λ (n : ℕ). AreHeld (h.next_number + n) held_new out_new) (sym counted)
-            (subst (λ l. AreHeld (h.next_number + length out) l out_new) (sym all_held) (subst (λ l. AreHeld (h.next_number + length out) held_now l) (sym out_made) are_now));
+            (subst (λ l. AreHeld (h.next_number + length out) l out_new) (sym held_made) (subst (λ l. AreHeld (h.next_number + length out) held_now l) (sym out_made) are_now));
         counted = is.counted ∙ sym (length-map (finds_in out) (λ e. (new e.0, e.1))) ∙ ap (λ (l : List (ℕ × Grain)). length l) (sym (ap finds_in out_made ∙ finds_now));
         few = let few = is.few in omega (few, arith);
       }
 
       pub renewed_means : meant h.silo (h.next_number + count) h.next_count held_new out_new ≡ renewed host
       renewed_means =
-          (λ i. made h.silo (h.next_number + (counted ∙ sym many) i) h.next_count (all_held i) ((ap finds_in out_made ∙ finds_now) i))
+          (λ i. made h.silo (h.next_number + (counted ∙ sym many) i) h.next_count (held_made i) ((ap finds_in out_made ∙ finds_now) i))
           ∙ ap renewed means

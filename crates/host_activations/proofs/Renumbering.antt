@@ -1,5 +1,6 @@
 -- The activations, their requests under new numbers, one request after another.
-use Rattle.std.proofs.Common.{◌≡◌, refl, sym, ap, subst, ◌∙◌, ℕ, List, [], ◌∷◌, ◌+◌, cond, map, fold, Bool, true, false, Some, None}
+use Rattle.std.proofs.Common.{◌≡◌, refl, sym, ap, subst, ◌∙◌, ℕ, List, [], ◌∷◌, ◌+◌, cond, map, fold, Bool, true, false, Option, Some, None}
+use Rattle.std.specs.Prelude.{MatchOption}
 use Rattle.std.specs.List.{AllByRecursion, IsDistinct, enumerate_from}
 use Rattle.std.specs.List.Sorted.{IsStrictlySortedBy}
 use Rattle.std.specs.Map.{lookup, set_value, keys_of, values_of}
@@ -16,11 +17,27 @@ use Rattle.directory_rules.specs.declared.Phase.{Phase}
 use Rattle.directory_rules.specs.declared.Phase.TheVariants.{Asking, Firm, Closing}
 use Rattle.host_activations.specs.declared.asked.Asked.{Asked}
 use Rattle.host_activations.specs.declared.asked.Asked.TheVariants.{Activation, Find}
-use Rattle.host_activations.specs.Numbers.{number_in}
-use Rattle.host_activations.specs.Renewal.{phase_under, held_as, is_request_of, with_number, with_numbers}
+use Rattle.host_activations.specs.Numbers.{number_in, phase_under}
 use Rattle.host_activations.proofs.Grains.{same_test}
 use Rattle.host_activations.proofs.Numbers.{on_grain, on_number, at_itself, number_at_itself}
 use Rattle.host_activations.proofs.Ranks.{Ranks}
+
+-- the activation, its request under this number, if it has one
+abbrev pub held_as : ℕ → Held → Held
+held_as number held = record held { phase = phase_under number held.phase }
+
+-- whether it is the request of the grain's activation
+abbrev pub is_request_of : Grain → Asked → Bool
+is_request_of grain (Activation asking) = is_at (grain_cmp asking) grain
+is_request_of grain (Find wanted) = false
+
+-- the activations, that of the request under its number
+abbrev pub with_number : List (Grain × Held) → ℕ × Asked → List (Grain × Held)
+with_number held e = map (λ x. (x.0, cond (is_request_of x.0 e.1) (held_as e.0 x.1) x.1)) held
+
+-- the activations, those of all these requests under their numbers
+abbrev pub with_numbers : List (ℕ × Asked) → List (Grain × Held) → List (Grain × Held)
+with_numbers outstanding held = fold with_number held outstanding
 
 module _ (f : Held → Held) (g : Grain) where
   abbrev changed : List (Grain × Held) → List (Grain × Held)
@@ -46,6 +63,26 @@ module _ (f : Held → Held) (g : Grain) where
       → cond b ((e.0, f h) ∷ es) (e ∷ set_value (is_at (grain_cmp g)) es (f h)) ≡ (e.0, cond b (f e.1) e.1) ∷ changed es) g e.0
       (λ same it. λ i. (e.0, f (sym (same_Some e.1 h it) i)) ∷ sym (unchanged es (others e.0 es same (IsDistinct-head grain_eq e.0 (keys_of es) apart))) i)
       (λ other it. ap (λ l. e ∷ l) (changed_found es h (IsDistinct-tail grain_eq e.0 (keys_of es) apart) it)) found
+
+-- one of the activations is set, if it is there
+abbrev pub IsSet : ℕ → Grain → (old new : List (Grain × Held)) → Type 0
+IsSet n g old new = MatchOption (lookup (is_at (grain_cmp g)) old) (new ≡ old) (λ held. new ≡ set_value (is_at (grain_cmp g)) old (held_as n held))
+
+pub set_some : (n : ℕ) (g : Grain) (old new : List (Grain × Held)) (h : Held) → lookup (is_at (grain_cmp g)) old ≡ Some h
+    → new ≡ set_value (is_at (grain_cmp g)) old (held_as n h) → IsSet n g old new
+set_some n g old new h found is = subst (λ o. MatchOption o (new ≡ old) (λ held. new ≡ set_value (is_at (grain_cmp g)) old (held_as n held))) (sym found) is
+
+pub set_none : (n : ℕ) (g : Grain) (old new : List (Grain × Held)) → lookup (is_at (grain_cmp g)) old ≡ None → new ≡ old → IsSet n g old new
+set_none n g old new none is = subst (λ o. MatchOption o (new ≡ old) (λ held. new ≡ set_value (is_at (grain_cmp g)) old (held_as n held))) (sym none) is
+
+-- the activations after that
+pub set_is : (n : ℕ) (g : Grain) (old new : List (Grain × Held)) → IsDistinct grain_eq (keys_of old)
+    → IsSet n g old new → new ≡ with_number old (n, Activation g)
+set_is n g old new apart set = by (lookup (is_at (grain_cmp g)) old) refl set
+  where
+    by : (o : Option Held) → lookup (is_at (grain_cmp g)) old ≡ o → MatchOption o (new ≡ old) (λ held. new ≡ set_value (is_at (grain_cmp g)) old (held_as n held)) → new ≡ with_number old (n, Activation g)
+    by None none same = same ∙ sym (changed_absent (held_as n) g old none)
+    by (Some held) found same = same ∙ changed_found (held_as n) g old held apart found
 
 -- a find changes no activation
 pub with_find : (held : List (Grain × Held)) (n : ℕ) (g : Grain) → with_number held (n, Find g) ≡ held

@@ -1,7 +1,8 @@
 -- What a number finds by what is outstanding is what the rule finds by a search of all activations.
-use Rattle.std.proofs.Common.{◌≡◌, refl, sym, ap, ◌∙◌, ℕ, List, cond, Bool, true, false, Option, Some, None, option_and_then, find}
+use Rattle.std.proofs.Common.{◌≡◌, ◌↔◌, refl, sym, ap, subst, ◌∙◌, ℕ, List, cond, Bool, true, false, Option, Some, None, option_and_then, find}
 use Rattle.std.specs.Map.{lookup}
 use Rattle.std.specs.BTreeMap.{is_at}
+use Rattle.std.proofs.lemmas.Bool.Decides.{Decides-eqb}
 use Rattle.std.proofs.lemmas.Option.{same_Some}
 use Rattle.silo_address.specs.Grain.{Grain, grain_cmp}
 use Rattle.directory_rules.specs.declared.Held.{Held}
@@ -11,23 +12,32 @@ use Rattle.directory_rules.specs.Host.{is_asking_under, is_closing_under}
 use Rattle.host_activations.specs.declared.asked.Asked.{Asked}
 use Rattle.host_activations.specs.declared.asked.Asked.TheVariants.{Activation, Find}
 use Rattle.host_activations.specs.Numbers.{number_in}
-use Rattle.host_activations.specs.Replying.{is_phase}
 use Rattle.host_activations.specs.Asked.{asked_under}
-use Rattle.host_activations.specs.Replying.{activation_in, held_under}
 use Rattle.host_activations.specs.IsHost.{AreHeld}
 use Rattle.host_activations.proofs.Asking.{same_activation, no_find, nothing}
 use Rattle.host_activations.proofs.Fields.{asking_has, closing_has}
 use Rattle.host_activations.proofs.Found.{IsFoundIn, all_map, each_found, search_finds, search_fails}
 
-pub is_asking : (n : ℕ) (phase : Phase) → is_asking_under n phase ≡ is_phase phase (Asking n)
-is_asking n (Asking its) = refl
-is_asking n Firm = refl
-is_asking n (Closing its) = refl
+-- what is outstanding under a number is an activation's request just where it is not a find's
+abbrev activation_in : Asked → Option Grain
+activation_in (Activation grain) = Some grain
+activation_in (Find grain) = None
 
-pub is_closing : (n : ℕ) (phase : Phase) → is_closing_under n phase ≡ is_phase phase (Closing n)
-is_closing n (Asking its) = refl
-is_closing n Firm = refl
-is_closing n (Closing its) = refl
+tells_activation : (o : Option Asked) (g : Grain) → (option_and_then activation_in o ≡ Some g) ↔ (o ≡ Some (Activation g))
+tells_activation None g = (λ h. cc, λ h. cc)
+tells_activation (Some (Activation q)) g = (λ h. ap (λ (x : Grain). Some (Activation x)) (same_Some q g h), λ h. ap (λ (x : Grain). Some x) (same_activation q g h))
+tells_activation (Some (Find q)) g = (λ h. cc, λ h. no_find q g h)
+
+pub none_told : (r : Option Grain) (o : Option Asked) → r ≡ None → None ≡ o → (g : Grain) → (r ≡ Some g) ↔ (o ≡ Some (Activation g))
+none_told r o none is g = subst (λ x. (x ≡ Some g) ↔ (o ≡ Some (Activation g))) (sym none) (subst (λ x. (None ≡ Some g) ↔ (x ≡ Some (Activation g))) is (tells_activation None g))
+
+pub activation_told : (q : Grain) (asked : Asked) (o : Option Asked) → asked ≡ Activation q → Some asked ≡ o → (g : Grain) → (Some q ≡ Some g) ↔ (o ≡ Some (Activation g))
+activation_told q asked o what is g =
+    subst (λ x. (Some q ≡ Some g) ↔ (x ≡ Some (Activation g))) (ap (λ (a : Asked). Some a) (sym what) ∙ is) (tells_activation (Some (Activation q)) g)
+
+pub find_told : (q : Grain) (asked : Asked) (o : Option Asked) → asked ≡ Find q → Some asked ≡ o → (g : Grain) → (None ≡ Some g) ↔ (o ≡ Some (Activation g))
+find_told q asked o what is g =
+    subst (λ x. (None ≡ Some g) ↔ (x ≡ Some (Activation g))) (ap (λ (a : Asked). Some a) (sym what) ∙ is) (tells_activation (Some (Find q)) g)
 
 module _ (next : ℕ) (held : List (Grain × Held)) (out : List (ℕ × Asked)) (are : AreHeld next held out)
     (test : Phase → Bool) (n : ℕ) (has : (phase : Phase) → test phase ≡ true → number_in phase ≡ Some n) where
@@ -47,7 +57,8 @@ module _ (next : ℕ) (held : List (Grain × Held)) (out : List (ℕ × Asked)) 
       by e true h found = absurd (never e found h)
       by e false h found = refl
 
-  of_grain : (g : Grain) → asked_under n out ≡ Some (Activation g) → find (λ e. test e.1.phase) held ≡ passing g
+  -- the activation that the number means is found by its grain
+  pub of_grain : (g : Grain) → asked_under n out ≡ Some (Activation g) → find (λ e. test e.1.phase) held ≡ passing g
   of_grain g is = by_held (lookup (is_at (grain_cmp g)) held) refl
     where
       only : (e : Grain × Held) → IsFoundIn held e → test e.1.phase ≡ true → e.0 ≡ g
@@ -66,25 +77,48 @@ module _ (next : ℕ) (held : List (Grain × Held)) (out : List (ℕ × Asked)) 
               let same : e.1 ≡ h = same_Some e.1 h (sym found ∙ ap (λ (x : Grain). lookup (is_at (grain_cmp x)) held) (only e found passes) ∙ there) in
               let both : true ≡ false = sym passes ∙ ap (λ (x : Held). test x.phase) same ∙ fails in cc)
 
-  -- the one activation that the number may mean is found under it
-  pub search_is : find (λ e. test e.1.phase) held ≡ option_and_then passing (option_and_then activation_in (asked_under n out))
-  search_is = by (asked_under n out) refl
-    where
-      by : (o : Option Asked) → asked_under n out ≡ o → find (λ e. test e.1.phase) held ≡ option_and_then passing (option_and_then activation_in o)
-      by None is = none_passes (λ e found passes. nothing (Activation e.0) (sym is ∙ stands e found passes))
-      by (Some (Activation g)) is = of_grain g is
-      by (Some (Find g)) is = none_passes (λ e found passes. no_find g e.0 (sym is ∙ stands e found passes))
+  -- where the number means none, none is found
+  pub not_asked : ((g : Grain) → asked_under n out ≡ Some (Activation g) → ⊥) → find (λ e. test e.1.phase) held ≡ None
+  not_asked never = none_passes (λ e found passes. never e.0 (stands e found passes))
+
+-- the number of a phase that asks, or closes, is that under which it does
+asking_if : (phase : Phase) (its n : ℕ) → phase ≡ Asking its → number_in phase ≡ Some n → is_asking_under n phase ≡ true
+asking_if (Asking its) k n is has = (Decides-eqb its n).1 (same_Some its n has)
+asking_if Firm its n is has = cc
+asking_if (Closing other) its n is has = cc
+
+closing_if : (phase : Phase) (its n : ℕ) → phase ≡ Closing its → number_in phase ≡ Some n → is_closing_under n phase ≡ true
+closing_if (Asking other) its n is has = cc
+closing_if Firm its n is has = cc
+closing_if (Closing its) k n is has = (Decides-eqb its n).1 (same_Some its n has)
 
 module _ (next : ℕ) (held : List (Grain × Held)) (out : List (ℕ × Asked)) (are : AreHeld next held out) (n : ℕ) where
-  of_phase : (test : Phase → Bool) (phase : Phase) → ((x : Phase) → test x ≡ is_phase x phase) → ((x : Phase) → test x ≡ true → number_in x ≡ Some n)
-      → held_under phase n held out ≡ find (λ e. test e.1.phase) held
-  of_phase test phase same has =
-      ap (λ (t : Phase → Bool). option_and_then (λ g. option_and_then (λ h. cond (t h.phase) (Some (g, h)) None) (lookup (is_at (grain_cmp g)) held)) (option_and_then activation_in (asked_under n out)))
-      (λ i x. sym (same x) i)
-      ∙ sym (search_is next held out are test n has)
+  module _ (g : Grain) (is : asked_under n out ≡ Some (Activation g)) where
+    has_number : (h : Held) → lookup (is_at (grain_cmp g)) held ≡ Some h → number_in h.phase ≡ Some n
+    has_number h there = sym (ap (λ o. option_and_then (λ (x : Held). number_in x.phase) o) there) ∙ are.asked.only g n is
 
-  pub asking_is : held_under (Asking n) n held out ≡ find (λ e. is_asking_under n e.1.phase) held
-  asking_is = of_phase (is_asking_under n) (Asking n) (is_asking n) (asking_has n)
+    abbrev chosen : Held → Bool → Option (Grain × Held)
+    chosen h b = cond b (Some (g, h)) None
 
-  pub closing_is : held_under (Closing n) n held out ≡ find (λ e. is_closing_under n e.1.phase) held
-  closing_is = of_phase (is_closing_under n) (Closing n) (is_closing n) (closing_has n)
+    abbrev passed : (Phase → Bool) → Option Held → Option (Grain × Held)
+    passed test o = option_and_then (λ h. chosen h (test h.phase)) o
+
+    -- the activation asks
+    pub asking_found : (h : Held) (its : ℕ) → Some h ≡ lookup (is_at (grain_cmp g)) held → h.phase ≡ Asking its → Some (g, h) ≡ find (λ e. is_asking_under n e.1.phase) held
+    asking_found h its there phase =
+        sym (of_grain next held out are (is_asking_under n) n (asking_has n) g is ∙ ap (passed (is_asking_under n)) (sym there) ∙ ap (chosen h) (asking_if h.phase its n phase (has_number h (sym there))))
+
+    -- it closes
+    pub closing_found : (h : Held) (its : ℕ) → Some h ≡ lookup (is_at (grain_cmp g)) held → h.phase ≡ Closing its → Some (g, h) ≡ find (λ e. is_closing_under n e.1.phase) held
+    closing_found h its there phase =
+        sym (of_grain next held out are (is_closing_under n) n (closing_has n) g is ∙ ap (passed (is_closing_under n)) (sym there) ∙ ap (chosen h) (closing_if h.phase its n phase (has_number h (sym there))))
+
+    -- it is in another phase
+    pub other_found : (test : Phase → Bool) → ((x : Phase) → test x ≡ true → number_in x ≡ Some n) → (h : Held) (phase : Phase)
+        → Some h ≡ lookup (is_at (grain_cmp g)) held → h.phase ≡ phase → test phase ≡ false → None ≡ find (λ e. test e.1.phase) held
+    other_found test has h phase there same fails =
+        sym (of_grain next held out are test n has g is ∙ ap (passed test) (sym there) ∙ ap (chosen h) (ap test same ∙ fails))
+
+    -- there is none
+    pub none_held : (test : Phase → Bool) → ((x : Phase) → test x ≡ true → number_in x ≡ Some n) → None ≡ lookup (is_at (grain_cmp g)) held → None ≡ find (λ e. test e.1.phase) held
+    none_held test has there = sym (of_grain next held out are test n has g is ∙ ap (passed test) (sym there))

@@ -1,16 +1,14 @@
--- The rule's firm entries are those of the table that is made activation by activation.
-use Rattle.std.proofs.Common.{◌≡◌, refl, ap, List, [], ◌∷◌, cond, Bool, true, false, ◌&&◌, map, filter, fold}
-use Rattle.std.specs.Map.{values_of}
+-- The table that is made activation by activation has the rule's firm entries.
+use Rattle.std.proofs.Common.{◌≡◌, refl, List, [], ◌∷◌, cond, Bool, true, false, ◌&&◌, map, filter, fold}
+use Rattle.silo_address.specs.Silo.{Silo}
 use Rattle.silo_address.specs.Grain.{Grain}
 use Rattle.silo_address.specs.declared.Entry.{Entry}
 use Rattle.ring_range.specs.Range.{Range, holds}
 use Rattle.hash_ring.specs.declared.Hashing.{Hashing}
 use Rattle.hash_ring.specs.Hash.{hash_grain}
 use Rattle.directory_rules.specs.declared.Held.{Held}
-use Rattle.directory_rules.specs.Host.{Host, firm_entries, is_firm}
+use Rattle.directory_rules.specs.Host.{entry_on, is_firm}
 use Rattle.directory_rules.specs.Table.{Table, with_entry}
-use Rattle.directory_rules.specs.Host.{entry_on}
-use Rattle.host_activations.specs.FirmTable.{firm_table}
 
 -- to keep some and put them in is to put in those that are to be kept
 fold_kept : (test : Grain × Held → Bool) (entry : Grain × Held → Entry) (table : Table) (es : List (Grain × Held))
@@ -23,6 +21,10 @@ fold_kept test entry table (e ∷ es) = by (test e) (λ t. fold_kept test entry 
     by true later = later (with_entry table (entry e))
     by false later = later table
 
-pub firm_entries_are : (hashing : Hashing) (host : Host) (range : Range) → values_of (firm_table host.silo hashing range host.held) ≡ firm_entries hashing host range
-firm_entries_are hashing host range =
-    ap values_of (fold_kept (λ e. is_firm e.1.phase && holds range (hash_grain hashing e.0)) (λ e. entry_on host.silo e.0 e.1) [] host.held)
+-- the table with the activation's entry, if it is firm and hashed into the range
+abbrev pub with_firm : Silo → Hashing → Range → Table → Grain × Held → Table
+with_firm silo hashing range table e = cond (is_firm e.1.phase && holds range (hash_grain hashing e.0)) (with_entry table (entry_on silo e.0 e.1)) table
+
+pub firm_kept : (silo : Silo) (hashing : Hashing) (range : Range) (held : List (Grain × Held))
+    → fold (with_firm silo hashing range) [] held ≡ fold with_entry [] (map (λ e. entry_on silo e.0 e.1) (filter (λ e. is_firm e.1.phase && holds range (hash_grain hashing e.0)) held))
+firm_kept silo hashing range held = fold_kept (λ e. is_firm e.1.phase && holds range (hash_grain hashing e.0)) (λ e. entry_on silo e.0 e.1) [] held

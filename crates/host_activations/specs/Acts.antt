@@ -1,5 +1,5 @@
--- Steps of private functions: what is outstanding, as acts, which each request asks of the owner of its grain's hash.
-use Rattle.std.specs.Prelude.{ℕ, List, Option, Some, None, option_and_then}
+-- What is outstanding, as acts, which each request asks of the owner of its grain's hash.
+use Rattle.std.specs.Prelude.{ℕ, List, Option, Some, option_and_then}
 use Rattle.std.specs.List.{filter_map}
 use Rattle.std.specs.Option.{option_map}
 use Rattle.std.specs.Map.{lookup}
@@ -9,21 +9,13 @@ use Rattle.silo_address.specs.Grain.{Grain, grain_cmp}
 use Rattle.directory_rules.specs.declared.Act.{Act}
 use Rattle.directory_rules.specs.declared.Act.TheVariants as act
 use Rattle.directory_rules.specs.declared.Held.{Held}
-use Rattle.directory_rules.specs.declared.Phase.{Phase}
-use Rattle.directory_rules.specs.declared.Phase.TheVariants.{Asking, Firm, Closing}
-use Rattle.directory_rules.specs.Host.{entry_on}
+use Rattle.directory_rules.specs.Host.{act_in, new_host}
 use Rattle.host_activations.specs.declared.asked.Asked.{Asked}
 use Rattle.host_activations.specs.declared.asked.Asked.TheVariants.{Activation, Find}
 
--- what an activation asks in the phase
-abbrev pub act_in_phase : Phase → Silo → Grain → Held → Option Act
-act_in_phase (Asking number) silo grain held = Some (act.Register (entry_on silo grain held) held.previous)
-act_in_phase Firm silo grain held = None
-act_in_phase (Closing number) silo grain held = Some (act.Deregister (entry_on silo grain held))
-
--- what a request asks
+-- what a request of the silo asks: the rule's act of an activation, or a find
 abbrev pub act_for : Silo → List (Grain × Held) → Asked → Option Act
-act_for silo held (Activation grain) = option_and_then (λ h. act_in_phase h.phase silo grain h) (lookup (is_at (grain_cmp grain)) held)
+act_for silo held (Activation grain) = option_and_then (λ h. option_map (λ e. e.1) (act_in h.phase (new_host silo) grain h)) (lookup (is_at (grain_cmp grain)) held)
 act_for silo held (Find grain) = Some (act.Find grain)
 
 -- the requests as acts, under their numbers

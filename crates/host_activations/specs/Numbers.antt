@@ -13,6 +13,12 @@ number_in (Asking number) = Some number
 number_in Firm = None
 number_in (Closing number) = Some number
 
+-- the phase with its request, if it has one, under this number
+abbrev pub phase_under : ℕ → Phase → Phase
+phase_under number (Asking old) = Asking number
+phase_under number Firm = Firm
+phase_under number (Closing old) = Closing number
+
 -- the number of the request that the grain's activation has outstanding
 abbrev pub number_of : Grain → List (Grain × Held) → Option ℕ
 number_of grain held = option_and_then (λ h. number_in h.phase) (lookup (is_at (grain_cmp grain)) held)

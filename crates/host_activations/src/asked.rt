@@ -1,6 +1,5 @@
 ghost use Rattle.std.specs.Prelude.{◌≡◌};
 ghost use Rattle.host_activations.specs.Asked.{find_in};
-ghost use Rattle.host_activations.specs.Replying.{activation_in};
 ghost use Rattle.host_activations.specs.Numbers.{number_in};
 
 use directory_rules::Phase;
@@ -22,16 +21,6 @@ pub fn number_in(phase: Phase) -> Option<u64>
     match phase {
         Phase::Asking(number) | Phase::Closing(number) => Some(number),
         Phase::Firm => None,
-    }
-}
-
-/// The activation whose request it is.
-pub fn activation_in(asked: &Asked) -> Option<GrainId>
-    ensures { result ≡ activation_in asked.now }
-{
-    match asked {
-        Asked::Activation(grain) => Some(*grain),
-        Asked::Find(_) => None,
     }
 }
 

@@ -1,6 +1,8 @@
 ghost use Rattle.std.specs.Prelude.{◌≡◌, MatchOption};
 ghost use Rattle.directory_rules.specs.Host.{asking_under, confirmed, without_find, without_held};
-ghost use Rattle.host_activations.specs.Replying.{without_number};
+ghost use Rattle.std.specs.BTreeMap.{is_at};
+ghost use Rattle.std.specs.Map.{remove_entry};
+ghost use Rattle.std.specs.Ordering.{nat_cmp};
 
 use super::Host;
 use super::replies::find_under;
@@ -51,7 +53,7 @@ impl Host {
 
 // The number has nothing outstanding any more, if there is one.
 fn free(outstanding: &mut BTreeMap<u64, Asked>, number: Option<u64>)
-    ensures { outstanding.new.entries ≡ without_number number outstanding.old.entries }
+    ensures { MatchOption number (outstanding.new.entries ≡ outstanding.old.entries) (λ taken. outstanding.new.entries ≡ remove_entry (is_at (nat_cmp taken)) outstanding.old.entries) }
 {
     if let Some(number) = number {
         outstanding.remove(&number);

@@ -1,9 +1,12 @@
-ghost use Rattle.std.specs.List.{enumerate_from};
-ghost use Rattle.std.specs.Map.{values_of};
-ghost use Rattle.std.specs.Prelude.{◌≡◌, ◌+◌, ◌≤◌, ◌^◌, length, IfOk, OnOk, OnErr};
+ghost use Rattle.std.specs.BTreeMap.{is_at};
+ghost use Rattle.std.specs.List.{IsDistinct, enumerate_from};
+ghost use Rattle.std.specs.Map.{keys_of, lookup, set_value, values_of};
+ghost use Rattle.std.specs.Prelude.{◌≡◌, ◌+◌, ◌≤◌, ◌^◌, length, IfOk, MatchOption, OnOk, OnErr};
+ghost use Rattle.silo_address.specs.Grain.{grain_cmp, grain_eq};
 ghost use Rattle.directory_rules.specs.Host.{outstanding, renewed};
-ghost use Rattle.host_activations.specs.Renewal.{phase_under, with_number, with_numbers};
-ghost use Rattle.host_activations.specs.declared.asked.Asked.TheVariants.{Activation};
+ghost use Rattle.host_activations.specs.HostModel.{IsWhole, host_of};
+ghost use Rattle.host_activations.specs.Numbers.{phase_under};
+ghost use Rattle.host_activations.specs.declared.host.Host.TheInside.{Inside};
 
 use super::Host;
 use crate::asked::Asked;
@@ -47,11 +50,13 @@ fn renumbered(
     Ok(renewed)
 }
 
-// Each activation whose request is told has it under the number that is told.
-fn set_numbers(held: &mut HeldMap, renewed: &BTreeMap<u64, Asked>)
-    ensures { held.new.entries ≡ with_numbers renewed.now.entries held.old.entries }
+// Each activation whose request is told has it under the number that is told: so the activations of a host, whose requests are
+// told under the numbers from its next one on, are renewed.
+fn set_numbers(held: &mut HeldMap, numbered: &BTreeMap<u64, Asked>)
+    ensures { (host : Inside) → IsWhole host → held.old.entries ≡ host.held.entries
+        → numbered.now.entries ≡ enumerate_from host.next_number (values_of host.outstanding.entries) → held.new.entries ≡ (renewed (host_of host)).held }
 {
-    for (number, asked) in renewed {
+    for (number, asked) in numbered {
         if let Asked::Activation(grain) = asked {
             set_number(held, grain, *number);
         }
@@ -60,7 +65,9 @@ fn set_numbers(held: &mut HeldMap, renewed: &BTreeMap<u64, Asked>)
 
 // The request of the grain's activation, if it has one, is under this number from now on.
 fn set_number(map: &mut HeldMap, grain: &GrainId, number: u64)
-    ensures { map.new.entries ≡ with_number map.old.entries (number, Activation grain.now) }
+    ensures set { MatchOption (lookup (is_at (grain_cmp grain.now)) map.old.entries) (map.new.entries ≡ map.old.entries)
+        (λ held. map.new.entries ≡ set_value (is_at (grain_cmp grain.now)) map.old.entries (record held { phase = phase_under number held.phase })) }
+    ensures apart { IsDistinct grain_eq (keys_of map.old.entries) }
 {
     if let Some(held) = map.get_mut(grain) {
         held.phase = phase_under(number, &held.phase);

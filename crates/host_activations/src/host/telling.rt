@@ -1,9 +1,10 @@
-ghost use Rattle.std.specs.Prelude.{◌≡◌, IfOk, OnOk};
-ghost use Rattle.directory_rules.specs.Host.{firm_entries, is_firm, outstanding};
-ghost use Rattle.directory_rules.specs.Table.{entries_of};
-ghost use Rattle.host_activations.specs.Acts.{act_for, act_in_phase, acts_in};
-ghost use Rattle.directory_rules.specs.Host.{entry_on};
-ghost use Rattle.host_activations.specs.FirmTable.{firm_table, with_firm};
+ghost use Rattle.std.specs.Option.{option_map};
+ghost use Rattle.std.specs.Prelude.{◌≡◌, ◌&&◌, if◌then◌else◌, [], IfOk, OnOk, filter, fold, map};
+ghost use Rattle.directory_rules.specs.Host.{act_in, entry_on, firm_entries, is_firm, new_host, outstanding};
+ghost use Rattle.directory_rules.specs.Table.{entries_of, with_entry};
+ghost use Rattle.hash_ring.specs.Hash.{hash_grain};
+ghost use Rattle.host_activations.specs.Acts.{act_for, acts_in};
+ghost use Rattle.ring_range.specs.Range.{holds};
 
 use super::Host;
 use crate::asked::Asked;
@@ -53,7 +54,8 @@ fn firm_table(
     hashing: Hashing,
     range: &RingRange,
 ) -> Result<BTreeMap<GrainId, Entry>, AllocError>
-    ensures { IfOk result (λ table. table.entries ≡ firm_table silo hashing range.now held.now.entries) }
+    ensures { IfOk result (λ table. table.entries
+        ≡ fold with_entry [] (map (λ e. entry_on silo e.0 e.1) (filter (λ e. is_firm e.1.phase && holds range.now (hash_grain hashing e.0)) held.now.entries))) }
 {
     let mut table = BTreeMap::new(alloc);
     for (grain, held) in held {
@@ -71,7 +73,8 @@ fn put_firm(
     grain: GrainId,
     held: &Held,
 ) -> Result<(), AllocError>
-    ensures { OnOk result (table.new.entries ≡ with_firm silo hashing range.now table.old.entries (grain, held.now)) }
+    ensures { OnOk result (table.new.entries
+        ≡ (if is_firm held.now.phase && holds range.now (hash_grain hashing grain) then with_entry table.old.entries (entry_on silo grain held.now) else table.old.entries)) }
 {
     if is_firm(&held.phase) && range.contains(hashing.hash_grain(&grain)) {
         table.insert(grain, entry_on(silo, grain, held))?;
@@ -110,15 +113,15 @@ fn act_for(silo: SiloAddress, held: &HeldMap, asked: &Asked) -> Option<Act>
     match asked {
         Asked::Activation(grain) => {
             let held = held_at(held, grain)?;
-            act_in_phase(silo, *grain, &held)
+            act_in(silo, *grain, &held)
         }
         Asked::Find(grain) => Some(Act::Find { grain: *grain }),
     }
 }
 
-// What an activation asks in its phase.
-fn act_in_phase(silo: SiloAddress, grain: GrainId, held: &Held) -> Option<Act>
-    ensures { result ≡ act_in_phase held.now.phase silo grain held.now }
+// What an activation on the silo asks in its phase.
+fn act_in(silo: SiloAddress, grain: GrainId, held: &Held) -> Option<Act>
+    ensures { result ≡ option_map (λ e. e.1) (act_in held.now.phase (new_host silo) grain held.now) }
 {
     let entry = entry_on(silo, grain, held);
     match held.phase {

@@ -1,7 +1,7 @@
 use Rattle.std.proofs.Common.{◌≡◌, sym, ap, ◌∙◌, ◌∷◌}
 use Rattle.host_activations.specs.declared.asked.Asked.{Asked}
-use Rattle.host_activations.specs.Renewal.{with_number, with_numbers}
-use Rattle.host_activations.proofs.Renumbering.{with_find}
+use Rattle.host_activations.proofs.Renewing.{held_is}
+use Rattle.host_activations.proofs.Renumbering.{set_is, with_find, with_number, with_numbers}
 use Rattle.host_activations.proofs.host.renewal.set_numbers.Goals as goal
 
 pub loop-number-preserved : goal.loop-number-preserved
@@ -10,3 +10,17 @@ loop-number-preserved c =
     let same : with_number c.loop-number.held.entries (c.in-Some.number.now, c.in-Some.asked.now) ≡ c.loop-number.held.entries =
     ap (λ (a : Asked). with_number c.loop-number.held.entries (c.in-Some.number.now, a)) c.in_default.is ∙ with_find c.loop-number.held.entries c.in-Some.number.now c.in_default.field-0 in
     ap (λ l. with_numbers c.next.new.self l) (sym same) ∙ ap (λ l. with_numbers l c.loop-number.held.entries) (sym taken) ∙ c.loop-number.invariant
+
+pub loop-number-preserved-in-Activation : goal.loop-number-preserved-in-Activation
+loop-number-preserved-in-Activation c =
+    let taken : c.loop-number.number-iterator ≡ (c.in-Some.number.now, c.in-Some.asked.now) ∷ c.next.new.self = c.in-Some.ensures.steps in
+    let set = set_is c.in-Some.number.now c.in-Activation.grain c.loop-number.held.entries c.set_number.new.map.entries c.set_number.ensures.apart c.set_number.ensures.set in
+    ap (λ l. with_numbers c.next.new.self l) (set ∙ ap (λ (a : Asked). with_number c.loop-number.held.entries (c.in-Some.number.now, a)) (sym c.in-Activation.is))
+    ∙ ap (λ l. with_numbers l c.loop-number.held.entries) (sym taken) ∙ c.loop-number.invariant
+
+pub returns : goal.returns
+returns c = λ host is old_is new_is.
+    ap (λ l. with_numbers l c.loop-number.held.entries) (sym c.in-None.ensures.steps.0)
+    ∙ c.loop-number.invariant
+    ∙ (λ i. with_numbers (new_is i) (old_is i))
+    ∙ held_is host is
