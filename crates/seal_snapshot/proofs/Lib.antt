@@ -1,0 +1,5 @@
+pub mod Taking
+pub mod Order
+pub mod Finding
+pub mod Pages
+pub mod Joining
