@@ -3,3 +3,4 @@ pub mod Order
 pub mod Finding
 pub mod Pages
 pub mod Joining
+pub mod Sealing

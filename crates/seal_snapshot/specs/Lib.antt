@@ -4,3 +4,4 @@ pub mod Progress
 pub mod GatheringModel
 pub mod Steps
 pub mod Shelf
+pub mod Laws

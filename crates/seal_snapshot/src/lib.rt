@@ -4,6 +4,7 @@
 
 mod error;
 mod gathering;
+pub mod laws;
 mod lines;
 mod page;
 mod progress;
