@@ -1,0 +1,8 @@
+/// What comes of a page that is taken (`docs/RULES.md#transfer`).
+#[derive(Clone, Copy, Debug, PartialEq, Eq)]
+pub enum Progress {
+    /// More pages are wanted.
+    More,
+    /// All pages were had, and what was gathered is the whole snapshot.
+    Complete,
+}

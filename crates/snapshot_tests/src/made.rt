@@ -1,0 +1,70 @@
+//! Entries, snapshots and pages for the tests.
+use ring_range::RingRange;
+use seal_snapshot::{Page, Snapshot};
+use silo_address::{ActivationId, Entry, GrainId, SiloAddress};
+use std::alloc::{AllocError, Global};
+use std::process::Abort;
+
+pub(crate) const OWNER: &str = "10.0.0.1:1000@1";
+
+pub(crate) const NEXT: &str = "10.0.0.2:1000@1";
+
+pub(crate) const VERSION: u64 = 5;
+
+pub(crate) fn silo(rt: &impl Abort, text: &str) -> SiloAddress {
+    SiloAddress::parse(text.as_bytes()).expect(rt, text)
+}
+
+pub(crate) fn range(rt: &impl Abort, start: u32) -> RingRange {
+    RingRange::new(start, 1_000).expect(rt, "a range")
+}
+
+// The entry of the grain user/000, user/001 and so on, which has the activation of the next count.
+pub(crate) fn entry(rt: &impl Abort, index: u64) -> Entry {
+    let digits = [
+        b'0' + (index / 100 % 10) as u8,
+        b'0' + (index / 10 % 10) as u8,
+        b'0' + (index % 10) as u8,
+    ];
+    let text = [
+        b'u', b's', b'e', b'r', b'/', digits[0], digits[1], digits[2],
+    ];
+    let grain = GrainId::parse(&text).expect(rt, "a grain");
+    let silo = silo(rt, OWNER);
+    let count = index.saturating_add(1);
+    let activation = ActivationId { silo, count };
+    Entry { grain, activation }
+}
+
+pub(crate) fn entries(
+    rt: &impl Abort,
+    alloc: Global,
+    count: u64,
+) -> Result<Vec<Entry>, AllocError> {
+    let mut entries = Vec::new(alloc);
+    for index in 0..count {
+        entries.push(entry(rt, index))?;
+    }
+    Ok(entries)
+}
+
+// A snapshot of so many entries, of that version and of a range that begins there, for the silo.
+pub(crate) fn sealed(
+    rt: &impl Abort,
+    alloc: Global,
+    (version, start, to): (u64, u32, &str),
+    count: u64,
+) -> Result<Snapshot, AllocError> {
+    let entries = entries(rt, alloc, count)?;
+    let (from, to) = (silo(rt, OWNER), silo(rt, to));
+    Ok(Snapshot::seal(version, range(rt, start), from, to, entries))
+}
+
+pub(crate) fn snapshot(rt: &impl Abort, alloc: Global, count: u64) -> Snapshot {
+    sealed(rt, alloc, (VERSION, 0, NEXT), count).expect(rt, "memory")
+}
+
+pub(crate) fn page(rt: &impl Abort, alloc: Global, snapshot: &Snapshot, number: u64) -> Page {
+    let page = snapshot.page(alloc, number).expect(rt, "memory");
+    page.expect(rt, "a page of that number")
+}
