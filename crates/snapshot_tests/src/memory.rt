@@ -1,5 +1,6 @@
 //! Each call that needs memory, in a form that any one refusal of an allocation leaves true: what a refused call left is as it
-//! was, and the call made again gives its result. `rt try --test --fail-alloc N` refuses the Nth.
+//! was, and the call made again gives its result. `rt try --test --fail-alloc N` refuses each test its Nth allocation, which
+//! the other tests do not stand.
 use crate::made::{NEXT, OWNER, VERSION, range, sealed, silo};
 use membership_view::{View, Views};
 use seal_snapshot::{Gathering, GatheringError, Page, Progress, Shelf, ShelfAnswer, Snapshot};
