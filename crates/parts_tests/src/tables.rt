@@ -84,28 +84,40 @@ fn entries_put_in_and_taken_out(rt: HostRuntime) {
     table.whole();
 }
 
+fn registering(entry: &Entry) -> Act {
+    Act::Register {
+        entry: *entry,
+        previous: None,
+    }
+}
+
+fn leaving(entry: &Entry) -> Act {
+    Act::Deregister { entry: *entry }
+}
+
+fn finding(entry: &Entry) -> Act {
+    Act::Find { grain: entry.grain }
+}
+
+// What the act is answered, without its change and with it.
+fn assert_turned(rt: &impl Abort, table: &mut Table, act: Act, want: Reply) {
+    assert!(rt; table.reply_to(&act).same(&want));
+    let reply = table.turn(&act).expect(rt, "memory");
+    assert!(rt; reply.same(&want));
+}
+
 #[test]
 fn acts_answered_and_made(rt: HostRuntime) {
     let mut table = four(&rt, rt.alloc(), Hashing::Stated);
-    let other = entry(&rt, (ANN, A, 7));
-    let register = Act::Register {
-        entry: other,
-        previous: None,
-    };
-    let taken = Reply::Taken(entry(&rt, (ANN, A, 2)));
-    assert!(rt; table.reply_to(&register).same(&taken));
-    let leave = Act::Deregister {
-        entry: entry(&rt, (ANN, A, 2)),
-    };
-    let removed = table.turn(&leave).expect(&rt, "memory");
-    assert!(rt; removed.same(&Reply::Removed));
-    let registered = table.turn(&register).expect(&rt, "memory");
-    assert!(rt; registered.same(&Reply::Registered(other)));
-    let find = Act::Find {
-        grain: grain(&rt, ANN),
-    };
-    let found = table.turn(&find).expect(&rt, "memory");
-    assert!(rt; found.same(&Reply::Found(other)));
+    let ann = &entry(&rt, (ANN, A, 2));
+    let other = &entry(&rt, (ANN, A, 7));
+    let taken = Reply::Taken(*ann);
+    let registered = Reply::Registered(*other);
+    let found = Reply::Found(*other);
+    assert_turned(&rt, &mut table, registering(other), taken);
+    assert_turned(&rt, &mut table, leaving(ann), Reply::Removed);
+    assert_turned(&rt, &mut table, registering(other), registered);
+    assert_turned(&rt, &mut table, finding(other), found);
 }
 
 // From each range the entries that it has, also where it goes on over 0, and of a table that hashes in another way.
