@@ -1,7 +1,7 @@
 ghost use Rattle.directory_node.specs.First.{IsFirstSight};
 ghost use Rattle.directory_node.specs.InputModel.{input_of};
 
-use directory_node::{Body, Input, Letter, Node, Response, StepRefusal, Stepped};
+use directory_node::{Body, Input, Letter, Node, Plan, StepRefusal, Stepped};
 use directory_rules::{Effect, LetterKind, Phase, Reply, Settings, Why};
 use hash_ring::{Hashing, Places};
 use membership_view::{View, Views};
@@ -92,10 +92,29 @@ fn sight(rt: &impl Abort, alloc: Global, version: u64) -> Result<Stepped, StepRe
     node.step(alloc, &input)
 }
 
-fn receives(rt: &impl Abort, alloc: Global, node: &mut Node, letter: &Letter) -> Response {
-    let response = node.respond_letter(alloc, letter).expect(rt, "memory");
-    node.absorb_letter(letter).expect(rt, "memory");
-    response
+// What a step said.
+#[derive(Drop)]
+struct Said {
+    letters: Vec<Letter>,
+    effect: Effect,
+}
+
+// A step with the input, planned and carried out.
+fn steps(alloc: Global, node: &mut Node, input: &Input<'_>) -> Result<Said, StepRefusal>
+    requires { IsFirstSight node.old (input_of input.now) }
+{
+    let plan = node.plan(alloc, input)?;
+    match node.carry_out(plan.change) {
+        Ok(()) => Ok(Said {
+            letters: plan.letters,
+            effect: plan.effect,
+        }),
+        Err(_) => Err(StepRefusal::OutOfMemory),
+    }
+}
+
+fn receives(rt: &impl Abort, alloc: Global, node: &mut Node, letter: &Letter) -> Said {
+    steps(alloc, node, &Input::Receives(letter)).expect(rt, "memory")
 }
 
 // The one letter that A sent itself is of this kind, comes to it, and does this: the letters that this sends.
@@ -139,30 +158,17 @@ fn settled(rt: &impl Abort, alloc: Global) -> Node {
     node
 }
 
-#[tactic(auto, using(directory_node::proofs::Said::made_if_said))]
-fn wakes(alloc: Global, node: &mut Node, grain: GrainId) -> Result<Response, StepRefusal> {
-    let response = node.respond_wake(alloc, grain)?;
-    match node.absorb_wake(grain) {
-        Ok(()) => Ok(response),
-        Err(_) => Err(StepRefusal::OutOfMemory),
-    }
-}
-
-#[tactic(auto, using(directory_node::proofs::Said::made_if_said))]
-fn finds(alloc: Global, node: &mut Node, grain: GrainId) -> Result<Response, StepRefusal> {
-    let response = node.respond_find(alloc, grain)?;
-    match node.absorb_find(grain) {
-        Ok(()) => Ok(response),
-        Err(_) => Err(StepRefusal::OutOfMemory),
-    }
-}
-
 // A is woken for the grain: the letter of its request, number 1.
 fn asks(rt: &impl Abort, alloc: Global, node: &mut Node) -> Vec<Letter> {
-    let woken = wakes(alloc, node, ann(rt)).expect(rt, "a wake");
+    let woken = steps(alloc, node, &Input::Wakes(&ann(rt))).expect(rt, "a wake");
     assert!(rt; woken.effect == Effect::Started(entry(rt, A)));
     check_phase(rt, node, Phase::Asking(1));
     woken.letters
+}
+
+// A looks the grain up.
+fn looks_up(rt: &impl Abort, alloc: Global, node: &mut Node) -> Said {
+    steps(alloc, node, &Input::Finds(&ann(rt))).expect(rt, "a find")
 }
 
 fn check_phase(rt: &impl Abort, node: &Node, phase: Phase) {
@@ -202,7 +208,7 @@ fn an_activation_is_found(rt: HostRuntime) {
     let registered = (LetterKind::Registered, Effect::Firm);
     exchange(&rt, rt.alloc(), &mut node, &asked, (register, registered));
     check_phase(&rt, &node, Phase::Firm);
-    let looked = finds(rt.alloc(), &mut node, ann(&rt)).expect(&rt, "a find");
+    let looked = looks_up(&rt, rt.alloc(), &mut node);
     assert!(rt; looked.effect == Effect::Finding(ann(&rt)));
     assert!(rt; node.host().is_finding(2));
     let find = (LetterKind::Find, Effect::Found);
@@ -211,15 +217,13 @@ fn an_activation_is_found(rt: HostRuntime) {
     assert!(rt; !node.host().is_finding(2));
 }
 
-// The step beside the node and its two parts say and leave the same.
-#[tactic(auto, using(directory_node::proofs::Said::made_if_said))]
+// The step beside the node, and the plan carried out, say and leave the same.
 fn check_parts(rt: &impl Abort, alloc: Global, node: &mut Node, input: &Input<'_>)
     requires { IsFirstSight node.old (input_of input.now) }
 {
     let stepped = node.step(alloc, input).expect(rt, "a step");
     assert!(rt; !node.same(&stepped.node));
-    let response = node.respond(alloc, input).expect(rt, "a response");
-    node.absorb(alloc, input).expect(rt, "memory");
+    let response = steps(alloc, node, input).expect(rt, "a step in place");
     assert!(rt; node.same(&stepped.node));
     assert!(rt; response.effect == stepped.effect);
     assert_eq!(rt; response.letters.len(), stepped.letters.len());
@@ -228,7 +232,7 @@ fn check_parts(rt: &impl Abort, alloc: Global, node: &mut Node, input: &Input<'_
 // A sees version 1, is woken for the grain, looks it up, and is told that its activation is entered. This is one test for all
 // inputs, since the proof of a function that makes an input needs the types of all of them.
 #[test]
-fn steps_in_parts(rt: HostRuntime) {
+fn planned_steps(rt: HostRuntime) {
     let mut node = joined(&rt, rt.alloc());
     let before = View::empty(rt.alloc());
     let view = view(&rt, rt.alloc(), 1);
@@ -241,13 +245,18 @@ fn steps_in_parts(rt: HostRuntime) {
         view: &view,
         places: &places,
     };
-    let wakes = Input::Wakes(ann(&rt));
-    let finds = Input::Finds(ann(&rt));
+    let ann = ann(&rt);
+    let wakes = Input::Wakes(&ann);
+    let finds = Input::Finds(&ann);
     let receives = Input::Receives(&entered);
     check_parts(&rt, rt.alloc(), &mut node, &sees);
     check_parts(&rt, rt.alloc(), &mut node, &wakes);
     check_parts(&rt, rt.alloc(), &mut node, &finds);
     check_parts(&rt, rt.alloc(), &mut node, &receives);
+}
+
+fn plan_to_wake(rt: &impl Abort, alloc: Global, node: &Node) -> Result<Plan, StepRefusal> {
+    node.plan(alloc, &Input::Wakes(&ann(rt)))
 }
 
 fn check_refused<T: Drop>(rt: &impl Abort, made: Result<T, StepRefusal>, number: u16) {
@@ -259,10 +268,10 @@ fn check_refused<T: Drop>(rt: &impl Abort, made: Result<T, StepRefusal>, number:
 fn refused_steps(rt: HostRuntime) {
     check_refused(&rt, sight(&rt, rt.alloc(), 0), 903);
     let node = joined(&rt, rt.alloc());
-    check_refused(&rt, node.respond_wake(rt.alloc(), ann(&rt)), 804);
+    check_refused(&rt, plan_to_wake(&rt, rt.alloc(), &node), 804);
     let mut node = settled(&rt, rt.alloc());
     let _asked = asks(&rt, rt.alloc(), &mut node);
-    check_refused(&rt, node.respond_wake(rt.alloc(), ann(&rt)), 801);
+    check_refused(&rt, plan_to_wake(&rt, rt.alloc(), &node), 801);
 }
 
 // The letter has this effect, and changes and sends nothing.

@@ -1,5 +1,4 @@
 pub mod Numbers
-pub mod OwnModel
 pub mod Stepping
 pub mod Joining
 pub mod Whole

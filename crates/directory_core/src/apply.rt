@@ -5,9 +5,9 @@ ghost use Rattle.directory_node.specs.Follows.{Follows};
 ghost use Rattle.directory_core.specs.Applying.{accepted_as, excused};
 ghost use Rattle.directory_core.specs.Numbers.{event_refusal_number};
 
-use crate::own::Own;
 use crate::{EventRefusal, World};
 use cluster_events::{Event, Outcome};
+use directory_node::Input;
 
 impl World {
     /// An event happens. It is accepted, with what it tells, or refused by a refusal with its number, and then nothing changes
@@ -32,8 +32,8 @@ impl World {
         match event {
             Event::Join { silo, places } => self.join(*silo, places),
             Event::See { silo, version } => self.sees(silo, *version),
-            Event::Wake { silo, grain } => self.does(silo, &Own::Wake(*grain)),
-            Event::Find { silo, grain } => self.does(silo, &Own::Find(*grain)),
+            Event::Wake { silo, grain } => self.does(silo, &Input::Wakes(grain)),
+            Event::Find { silo, grain } => self.does(silo, &Input::Finds(grain)),
             Event::Deliver { number } => self.deliver(*number),
         }
     }

@@ -3,7 +3,6 @@
 
 mod apply;
 mod join;
-mod own;
 mod posting;
 mod refusal;
 mod run;

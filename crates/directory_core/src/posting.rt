@@ -1,76 +1,84 @@
-//! A step made in place and its letters sent, or neither: the letters are sent first, and taken back where memory runs out.
-ghost use Rattle.std.specs.Prelude.{◌≡◌, Some, IsOk, IsSome, OnErr, OnOk};
-ghost use Rattle.directory_rules.specs.Input.{step};
+//! A change made and letters sent, or neither: the letters are sent first, and taken back where memory runs out.
+ghost use Rattle.std.specs.Prelude.{◌≡◌, Some, IsSome, OnErr, OnOk};
+ghost use Rattle.std.specs.Map.{lookup};
+ghost use Rattle.std.specs.BTreeMap.{is_at, insert_entry};
+ghost use Rattle.silo_address.specs.Silo.{silo_cmp};
 ghost use Rattle.directory_rules.specs.Letter.{Letter as LetterValue};
-ghost use Rattle.directory_rules.specs.Receive.{received};
-ghost use Rattle.directory_node.specs.Saying.{left_by};
+ghost use Rattle.directory_rules.specs.Node.{Node as NodeValue};
+ghost use Rattle.directory_node.specs.Planning.{Fits, changed};
 ghost use Rattle.letter_mail.specs.Mail.{letter_in, with_posted, with_stale};
-ghost use Rattle.directory_core.specs.OwnModel.{input_of_own};
 
-use crate::own::{self, Own};
-use directory_node::{Letter, Node};
+use directory_node::{Change, Letter, Node};
 use letter_mail::Mail;
+use silo_address::SiloAddress;
 use std::alloc::AllocError;
+use std::collections::BTreeMap;
 
-// A step of the node's own.
-pub(crate) fn absorb_and_post(
+/// The silo's node makes the change, the letters are sent, and the letter of a number is fresh no more, since it was received.
+pub(crate) fn receive_at(
+    nodes: &mut BTreeMap<SiloAddress, Node>,
+    mail: &mut Mail,
+    silo: &SiloAddress,
+    number: u64,
+    letters: Vec<Letter>,
+    change: Change,
+) -> Result<(), AllocError>
+    requires letter { IsSome (letter_in mail.old number) }
+    requires there { IsSome (lookup (is_at (silo_cmp silo.now)) nodes.old.entries) }
+    requires fits { (node : NodeValue) → lookup (is_at (silo_cmp silo.now)) nodes.old.entries ≡ Some node → Fits change node }
+    ensures made { OnOk result ((node : NodeValue) → lookup (is_at (silo_cmp silo.now)) nodes.old.entries ≡ Some node → nodes.new.entries ≡ insert_entry silo_cmp nodes.old.entries silo.now (changed change node)) }
+    ensures posted { OnOk result ((letter : LetterValue) → letter_in mail.old number ≡ Some letter → mail.new ≡ with_posted (with_stale mail.old number letter) letters.items) }
+    ensures unchanged { OnErr result (nodes.new.entries ≡ nodes.old.entries) }
+    ensures mail_unchanged { OnErr result (mail.new ≡ mail.old) }
+{
+    carry_out_at(nodes, mail, silo, letters, change)?;
+    mail.deliver(number);
+    Ok(())
+}
+
+/// The silo's node makes the change, and the letters are sent.
+#[tactic(auto, using(std::proofs::lemmas::Map::Steps::set_value_same))]
+pub(crate) fn carry_out_at(
+    nodes: &mut BTreeMap<SiloAddress, Node>,
+    mail: &mut Mail,
+    silo: &SiloAddress,
+    letters: Vec<Letter>,
+    change: Change,
+) -> Result<(), AllocError>
+    requires there { IsSome (lookup (is_at (silo_cmp silo.now)) nodes.old.entries) }
+    requires fits { (node : NodeValue) → lookup (is_at (silo_cmp silo.now)) nodes.old.entries ≡ Some node → Fits change node }
+    ensures made { OnOk result ((node : NodeValue) → lookup (is_at (silo_cmp silo.now)) nodes.old.entries ≡ Some node → nodes.new.entries ≡ insert_entry silo_cmp nodes.old.entries silo.now (changed change node)) }
+    ensures posted { OnOk result (mail.new ≡ with_posted mail.old letters.items) }
+    ensures unchanged { OnErr result (nodes.new.entries ≡ nodes.old.entries) }
+    ensures mail_unchanged { OnErr result (mail.new ≡ mail.old) }
+{
+    let Some(node) = nodes.get_mut(silo) else {
+        unreachable!()
+    };
+    carry_out_and_post(node, mail, letters, change)?;
+    Ok(())
+}
+
+// The node makes the change, and the letters are sent.
+fn carry_out_and_post(
     node: &mut Node,
-    own: &Own,
     mail: &mut Mail,
     letters: Vec<Letter>,
+    change: Change,
 ) -> Result<(), AllocError>
-    requires { IsOk (step node.old (input_of_own own.now)) }
-    ensures left { OnOk result (node.new ≡ left_by (step node.old (input_of_own own.now)) node.old) }
+    requires fits { Fits change node.old }
+    ensures made { OnOk result (node.new ≡ changed change node.old) }
     ensures posted { OnOk result (mail.new ≡ with_posted mail.old letters.items) }
     ensures unchanged { OnErr result (mail.new ≡ mail.old) }
     ensures node_unchanged { OnErr result (node.new ≡ node.old) }
 {
     let count = letters.len();
     mail.post(letters)?;
-    match own::absorb(node, own) {
+    match node.carry_out(change) {
         Ok(()) => Ok(()),
         Err(error) => {
             mail.take_back(count);
             Err(error)
         }
-    }
-}
-
-// The letter of a number is received, and is fresh no more.
-pub(crate) fn receive_and_post(
-    node: &mut Node,
-    number: u64,
-    mail: &mut Mail,
-    letters: Vec<Letter>,
-) -> Result<(), AllocError>
-    requires there { IsSome (letter_in mail.old number) }
-    ensures left { OnOk result ((letter : LetterValue) → letter_in mail.old number ≡ Some letter → node.new ≡ (received node.old letter).node) }
-    ensures posted { OnOk result ((letter : LetterValue) → letter_in mail.old number ≡ Some letter → mail.new ≡ with_posted (with_stale mail.old number letter) letters.items) }
-    ensures unchanged { OnErr result (mail.new ≡ mail.old) }
-    ensures node_unchanged { OnErr result (node.new ≡ node.old) }
-{
-    let count = letters.len();
-    mail.post(letters)?;
-    match receive(node, mail, number) {
-        Ok(()) => {
-            mail.deliver(number);
-            Ok(())
-        }
-        Err(error) => {
-            mail.take_back(count);
-            Err(error)
-        }
-    }
-}
-
-// The node receives the letter of a number.
-fn receive(node: &mut Node, mail: &Mail, number: u64) -> Result<(), AllocError>
-    requires there { IsSome (letter_in mail.now number) }
-    ensures left { OnOk result ((letter : LetterValue) → letter_in mail.now number ≡ Some letter → node.new ≡ (received node.old letter).node) }
-    ensures unchanged { OnErr result (node.new ≡ node.old) }
-{
-    match mail.letter(number) {
-        Some(mailed) => node.absorb_letter(mailed.letter()),
-        None => unreachable!(),
     }
 }

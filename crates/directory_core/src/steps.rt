@@ -1,60 +1,56 @@
 ghost use Rattle.std.specs.Prelude.{◌≡◌, ◌<◌, ◌+◌, nat_le, true, IsOk, IsSome, OnOk, OnErr, Some};
-ghost use Rattle.std.specs.Map.{lookup};
-ghost use Rattle.std.specs.BTreeMap.{is_at, insert_entry};
-ghost use Rattle.silo_address.specs.Silo.{silo_cmp};
 ghost use Rattle.directory_rules.specs.Happens.{absent_number, deliver, does, node_of};
-ghost use Rattle.directory_rules.specs.Input.{step};
 ghost use Rattle.directory_rules.specs.Letter.{Letter as LetterValue};
 ghost use Rattle.directory_rules.specs.Mail.{has_room_for, letter_of, span_of, with_delivered};
 ghost use Rattle.directory_rules.specs.Node.{Node as NodeValue};
-ghost use Rattle.directory_rules.specs.Receive.{received};
 ghost use Rattle.directory_node.specs.Follows.{Follows};
+ghost use Rattle.directory_node.specs.InputModel.{input_of};
 ghost use Rattle.directory_node.specs.Numbers.{step_refusal_number};
-ghost use Rattle.directory_node.specs.Saying.{left_by};
+ghost use Rattle.directory_node.specs.Planning.{Fits, changed};
 ghost use Rattle.cluster_events.specs.OutcomeModel.{span_of as code_span};
 ghost use Rattle.std.specs.Option.{option_map, option_or};
 ghost use Rattle.directory_core.specs.Applying.{accepted_as};
-ghost use Rattle.letter_mail.specs.Mail.{letter_in, with_posted, with_stale};
-ghost use Rattle.directory_core.specs.OwnModel.{input_of_own};
 ghost use Rattle.directory_core.specs.Numbers.{event_refusal_number};
-ghost use Rattle.directory_core.specs.Stepping.{after_step, one_letter_number};
+ghost use Rattle.directory_core.specs.Stepping.{IsOwn, after_step, letters_number};
 
-use crate::own::{self, Own};
-use crate::posting::{absorb_and_post, receive_and_post};
+use crate::posting::{carry_out_at, receive_at};
 use crate::{EventRefusal, World};
 use cluster_events::{Happening, Outcome, Span};
-use directory_node::{Letter, Node, StepRefusal};
-use letter_mail::Mail;
+use directory_node::{Change, Input, Letter, StepRefusal};
 use silo_address::SiloAddress;
 use std::alloc::{AllocError, Global};
-use std::collections::BTreeMap;
 
-// Steps of silos in the world: what the step says is known before anything changes, then it is made in place.
+// Steps of silos in the world: a step is planned, which changes nothing yet, then its letters are sent and it is carried out.
 impl World {
     // A silo takes a step of its own, which is no sight: 901, 902, then as the step refuses, then 909.
-    pub(crate) fn does(&mut self, silo: &SiloAddress, own: &Own) -> Result<Outcome, EventRefusal>
+    pub(crate) fn does(
+        &mut self,
+        silo: &SiloAddress,
+        input: &Input<'_>,
+    ) -> Result<Outcome, EventRefusal>
         requires room { self.old.accepted < self.old.settings.events }
-        ensures told { Follows (accepted_as self.new) event_refusal_number IsOk (does self.old silo.now (input_of_own own.now)) result }
+        requires own { IsOwn (input_of input.now) }
+        ensures told { Follows (accepted_as self.new) event_refusal_number IsOk (does self.old silo.now (input_of input.now)) result }
         ensures unchanged { OnErr result (self.new ≡ self.old) }
     {
         let Some(node) = self.node(silo) else {
             return Err(self.absent(silo));
         };
-        let response = match own::respond(self.alloc, node, own) {
-            Ok(response) => response,
+        let plan = match node.plan(self.alloc, input) {
+            Ok(plan) => plan,
             Err(refusal) => return Err(self.refused(refusal)),
         };
-        if !self.has_room_for(&response.letters) {
+        if !self.has_room_for(&plan.letters) {
             return Err(EventRefusal::MailFull);
         }
         let outcome = Outcome {
             happening: Happening::Did {
                 silo: *silo,
-                effect: response.effect,
+                effect: plan.effect,
             },
-            sent: self.span_of(&response.letters),
+            sent: self.span_of(&plan.letters),
         };
-        match self.absorb(silo, own, response.letters) {
+        match self.carry_out(silo, plan.letters, plan.change) {
             Ok(()) => Ok(outcome),
             Err(_) => Err(EventRefusal::OutOfMemory),
         }
@@ -62,19 +58,19 @@ impl World {
 
     // Why a silo's step is refused. Out of memory is told only where there is room for the one letter that needed it.
     fn refused(&self, refusal: StepRefusal) -> EventRefusal
-        ensures { event_refusal_number result ≡ option_or (step_refusal_number refusal) (one_letter_number self.now) }
+        ensures { event_refusal_number result ≡ option_or (step_refusal_number refusal) (letters_number self.now 1) }
     {
         match refusal {
-            StepRefusal::OutOfMemory => self.refused_one(),
+            StepRefusal::OutOfMemory => self.refused_sending(1),
             refusal => EventRefusal::Node(refusal),
         }
     }
 
-    // Why an event is refused that had no memory for the one letter that it sends: room for it goes before.
-    fn refused_one(&self) -> EventRefusal
-        ensures { event_refusal_number result ≡ one_letter_number self.now }
+    // Why an event is refused that sends so many letters and had no memory: room for them goes before.
+    fn refused_sending(&self, count: usize) -> EventRefusal
+        ensures { event_refusal_number result ≡ letters_number self.now count }
     {
-        if self.has_room(1) {
+        if count == 0 || self.has_room(count) {
             EventRefusal::OutOfMemory
         } else {
             EventRefusal::MailFull
@@ -143,108 +139,64 @@ impl World {
         let Some(node) = self.node(&to) else {
             return Err(EventRefusal::DeadSilo);
         };
-        let Ok(response) = node.respond_letter(self.allocator(), letter) else {
-            return Err(self.refused_one());
+        let Ok(plan) = node.plan(self.allocator(), &Input::Receives(letter)) else {
+            return Err(self.refused_sending(letter.answer_count()));
         };
         drop(mailed);
-        if !self.has_room_for(&response.letters) {
+        if !self.has_room_for(&plan.letters) {
             return Err(EventRefusal::MailFull);
         }
         let outcome = Outcome {
             happening: Happening::Delivered {
                 number,
                 kind,
-                effect: response.effect,
+                effect: plan.effect,
             },
-            sent: self.span_of(&response.letters),
+            sent: self.span_of(&plan.letters),
         };
-        match self.absorb_letter(&to, number, response.letters) {
+        match self.receive(&to, number, plan.letters, plan.change) {
             Ok(()) => Ok(outcome),
             Err(_) => Err(EventRefusal::OutOfMemory),
         }
     }
 
-    // A letter is received in place, and what is answered is sent.
-    fn absorb_letter(
+    // The receiver of a letter carries its step out, and what is answered is sent.
+    fn receive(
         &mut self,
         to: &SiloAddress,
         number: u64,
         letters: Vec<Letter>,
+        change: Change,
     ) -> Result<(), AllocError>
         requires letter { IsSome (letter_of self.old number) }
         requires there { IsSome (node_of self.old to.now) }
+        requires fits { (node : NodeValue) → node_of self.old to.now ≡ Some node → Fits change node }
         requires room { self.old.accepted < self.old.settings.events }
-        requires fits { has_room_for self.old letters.items ≡ true }
-        ensures made { OnOk result ((letter : LetterValue) (node : NodeValue) → letter_of self.old number ≡ Some letter → node_of self.old to.now ≡ Some node → self.new ≡ after_step (with_delivered self.old number letter) to.now (received node letter).node letters.items) }
+        requires mail_room { has_room_for self.old letters.items ≡ true }
+        ensures made { OnOk result ((letter : LetterValue) (node : NodeValue) → letter_of self.old number ≡ Some letter → node_of self.old to.now ≡ Some node → self.new ≡ after_step (with_delivered self.old number letter) to.now (changed change node) letters.items) }
         ensures unchanged { OnErr result (self.new ≡ self.old) }
     {
-        deliver_at(&mut self.nodes, &mut self.mail, to, number, letters)?;
+        receive_at(&mut self.nodes, &mut self.mail, to, number, letters, change)?;
         self.accepted += 1;
         Ok(())
     }
 
-    // A step that is not refused is made in place, and its letters are sent.
-    fn absorb(
+    // A silo carries its step out, and its letters are sent.
+    pub(crate) fn carry_out(
         &mut self,
         silo: &SiloAddress,
-        own: &Own,
         letters: Vec<Letter>,
+        change: Change,
     ) -> Result<(), AllocError>
         requires there { IsSome (node_of self.old silo.now) }
-        requires taken { (node : NodeValue) → node_of self.old silo.now ≡ Some node → IsOk (step node (input_of_own own.now)) }
+        requires fits { (node : NodeValue) → node_of self.old silo.now ≡ Some node → Fits change node }
         requires room { self.old.accepted < self.old.settings.events }
-        requires fits { has_room_for self.old letters.items ≡ true }
-        ensures made { OnOk result ((node : NodeValue) → node_of self.old silo.now ≡ Some node → self.new ≡ after_step self.old silo.now (left_by (step node (input_of_own own.now)) node) letters.items) }
+        requires mail_room { has_room_for self.old letters.items ≡ true }
+        ensures made { OnOk result ((node : NodeValue) → node_of self.old silo.now ≡ Some node → self.new ≡ after_step self.old silo.now (changed change node) letters.items) }
         ensures unchanged { OnErr result (self.new ≡ self.old) }
     {
-        absorb_at(&mut self.nodes, &mut self.mail, silo, own, letters)?;
+        carry_out_at(&mut self.nodes, &mut self.mail, silo, letters, change)?;
         self.accepted += 1;
         Ok(())
     }
-}
-
-// The silo's node makes its step, and the step's letters are sent.
-#[tactic(auto, using(std::proofs::lemmas::Map::Steps::set_value_same))]
-fn absorb_at(
-    nodes: &mut BTreeMap<SiloAddress, Node>,
-    mail: &mut Mail,
-    silo: &SiloAddress,
-    own: &Own,
-    letters: Vec<Letter>,
-) -> Result<(), AllocError>
-    requires there { IsSome (lookup (is_at (silo_cmp silo.now)) nodes.old.entries) }
-    requires taken { (node : NodeValue) → lookup (is_at (silo_cmp silo.now)) nodes.old.entries ≡ Some node → IsOk (step node (input_of_own own.now)) }
-    ensures left { OnOk result ((node : NodeValue) → lookup (is_at (silo_cmp silo.now)) nodes.old.entries ≡ Some node → nodes.new.entries ≡ insert_entry silo_cmp nodes.old.entries silo.now (left_by (step node (input_of_own own.now)) node)) }
-    ensures posted { OnOk result (mail.new ≡ with_posted mail.old letters.items) }
-    ensures unchanged { OnErr result (nodes.new.entries ≡ nodes.old.entries) }
-    ensures mail_unchanged { OnErr result (mail.new ≡ mail.old) }
-{
-    let Some(node) = nodes.get_mut(silo) else {
-        unreachable!()
-    };
-    absorb_and_post(node, own, mail, letters)?;
-    Ok(())
-}
-
-// The letter's receiver makes its step, and what is answered is sent.
-#[tactic(auto, using(std::proofs::lemmas::Map::Steps::set_value_same))]
-fn deliver_at(
-    nodes: &mut BTreeMap<SiloAddress, Node>,
-    mail: &mut Mail,
-    to: &SiloAddress,
-    number: u64,
-    letters: Vec<Letter>,
-) -> Result<(), AllocError>
-    requires letter { IsSome (letter_in mail.old number) }
-    requires there { IsSome (lookup (is_at (silo_cmp to.now)) nodes.old.entries) }
-    ensures left { OnOk result ((letter : LetterValue) (node : NodeValue) → letter_in mail.old number ≡ Some letter → lookup (is_at (silo_cmp to.now)) nodes.old.entries ≡ Some node → nodes.new.entries ≡ insert_entry silo_cmp nodes.old.entries to.now (received node letter).node) }
-    ensures posted { OnOk result ((letter : LetterValue) → letter_in mail.old number ≡ Some letter → mail.new ≡ with_posted (with_stale mail.old number letter) letters.items) }
-    ensures unchanged { OnErr result (nodes.new.entries ≡ nodes.old.entries) }
-    ensures mail_unchanged { OnErr result (mail.new ≡ mail.old) }
-{
-    let Some(node) = nodes.get_mut(to) else {
-        unreachable!()
-    };
-    receive_and_post(node, number, mail, letters)?;
-    Ok(())
 }

@@ -1,26 +1,24 @@
--- A report that counts, taken in place.
+-- A report that is counted, in place.
 use Rattle.std.proofs.Common.{◌≡◌, sym, subst, ap, ◌∙◌, ℕ, List}
 use Rattle.std.specs.Prelude.{◌↔◌, Bool, true, false, cond, Some, Ok, is_ok}
 use Rattle.std.specs.Ordering.{nat_cmp}
 use Rattle.std.specs.Map.{keys_of, lookup, remove_entry}
 use Rattle.std.specs.BTreeMap.{is_at, insert_entry}
-use Rattle.directory_rules.specs.Letter.{Letter}
 use Rattle.directory_rules.specs.Node.{Node}
 use Rattle.directory_rules.specs.Recovery.{Recovery, Report, Recovered, Awaits_more, Has_union, Rejects, recovered, with_report, new_recovery}
-use Rattle.directory_rules.specs.Transfer.{is_report_awaited, reported, recovered_by, with_settled}
+use Rattle.directory_rules.specs.Transfer.{recovered_by, with_settled}
 use Rattle.directory_rules.specs.Sending.{recovery_of}
-use Rattle.directory_rules.specs.Step.{Stepped, silently}
+use Rattle.directory_rules.specs.Step.{Stepped}
 use Rattle.std.specs.List.Sorted.{IsStrictlySortedBy}
 use Rattle.std.specs.Option.{unwrap_or}
 use Rattle.ring_range.specs.Range.{Range}
-use Rattle.directory_rules.specs.declared.Effect.TheVariants.{Ignored}
 use Rattle.directory_node.proofs.Kept.{written_is_found}
 use Rattle.directory_node.proofs.Writing.{insert_entry-there, remove-set_value}
 use Rattle.directory_node.specs.Node.{HaveRecoveries, IsNode}
 use Rattle.range_recovery.specs.declared.Progress.TheVariants.{Complete}
 use Rattle.range_recovery.specs.Progress.{progress_of}
 use Rattle.directory_node.proofs.Taking.{IsTaken, taken_is, with_taken}
-use Rattle.directory_node.proofs.Reports.{report_recovers, its_recovery, taken_keeps}
+use Rattle.directory_node.proofs.Reports.{RecoversPiece, its_recovery, taken_keeps}
 
 -- what the report does to the recoveries of the node
 abbrev pub Takes : Node → Report → (new : List (ℕ × Recovery)) → Bool → Type 0
@@ -39,10 +37,10 @@ still_serve node report r (Has_union table) new complete there have is = subst (
 still_serve node report r (Rejects number) new complete there have is = subst (λ l. HaveRecoveries node.holding.pieces l) (sym is.1) have
 
 -- the node keeps what every node keeps
-pub kept_by_taking : (node : Node) (letter : Letter) (report : Report) (complete : Bool) (new : List (ℕ × Recovery)) → IsNode node → is_report_awaited node letter report ≡ true → Takes node report new complete
+pub kept_by_taking : (node : Node) (report : Report) (complete : Bool) (new : List (ℕ × Recovery)) → IsNode node → RecoversPiece node report.range → Takes node report new complete
     → IsNode (record node { recoveries = new })
-kept_by_taking node letter report complete new is counts takes =
-    let had = its_recovery node report.range is (report_recovers node letter report counts) in
+kept_by_taking node report complete new is piece takes =
+    let had = its_recovery node report.range is piece in
     record {
       uncached = is.uncached;
       recovers = still_serve node report had.recovery (recovered had.recovery report) new complete had.there is.recovers (takes had.recovery had.there);
@@ -50,12 +48,14 @@ kept_by_taking node letter report complete new is counts takes =
       bare = is.bare;
     }
 
--- the rule's outcome of a report that counts, by the recovery that is there
-outcome_is : (node : Node) (letter : Letter) (report : Report) (r : Recovery) → is_report_awaited node letter report ≡ true → lookup (is_at (nat_cmp report.range.start)) node.recoveries ≡ Some r
-    → reported node letter report ≡ recovered_by (recovered r report) report.range node
-outcome_is node letter report r counts there =
-    ap (λ b. cond b (recovered_by (recovered (recovery_of node report.range) report) report.range node) (silently node Ignored)) counts
-    ∙ ap (λ o. recovered_by (recovered (unwrap_or o (new_recovery node.view report.range)) report) report.range node) there
+-- what comes of a report, in the rule's words
+abbrev pub counted : Node → Report → Stepped
+counted node report = recovered_by (recovered (recovery_of node report.range) report) report.range node
+
+-- it is what comes of it by the recovery that is there
+pub counted_is : (node : Node) (report : Report) (r : Recovery) → lookup (is_at (nat_cmp report.range.start)) node.recoveries ≡ Some r
+    → counted node report ≡ recovered_by (recovered r report) report.range node
+counted_is node report r there = ap (λ o. recovered_by (recovered (unwrap_or o (new_recovery node.view report.range)) report) report.range node) there
 
 -- more are awaited, or nothing was taken
 by_more : (node : Node) (report : Report) (r : Recovery) (outcome : Recovered) (new : List (ℕ × Recovery)) → IsStrictlySortedBy nat_cmp (keys_of node.recoveries) → lookup (is_at (nat_cmp report.range.start)) node.recoveries ≡ Some r
@@ -68,13 +68,12 @@ by_more node report r (Awaits_more more) new sorted there range is =
 by_more node report r (Has_union table) new sorted there range is = absurd (cc (is.0))
 by_more node report r (Rejects number) new sorted there range is = ap (λ l. record node { recoveries = l }) is.1
 
-pub left_by_more : (node : Node) (letter : Letter) (report : Report) (new : List (ℕ × Recovery)) → IsNode node → IsStrictlySortedBy nat_cmp (keys_of node.recoveries) → is_report_awaited node letter report ≡ true → Takes node report new false
-    → record node { recoveries = new } ≡ (reported node letter report).node
-left_by_more node letter report new is sorted counts takes =
-    let piece = report_recovers node letter report counts in
+pub left_by_more : (node : Node) (report : Report) (new : List (ℕ × Recovery)) → IsNode node → IsStrictlySortedBy nat_cmp (keys_of node.recoveries) → RecoversPiece node report.range → Takes node report new false
+    → record node { recoveries = new } ≡ (counted node report).node
+left_by_more node report new is sorted piece takes =
     let had = its_recovery node report.range is piece in
     by_more node report had.recovery (recovered had.recovery report) new sorted had.there (had.its_range ∙ piece.its_range) (takes had.recovery had.there)
-    ∙ ap (λ (s : Stepped). s.node) (sym (outcome_is node letter report had.recovery counts had.there))
+    ∙ ap (λ (s : Stepped). s.node) (sym (counted_is node report had.recovery had.there))
 
 -- all have reported
 by_union : (node : Node) (report : Report) (r : Recovery) (outcome : Recovered) (new : List (ℕ × Recovery)) → IsTaken outcome r report node.recoveries new true
@@ -93,13 +92,12 @@ found_union node report r (Awaits_more more) new there is = absurd (cc (is.0))
 found_union node report r (Has_union table) new there is = ap (λ l. lookup (is_at (nat_cmp report.range.start)) l) is.1.1 ∙ written_is_found (is_at (nat_cmp report.range.start)) node.recoveries (with_report r report) r there
 found_union node report r (Rejects number) new there is = absurd (cc (is.0))
 
-pub left_by_union : (node after : Node) (letter : Letter) (report : Report) (new : List (ℕ × Recovery)) → IsNode node → is_report_awaited node letter report ≡ true → Takes node report new true
+pub left_by_union : (node after : Node) (report : Report) (new : List (ℕ × Recovery)) → IsNode node → RecoversPiece node report.range → Takes node report new true
     → ((r : Recovery) → lookup (is_at (nat_cmp report.range.start)) new ≡ Some r → after ≡ with_settled (record node { recoveries = new }) report.range r.gathered)
-    → after ≡ (reported node letter report).node
-left_by_union node after letter report new is counts takes settles =
-    let piece = report_recovers node letter report counts in
+    → after ≡ (counted node report).node
+left_by_union node after report new is piece takes settles =
     let had = its_recovery node report.range is piece in
     let taken = takes had.recovery had.there in
     settles (with_report had.recovery report) (found_union node report had.recovery (recovered had.recovery report) new had.there taken)
     ∙ by_union node report had.recovery (recovered had.recovery report) new taken
-    ∙ ap (λ (s : Stepped). s.node) (sym (outcome_is node letter report had.recovery counts had.there))
+    ∙ ap (λ (s : Stepped). s.node) (sym (counted_is node report had.recovery had.there))

@@ -8,4 +8,3 @@ pub mod Writing
 pub mod Wants
 pub mod FirstSights
 pub mod FirstArcs
-pub mod Said

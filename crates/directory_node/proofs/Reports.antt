@@ -1,6 +1,6 @@
 -- A report that counts finds the piece that recovers, and its recovery.
 use Rattle.std.proofs.Common.{◌≡◌, refl, sym, ap, ◌∙◌, ℕ, List}
-use Rattle.std.specs.Prelude.{Bool, true, false, ◌&&◌, Option, Some, None}
+use Rattle.std.specs.Prelude.{Bool, true, false, cond, ◌&&◌, Option, Some, None, length}
 use Rattle.std.specs.Ordering.{nat_cmp}
 use Rattle.std.specs.Map.{lookup}
 use Rattle.std.specs.BTreeMap.{is_at}
@@ -9,10 +9,13 @@ use Rattle.ring_range.proofs.Same.{Decides-range}
 use Rattle.directory_rules.specs.declared.PieceState.{PieceState}
 use Rattle.directory_rules.specs.declared.PieceState.TheVariants.{Settled, Awaiting, Recovering}
 use Rattle.directory_rules.specs.Piece.{Piece}
-use Rattle.directory_rules.specs.Recovery.{Recovery, Report, with_report}
+use Rattle.directory_rules.specs.declared.Effect.TheVariants.{Ignored}
 use Rattle.directory_rules.specs.Letter.{Letter}
+use Rattle.directory_rules.specs.Recovery.{Recovery, Report, Recovered, Awaits_more, Has_union, Rejects, recovered, with_report}
+use Rattle.directory_rules.specs.Sending.{recovery_of}
+use Rattle.directory_rules.specs.Step.{silently}
 use Rattle.directory_rules.specs.Node.{Node}
-use Rattle.directory_rules.specs.Transfer.{has_range, is_recovering, is_report_awaited, piece_at}
+use Rattle.directory_rules.specs.Transfer.{has_range, is_recovering, is_report_awaited, piece_at, recovered_by, reported}
 use Rattle.std.proofs.lemmas.Map.Lookups.{exact_unsigned}
 use Rattle.membership_view.proofs.Entries.{Equal-from}
 use Rattle.directory_rules.proofs.Cases.{on_bool}
@@ -45,12 +48,12 @@ found_piece node range (Some piece) at is = record {
   state = recovering_is piece.state (both _ _ is).1;
 }
 
-pub range_recovers : (node : Node) (range : Range) → has_range is_recovering range (piece_at node range) ≡ true → RecoversPiece node range
+range_recovers : (node : Node) (range : Range) → has_range is_recovering range (piece_at node range) ≡ true → RecoversPiece node range
 range_recovers node range is = found_piece node range (piece_at node range) refl is
 
-pub report_recovers : (node : Node) (letter : Letter) (report : Report) → is_report_awaited node letter report ≡ true → RecoversPiece node report.range
-report_recovers node letter report is =
-    range_recovers node report.range (both _ _ (both _ _ (both _ _ (both _ _ (both _ _ is).0).0).0).1).1
+-- so it does in a node that is the same one
+pub recovers_in : (one other : Node) (range : Range) → one ≡ other → has_range is_recovering range (piece_at other range) ≡ true → RecoversPiece one range
+recovers_in one other range same is = range_recovers one range (ap (λ (n : Node). has_range is_recovering range (piece_at n range)) same ∙ is)
 
 -- and its recovery
 pub its_recovery : (node : Node) (range : Range) → IsNode node → (piece : RecoversPiece node range) → HasRecovery node.recoveries range.start piece.piece
@@ -75,3 +78,16 @@ taken_keeps pieces recoveries recovery report there have start piece found recov
       there = other_than_written (is_at (nat_cmp report.range.start)) (is_at (nat_cmp start)) recoveries (with_report recovery report) (λ j at. apart_from report.range.start start j f at) ∙ had.there;
       its_range = had.its_range;
     })
+
+-- A report is answered by no letter.
+
+by_outcome : (outcome : Recovered) (range : Range) (node : Node) → length (recovered_by outcome range node).letters ≡ 0
+by_outcome (Awaits_more recovery) range node = refl
+by_outcome (Has_union table) range node = refl
+by_outcome (Rejects number) range node = refl
+
+pub answered_by_none : (node : Node) (letter : Letter) (report : Report) → length (reported node letter report).letters ≡ 0
+answered_by_none node letter report =
+    on_bool (λ b. length (cond b (recovered_by (recovered (recovery_of node report.range) report) report.range node) (silently node Ignored)).letters ≡ 0) (is_report_awaited node letter report)
+    (λ t. by_outcome (recovered (recovery_of node report.range) report) report.range node)
+    (λ f. refl)

@@ -6,6 +6,6 @@ use Rattle.directory_node.specs.declared.input.Input.TheVariants.{Sees, Wakes, F
 -- the rule's input
 abbrev pub input_of : Input → rule.Input
 input_of (Sees before view places) = rule.Sees before.now view.now places.now
-input_of (Wakes grain) = rule.Wakes grain
-input_of (Finds grain) = rule.Finds grain
+input_of (Wakes grain) = rule.Wakes grain.now
+input_of (Finds grain) = rule.Finds grain.now
 input_of (Receives letter) = rule.Receives letter.now

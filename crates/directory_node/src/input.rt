@@ -13,9 +13,9 @@ pub enum Input<'a> {
         places: &'a Places,
     },
     /// An activation of the grain is to start.
-    Wakes(GrainId),
+    Wakes(&'a GrainId),
     /// The grain is to be looked up.
-    Finds(GrainId),
+    Finds(&'a GrainId),
     /// A letter comes.
     Receives(&'a Letter),
 }

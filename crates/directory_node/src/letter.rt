@@ -1,6 +1,7 @@
 ghost use Rattle.std.specs.Prelude.{◌≡◌, ◌↔◌, IsTrue, IfOk};
 ghost use Rattle.directory_rules.specs.Letter.{act_kind, kind_of, reply_kind};
 ghost use Rattle.directory_node.specs.LetterModel.{body_of};
+ghost use Rattle.directory_node.specs.Planning.{answer_count};
 
 use directory_rules::{Act, LetterKind, Reply, Request};
 use range_recovery::Report;
@@ -82,6 +83,7 @@ impl Model for Letter {
     ghost Value = { Letter };
 
     ghost use Rattle.directory_node.specs.LetterModel.{body_of};
+ghost use Rattle.directory_node.specs.Planning.{answer_count};
 
     ghost view = { λ l. record { from = l.from; to = l.to; version = l.version; body = body_of l.body } };
 }
@@ -138,6 +140,20 @@ impl Letter {
             Body::Report(_) => LetterKind::Report,
             Body::Behind(_) => LetterKind::Behind,
             Body::Ahead(_) => LetterKind::Ahead,
+        }
+    }
+
+    /// How many letters a step sends that needs memory for this one: a report is answered by none, any other by one.
+    pub fn answer_count(&self) -> usize
+        ensures { result ≡ answer_count self.now.body }
+    {
+        match &self.body {
+            Body::Report(_) => 0,
+            Body::Request(_)
+            | Body::Reply { .. }
+            | Body::Query(_)
+            | Body::Behind(_)
+            | Body::Ahead(_) => 1,
         }
     }
 

@@ -2,15 +2,16 @@
 //! `docs/RULES.md#the-world`.
 #![tactic(auto)]
 
+mod carrying;
 mod input;
 mod letter;
 mod node;
 mod own_steps;
+mod plan;
 mod recoveries;
 mod refusal;
 mod replies;
 mod requests;
-mod response;
 mod sending;
 mod sight;
 mod step;
@@ -18,6 +19,6 @@ mod step;
 pub use input::Input;
 pub use letter::{Body, Letter};
 pub use node::Node;
+pub use plan::{Change, Plan};
 pub use refusal::StepRefusal;
-pub use response::Response;
 pub use step::Stepped;

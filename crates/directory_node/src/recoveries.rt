@@ -2,17 +2,18 @@ ghost use Rattle.std.specs.BTreeMap.{is_at};
 ghost use Rattle.std.specs.List.Sorted.{IsStrictlySortedBy};
 ghost use Rattle.std.specs.Map.{keys_of, lookup, set_value};
 ghost use Rattle.std.specs.Ordering.{nat_cmp};
-ghost use Rattle.std.specs.Prelude.{◌≡◌, ◌↔◌, if◌then◌else◌, is_ok, IsTrue, IfOk, OnOk, OnErr, Ok, Some, [], length};
+ghost use Rattle.std.specs.Prelude.{◌≡◌, ◌↔◌, if◌then◌else◌, is_ok, IsTrue, IfOk, OnOk, OnErr, Ok, Some, length, true};
 ghost use Rattle.std.specs.List.{list_all};
 ghost use Rattle.silo_address.specs.Silo.{silo_eq};
 ghost use Rattle.directory_rules.specs.Recovery.{Recovery as RecoveryValue, recovered, with_report};
 ghost use Rattle.range_recovery.specs.Progress.{progress_of};
 ghost use Rattle.directory_rules.specs.Table.{is_before_first, lie_in, rise_by_grain};
-ghost use Rattle.directory_rules.specs.Transfer.{answering, has_range, is_recovering, is_report_awaited, piece_at, queried, recovers, report_of, reported, with_settled};
+ghost use Rattle.directory_rules.specs.Sending.{recovery_of};
+ghost use Rattle.directory_rules.specs.Transfer.{answering, has_range, is_recovering, is_report_awaited, piece_at, queried, recovered_by, recovers, report_of, reported, with_settled};
 ghost use Rattle.directory_node.specs.LetterModel.{body_of};
-ghost use Rattle.directory_node.specs.Saying.{response_of, said_of};
+ghost use Rattle.directory_node.specs.Planning.{Fits, step_by};
 
-use crate::{Body, Letter, Node, Response};
+use crate::{Body, Change, Letter, Node, Plan};
 use directory_rules::{Effect, PieceState};
 use range_recovery::{Progress, Recovery, RecoveryError, Report};
 use ring_range::RingRange;
@@ -21,14 +22,15 @@ use std::alloc::{AllocError, Global};
 use std::collections::BTreeMap;
 
 impl Node {
-    // A query comes: what the silo says. Nothing changes in it.
-    pub(crate) fn respond_query(
+    // A query comes. Nothing changes in it.
+    pub(crate) fn plan_query(
         &self,
         alloc: Global,
         letter: &Letter,
         range: RingRange,
-    ) -> Result<Response, AllocError>
-        ensures says { IfOk result (λ response. response_of response ≡ said_of (queried self.now letter.now range)) }
+    ) -> Result<Plan, AllocError>
+        ensures planned { IfOk result (λ plan. step_by self.now plan ≡ queried self.now letter.now range) }
+        ensures fits { IfOk result (λ plan. Fits plan.change self.now) }
         ensures one { length (queried self.now letter.now range).letters ≡ 1 }
     {
         if self.view.version() < letter.version() {
@@ -48,11 +50,12 @@ impl Node {
         letter: &Letter,
         body: Body,
         effect: Effect,
-    ) -> Result<Response, AllocError>
-        ensures { IfOk result (λ response. response_of response ≡ said_of (answering letter.now self.now (body_of body) effect)) }
+    ) -> Result<Plan, AllocError>
+        ensures planned { IfOk result (λ plan. step_by self.now plan ≡ answering letter.now self.now (body_of body) effect) }
+        ensures fits { IfOk result (λ plan. Fits plan.change self.now) }
     {
         let back = Letter::new(self.host.silo(), letter.from(), letter.version(), body);
-        Response::of_one(alloc, back, effect)
+        Plan::of_one(alloc, back, effect, Change::Nothing)
     }
 
     // What is firm here, for a range.
@@ -65,35 +68,46 @@ impl Node {
         Ok(Report::new(self.view.version(), range, self.host.silo(), entries))
     }
 
-    // A report comes: what it does. It sends no letter.
-    pub(crate) fn report_does(&self, letter: &Letter, report: &Report) -> Effect
-        ensures { said_of (reported self.now letter.now report.now) ≡ record { letters = []; effect = result } }
+    // A report comes. It is answered by no letter.
+    pub(crate) fn plan_report(
+        &self,
+        alloc: Global,
+        letter: &Letter,
+        report: &Report,
+    ) -> Result<Plan, AllocError>
+        ensures planned { IfOk result (λ plan. step_by self.now plan ≡ reported self.now letter.now report.now) }
+        ensures fits { IfOk result (λ plan. Fits plan.change self.now) }
+        ensures none { length (reported self.now letter.now report.now).letters ≡ 0 }
     {
         if !self.is_report_awaited(letter, report) {
-            return Effect::Ignored;
+            return Ok(Plan::idle(alloc, Effect::Ignored));
         }
+        self.plan_count(alloc, report)
+    }
+
+    // A report that counts comes.
+    fn plan_count(&self, alloc: Global, report: &Report) -> Result<Plan, AllocError>
+        requires recovers { has_range is_recovering report.now.range (piece_at self.now report.now.range) ≡ true }
+        ensures planned { IfOk result (λ plan. step_by self.now plan ≡ recovered_by (recovered (recovery_of self.now report.now.range) report.now) report.now.range self.now) }
+        ensures fits { IfOk result (λ plan. Fits plan.change self.now) }
+    {
         let Some(recovery) = self.recoveries.get(&report.range().start()) else {
             unreachable!()
         };
-        match recovery.judge(report) {
+        let effect = match recovery.judge(report) {
             Ok(Progress::More) => Effect::More,
             Ok(Progress::Complete) => Effect::Complete,
-            Err(_) => Effect::Ignored,
-        }
+            Err(_) => return Ok(Plan::idle(alloc, Effect::Ignored)),
+        };
+        Ok(Plan::silent(alloc, effect, Change::Counts(report.copy()?)))
     }
 
-    // A report comes: what stays.
-    pub(crate) fn absorb_report(
-        &mut self,
-        letter: &Letter,
-        report: &Report,
-    ) -> Result<(), AllocError>
-        ensures left { OnOk result (self.new ≡ (reported self.old letter.now report.now).node) }
+    // A report that counts is taken.
+    pub(crate) fn count(&mut self, report: &Report) -> Result<(), AllocError>
+        requires recovers { has_range is_recovering report.now.range (piece_at self.old report.now.range) ≡ true }
+        ensures made { OnOk result (self.new ≡ (recovered_by (recovered (recovery_of self.old report.now.range) report.now) report.now.range self.old).node) }
         ensures unchanged { OnErr result (self.new ≡ self.old) }
     {
-        if !self.is_report_awaited(letter, report) {
-            return Ok(());
-        }
         if take_report(&mut self.recoveries, report)? {
             self.settle(report.range());
         }

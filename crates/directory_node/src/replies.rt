@@ -1,144 +1,95 @@
-ghost use Rattle.std.specs.Prelude.{◌≡◌, ◌==◌, if◌then◌else◌, []};
+ghost use Rattle.std.specs.Prelude.{◌≡◌};
 ghost use Rattle.directory_rules.specs.Host.{asking_under, closing_under};
 ghost use Rattle.directory_rules.specs.Reply.{confirmed_by, ended_by, found_by, not_found_by, replied, retry_by, yielded_by};
-ghost use Rattle.directory_rules.specs.declared.Effect.TheVariants.{Ignored};
 ghost use Rattle.silo_address.specs.declared.Entry.{Entry};
-ghost use Rattle.directory_node.specs.Saying.{said_of};
+ghost use Rattle.directory_node.specs.Planning.{Fits, step_by};
 
-use crate::Node;
+use crate::{Change, Node, Plan};
 use directory_rules::{Effect, Reply};
+use std::alloc::Global;
 
 impl Node {
-    // A reply comes, of a version and under a number: what it does. It sends no letter.
-    pub(crate) fn reply_does(&self, version: u64, number: u64, reply: &Reply) -> Effect
-        ensures { said_of (replied self.now version number reply.now) ≡ record { letters = []; effect = result } }
+    // A reply comes, of a version and under a number. It is answered by no letter.
+    pub(crate) fn plan_reply(
+        &self,
+        alloc: Global,
+        version: u64,
+        number: u64,
+        reply: &Reply,
+    ) -> Plan
+        ensures planned { step_by self.now result ≡ replied self.now version number reply.now }
+        ensures fits { Fits result.change self.now }
     {
-        match reply {
-            Reply::Registered(_) => self.if_seen(version, self.confirming_does(number)),
-            Reply::Taken(_) => self.if_seen(version, self.yielding_does(number)),
-            Reply::Removed | Reply::Absent => self.if_seen(version, self.ending_does(number)),
-            Reply::Found(_) => self.if_seen(version, self.finding_does(number)),
-            Reply::Nothing => self.if_seen(version, self.not_finding_does(number)),
-            Reply::Retry(_) => self.retrying_does(number),
+        if let Reply::Retry(_) = reply {
+            return self.plan_retry(alloc, number);
         }
-    }
-
-    // The effect, at the version that the silo has seen.
-    fn if_seen(&self, version: u64, effect: Effect) -> Effect
-        ensures { result ≡ (if version == self.now.view.version then effect else Ignored) }
-    {
-        if version == self.view.version() {
-            effect
-        } else {
-            Effect::Ignored
-        }
-    }
-
-    fn confirming_does(&self, number: u64) -> Effect
-        ensures { said_of (confirmed_by (asking_under self.now.host number) self.now) ≡ record { letters = []; effect = result } }
-    {
-        match self.host.asking_under(number) {
-            Some(_) => Effect::Firm,
-            None => Effect::Ignored,
-        }
-    }
-
-    fn yielding_does(&self, number: u64) -> Effect
-        ensures { (entry : Entry) → said_of (yielded_by (asking_under self.now.host number) entry self.now) ≡ record { letters = []; effect = result } }
-    {
-        match self.host.asking_under(number) {
-            Some(_) => Effect::Yielded,
-            None => Effect::Ignored,
-        }
-    }
-
-    fn ending_does(&self, number: u64) -> Effect
-        ensures { said_of (ended_by (closing_under self.now.host number) self.now) ≡ record { letters = []; effect = result } }
-    {
-        match self.host.closing_under(number) {
-            Some(_) => Effect::Ended,
-            None => Effect::Ignored,
-        }
-    }
-
-    fn finding_does(&self, number: u64) -> Effect
-        ensures { (entry : Entry) → said_of (found_by number entry self.now) ≡ record { letters = []; effect = result } }
-    {
-        if self.host.is_finding(number) {
-            Effect::Learnt
-        } else {
-            Effect::Ignored
-        }
-    }
-
-    fn not_finding_does(&self, number: u64) -> Effect
-        ensures { said_of (not_found_by number self.now) ≡ record { letters = []; effect = result } }
-    {
-        if self.host.is_finding(number) {
-            Effect::Noted
-        } else {
-            Effect::Ignored
-        }
-    }
-
-    fn retrying_does(&self, number: u64) -> Effect
-        ensures { said_of (retry_by number self.now) ≡ record { letters = []; effect = result } }
-    {
-        if self.host.is_outstanding(number) {
-            Effect::Noted
-        } else {
-            Effect::Ignored
-        }
-    }
-
-    // A reply comes: what stays.
-    pub(crate) fn absorb_reply(&mut self, version: u64, number: u64, reply: &Reply)
-        ensures { self.new ≡ (replied self.old version number reply.now).node }
-    {
         if version != self.view.version() {
-            return;
+            return Plan::idle(alloc, Effect::Ignored);
         }
         match reply {
-            Reply::Registered(_) => self.confirm(number),
-            Reply::Taken(_) => self.yield_to_other(number),
-            Reply::Removed | Reply::Absent => self.end(number),
-            Reply::Found(_) | Reply::Nothing => self.end_find(number),
-            Reply::Retry(_) => {}
+            Reply::Registered(_) => self.plan_confirm(alloc, number),
+            Reply::Taken(_) => self.plan_yield(alloc, number),
+            Reply::Removed | Reply::Absent => self.plan_end(alloc, number),
+            Reply::Found(_) => self.plan_end_find(alloc, number, Effect::Learnt),
+            Reply::Nothing => self.plan_end_find(alloc, number, Effect::Noted),
+            Reply::Retry(_) => unreachable!(),
         }
     }
 
     // The asking activation is firm.
-    fn confirm(&mut self, number: u64)
-        ensures { self.new ≡ (confirmed_by (asking_under self.old.host number) self.old).node }
+    fn plan_confirm(&self, alloc: Global, number: u64) -> Plan
+        ensures planned { step_by self.now result ≡ confirmed_by (asking_under self.now.host number) self.now }
+        ensures fits { Fits result.change self.now }
     {
-        self.host.confirm(number);
+        match self.host.asking_under(number) {
+            Some(_) => Plan::silent(alloc, Effect::Firm, Change::Confirms(number)),
+            None => Plan::idle(alloc, Effect::Ignored),
+        }
     }
 
     // The asking activation goes; no cache learns of the one that has its grain.
-    fn yield_to_other(&mut self, number: u64)
-        ensures { (entry : Entry) → self.new ≡ (yielded_by (asking_under self.old.host number) entry self.old).node }
+    fn plan_yield(&self, alloc: Global, number: u64) -> Plan
+        ensures planned { (entry : Entry) → step_by self.now result ≡ yielded_by (asking_under self.now.host number) entry self.now }
+        ensures fits { Fits result.change self.now }
     {
-        if let Some((grain, _)) = self.host.asking_under(number) {
-            self.host.end(&grain);
+        match self.host.asking_under(number) {
+            Some(_) => Plan::silent(alloc, Effect::Yielded, Change::Yields(number)),
+            None => Plan::idle(alloc, Effect::Ignored),
         }
     }
 
     // The closing activation goes.
-    fn end(&mut self, number: u64)
-        ensures { self.new ≡ (ended_by (closing_under self.old.host number) self.old).node }
+    fn plan_end(&self, alloc: Global, number: u64) -> Plan
+        ensures planned { step_by self.now result ≡ ended_by (closing_under self.now.host number) self.now }
+        ensures fits { Fits result.change self.now }
     {
-        if let Some((grain, _)) = self.host.closing_under(number) {
-            self.host.end(&grain);
+        match self.host.closing_under(number) {
+            Some(_) => Plan::silent(alloc, Effect::Ended, Change::Closes(number)),
+            None => Plan::idle(alloc, Effect::Ignored),
         }
     }
 
     // The find ends; no cache learns of what it found.
-    fn end_find(&mut self, number: u64)
-        ensures found { (entry : Entry) → self.new ≡ (found_by number entry self.old).node }
-        ensures not_found { self.new ≡ (not_found_by number self.old).node }
+    fn plan_end_find(&self, alloc: Global, number: u64, effect: Effect) -> Plan
+        ensures found { (entry : Entry) → effect ≡ Effect.Learnt → step_by self.now result ≡ found_by number entry self.now }
+        ensures not_found { effect ≡ Effect.Noted → step_by self.now result ≡ not_found_by number self.now }
+        ensures fits { Fits result.change self.now }
     {
-        if self.host.is_finding(number) {
-            self.host.end_find(number);
+        if !self.host.is_finding(number) {
+            return Plan::idle(alloc, Effect::Ignored);
+        }
+        Plan::silent(alloc, effect, Change::EndsFind(number))
+    }
+
+    // The request stays outstanding.
+    fn plan_retry(&self, alloc: Global, number: u64) -> Plan
+        ensures planned { step_by self.now result ≡ retry_by number self.now }
+        ensures fits { Fits result.change self.now }
+    {
+        if self.host.is_outstanding(number) {
+            Plan::idle(alloc, Effect::Noted)
+        } else {
+            Plan::idle(alloc, Effect::Ignored)
         }
     }
 }

@@ -1,51 +1,47 @@
-ghost use Rattle.std.specs.Prelude.{◌≡◌, ◌&&◌, ◌==◌, IfOk, OnOk, OnErr, length};
+ghost use Rattle.std.specs.Prelude.{◌≡◌, ◌&&◌, ◌==◌, IfOk, OnErr, length};
 ghost use Rattle.silo_address.specs.Silo.{silo_eq};
+ghost use Rattle.directory_rules.specs.Answer.{answered};
 ghost use Rattle.directory_rules.specs.Receive.{reply_effect, requested};
-ghost use Rattle.directory_node.specs.Saying.{response_of, said_of};
+ghost use Rattle.directory_node.specs.Planning.{Fits, changed, step_by};
 
-use crate::{Body, Letter, Node, Response};
-use directory_rules::{Effect, Reply, Request};
+use crate::{Body, Change, Letter, Node, Plan};
+use directory_rules::{Act, Effect, Reply, Request};
 use std::alloc::{AllocError, Global};
 
 impl Node {
-    // A request comes: what the silo says.
-    pub(crate) fn respond_request(
+    // A request comes.
+    pub(crate) fn plan_request(
         &self,
         alloc: Global,
         letter: &Letter,
         request: &Request,
-    ) -> Result<Response, AllocError>
-        ensures says { IfOk result (λ response. response_of response ≡ said_of (requested self.now letter.now request.now)) }
+    ) -> Result<Plan, AllocError>
+        ensures planned { IfOk result (λ plan. step_by self.now plan ≡ requested self.now letter.now request.now) }
+        ensures fits { IfOk result (λ plan. Fits plan.change self.now) }
         ensures one { OnErr result (length (requested self.now letter.now request.now).letters ≡ 1) }
     {
         if !is_senders(letter, request) {
-            return Ok(Response::silent(alloc, Effect::Ignored));
+            return Ok(Plan::idle(alloc, Effect::Ignored));
         }
         let reply = self.holding.answer(request);
         let body = Body::Reply {
             number: request.number,
             reply,
         };
-        Response::of_one(
-            alloc,
-            self.letter_to(request.sender, body),
-            reply_effect(&reply),
-        )
+        let back = self.letter_to(request.sender, body);
+        let effect = reply_effect(&reply);
+        Plan::of_one(alloc, back, effect, self.change_by(request))
     }
 
-    // A request comes: what stays.
-    pub(crate) fn absorb_request(
-        &mut self,
-        letter: &Letter,
-        request: &Request,
-    ) -> Result<(), AllocError>
-        ensures left { OnOk result (self.new ≡ (requested self.old letter.now request.now).node) }
-        ensures unchanged { OnErr result (self.new ≡ self.old) }
+    // What a request changes: a Find nothing.
+    fn change_by(&self, request: &Request) -> Change
+        ensures changed { changed result self.now ≡ record self.now { holding = (answered self.now.holding request.now).holding } }
+        ensures fits { Fits result self.now }
     {
-        if is_senders(letter, request) {
-            self.holding.serve(request)?;
+        match request.act {
+            Act::Find { .. } => Change::Nothing,
+            Act::Register { .. } | Act::Deregister { .. } => Change::Serves(*request),
         }
-        Ok(())
     }
 }
 

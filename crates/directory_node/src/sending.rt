@@ -3,7 +3,7 @@ ghost use Rattle.std.specs.Prelude.{◌≡◌, ◌++◌, [], IfOk, OnErr, OnOk, 
 ghost use Rattle.directory_rules.specs.Sending.{grain_of, letter_to, owner_by, request_letters, request_of};
 ghost use Rattle.directory_node.specs.LetterModel.{body_of};
 
-use crate::response::list_of;
+use crate::plan::list_of;
 use crate::{Body, Letter, Node};
 use directory_rules::{Act, Request};
 use silo_address::{GrainId, SiloAddress};

@@ -1,4 +1,4 @@
-ghost use Rattle.std.specs.Prelude.{◌≡◌, ◌&&◌, ◌==◌, ◌+◌, ◌<◌, ◌≤◌, ◌++◌, [], IfOk, OnOk, OnErr, IsOk, IfSome, All, flat_map, length, true, None};
+ghost use Rattle.std.specs.Prelude.{◌≡◌, ◌&&◌, ◌==◌, ◌+◌, ◌<◌, ◌≤◌, ◌++◌, [], IfOk, OnOk, IsOk, IfSome, All, flat_map, length, true, None};
 ghost use Rattle.std.specs.BTreeMap.{insert_entry};
 ghost use Rattle.std.specs.Ordering.{nat_cmp};
 ghost use Rattle.directory_rules.specs.Host.{has_numbers, outstanding, renewed};
@@ -12,11 +12,11 @@ ghost use Rattle.range_moves.specs.Arcs.{AreArcs, arcs_of};
 ghost use Rattle.directory_node.specs.First.{IsFirst};
 ghost use Rattle.directory_node.specs.Follows.{Follows};
 ghost use Rattle.directory_node.specs.Numbers.{step_refusal_number};
-ghost use Rattle.directory_node.specs.Saying.{left_by, stepped_of};
+ghost use Rattle.directory_node.specs.Planning.{Fits, step_by, stepped_of};
 
 use crate::recoveries::is_recovering;
 use crate::step::Stepped;
-use crate::{Body, Letter, Node, StepRefusal};
+use crate::{Body, Change, Letter, Node, Plan, StepRefusal};
 use directory_rules::{Act, Effect};
 use grain_partition::Holding;
 use hash_ring::{Hashing, Places, Ring};
@@ -53,25 +53,26 @@ impl Node {
         }
     }
 
-    // A version is seen, in place.
-    pub(crate) fn absorb_sight(
-        &mut self,
+    // A version is seen, as a plan.
+    pub(crate) fn plan_sight(
+        &self,
         alloc: Global,
         before: &View,
         view: &View,
         places: &Places,
-    ) -> Result<(), AllocError>
-        requires first { IsFirst self.old before.now view.now places.now }
-        requires taken { IsOk (see self.old before.now view.now places.now) }
-        ensures left { OnOk result (self.new ≡ left_by (see self.old before.now view.now places.now) self.old) }
-        ensures unchanged { OnErr result (self.new ≡ self.old) }
+    ) -> Result<Plan, StepRefusal>
+        requires first { IsFirst self.now before.now view.now places.now }
+        ensures planned { Follows (step_by self.now) step_refusal_number IsOk (see self.now before.now view.now places.now) result }
+        ensures fits { IfOk result (λ plan. Fits plan.change self.now) }
     {
-        match self.see(alloc, before, view, places) {
-            Ok(stepped) => {
-                *self = stepped.node;
-                Ok(())
-            }
-            Err(_) => Err(AllocError),
+        let stepped = self.see(alloc, before, view, places)?;
+        match Box::new(alloc, stepped.node) {
+            Ok(node) => Ok(Plan {
+                letters: stepped.letters,
+                effect: stepped.effect,
+                change: Change::Becomes(node),
+            }),
+            Err(_) => Err(StepRefusal::OutOfMemory),
         }
     }
 

@@ -1,0 +1,15 @@
+use Rattle.std.proofs.Common.{sym, subst, ap, ◌∙◌}
+use Rattle.directory_rules.specs.Answer.{Answered}
+use Rattle.directory_node.specs.Node.{HaveRecoveries}
+use Rattle.directory_node.proofs.Kept.{answered_keeps, answered_none}
+use Rattle.directory_node.proofs.node.Node.serve.Goals as goal
+
+pub invariant_of-self-2 : goal.invariant_of-self-2
+invariant_of-self-2 c =
+    let is = ap (λ (a : Answered). a.holding.pieces) c.in_ok-serve.ensures.served in
+    record {
+      uncached = c.self.invariant.uncached;
+      recovers = subst (λ pieces. HaveRecoveries pieces c.self.inside.recoveries.entries) is (answered_keeps c.self.inside.holding c.args.request.now c.self.inside.recoveries.entries c.self.invariant.recovers);
+      unseen = λ none. sym is ∙ answered_none c.self.inside.holding c.args.request.now (c.self.invariant.unseen none);
+      bare = c.self.invariant.bare;
+    }

@@ -1,0 +1,73 @@
+ghost use Rattle.std.specs.Prelude.{◌≡◌, OnErr, OnOk};
+ghost use Rattle.directory_rules.specs.Answer.{answered};
+ghost use Rattle.directory_rules.specs.Host.{asking_under, closing_under, without_find};
+ghost use Rattle.directory_rules.specs.Reply.{confirmed_by};
+ghost use Rattle.directory_node.specs.Planning.{Fits, changed, without};
+
+use crate::{Change, Node};
+use directory_rules::Request;
+use std::alloc::AllocError;
+
+impl Node {
+    /// Makes the change of a plan of this node. Fails only when memory runs out, and then changes nothing.
+    pub fn carry_out(&mut self, change: Change) -> Result<(), AllocError>
+        requires fits { Fits change self.old }
+        ensures made { OnOk result (self.new ≡ changed change self.old) }
+        ensures unchanged { OnErr result (self.new ≡ self.old) }
+    {
+        match change {
+            Change::Nothing => {}
+            Change::Becomes(node) => *self = Box::into_inner(node),
+            Change::Starts(grain) => self.host.start(grain, None)?,
+            Change::Asks(grain) => self.host.ask(grain)?,
+            Change::Serves(request) => self.serve(&request)?,
+            Change::Confirms(number) => self.confirm(number),
+            Change::Yields(number) => self.yield_to_other(number),
+            Change::Closes(number) => self.end_closing(number),
+            Change::EndsFind(number) => self.end_find(number),
+            Change::Counts(report) => self.count(&report)?,
+        }
+        Ok(())
+    }
+
+    // A request is served.
+    fn serve(&mut self, request: &Request) -> Result<(), AllocError>
+        ensures made { OnOk result (self.new ≡ record self.old { holding = (answered self.old.holding request.now).holding }) }
+        ensures unchanged { OnErr result (self.new ≡ self.old) }
+    {
+        self.holding.serve(request)?;
+        Ok(())
+    }
+
+    // The asking activation is firm.
+    fn confirm(&mut self, number: u64)
+        ensures { self.new ≡ (confirmed_by (asking_under self.old.host number) self.old).node }
+    {
+        self.host.confirm(number);
+    }
+
+    // The asking activation goes.
+    fn yield_to_other(&mut self, number: u64)
+        ensures { self.new ≡ without (asking_under self.old.host number) self.old }
+    {
+        if let Some((grain, _)) = self.host.asking_under(number) {
+            self.host.end(&grain);
+        }
+    }
+
+    // The closing activation goes.
+    fn end_closing(&mut self, number: u64)
+        ensures { self.new ≡ without (closing_under self.old.host number) self.old }
+    {
+        if let Some((grain, _)) = self.host.closing_under(number) {
+            self.host.end(&grain);
+        }
+    }
+
+    // The find ends.
+    fn end_find(&mut self, number: u64)
+        ensures { self.new ≡ record self.old { host = without_find self.old.host number } }
+    {
+        self.host.end_find(number);
+    }
+}

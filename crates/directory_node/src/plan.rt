@@ -1,0 +1,91 @@
+ghost use Rattle.std.specs.Prelude.{◌≡◌, [], ◌∷◌, IfOk};
+ghost use Rattle.directory_rules.specs.Node.{Node as NodeValue};
+ghost use Rattle.directory_node.specs.Planning.{changed, step_by};
+
+use crate::{Letter, Node};
+use directory_rules::{Effect, Request};
+use range_recovery::Report;
+use silo_address::GrainId;
+use std::alloc::{AllocError, Global};
+
+/// What a step is to do: the letters that it sends, in order, what it did, and the change that the node has still to make.
+/// A plan has changed nothing yet, so that whoever finds no room for its letters may drop it (`docs/RULES.md#the-world`).
+#[derive(Drop)]
+pub struct Plan {
+    pub letters: Vec<Letter>,
+    pub effect: Effect,
+    pub change: Change,
+}
+
+/// What a step changes of its node.
+#[derive(Drop)]
+pub enum Change {
+    /// Nothing.
+    Nothing,
+    /// The node becomes another one: it has seen a view.
+    Becomes(Box<Node>),
+    /// An activation of the grain begins, and asks to be entered.
+    Starts(GrainId),
+    /// The host asks where the grain is.
+    Asks(GrainId),
+    /// A request is served.
+    Serves(Request),
+    /// The activation whose Register has the number is firm.
+    Confirms(u64),
+    /// The activation whose Register has the number goes: another one has its grain.
+    Yields(u64),
+    /// The activation whose Deregister has the number goes.
+    Closes(u64),
+    /// The find that has the number ends.
+    EndsFind(u64),
+    /// A report is counted for the piece that recovers.
+    Counts(Report),
+}
+
+impl Plan {
+    // No letter.
+    pub(crate) fn silent(alloc: Global, effect: Effect, change: Change) -> Plan
+        ensures planned { (node : NodeValue) → step_by node result ≡ record { node = changed change node; letters = []; effect = effect } }
+        ensures change { result.change ≡ change }
+    {
+        Plan {
+            letters: Vec::new(alloc),
+            effect,
+            change,
+        }
+    }
+
+    // Nothing is sent or changed.
+    pub(crate) fn idle(alloc: Global, effect: Effect) -> Plan
+        ensures planned { (node : NodeValue) → step_by node result ≡ record { node = node; letters = []; effect = effect } }
+        ensures change { result.change ≡ Change.Nothing }
+    {
+        Plan::silent(alloc, effect, Change::Nothing)
+    }
+
+    // One letter.
+    pub(crate) fn of_one(
+        alloc: Global,
+        letter: Letter,
+        effect: Effect,
+        change: Change,
+    ) -> Result<Plan, AllocError>
+        ensures planned { IfOk result (λ plan. (node : NodeValue) → step_by node plan ≡ record { node = changed change node; letters = letter ∷ []; effect = effect }) }
+        ensures change { IfOk result (λ plan. plan.change ≡ change) }
+    {
+        Ok(Plan {
+            letters: list_of(alloc, letter)?,
+            effect,
+            change,
+        })
+    }
+}
+
+// The letter alone, as a list.
+pub(crate) fn list_of(alloc: Global, letter: Letter) -> Result<Vec<Letter>, AllocError>
+    ensures { IfOk result (λ letters. letters.items ≡ letter ∷ []) }
+{
+    let mut letters = Vec::with_capacity(alloc, 1)?;
+    letters.push(letter)?;
+    Ok(letters)
+}
