@@ -1,7 +1,7 @@
 -- How a letter's body of the code is one of the rule.
 use Rattle.directory_rules.specs.Letter as rule
 use Rattle.directory_node.specs.declared.letter.Body.{Body}
-use Rattle.directory_node.specs.declared.letter.Body.TheVariants.{Request, Reply, Query, Report, Behind, Ahead}
+use Rattle.directory_node.specs.declared.letter.Body.TheVariants.{Request, Reply, Query, Report, Behind, Ahead, Offer}
 
 -- what the letter says, in the rule's words
 abbrev pub body_of : Body → rule.Body
@@ -11,3 +11,4 @@ body_of (Query range) = rule.Query_letter range
 body_of (Report report) = rule.Report_letter report
 body_of (Behind range) = rule.Behind_letter range
 body_of (Ahead range) = rule.Ahead_letter range
+body_of (Offer entry) = rule.Offer_letter entry

@@ -1,11 +1,12 @@
 ghost use Rattle.std.specs.Prelude.{◌≡◌, OnErr, OnOk};
 ghost use Rattle.directory_rules.specs.Answer.{answered};
-ghost use Rattle.directory_rules.specs.Host.{asking_under, closing_under, without_find};
+ghost use Rattle.directory_rules.specs.Host.{asking_under, closing_under, held_of, without_find};
 ghost use Rattle.directory_rules.specs.Reply.{confirmed_by};
-ghost use Rattle.directory_node.specs.Planning.{Fits, changed, without};
+ghost use Rattle.directory_node.specs.Planning.{Fits, MayClose, changed, with_closing_of, without};
 
 use crate::{Change, Node};
 use directory_rules::Request;
+use silo_address::GrainId;
 use std::alloc::AllocError;
 
 impl Node {
@@ -18,16 +19,26 @@ impl Node {
         match change {
             Change::Nothing => {}
             Change::Becomes(node) => *self = Box::into_inner(node),
-            Change::Starts(grain) => self.host.start(grain, None)?,
+            Change::Starts { grain, previous } => self.host.start(grain, previous)?,
+            Change::Closes(grain) => self.close(&grain)?,
             Change::Asks(grain) => self.host.ask(grain)?,
             Change::Serves(request) => self.serve(&request)?,
             Change::Confirms(number) => self.confirm(number),
             Change::Yields(number) => self.yield_to_other(number),
-            Change::Closes(number) => self.end_closing(number),
+            Change::Ends(number) => self.end_closing(number),
             Change::EndsFind(number) => self.end_find(number),
             Change::Counts(report) => self.count(&report)?,
         }
         Ok(())
+    }
+
+    // The grain's firm activation asks to be taken out.
+    fn close(&mut self, grain: &GrainId) -> Result<(), AllocError>
+        requires may { MayClose self.old grain.now }
+        ensures made { OnOk result (self.new ≡ with_closing_of (held_of self.old.host grain.now) self.old grain.now) }
+        ensures unchanged { OnErr result (self.new ≡ self.old) }
+    {
+        self.host.begin_to_close(grain)
     }
 
     // A request is served.

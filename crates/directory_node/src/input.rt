@@ -1,7 +1,7 @@
 use crate::Letter;
 use hash_ring::Places;
 use membership_view::View;
-use silo_address::GrainId;
+use silo_address::{GrainId, SiloAddress};
 
 /// One input of a silo's step.
 #[derive(Clone, Copy)]
@@ -14,8 +14,17 @@ pub enum Input<'a> {
     },
     /// An activation of the grain is to start.
     Wakes(&'a GrainId),
+    /// The activation of the grain is to be closed.
+    Closes(&'a GrainId),
     /// The grain is to be looked up.
     Finds(&'a GrainId),
+    /// What the cache has of the grain is to be forgotten.
+    Forgets(&'a GrainId),
+    /// The activation of the grain is to be offered to another silo.
+    Offers {
+        grain: &'a GrainId,
+        to: &'a SiloAddress,
+    },
     /// A letter comes.
     Receives(&'a Letter),
 }

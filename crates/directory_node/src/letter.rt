@@ -6,7 +6,7 @@ ghost use Rattle.directory_node.specs.Planning.{answer_count};
 use directory_rules::{Act, LetterKind, Reply, Request};
 use range_recovery::Report;
 use ring_range::RingRange;
-use silo_address::SiloAddress;
+use silo_address::{Entry, SiloAddress};
 use std::alloc::AllocError;
 use std::marker::Model;
 
@@ -25,6 +25,8 @@ pub enum Body {
     Behind(RingRange),
     /// The asked silo has passed the version.
     Ahead(RingRange),
+    /// A silo to another one: it may have an activation in the place of this one, which closes.
+    Offer(Entry),
 }
 
 impl Body {
@@ -42,6 +44,7 @@ impl Body {
             Body::Report(report) => Ok(Body::Report(report.copy()?)),
             Body::Behind(range) => Ok(Body::Behind(*range)),
             Body::Ahead(range) => Ok(Body::Ahead(*range)),
+            Body::Offer(entry) => Ok(Body::Offer(*entry)),
         }
     }
 
@@ -62,13 +65,14 @@ impl Body {
             (Body::Report(report), Body::Report(its)) => report.same(its),
             (Body::Behind(range), Body::Behind(its)) => range.same(its),
             (Body::Ahead(range), Body::Ahead(its)) => range.same(its),
+            (Body::Offer(entry), Body::Offer(its)) => entry.same(its),
             _ => false,
         }
     }
 }
 
-/// A letter from one silo to another. A request and a reply have the version that their sender had seen, the others that of the
-/// recovery.
+/// A letter from one silo to another. A request, a reply and an offer have the version that their sender had seen, the others
+/// that of the recovery.
 #[derive(Drop)]
 pub struct Letter {
     from: SiloAddress,
@@ -140,6 +144,7 @@ impl Letter {
             Body::Report(_) => LetterKind::Report,
             Body::Behind(_) => LetterKind::Behind,
             Body::Ahead(_) => LetterKind::Ahead,
+            Body::Offer(_) => LetterKind::Offer,
         }
     }
 
@@ -153,7 +158,8 @@ impl Letter {
             | Body::Reply { .. }
             | Body::Query(_)
             | Body::Behind(_)
-            | Body::Ahead(_) => 1,
+            | Body::Ahead(_)
+            | Body::Offer(_) => 1,
         }
     }
 

@@ -3,6 +3,7 @@
 #![tactic(auto)]
 
 mod carrying;
+mod closing;
 mod input;
 mod letter;
 mod node;

@@ -1,5 +1,5 @@
 ghost use Rattle.std.specs.Prelude.{◌≡◌, IfOk, OnErr, None, length};
-ghost use Rattle.directory_rules.specs.Step.{finding, find_grain, started, wake};
+ghost use Rattle.directory_rules.specs.Step.{finding, find_grain, forget, started, wake};
 ghost use Rattle.hash_ring.specs.Ring.{is_active_in};
 ghost use Rattle.directory_node.specs.Follows.{Follows};
 ghost use Rattle.directory_node.specs.Numbers.{step_refusal_number};
@@ -7,7 +7,7 @@ ghost use Rattle.directory_node.specs.Planning.{Fits, Sends, step_by};
 
 use crate::{Change, Node, Plan, StepRefusal};
 use directory_rules::{Act, Effect};
-use silo_address::{ActivationId, Entry, GrainId};
+use silo_address::{ActivationId, Entry, GrainId, SiloAddress};
 use std::alloc::{AllocError, Global};
 
 impl Node {
@@ -29,32 +29,30 @@ impl Node {
         if !(self.host.has_numbers(&self.settings, 1) && self.host.has_count(&self.settings)) {
             return Err(StepRefusal::NumbersSpent);
         }
-        match self.starting(alloc, grain) {
+        match self.starting(alloc, grain, None) {
             Ok(plan) => Ok(plan),
             Err(_) => Err(StepRefusal::OutOfMemory),
         }
     }
 
-    // An activation begins.
-    fn starting(&self, alloc: Global, grain: &GrainId) -> Result<Plan, AllocError>
-        ensures planned { IfOk result (λ plan. step_by self.now plan ≡ started self.now grain.now None) }
-        ensures change { IfOk result (λ plan. plan.change ≡ Change.Starts grain.now) }
-        ensures one { OnErr result (length (started self.now grain.now None).letters ≡ 1) }
+    // An activation begins, in the place of a previous one if one is named.
+    pub(crate) fn starting(
+        &self,
+        alloc: Global,
+        grain: &GrainId,
+        previous: Option<ActivationId>,
+    ) -> Result<Plan, AllocError>
+        ensures planned { IfOk result (λ plan. step_by self.now plan ≡ started self.now grain.now previous) }
+        ensures change { IfOk result (λ plan. plan.change ≡ Change.Starts grain.now previous) }
+        ensures one { OnErr result (length (started self.now grain.now previous).letters ≡ 1) }
     {
-        let activation = ActivationId {
-            silo: self.host.silo(),
-            count: self.host.next_count(),
-        };
-        let entry = Entry {
-            grain: *grain,
-            activation,
-        };
-        let previous = None;
+        let entry = self.entry_of(grain, self.host.next_count());
         let register = Act::Register { entry, previous };
+        let grain = *grain;
         Ok(Plan {
             letters: self.request_letters(alloc, self.host.next_number(), register)?,
             effect: Effect::Started(entry),
-            change: Change::Starts(*grain),
+            change: Change::Starts { grain, previous },
         })
     }
 
@@ -90,13 +88,40 @@ impl Node {
         })
     }
 
+    // The silo forgets what its cache has of a grain: nothing, as long as it keeps none.
+    pub(crate) fn plan_forget(&self, alloc: Global, grain: &GrainId) -> Plan
+        ensures planned { step_by self.now result ≡ forget self.now grain.now }
+        ensures fits { Fits result.change self.now }
+    {
+        let _settings = self.settings;
+        Plan::idle(alloc, Effect::NothingCached(*grain))
+    }
+
     // Whether the silo is Active in the view that it has seen.
-    fn is_active(&self) -> bool
+    pub(crate) fn is_active(&self) -> bool
         ensures { result ≡ is_active_in self.now.view self.now.host.silo }
     {
-        match self.view.status(&self.host.silo()) {
+        self.sees_active(&self.host.silo())
+    }
+
+    // Whether a silo is Active in the view that this one has seen.
+    pub(crate) fn sees_active(&self, silo: &SiloAddress) -> bool
+        ensures { result ≡ is_active_in self.now.view silo.now }
+    {
+        match self.view.status(silo) {
             Some(status) => status.is_active(),
             None => false,
+        }
+    }
+
+    // The entry of the grain's activation here that has the count.
+    pub(crate) fn entry_of(&self, grain: &GrainId, count: u64) -> Entry
+        ensures { result ≡ record { grain = grain.now; activation = record { silo = self.now.host.silo; count = count } } }
+    {
+        let silo = self.host.silo();
+        Entry {
+            grain: *grain,
+            activation: ActivationId { silo, count },
         }
     }
 }

@@ -5,7 +5,7 @@ ghost use Rattle.directory_node.specs.Planning.{changed, step_by};
 use crate::{Letter, Node};
 use directory_rules::{Effect, Request};
 use range_recovery::Report;
-use silo_address::GrainId;
+use silo_address::{ActivationId, GrainId};
 use std::alloc::{AllocError, Global};
 
 /// What a step is to do: the letters that it sends, in order, what it did, and the change that the node has still to make.
@@ -24,8 +24,13 @@ pub enum Change {
     Nothing,
     /// The node becomes another one: it has seen a view.
     Becomes(Box<Node>),
-    /// An activation of the grain begins, and asks to be entered.
-    Starts(GrainId),
+    /// An activation of the grain begins, in the place of a previous one if one is named, and asks to be entered.
+    Starts {
+        grain: GrainId,
+        previous: Option<ActivationId>,
+    },
+    /// The grain's firm activation asks to be taken out.
+    Closes(GrainId),
     /// The host asks where the grain is.
     Asks(GrainId),
     /// A request is served.
@@ -35,7 +40,7 @@ pub enum Change {
     /// The activation whose Register has the number goes: another one has its grain.
     Yields(u64),
     /// The activation whose Deregister has the number goes.
-    Closes(u64),
+    Ends(u64),
     /// The find that has the number ends.
     EndsFind(u64),
     /// A report is counted for the piece that recovers.

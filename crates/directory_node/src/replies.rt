@@ -64,7 +64,7 @@ impl Node {
         ensures fits { Fits result.change self.now }
     {
         match self.host.closing_under(number) {
-            Some(_) => Plan::silent(alloc, Effect::Ended, Change::Closes(number)),
+            Some(_) => Plan::silent(alloc, Effect::Ended, Change::Ends(number)),
             None => Plan::idle(alloc, Effect::Ignored),
         }
     }

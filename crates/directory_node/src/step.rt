@@ -62,7 +62,10 @@ impl Node {
                 places,
             } => self.plan_sight(alloc, before, view, places),
             Input::Wakes(grain) => self.plan_wake(alloc, grain),
+            Input::Closes(grain) => self.plan_close(alloc, grain),
             Input::Finds(grain) => self.plan_find(alloc, grain),
+            Input::Forgets(grain) => Ok(self.plan_forget(alloc, grain)),
+            Input::Offers { grain, to } => self.plan_offer(alloc, grain, to),
             Input::Receives(letter) => match self.plan_letter(alloc, letter) {
                 Ok(plan) => Ok(plan),
                 Err(_) => Err(StepRefusal::OutOfMemory),
@@ -84,6 +87,7 @@ impl Node {
             Body::Query(range) => self.plan_query(alloc, letter, *range),
             Body::Report(report) => self.plan_report(alloc, letter, report),
             Body::Behind(_) | Body::Ahead(_) => Ok(Plan::idle(alloc, Effect::Noted)),
+            Body::Offer(entry) => self.plan_offered(alloc, letter, entry),
         }
     }
 }

@@ -7,13 +7,13 @@ use Rattle.std.proofs.lemmas.List.{append-nil, append_assoc, length-append, map_
 use Rattle.std.proofs.lemmas.Option.{same_Some}
 use Rattle.silo_address.specs.Grain.{Grain}
 use Rattle.silo_address.specs.Silo.{Silo}
-use Rattle.directory_rules.specs.Letter.{Letter, Body, Reply_letter}
+use Rattle.directory_rules.specs.Letter.{Letter, Body, Reply_letter, Offer_letter}
 use Rattle.directory_rules.specs.Mail.{fresh_letter}
 use Rattle.directory_rules.specs.World.{Posted}
 use Rattle.directory_rules.specs.declared.Act.TheVariants as act
 use Rattle.directory_rules.specs.declared.Reply.TheVariants as reply
 use Rattle.letter_mail.specs.declared.kept.Says.{Says}
-use Rattle.letter_mail.specs.declared.kept.Says.TheVariants.{Register, Deregister, Find, Registered, Taken, Removed, Absent, Found, Nothing, Retry, Query, Behind, Ahead}
+use Rattle.letter_mail.specs.declared.kept.Says.TheVariants.{Register, Deregister, Find, Registered, Taken, Removed, Absent, Found, Nothing, Retry, Query, Behind, Ahead, Offer}
 use Rattle.letter_mail.specs.declared.kept.Kept.{Kept}
 use Rattle.letter_mail.specs.declared.kept.Kept.TheVariants.{Brief, Whole}
 use Rattle.letter_mail.specs.declared.slots.Slot.{Slot}
@@ -50,6 +50,7 @@ more_says count most (Retry number why) up is = is
 more_says count most (Query range) up is = is
 more_says count most (Behind range) up is = is
 more_says count most (Ahead range) up is = is
+more_says count most (Offer entry) up is = omega arith
 
 more_kept : (count most : ℕ) (kept : Kept) → count ≤ most → IsKept count kept → IsKept most kept
 more_kept count most (Brief brief) up is = more_says count most brief.says up is
@@ -82,6 +83,8 @@ same_said grains more from version (Retry number why) is = refl
 same_said grains more from version (Query range) is = refl
 same_said grains more from version (Behind range) is = refl
 same_said grains more from version (Ahead range) is = refl
+same_said grains more from version (Offer entry) is =
+    ap (λ (g : Grain). Offer_letter (record { grain = g; activation = entry.activation })) (same_grain grains more entry.grain is)
 
 same_kept : (grains more : List Grain) (kept : Kept) → IsKept (length grains) kept → letter_kept (grains ++ more) kept ≡ letter_kept grains kept
 same_kept grains more (Brief brief) is =

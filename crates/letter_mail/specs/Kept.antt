@@ -7,7 +7,7 @@ use Rattle.silo_address.specs.declared.Entry.{Entry}
 use Rattle.directory_rules.specs.declared.Act.{Act}
 use Rattle.directory_rules.specs.declared.Act.TheVariants as act
 use Rattle.directory_rules.specs.declared.Reply.TheVariants as reply
-use Rattle.directory_rules.specs.Letter.{Letter, Body, Request_letter, Reply_letter, Query_letter, Behind_letter, Ahead_letter}
+use Rattle.directory_rules.specs.Letter.{Letter, Body, Request_letter, Reply_letter, Query_letter, Behind_letter, Ahead_letter, Offer_letter}
 use Rattle.directory_rules.specs.World.{Posted}
 use Rattle.letter_mail.specs.declared.kept.Named.{Named}
 use Rattle.letter_mail.specs.declared.kept.Says.{Says}
@@ -44,6 +44,7 @@ said_by grains from version (says.Retry number why) = Reply_letter number (reply
 said_by grains from version (says.Query range) = Query_letter range
 said_by grains from version (says.Behind range) = Behind_letter range
 said_by grains from version (says.Ahead range) = Ahead_letter range
+said_by grains from version (says.Offer entry) = Offer_letter (entry_by grains entry)
 
 -- the letter that is kept short
 abbrev pub letter_by : List Grain → Brief → Letter
@@ -82,6 +83,7 @@ IsNumbered count (says.Retry number why) = Unit {0}
 IsNumbered count (says.Query range) = Unit {0}
 IsNumbered count (says.Behind range) = Unit {0}
 IsNumbered count (says.Ahead range) = Unit {0}
+IsNumbered count (says.Offer entry) = entry.grain < count
 
 -- so has what is kept
 abbrev pub IsKept : ℕ → Kept → Type 0

@@ -70,6 +70,7 @@ fn says(
         Body::Report(_) => Ok(None),
         Body::Behind(range) => Ok(Some(Says::Behind(*range))),
         Body::Ahead(range) => Ok(Some(Says::Ahead(*range))),
+        Body::Offer(entry) => Ok(Some(Says::Offer(named(grains, entry)?))),
     }
 }
 

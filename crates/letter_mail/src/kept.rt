@@ -64,6 +64,7 @@ pub(crate) enum Says {
     Query(RingRange),
     Behind(RingRange),
     Ahead(RingRange),
+    Offer(Named),
 }
 
 // A letter, its grain by number.
@@ -156,6 +157,7 @@ fn body_by(grains: &IndexSet<GrainId>, brief: &Brief) -> Body
         Says::Query(range) => Body::Query(range),
         Says::Behind(range) => Body::Behind(range),
         Says::Ahead(range) => Body::Ahead(range),
+        Says::Offer(entry) => Body::Offer(entry_by(grains, entry)),
     }
 }
 
