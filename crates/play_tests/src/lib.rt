@@ -3,15 +3,9 @@
 #![tactic(auto)]
 
 #[cfg(test)]
-mod cuts;
-#[cfg(test)]
 mod endings;
 #[cfg(test)]
 mod examples;
-#[cfg(test)]
-mod faults;
-#[cfg(test)]
-mod limits;
 #[cfg(test)]
 mod plays;
 #[cfg(test)]
