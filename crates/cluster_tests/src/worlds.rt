@@ -1,7 +1,7 @@
 use cluster_events::{Event, Happening, Outcome, Span};
 use directory_core::{EventRefusal, World};
 use directory_rules::{Effect, LetterKind, Settings};
-use hash_ring::{Hashing, RingError};
+use hash_ring::Hashing;
 use silo_address::{ActivationId, Entry, GrainId, SiloAddress};
 use std::alloc::Global;
 use std::process::Abort;
@@ -19,9 +19,12 @@ fn grain(rt: &impl Abort) -> GrainId {
     GrainId::parse(ANN.as_bytes()).expect(rt, ANN)
 }
 
-// The world before the first event, with stated places.
-fn first(rt: &impl Abort, alloc: Global) -> World {
-    World::for_one_silo(alloc, Hashing::Stated, 30).expect(rt, "30 points are in range")
+// The world of one silo before the first event, with stated places, in which so many letters may ever be sent.
+fn first(rt: &impl Abort, alloc: Global, letters: u64) -> World {
+    let settings = Settings::of_directory(Hashing::Stated, 30, 0).expect(rt, "30 points");
+    let settings = settings.with_silos(1).expect(rt, "one silo");
+    let settings = settings.with_letters(letters).expect(rt, "so many letters");
+    World::new(alloc, settings).expect(rt, "one silo and no cache")
 }
 
 // A join with that place so often.
@@ -61,8 +64,8 @@ fn is_refused(
     refusal: EventRefusal,
     number: u16,
 ) {
-    assert_eq!(rt; world.apply(event), Err(refusal));
-    assert_eq!(rt; refusal.number(), Some(number));
+    assert!(rt; world.apply(event) == Err(refusal));
+    assert!(rt; refusal.number() == Some(number));
 }
 
 // The event is accepted, and tells that.
@@ -73,7 +76,7 @@ fn happens(
     happening: Happening,
     sent: Option<Span>,
 ) {
-    assert_eq!(rt; world.apply(event), Ok(Outcome { happening, sent }));
+    assert!(rt; world.apply(event) == Ok(Outcome { happening, sent }));
 }
 
 // One letter of that number.
@@ -159,43 +162,28 @@ fn finds(rt: &impl Abort, world: &mut World) {
 // One silo, alone.
 #[test]
 fn the_first_run(rt: HostRuntime) {
-    let mut world = first(&rt, rt.alloc());
+    let mut world = first(&rt, rt.alloc(), 6);
     recovers(&rt, &mut world, &join_with(&rt, rt.alloc(), 1));
     registers(&rt, &mut world);
     finds(&rt, &mut world);
-    assert_eq!(rt; world.accepted(), 10);
-    assert_eq!(rt; world.sent(), 6);
+    assert!(rt; world.accepted() == 10);
+    assert!(rt; world.sent() == 6);
     assert!(rt; world.least_deliverable().is_none());
-}
-
-// Before anyone has joined each event is refused, and nothing has happened.
-#[test]
-fn refusals_before_the_first_join(rt: HostRuntime) {
-    let mut world = first(&rt, rt.alloc());
-    is_refused(&rt, &mut world, &wake(&rt), EventRefusal::NoSuchSilo, 901);
-    is_refused(&rt, &mut world, &find(&rt), EventRefusal::NoSuchSilo, 901);
-    is_refused(&rt, &mut world, &see(&rt, 1), EventRefusal::NoSuchSilo, 901);
-    let deliver = Event::Deliver { number: 1 };
-    is_refused(&rt, &mut world, &deliver, EventRefusal::NoSuchLetter, 905);
-    let many = join_with(&rt, rt.alloc(), 129);
-    let too_many = EventRefusal::Ring(RingError::PointCount);
-    is_refused(&rt, &mut world, &many, too_many, 402);
-    let none = join_with(&rt, rt.alloc(), 0);
-    let missing = EventRefusal::Ring(RingError::PointsMissing);
-    is_refused(&rt, &mut world, &none, missing, 403);
-    assert_eq!(rt; world.accepted(), 0);
-    assert_eq!(rt; world.current(), 0);
 }
 
 // A run goes on behind a refusal.
 #[test]
 fn a_run_goes_on(rt: HostRuntime) {
-    let mut world = first(&rt, rt.alloc());
-    let events = [Event::Deliver { number: 1 }, join_with(&rt, rt.alloc(), 1)];
+    let mut world = first(&rt, rt.alloc(), 6);
+    let mut events = Vec::new(rt.alloc());
+    let deliver = Event::Deliver { number: 1 };
+    events.push(deliver).expect(&rt, "memory");
+    let join = join_with(&rt, rt.alloc(), 1);
+    events.push(join).expect(&rt, "memory");
     let told = world.run(rt.alloc(), &events).expect(&rt, "memory");
-    assert_eq!(rt; told.len(), 2);
+    assert!(rt; told.len() == 2);
     let first = told.first().expect(&rt, "two are told");
-    assert_eq!(rt; *first.result(), Err(EventRefusal::NoSuchLetter));
+    assert!(rt; *first.result() == Err(EventRefusal::NoSuchLetter));
     let last = told.last().expect(&rt, "two are told");
     assert!(rt; last.result().is_ok());
 }
@@ -203,45 +191,35 @@ fn a_run_goes_on(rt: HostRuntime) {
 // What may be asked of a world, after its silo has seen the view.
 #[test]
 fn questions_to_a_world(rt: HostRuntime) {
-    let mut world = first(&rt, rt.alloc());
+    let mut world = first(&rt, rt.alloc(), 6);
     let join = join_with(&rt, rt.alloc(), 1);
     assert!(rt; world.apply(&join).is_ok());
     assert!(rt; world.apply(&see(&rt, 1)).is_ok());
-    assert_eq!(rt; world.settings().silos(), 1);
-    assert_eq!(rt; world.views().current(), 1);
-    assert_eq!(rt; world.current(), 1);
+    world.whole();
+    assert!(rt; world.settings().silos() == 1);
+    assert!(rt; world.views().current() == 1);
+    assert!(rt; world.current() == 1);
+    assert!(rt; world.least_deliverable() == Some(1));
     let node = world.node(&silo(&rt)).expect(&rt, "a node");
-    assert_eq!(rt; node.view().version(), 1);
+    assert!(rt; node.view().version() == 1);
     let letter = world.letter(1).expect(&rt, "a query");
-    assert_eq!(rt; letter.letter().kind(), LetterKind::Query);
-    assert_eq!(rt; world.least_deliverable(), Some(1));
+    assert!(rt; letter.letter().kind() == LetterKind::Query);
+    check_owner(&rt, rt.alloc(), &world);
 }
 
-#[test]
-fn owner_of_a_hash(rt: HostRuntime) {
-    let mut world = first(&rt, rt.alloc());
-    let nobody = world.owner(rt.alloc(), 0).expect(&rt, "memory");
-    assert!(rt; nobody.is_none());
-    let join = join_with(&rt, rt.alloc(), 1);
-    assert!(rt; world.apply(&join).is_ok());
-    let ring = world.current_ring(rt.alloc()).expect(&rt, "memory");
-    assert_eq!(rt; ring.points().len(), 1);
-    let owner = world.owner(rt.alloc(), 0).expect(&rt, "memory");
-    assert_eq!(rt; owner.expect(&rt, "an owner").place, 7);
+// The silo's only point owns each hash.
+fn check_owner(rt: &impl Abort, alloc: Global, world: &World) {
+    let ring = world.current_ring(alloc).expect(rt, "memory");
+    assert!(rt; ring.points().len() == 1);
+    let owner = world.owner(alloc, 0).expect(rt, "memory");
+    assert!(rt; owner.expect(rt, "an owner").place == 7);
 }
 
-// A world in which one letter may ever be sent.
-fn of_one_letter(rt: &impl Abort, alloc: Global) -> World {
-    let settings = Settings::of_directory(Hashing::Stated, 30, 0).expect(rt, "30 points");
-    let settings = settings.with_silos(1).expect(rt, "one silo");
-    let settings = settings.with_letters(1).expect(rt, "one letter");
-    World::new(alloc, settings).expect(rt, "one silo and no cache")
-}
-
-// It is the query of the silo's sight; what would send a second one is refused, and the query may come again.
+// The one letter that may be sent is the query of the silo's sight; what would send a second one is refused, and the query may
+// come again.
 #[test]
 fn no_room_for_a_second_letter(rt: HostRuntime) {
-    let mut world = of_one_letter(&rt, rt.alloc());
+    let mut world = first(&rt, rt.alloc(), 1);
     let join = join_with(&rt, rt.alloc(), 1);
     assert!(rt; world.apply(&join).is_ok());
     assert!(rt; world.apply(&see(&rt, 1)).is_ok());
@@ -249,38 +227,6 @@ fn no_room_for_a_second_letter(rt: HostRuntime) {
     is_refused(&rt, &mut world, &find(&rt), EventRefusal::MailFull, 909);
     let deliver = Event::Deliver { number: 1 };
     is_refused(&rt, &mut world, &deliver, EventRefusal::MailFull, 909);
-    assert_eq!(rt; world.least_deliverable(), Some(1));
-    assert_eq!(rt; world.accepted(), 2);
-}
-
-// A sight of two pieces would send two queries.
-#[test]
-fn no_room_for_a_sight(rt: HostRuntime) {
-    let mut world = of_one_letter(&rt, rt.alloc());
-    let event = Event::Join {
-        silo: silo(&rt),
-        places: vec![in rt.alloc(); 7, 8].expect(&rt, "memory"),
-    };
-    assert!(rt; world.apply(&event).is_ok());
-    is_refused(&rt, &mut world, &see(&rt, 1), EventRefusal::MailFull, 909);
-    assert_eq!(rt; world.sent(), 0);
-}
-
-// Neither two silos nor a cache can be yet.
-#[test]
-fn worlds_that_cannot_be_yet(rt: HostRuntime) {
-    let settings = Settings::of_directory(Hashing::Stated, 30, 0).expect(&rt, "30 points");
-    assert!(rt; World::new(rt.alloc(), settings).is_none());
-    let cached = Settings::of_directory(Hashing::Stated, 30, 1).expect(&rt, "30 points");
-    let cached = cached.with_silos(1).expect(&rt, "one silo");
-    assert!(rt; World::new(rt.alloc(), cached).is_none());
-}
-
-// How many points a world may be asked for.
-#[test]
-fn points_of_a_world(rt: HostRuntime) {
-    for (points, made) in [(0, false), (1, true), (128, true), (129, false)] {
-        let world = World::for_one_silo(rt.alloc(), Hashing::Sha256, points);
-        assert_eq!(rt; world.is_some(), made);
-    }
+    assert!(rt; world.least_deliverable() == Some(1));
+    assert!(rt; world.accepted() == 2);
 }

@@ -8,6 +8,3 @@ mod telling;
 
 pub use carrying::{carry_out, carry_out_nothing};
 pub use exit::Exit;
-
-#[cfg(test)]
-mod tests;

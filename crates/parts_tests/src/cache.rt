@@ -1,32 +1,14 @@
 //! A cache of hints.
+use crate::samples::{A, B, entry, grain, joined, silo, view};
 use lookup_cache::{Cache, CacheError};
-use membership_view::{View, Views};
-use silo_address::{ActivationId, Entry, GrainId, SiloAddress};
 use std::alloc::Global;
 use std::process::Abort;
-
-const A: &str = "10.0.0.1:1000@1";
-
-const B: &str = "10.0.0.2:1000@1";
 
 const ANN: &str = "user/ann";
 
 const BOB: &str = "user/bob";
 
 const CID: &str = "user/cid";
-
-fn silo(rt: &impl Abort, text: &str) -> SiloAddress {
-    SiloAddress::parse(text.as_bytes()).expect(rt, text)
-}
-
-fn grain(rt: &impl Abort, text: &str) -> GrainId {
-    GrainId::parse(text.as_bytes()).expect(rt, text)
-}
-
-fn activation(rt: &impl Abort, text: &str, count: u64) -> ActivationId {
-    let silo = silo(rt, text);
-    ActivationId { silo, count }
-}
 
 // A cache, made again if memory runs out at first.
 fn cache(rt: &impl Abort, alloc: Global, capacity: usize) -> Cache {
@@ -48,9 +30,7 @@ fn learn(rt: &impl Abort, cache: &mut Cache, text: &str, told: (&str, u64)) {
 
 // Whether there was memory to learn it.
 fn has_learnt(rt: &impl Abort, cache: &mut Cache, text: &str, (at, count): (&str, u64)) -> bool {
-    let grain = grain(rt, text);
-    let activation = activation(rt, at, count);
-    cache.learn(Entry { grain, activation }).is_ok()
+    cache.learn(entry(rt, (text, at, count))).is_ok()
 }
 
 // A copy, made again if memory runs out at the first.
@@ -61,15 +41,12 @@ fn copy(rt: &impl Abort, cache: &Cache) -> Cache {
     }
 }
 
-fn find(rt: &impl Abort, cache: &mut Cache, text: &str) -> Option<u64> {
+// The count of the activation that is found for the grain, and none is 0.
+fn find(rt: &impl Abort, cache: &mut Cache, text: &str) -> u64 {
     match cache.find(&grain(rt, text)) {
-        Some(activation) => Some(activation.count),
-        None => None,
+        Some(activation) => activation.count,
+        None => 0,
     }
-}
-
-fn forget(rt: &impl Abort, cache: &mut Cache, text: &str, (at, count): (&str, u64)) {
-    cache.forget(&grain(rt, text), &activation(rt, at, count));
 }
 
 // Hints of BOB at one silo, of ANN at the other, and of CID there, the last learnt first.
@@ -81,82 +58,34 @@ fn three_hints(rt: &impl Abort, alloc: Global) -> Cache {
     cache
 }
 
-// A view in which the first silo is Active, and the other one Active or Dead.
-fn view(rt: &impl Abort, alloc: Global, is_dead: bool) -> View {
-    let mut views = Views::new(alloc, 256);
-    views.join(silo(rt, A)).expect(rt, A);
-    views.join(silo(rt, B)).expect(rt, B);
-    if is_dead {
-        views.declare_dead(&silo(rt, B)).expect(rt, B);
-    }
-    let made = views.view(alloc, views.current());
-    made.expect(rt, "memory").expect(rt, "the version")
-}
-
-#[test]
-fn a_capacity_is_1_to_65536(rt: HostRuntime) {
-    let alloc = rt.alloc();
-    for capacity in [0, 65_537, usize::MAX] {
-        let refused = Cache::new(alloc, capacity).err().expect(&rt, "a refusal");
-        assert_eq!(rt; refused, CacheError::Capacity, "{capacity}");
-    }
-    for capacity in [1, 65_536] {
-        assert_eq!(rt; cache(&rt, alloc, capacity).capacity(), capacity);
-    }
-    assert_eq!(rt; CacheError::Capacity.number(), Some(851));
-    assert_eq!(rt; CacheError::OutOfMemory.number(), None);
-}
-
-#[test]
-fn a_cache_of_one_keeps_the_last(rt: HostRuntime) {
-    let mut cache = cache(&rt, rt.alloc(), 1);
-    learn(&rt, &mut cache, ANN, (A, 1));
-    assert_eq!(rt; find(&rt, &mut cache, ANN), Some(1));
-    learn(&rt, &mut cache, BOB, (A, 2));
-    assert_eq!(rt; find(&rt, &mut cache, ANN), None);
-    assert_eq!(rt; find(&rt, &mut cache, BOB), Some(2));
-    assert_eq!(rt; cache.len(), 1);
-}
-
+// One hint more than there is room for: the one that was used longest ago goes.
 #[test]
 fn the_last_used_stay(rt: HostRuntime) {
     let mut cache = three_hints(&rt, rt.alloc());
-    assert_eq!(rt; find(&rt, &mut cache, BOB), Some(1));
+    cache.whole();
+    assert!(rt; cache.capacity() == 3);
+    assert!(rt; find(&rt, &mut cache, BOB) == 1);
     learn(&rt, &mut cache, "user/dan", (A, 4));
-    assert_eq!(rt; find(&rt, &mut cache, ANN), None);
-    assert_eq!(rt;
-        (find(&rt, &mut cache, BOB), find(&rt, &mut cache, CID)),
-        (Some(1), Some(3))
-    );
-}
-
-#[test]
-fn a_hint_is_learnt_anew(rt: HostRuntime) {
-    let mut cache = three_hints(&rt, rt.alloc());
-    learn(&rt, &mut cache, BOB, (B, 5));
-    assert_eq!(rt; (cache.len(), find(&rt, &mut cache, BOB)), (3, Some(5)));
-}
-
-#[test]
-fn only_the_named_hint_is_forgotten(rt: HostRuntime) {
-    let mut cache = three_hints(&rt, rt.alloc());
-    let before = copy(&rt, &cache);
-    for other in [(A, 2), (B, 3)] {
-        forget(&rt, &mut cache, ANN, other);
-        assert!(rt; cache.same(&before));
+    assert!(rt; cache.len() == 3);
+    for (text, count) in [(ANN, 0), (BOB, 1), (CID, 3)] {
+        assert!(rt; find(&rt, &mut cache, text) == count, "{text}");
     }
-    forget(&rt, &mut cache, ANN, (B, 2));
-    assert_eq!(rt; (cache.len(), find(&rt, &mut cache, ANN)), (2, None));
 }
 
+// A hint is forgotten by its grain and activation, and dropped where its silo has died.
 #[test]
-fn a_sight_drops_hints_at_dead_silos(rt: HostRuntime) {
+fn hints_go(rt: HostRuntime) {
     let mut cache = three_hints(&rt, rt.alloc());
-    let before = copy(&rt, &cache);
-    cache.see(&view(&rt, rt.alloc(), false));
-    assert!(rt; cache.same(&before));
-    cache.see(&view(&rt, rt.alloc(), true));
-    assert_eq!(rt; (cache.len(), find(&rt, &mut cache, BOB)), (1, Some(1)));
+    let ann = grain(&rt, ANN);
+    let hint = cache.hint(&ann).expect(&rt, "a hint");
+    assert!(rt; hint.count == 2);
+    cache.forget(&ann, &hint);
+    assert!(rt; cache.len() == 2);
+    let mut views = joined(&rt, rt.alloc(), &[A, B]);
+    views.declare_dead(&silo(&rt, B)).expect(&rt, "a death");
+    cache.see(&view(&rt, rt.alloc(), &views, 3));
+    assert!(rt; cache.len() == 1);
+    assert!(rt; find(&rt, &mut cache, BOB) == 1);
 }
 
 #[test]
@@ -164,6 +93,12 @@ fn the_order_is_copied_and_compared(rt: HostRuntime) {
     let mut cache = three_hints(&rt, rt.alloc());
     let other = copy(&rt, &cache);
     assert!(rt; other.same(&cache));
-    assert_eq!(rt; find(&rt, &mut cache, ANN), Some(2));
+    assert!(rt; find(&rt, &mut cache, ANN) == 2);
     assert!(rt; !other.same(&cache));
+}
+
+#[test]
+fn a_capacity_is_1_to_65536(rt: HostRuntime) {
+    assert!(rt; matches!(Cache::new(rt.alloc(), 0), Err(CacheError::Capacity)));
+    assert!(rt; CacheError::Capacity.number() == Some(851));
 }

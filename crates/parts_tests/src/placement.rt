@@ -1,49 +1,21 @@
 //! On which silo an activation is to begin.
+use crate::samples::{A, B, C, DEAD, joined, silo, view};
 use directory_rules::Policy;
-use membership_view::{View, Views};
+use membership_view::View;
 use silo_address::SiloAddress;
 use silo_placement::silo_for;
 use std::alloc::Global;
 use std::collections::BTreeMap;
 use std::process::Abort;
 
-const A: &str = "10.0.0.1:1000@1";
-
-const B: &str = "10.0.0.2:1000@1";
-
-const C: &str = "10.0.0.3:1000@1";
-
 const LEAVING: &str = "10.0.0.2:2000@1";
-
-const DEAD: &str = "10.0.0.4:1000@1";
-
-fn silo(rt: &impl Abort, text: &str) -> SiloAddress {
-    SiloAddress::parse(text.as_bytes()).expect(rt, text)
-}
-
-fn join(rt: &impl Abort, views: &mut Views, text: &str) {
-    views.join(silo(rt, text)).expect(rt, text);
-}
 
 // A view in which A, B and C are Active, one silo is Leaving and one is Dead.
 fn three_active(rt: &impl Abort, alloc: Global) -> View {
-    let mut views = Views::new(alloc, 256);
-    for text in [C, DEAD, LEAVING, A, B] {
-        join(rt, &mut views, text);
-    }
-    views.leave(&silo(rt, LEAVING)).expect(rt, LEAVING);
-    views.declare_dead(&silo(rt, DEAD)).expect(rt, DEAD);
-    let made = views.view(alloc, views.current());
-    made.expect(rt, "memory").expect(rt, "the version")
-}
-
-// A view in which no silo is Active.
-fn none_active(rt: &impl Abort, alloc: Global) -> View {
-    let mut views = Views::new(alloc, 256);
-    join(rt, &mut views, A);
-    views.leave(&silo(rt, A)).expect(rt, A);
-    let made = views.view(alloc, views.current());
-    made.expect(rt, "memory").expect(rt, "the version")
+    let mut views = joined(rt, alloc, &[C, DEAD, LEAVING, A, B]);
+    views.leave(&silo(rt, LEAVING)).expect(rt, "a leave");
+    views.declare_dead(&silo(rt, DEAD)).expect(rt, "a death");
+    view(rt, alloc, &views, views.current())
 }
 
 fn counts(rt: &impl Abort, alloc: Global, held: &[(&str, u64)]) -> BTreeMap<SiloAddress, u64> {
@@ -55,66 +27,20 @@ fn counts(rt: &impl Abort, alloc: Global, held: &[(&str, u64)]) -> BTreeMap<Silo
     counts
 }
 
-// The silo that this one has to choose.
-fn assert_chosen(
-    rt: &impl Abort,
-    (policy, view): (Policy, &View),
-    (local, hash): (&str, u32),
-    counts: &BTreeMap<SiloAddress, u64>,
-    want: &str,
-) {
-    let chosen = silo_for(policy, view, &silo(rt, local), hash, counts);
-    assert_eq!(rt; chosen, Some(silo(rt, want)), "{local} {hash}");
-}
-
+// By each policy, of silos that hold so many: the third Active silo in turn, the silo itself where it is Active and else by the
+// hash, and the first of those that hold least.
 #[test]
-fn by_hash_the_active_silos_are_taken_in_turn(rt: HostRuntime) {
+fn a_silo_by_each_policy(rt: HostRuntime) {
     let view = three_active(&rt, rt.alloc());
-    let none = BTreeMap::new(rt.alloc());
-    for (hash, want) in [
-        (0, A),
-        (1, B),
-        (2, C),
-        (3, A),
-        (2147483648, C),
-        (4294967295, A),
-    ] {
-        assert_chosen(&rt, (Policy::HashBased, &view), (C, hash), &none, want);
-    }
-}
-
-#[test]
-fn an_active_silo_prefers_itself(rt: HostRuntime) {
-    let view = three_active(&rt, rt.alloc());
-    let none = BTreeMap::new(rt.alloc());
-    for (local, want) in [(A, A), (B, B), (C, C), (LEAVING, C), (DEAD, C)] {
-        assert_chosen(&rt, (Policy::PreferLocal, &view), (local, 5), &none, want);
-    }
-}
-
-#[test]
-fn the_least_held_is_the_first_of_equals(rt: HostRuntime) {
-    let alloc = rt.alloc();
-    let view = three_active(&rt, alloc);
-    let least = (Policy::LeastHeld, &view);
-    let held: [(&[(&str, u64)], &str); 5] = [
-        (&[], A),
-        (&[(A, 1)], B),
-        (&[(A, 1), (B, 1)], C),
-        (&[(A, 2), (B, 1), (C, 1)], B),
-        (&[(A, 9), (B, 9), (C, 9), (LEAVING, 1)], A),
+    let held = counts(&rt, rt.alloc(), &[(A, 2), (B, 1), (C, 1), (LEAVING, 0)]);
+    let table: [(Policy, &str, &str); 4] = [
+        (Policy::HashBased, B, C),
+        (Policy::PreferLocal, B, B),
+        (Policy::PreferLocal, LEAVING, C),
+        (Policy::LeastHeld, C, B),
     ];
-    for (held, want) in held {
-        assert_chosen(&rt, least, (C, 2), &counts(&rt, alloc, held), want);
-    }
-}
-
-#[test]
-fn no_active_silo_is_none(rt: HostRuntime) {
-    let view = none_active(&rt, rt.alloc());
-    let none = BTreeMap::new(rt.alloc());
-    let local = silo(&rt, A);
-    for policy in [Policy::PreferLocal, Policy::HashBased, Policy::LeastHeld] {
-        assert_eq!(rt; silo_for(policy, &view, &local, 7, &none), None);
+    for (policy, local, want) in table {
+        let chosen = silo_for(policy, &view, &silo(&rt, local), 5, &held);
+        assert!(rt; chosen == Some(silo(&rt, want)));
     }
 }

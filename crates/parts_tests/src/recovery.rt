@@ -1,90 +1,41 @@
 //! A recovery of a range, and the reports that it takes.
+use crate::samples::{A, B, C, DEAD, entry, joined, range, silo, view};
 use grain_table::Table;
 use hash_ring::Hashing;
-use membership_view::{View, Views};
 use range_recovery::{Progress, Recovery, RecoveryError, Report};
-use ring_range::RingRange;
-use silo_address::{ActivationId, Entry, GrainId, SiloAddress};
+use silo_address::Entry;
 use std::alloc::Global;
 use std::process::Abort;
 
-// Three silos of the view, one that is Dead in it, and one that joined later.
-const A: &str = "10.0.0.1:1000@1";
-
-const B: &str = "10.0.0.2:1000@1";
-
-const C: &str = "10.0.0.3:1000@1";
-
-const DEAD: &str = "10.0.0.4:1000@1";
-
+// A silo that joins after the view.
 const LATER: &str = "10.0.0.5:1000@1";
 
-// The version of that view: four joins and a death.
+const UPPER_HALF: &str = "2147483648+2147483648";
+
+// The version of the view: four joins and a death.
 const VERSION: u64 = 5;
 
-fn silo(rt: &impl Abort, text: &str) -> SiloAddress {
-    SiloAddress::parse(text.as_bytes()).expect(rt, text)
-}
-
-fn upper_half(rt: &impl Abort) -> RingRange {
-    RingRange::new(2147483648, 2147483648).expect(rt, "the upper half")
-}
-
-fn join(rt: &impl Abort, views: &mut Views, text: &str) {
-    views.join(silo(rt, text)).expect(rt, text);
-}
-
-fn views(rt: &impl Abort, alloc: Global) -> Views {
-    let mut views = Views::new(alloc, 256);
-    join(rt, &mut views, C);
-    join(rt, &mut views, DEAD);
-    join(rt, &mut views, A);
-    join(rt, &mut views, B);
-    views.declare_dead(&silo(rt, DEAD)).expect(rt, DEAD);
-    join(rt, &mut views, LATER);
-    views
-}
-
-// The view of that version.
-fn view(rt: &impl Abort, alloc: Global) -> View {
-    let made = views(rt, alloc).view(alloc, VERSION);
-    made.expect(rt, "memory").expect(rt, "the version")
-}
-
+// Of three silos, beside one that is Dead in the view.
 fn recovery(rt: &impl Abort, alloc: Global) -> Recovery {
-    let recovery = Recovery::new(alloc, Hashing::Sha256, &view(rt, alloc), upper_half(rt));
-    recovery.expect(rt, "memory")
+    let mut views = joined(rt, alloc, &[C, DEAD, A, B]);
+    views.declare_dead(&silo(rt, DEAD)).expect(rt, "a death");
+    let seen = view(rt, alloc, &views, VERSION);
+    let made = Recovery::new(alloc, Hashing::Sha256, &seen, range(rt, UPPER_HALF));
+    made.expect(rt, "memory")
 }
 
-fn entry(rt: &impl Abort, silo: SiloAddress, grain: &str, count: u64) -> Entry {
-    let grain = GrainId::parse(grain.as_bytes()).expect(rt, grain);
-    let activation = ActivationId { silo, count };
-    Entry { grain, activation }
-}
-
-// An entry for each grain, on activations of the silo, which have these counts.
-fn entries(
-    rt: &impl Abort,
-    alloc: Global,
-    silo: SiloAddress,
-    grains: &[(&str, u64)],
-) -> Vec<Entry> {
-    let mut entries = Vec::new(alloc);
+// A silo's report of entries: of these grains, on its own activations of these counts.
+fn report(rt: &impl Abort, alloc: Global, text: &str, grains: &[(&str, u64)]) -> Report {
+    let mut entries: Vec<Entry> = Vec::new(alloc);
     for (grain, count) in grains {
-        let entry = entry(rt, silo, grain, *count);
+        let entry = entry(rt, (grain, text, *count));
         entries.push(entry).expect(rt, "memory");
     }
-    entries
+    Report::new(VERSION, range(rt, UPPER_HALF), silo(rt, text), entries)
 }
 
-fn report(rt: &impl Abort, alloc: Global, text: &str, grains: &[(&str, u64)]) -> Report {
-    let silo = silo(rt, text);
-    let entries = entries(rt, alloc, silo, grains);
-    Report::new(VERSION, upper_half(rt), silo, entries)
-}
-
-// Takes the silo's report of these grains, of which this must come.
-fn assert_taken(
+// Judges and takes the silo's report of these grains, of which this must come.
+fn check_taken(
     rt: &impl Abort,
     alloc: Global,
     recovery: &mut Recovery,
@@ -92,152 +43,65 @@ fn assert_taken(
     want: Result<Progress, RecoveryError>,
 ) {
     let report = report(rt, alloc, text, grains);
-    assert_eq!(rt; recovery.take(&report), want, "{text}");
-}
-
-// Judges the silo's report of no grain, of which this must come.
-fn assert_judged(
-    rt: &impl Abort,
-    alloc: Global,
-    recovery: &Recovery,
-    (version, range, text): (u64, RingRange, &str),
-    want: Result<Progress, RecoveryError>,
-) {
-    let report = Report::new(version, range, silo(rt, text), Vec::new(alloc));
-    assert_eq!(rt; recovery.judge(&report), want, "{text} at {version}");
+    assert!(rt; recovery.judge(&report) == want, "{text} judged");
+    assert!(rt; recovery.take(&report) == want, "{text} taken");
 }
 
 // The counts of the activations that were gathered, by grain.
-fn counts(rt: &impl Abort, alloc: Global, gathered: &Table) -> Vec<u64> {
+fn check_counts(rt: &impl Abort, alloc: Global, gathered: &Table, want: &[u64]) {
     let entries = gathered.in_order(alloc).expect(rt, "memory");
-    let mut counts = Vec::new(alloc);
-    for entry in &entries {
-        counts.push(entry.activation.count).expect(rt, "memory");
+    assert!(rt; entries.len() == want.len());
+    for (entry, count) in entries.iter().zip(want) {
+        assert!(rt; entry.activation.count == *count);
     }
-    counts
 }
 
-#[test]
-fn numbers_of_refusals(rt: HostRuntime) {
-    assert_eq!(rt; RecoveryError::WrongVersion.number(), Some(751));
-    assert_eq!(rt; RecoveryError::Stranger.number(), Some(752));
-    assert_eq!(rt; RecoveryError::Twice.number(), Some(753));
-    assert_eq!(rt; RecoveryError::OutOfMemory.number(), None);
-}
-
-// Who is awaited: neither the silo that is Dead in the view, nor one that joined after it.
 #[test]
 fn a_new_recovery(rt: HostRuntime) {
     let recovery = recovery(&rt, rt.alloc());
-    assert_eq!(rt; recovery.version(), VERSION);
-    assert!(rt; recovery.range().same(&upper_half(&rt)));
-    let awaiting = recovery.awaiting(rt.alloc()).expect(&rt, "memory");
-    let want = [silo(&rt, A), silo(&rt, B), silo(&rt, C)];
-    assert_eq!(rt; awaiting.as_slice(), want.as_slice());
-    assert_eq!(rt; recovery.gathered().len(), 0);
     recovery.whole();
+    assert!(rt; recovery.version() == VERSION);
+    assert!(rt; recovery.range().same(&range(&rt, UPPER_HALF)));
+    assert!(rt; recovery.gathered().len() == 0);
+    let awaiting = recovery.awaiting(rt.alloc()).expect(&rt, "memory");
+    assert!(rt; awaiting.as_slice() == &[silo(&rt, A), silo(&rt, B), silo(&rt, C)][..]);
+    let copy = recovery.copy().expect(&rt, "memory");
+    assert!(rt; copy.same(&recovery));
 }
 
-// A recovery that B has reported to.
-fn after_one_report(rt: &impl Abort, alloc: Global) -> Recovery {
-    let mut recovery = recovery(rt, alloc);
-    assert_taken(rt, alloc, &mut recovery, (B, &[]), Ok(Progress::More));
-    recovery
-}
-
-// Another version or range is told first: also of a stranger, and of a silo that has reported.
+// One grain twice in a report, and again in the next: the entry that was taken first stays. A silo that was not awaited and one
+// that has reported are refused, and the last of the three completes.
 #[test]
-fn another_version_or_range(rt: HostRuntime) {
-    let alloc = rt.alloc();
-    let refused = Err(RecoveryError::WrongVersion);
-    let ours = upper_half(&rt);
-    let other = RingRange::new(2147483648, 2147483647).expect(&rt, "a range");
-    let one = after_one_report(&rt, alloc);
-    assert_judged(&rt, alloc, &one, (VERSION + 1, other, LATER), refused);
-    assert_judged(&rt, alloc, &one, (VERSION - 1, ours, A), refused);
-    assert_judged(&rt, alloc, &one, (VERSION, other, A), refused);
-    assert_judged(&rt, alloc, &one, (VERSION + 1, ours, B), refused);
-}
-
-// Of our version and range: who was never awaited, then who has reported.
-#[test]
-fn strangers_and_second_reports(rt: HostRuntime) {
-    let alloc = rt.alloc();
-    let ours = upper_half(&rt);
-    let stranger = Err(RecoveryError::Stranger);
-    let twice = Err(RecoveryError::Twice);
-    let one = after_one_report(&rt, alloc);
-    assert_judged(&rt, alloc, &one, (VERSION, ours, LATER), stranger);
-    assert_judged(&rt, alloc, &one, (VERSION, ours, DEAD), stranger);
-    assert_judged(&rt, alloc, &one, (VERSION, ours, B), twice);
-    assert_judged(&rt, alloc, &one, (VERSION, ours, A), Ok(Progress::More));
-}
-
-#[test]
-fn a_refused_report_changes_nothing(rt: HostRuntime) {
-    let alloc = rt.alloc();
-    let mut recovery = recovery(&rt, alloc);
-    let grains = [("user/ann", 1)];
-    let before = recovery.copy().expect(&rt, "memory");
-    let stranger = Err(RecoveryError::Stranger);
-    assert_taken(&rt, alloc, &mut recovery, (LATER, &grains), stranger);
-    assert!(rt; recovery.same(&before));
-    let first = Ok(Progress::More);
-    assert_taken(&rt, alloc, &mut recovery, (A, &grains), first);
-    assert!(rt; !recovery.same(&before));
-}
-
-// One grain twice in a report, and again in the next: the entry that was taken first stays.
-#[test]
-fn union_of_two_reports(rt: HostRuntime) {
+fn reports_of_three_silos(rt: HostRuntime) {
     let alloc = rt.alloc();
     let mut recovery = recovery(&rt, alloc);
     let first = [("user/bob", 1), ("user/cid", 2), ("user/bob", 3)];
     let second = [("user/ann", 4), ("user/bob", 5)];
-    let more = Ok(Progress::More);
-    assert_taken(&rt, alloc, &mut recovery, (B, &first), more);
-    assert_taken(&rt, alloc, &mut recovery, (A, &second), more);
-    let union = counts(&rt, alloc, &recovery.into_entries());
-    assert_eq!(rt; union.as_slice(), [4, 1, 2].as_slice());
-}
-
-// The last of the three silos completes the recovery, and none before it.
-#[test]
-fn complete_at_the_last(rt: HostRuntime) {
-    let alloc = rt.alloc();
-    let mut recovery = after_one_report(&rt, alloc);
-    let complete = Ok(Progress::Complete);
-    assert_taken(&rt, alloc, &mut recovery, (C, &[]), Ok(Progress::More));
-    assert_judged(
-        &rt,
-        alloc,
-        &recovery,
-        (VERSION, upper_half(&rt), A),
-        complete,
-    );
-    assert_taken(&rt, alloc, &mut recovery, (A, &[]), complete);
-    let awaiting = recovery.awaiting(alloc).expect(&rt, "memory");
-    assert!(rt; awaiting.is_empty());
+    let table: [(&str, &[(&str, u64)], Result<Progress, RecoveryError>); 5] = [
+        (B, &first, Ok(Progress::More)),
+        (LATER, &second, Err(RecoveryError::Stranger)),
+        (B, &second, Err(RecoveryError::Twice)),
+        (C, &[], Ok(Progress::More)),
+        (A, &second, Ok(Progress::Complete)),
+    ];
+    for (text, grains, want) in table {
+        check_taken(&rt, alloc, &mut recovery, (text, grains), want);
+    }
+    check_counts(&rt, alloc, &recovery.into_entries(), &[4, 1, 2]);
 }
 
 #[test]
-fn reports_are_told(rt: HostRuntime) {
+fn a_report(rt: HostRuntime) {
     let report = report(&rt, rt.alloc(), A, &[("user/ann", 1), ("user/bob", 2)]);
-    assert_eq!(rt; report.version(), VERSION);
-    assert!(rt; report.range().same(&upper_half(&rt)));
-    assert_eq!(rt; report.silo(), silo(&rt, A));
-    assert_eq!(rt; report.entries().len(), 2);
+    assert!(rt; report.version() == VERSION);
+    assert!(rt; report.range().same(&range(&rt, UPPER_HALF)));
+    assert!(rt; report.silo() == silo(&rt, A));
+    assert!(rt; report.entries().len() == 2);
+    let copy = report.copy().expect(&rt, "memory");
+    assert!(rt; copy.same(&report));
 }
 
 #[test]
-fn reports_are_compared(rt: HostRuntime) {
-    let alloc = rt.alloc();
-    let one = report(&rt, alloc, A, &[("user/ann", 1), ("user/bob", 2)]);
-    let copy = one.copy().expect(&rt, "memory");
-    assert!(rt; one.same(&copy));
-    let turned = report(&rt, alloc, A, &[("user/bob", 2), ("user/ann", 1)]);
-    assert!(rt; !one.same(&turned));
-    let later = Report::new(VERSION + 1, one.range(), one.silo(), Vec::new(alloc));
-    let earlier = Report::new(VERSION, one.range(), one.silo(), Vec::new(alloc));
-    assert!(rt; !later.same(&earlier));
+fn a_refusal(rt: HostRuntime) {
+    assert!(rt; RecoveryError::WrongVersion.number() == Some(751));
 }

@@ -1,45 +1,34 @@
-//! How plays end, and what they begin with.
+//! How plays begin and end: the number of points, and faults.
 
-use cluster_events::Event;
-use console_play::{play, play_to_one_silo};
-use directory_core::World;
+use crate::plays::{check_play, check_prints};
+use console_play::play_to_one_silo;
 use hash_ring::Hashing;
-use script_commands::ScriptFault;
-use script_loop::{Ended, LineFault};
-use silo_address::SiloAddress;
-use std::test::Fail;
-
-const A: &str = "10.0.0.1:1000@1";
+use std::alloc::Global;
+use std::process::Abort;
 
 // Where the number of points is out of its range, nothing is read and nothing written.
+fn check_points(rt: &impl Abort, alloc: Global, points: usize) {
+    let mut reader: &[u8] = b"show\n";
+    let mut written = Vec::new(alloc);
+    let ended = play_to_one_silo(alloc, Hashing::Stated, points, &mut reader, &mut written);
+    assert!(rt; ended.is_none() && reader.len() == 5 && written.is_empty());
+}
+
 #[test]
 fn numbers_of_points(rt: HostRuntime) {
-    let table: [(usize, Option<Ended>, &[u8], &[u8]); 4] = [
-        (0, None, b"show\n", b""),
-        (1, Some(Ended::Played), b"", b"version 0\nno owner\n"),
-        (128, Some(Ended::Played), b"", b"version 0\nno owner\n"),
-        (129, None, b"show\n", b""),
-    ];
-    for (points, ended, rest, text) in table {
-        let mut reader: &[u8] = b"show\n";
-        let mut written = Vec::new(rt.alloc());
-        let alloc = rt.alloc();
-        assert_eq!(rt;
-            play_to_one_silo(alloc, Hashing::Stated, points, &mut reader, &mut written),
-            ended
-        );
-        assert_eq!(rt; reader, rest);
-        assert_eq!(rt; written.as_slice(), text);
-    }
+    check_points(&rt, rt.alloc(), 0);
+    check_points(&rt, rt.alloc(), 129);
 }
+
+const HASHED: &[u8] = b"join 10.0.0.1:1000@1 0\njoin 10.0.0.1:1000@1\nowner 2737053157\nshow";
 
 // The SHA-256 of `10.0.0.1:1000@1#0` begins with a3241de6, that of `10.0.0.1:1000@1#1` with 55867f05.
 #[test]
-fn hashed_points(rt: HostRuntime) -> Result<(), Fail> {
-    let table: [(usize, &str); 2] = [
+fn hashed_points(rt: HostRuntime) {
+    let table: [(usize, &[u8]); 2] = [
         (
             1,
-            "refused 402
+            b"refused 402
 view 1 joined 10.0.0.1:1000@1
 owner 2737053157 10.0.0.1:1000@1 0
 version 1
@@ -49,7 +38,7 @@ range 2737053158+4294967296 10.0.0.1:1000@1 unsettled
         ),
         (
             2,
-            "refused 402
+            b"refused 402
 view 1 joined 10.0.0.1:1000@1
 owner 2737053157 10.0.0.1:1000@1 1
 version 1
@@ -60,40 +49,43 @@ range 2737053158+2992791839 10.0.0.1:1000@1 unsettled
         ),
     ];
     for (points, text) in table {
-        let mut reader: &[u8] =
-            b"join 10.0.0.1:1000@1 0\njoin 10.0.0.1:1000@1\nowner 2737053157\nshow";
-        let mut written = Vec::new(rt.alloc());
-        let alloc = rt.alloc();
-        assert_eq!(rt;
-            play_to_one_silo(alloc, Hashing::Sha256, points, &mut reader, &mut written),
-            Some(Ended::Played)
+        check_play(
+            &rt,
+            rt.alloc(),
+            (Hashing::Sha256, points),
+            HASHED,
+            (text, 0),
         );
-        assert_eq!(rt; written.as_slice(), text.as_bytes());
     }
-    Ok(())
 }
 
-// A world in which something has happened, and a writer that has bytes: the script goes on from there, by its first line.
+// Lines that say nothing are counted, what stands behind the last line feed is a line, and nothing is played behind a fault.
 #[test]
-fn a_world_of_its_own(rt: HostRuntime) -> Result<(), Fail> {
-    let Some(mut world) = World::for_one_silo(rt.alloc(), Hashing::Stated, 30) else {
-        return Err(Fail::new("30 points are in range"));
-    };
-    let join = Event::Join {
-        silo: SiloAddress::parse(A.as_bytes())?,
-        places: Vec::from_slice(rt.alloc(), &[7])?,
-    };
-    assert!(rt; world.apply(&join).is_ok());
-    let mut reader: &[u8] = b"see 10.0.0.1:1000@1 1\nowner 7\nfault";
-    let mut written = Vec::from_slice(rt.alloc(), b"begun\n")?;
-    let ended = play(rt.alloc(), world, &mut reader, &mut written);
-    let fault = ScriptFault::UnknownCommand;
-    assert_eq!(rt; ended, Ended::Faulted(LineFault { line: 3, fault }));
-    let text = "begun
-10.0.0.1:1000@1 sees 1 next sent 1..1
-owner 7 10.0.0.1:1000@1 0
-line 3 fault 921
-";
-    assert_eq!(rt; written.as_slice(), text.as_bytes());
-    Ok(())
+fn lines_are_counted(rt: HostRuntime) {
+    let table: [(&[u8], &str); 5] = [
+        (b"x", "line 1 fault 921\n"),
+        (b"\n\n\r\n;\n  \nx\nshow\n", "line 6 fault 921\n"),
+        (b"settle\nsettle\nsettle\nx\nx\n", "line 4 fault 921\n"),
+        (b"\n\n\n\n\n\n\n\n\n\n\nx", "line 12 fault 921\n"),
+        (b";\r\n;\r\nx\r\n", "line 3 fault 921\n"),
+    ];
+    for (script, text) in table {
+        check_prints(&rt, rt.alloc(), script, (text, 2));
+    }
+}
+
+// A line of so many spaces and then a command.
+fn padded(rt: &impl Abort, alloc: Global, spaces: usize) -> Vec<u8> {
+    let mut line = vec![in alloc; b' '; spaces].expect(rt, "memory");
+    line.extend_from_slice(b"show\r\n").expect(rt, "memory");
+    line
+}
+
+// 8,192 bytes may stand in a line, and its end does not count.
+#[test]
+fn the_longest_line(rt: HostRuntime) {
+    let longest = padded(&rt, rt.alloc(), 8188);
+    check_prints(&rt, rt.alloc(), &longest, ("version 0\nno owner\n", 0));
+    let longer = padded(&rt, rt.alloc(), 8189);
+    check_prints(&rt, rt.alloc(), &longer, ("line 1 fault 924\n", 2));
 }

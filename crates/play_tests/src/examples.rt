@@ -1,8 +1,6 @@
 //! The scripts of `examples/` and what they print, as the files there have it.
 
-use crate::plays::assert_prints;
-use script_loop::Ended;
-use std::test::Fail;
+use crate::plays::check_prints;
 
 const REFUSALS: &str =
     "; What is refused, and by which number. A refusal prints `refused` and its number, it changes nothing, and the script goes on.
@@ -220,13 +218,11 @@ delivered 24 nothing noted
 ";
 
 #[test]
-fn refusals(rt: HostRuntime) -> Result<(), Fail> {
-    let prints = (REFUSALS_PRINT.as_bytes(), Ended::Played);
-    assert_prints(&rt, rt.alloc(), "refusals", REFUSALS.as_bytes(), prints)
+fn refusals(rt: HostRuntime) {
+    check_prints(&rt, rt.alloc(), REFUSALS.as_bytes(), (REFUSALS_PRINT, 0));
 }
 
 #[test]
-fn ring(rt: HostRuntime) -> Result<(), Fail> {
-    let prints = (RING_PRINT.as_bytes(), Ended::Played);
-    assert_prints(&rt, rt.alloc(), "ring", RING.as_bytes(), prints)
+fn ring(rt: HostRuntime) {
+    check_prints(&rt, rt.alloc(), RING.as_bytes(), (RING_PRINT, 0));
 }

@@ -1,17 +1,15 @@
-//! Tests of whole scripts, played to a cluster through the public calls of `console_play`. They are in a crate of their own so
-//! that that one is proved once.
+//! Tests of whole scripts, played to a cluster through the public calls of `console_play`, and of command lines, carried out
+//! through those of `console_command`. They are in a crate of their own so that those are proved once.
 #![tactic(auto)]
 
 #[cfg(test)]
-mod cuts;
+mod command_lines;
 #[cfg(test)]
 mod endings;
 #[cfg(test)]
 mod examples;
 #[cfg(test)]
-mod faults;
-#[cfg(test)]
-mod limits;
+mod fakes;
 #[cfg(test)]
 mod plays;
 #[cfg(test)]

@@ -1,50 +1,32 @@
-//! What the tests of plays share.
+//! Plays of whole scripts from one slice to one buffer.
 
 use console_play::play_to_one_silo;
 use hash_ring::Hashing;
-use script_loop::Ended;
-use std::alloc::{AllocError, Global};
-use std::io::{Read, Write};
+use std::alloc::Global;
 use std::process::Abort;
-use std::test::Fail;
 
-// How many points a silo has where the command line says nothing of it. Stated places don't need it.
-const POINTS: usize = 30;
-
-// Plays a script to one silo whose place is stated.
-pub(crate) fn play_stated(
-    alloc: Global,
-    reader: &mut impl Read,
-    writer: &mut impl Write,
-) -> Result<Ended, Fail> {
-    match play_to_one_silo(alloc, Hashing::Stated, POINTS, reader, writer) {
-        Some(ended) => Ok(ended),
-        None => Err(Fail::new("30 points are in range")),
-    }
-}
-
-// Plays a script from one slice to one buffer: this must be printed, and so it must end.
-pub(crate) fn assert_prints(
+// Plays a script to one silo, with so many points where they are hashed: this must be printed, and it must end with that status.
+pub(crate) fn check_play(
     rt: &impl Abort,
     alloc: Global,
-    name: &str,
+    (hashing, points): (Hashing, usize),
     script: &[u8],
-    (text, ended): (&[u8], Ended),
-) -> Result<(), Fail> {
+    (text, status): (&[u8], u8),
+) {
     let mut reader = script;
     let mut written = Vec::new(alloc);
-    assert_eq!(rt;
-        play_stated(alloc, &mut reader, &mut written)?,
-        ended,
-        "{name}"
-    );
-    assert_eq!(rt; written.as_slice(), text, "{name}");
-    Ok(())
+    let ended = play_to_one_silo(alloc, hashing, points, &mut reader, &mut written);
+    assert!(rt; written.as_slice() == text);
+    assert!(rt; ended.expect(rt, "1 to 128 points").status() == status);
 }
 
-// A line of so many spaces and then these words.
-pub(crate) fn padded(alloc: Global, spaces: usize, words: &[u8]) -> Result<Vec<u8>, AllocError> {
-    let mut line = vec![in alloc; b' '; spaces]?;
-    line.extend_from_slice(words)?;
-    Ok(line)
+// Plays a script with stated places, which need no number of points.
+pub(crate) fn check_prints(
+    rt: &impl Abort,
+    alloc: Global,
+    script: &[u8],
+    (text, status): (&str, u8),
+) {
+    let prints = (text.as_bytes(), status);
+    check_play(rt, alloc, (Hashing::Stated, 30), script, prints);
 }

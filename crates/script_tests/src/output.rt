@@ -46,7 +46,7 @@ fn prints(rt: &impl Abort, alloc: Global, outcome: &Outcome, line: &str) {
     let mut out = Vec::from_slice(alloc, b"check ok\n").expect(rt, "memory");
     write_outcome(&mut out, outcome).expect(rt, "memory");
     let text = format!(in alloc; "check ok\n{line}\n").expect(rt, "memory");
-    assert!(rt; out.as_slice() == text.as_bytes(), "{line}");
+    assert!(rt; out.as_slice() == text.as_bytes());
 }
 
 // The lines of docs/RULES.md, each kind of it once.
@@ -295,7 +295,7 @@ fn lines_of_the_world(rt: HostRuntime) {
     write_owners(&rt, &mut out, b);
     write_refusal(&mut out, 905).expect(&rt, "memory");
     write_fault(&mut out, 17, 921).expect(&rt, "memory");
-    assert_eq!(rt; out.as_slice(), SHOWN.as_bytes());
+    assert!(rt; out.as_slice() == SHOWN.as_bytes());
 }
 
 #[test]

@@ -53,7 +53,7 @@ fn take(rt: &impl Abort, gathering: &mut Gathering, page: &Page, want: Progress)
         assert!(rt; gathering.same(&before), "page {} refused", page.page());
         taken = gathering.take(page);
     }
-    assert_eq!(rt; taken, Ok(want), "page {}", page.page());
+    assert!(rt; taken == Ok(want), "page {}", page.page());
 }
 
 #[test]

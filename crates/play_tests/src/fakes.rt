@@ -1,12 +1,11 @@
 //! A reader and a writer that fail.
 
-ghost use Rattle.std.specs.Prelude.{Some};
-
+use std::alloc::Global;
 use std::io::{self, Read, Write};
 
 /// Gives nothing: each read fails.
 #[derive(Drop)]
-pub(super) struct BrokenReader;
+pub(crate) struct BrokenReader;
 
 impl Read for BrokenReader {
     fn read(&mut self, _buf: &mut [u8]) -> io::Result<usize> {
@@ -16,16 +15,20 @@ impl Read for BrokenReader {
 
 /// Keeps so many bytes; a write behind them fails.
 #[derive(Drop)]
-pub(super) struct NarrowWriter {
+pub(crate) struct NarrowWriter {
     /// What it took.
-    pub(super) taken: Vec<u8>,
-    /// How many more bytes it takes.
-    pub(super) room: usize,
+    pub(crate) taken: Vec<u8>,
+    room: usize,
+}
+
+impl NarrowWriter {
+    pub(crate) fn new(alloc: Global, room: usize) -> NarrowWriter {
+        let taken = Vec::new(alloc);
+        NarrowWriter { taken, room }
+    }
 }
 
 impl Write for NarrowWriter {
-    ghost contents = { λ writer. Some writer.taken.items };
-
     fn write(&mut self, buf: &[u8]) -> io::Result<usize> {
         if self.room == 0 {
             return Err(io::Error::from(io::ErrorKind::Other));

@@ -1,0 +1,112 @@
+//! Command lines carried out, from their words to the exit.
+
+use crate::fakes::{BrokenReader, NarrowWriter};
+use console_command::{Exit, carry_out, carry_out_nothing};
+use script_loop::Ended;
+use std::alloc::Global;
+use std::io::ErrorKind;
+use std::process::Abort;
+
+const PLAY: [&str; 2] = ["g", "play"];
+
+// What comes of a command line: its status, what is printed and what is told.
+type Course<'a> = (u8, &'a str, &'a str);
+
+// Carries out a command line where the writers take so many bytes.
+fn check_course(
+    rt: &impl Abort,
+    alloc: Global,
+    (words, mut script): (&[&str], &[u8]),
+    (printed_room, told_room): (usize, usize),
+    (status, printed, told): Course<'_>,
+) {
+    let mut output = NarrowWriter::new(alloc, printed_room);
+    let mut errors = NarrowWriter::new(alloc, told_room);
+    let exit = carry_out(alloc, words, &mut script, &mut output, &mut errors);
+    assert!(rt; exit.status() == status);
+    assert!(rt; output.taken.as_slice() == printed.as_bytes());
+    assert!(rt; errors.taken.as_slice() == told.as_bytes());
+}
+
+// A script, a fault, and a mistake, with what is told of each.
+#[test]
+fn courses(rt: HostRuntime) {
+    let mistake: [&str; 4] = ["g", "play", "--points", "0"];
+    let table: [(&[&str], &[u8], Course<'static>); 3] = [
+        (&PLAY, b"show\n", (0, "version 0\nno owner\n", "")),
+        (
+            &PLAY,
+            b"show\nfault\nshow\n",
+            (
+                2,
+                "version 0\nno owner\nline 2 fault 921\n",
+                "error: line 2: a command is join SILO PLACE.., see SILO VERSION, wake SILO GRAIN, find SILO GRAIN, settle, owner HASH or show\n",
+            ),
+        ),
+        (
+            &mistake,
+            b"show\n",
+            (
+                4,
+                "",
+                "error: invalid value '0' for '--points <POINTS>': 0 is not in 1..=128
+
+For more information, try '--help'.
+",
+            ),
+        ),
+    ];
+    for (words, script, course) in table {
+        check_course(&rt, rt.alloc(), (words, script), (1000, 1000), course);
+    }
+}
+
+// The places are the first four bytes of the SHA-256 of `10.0.0.1:1000@1#2`, `#3` and `#29`.
+#[test]
+fn hashed_points(rt: HostRuntime) {
+    let script = b"join 10.0.0.1:1000@1\nowner 3641977640\nowner 3089745447\nowner 335007437";
+    let printed = "view 1 joined 10.0.0.1:1000@1
+owner 3641977640 10.0.0.1:1000@1 2
+owner 3089745447 10.0.0.1:1000@1 3
+owner 335007437 10.0.0.1:1000@1 29
+";
+    let alloc = rt.alloc();
+    check_course(&rt, alloc, (&PLAY, script), (1000, 1000), (0, printed, ""));
+}
+
+// An output that fails in the middle of a line or of the help, and errors that fail.
+#[test]
+fn writers_that_fail(rt: HostRuntime) {
+    let broken = "error: a read or a write failed\n";
+    let table: [(&[&str], (usize, usize), Course<'static>); 3] = [
+        (&PLAY, (5, 100), (5, "versi", broken)),
+        (&PLAY, (0, 5), (5, "", "error")),
+        (&["g", "help"], (5, 100), (5, "A dir", "")),
+    ];
+    for (words, rooms, course) in table {
+        check_course(&rt, rt.alloc(), (words, b"show\n"), rooms, course);
+    }
+}
+
+#[test]
+fn an_input_that_fails(rt: HostRuntime) {
+    let mut printed = Vec::new(rt.alloc());
+    let mut told = Vec::new(rt.alloc());
+    let exit = carry_out(
+        rt.alloc(),
+        &PLAY,
+        &mut BrokenReader,
+        &mut printed,
+        &mut told,
+    );
+    assert!(rt; exit == Exit::Played(Ended::Broken));
+    assert!(rt; printed.is_empty());
+}
+
+#[test]
+fn without_words(rt: HostRuntime) {
+    let mut told = Vec::new(rt.alloc());
+    assert!(rt; carry_out_nothing(ErrorKind::InvalidData, &mut told) == Exit::Refused);
+    let text = b"error: a word of the command line is not UTF-8\n";
+    assert!(rt; told.as_slice() == text.as_slice());
+}
