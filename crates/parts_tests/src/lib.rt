@@ -16,4 +16,6 @@ mod recovery;
 #[cfg(test)]
 mod rules;
 #[cfg(test)]
+mod sealing;
+#[cfg(test)]
 mod tables;
