@@ -1,4 +1,5 @@
-//! What `bench_parts` measures, in plain Rust: the same entries, snapshots, pages and hints, with the same sums.
+//! What `bench_parts` measures, in plain Rust: the same entries, snapshots, pages, hints, sights and activations, with the
+//! same sums.
 //!
 //! Each line is a name, nanoseconds a call, and a sum of the answers, by which the two programs are seen to have done the same
 //! work. Built by `rustc -O`; `./bench` runs both and prints the ratios.
@@ -6,6 +7,7 @@
 mod cache;
 mod entry;
 mod hasher;
+mod host;
 mod pieces;
 #[path = "../../bench_ring/plain/sha256.rs"]
 mod sha256;
@@ -13,6 +15,7 @@ mod snapshot;
 
 use cache::Cache;
 use entry::{Activation, Entry, Grain, Silo, first_bytes};
+use host::Host;
 use pieces::{Arc, Holding, Piece, Range, State, Table, View};
 use snapshot::{Gathering, Progress, Snapshot};
 use std::collections::{BTreeMap, BTreeSet};
@@ -136,7 +139,89 @@ fn measure_finds(name: &str, cache: &mut Cache, entries: &[Entry]) {
     report(name, start, COUNT, sum);
 }
 
+/// How many points each silo has, how far those of the first one are from one another, and where the other one's begin.
+const POINTS: u32 = 30;
+const STEP: u32 = 143_165_576;
+const CUT: u32 = 1_073_741_820;
+
+/// Thirty pieces, one from each point of the first silo to its next one.
+fn thirty_pieces(silo: Silo) -> Holding {
+    let mut pieces = BTreeMap::new();
+    for number in 0..POINTS {
+        let end = if number == POINTS - 1 { 1 << 32 } else { u64::from((number + 1) * STEP) };
+        let start = number * STEP;
+        let range = Range { start, size: end - u64::from(start) };
+        pieces.insert(start, Piece { range, state: State::Settled, entries: Table::new() });
+    }
+    for (key, activation) in table(&entries(silo, 0)) {
+        let (_, piece) = pieces.range_mut(..=key.0).next_back().unwrap();
+        piece.entries.insert(key, activation);
+    }
+    Holding { pieces }
+}
+
+/// The arcs between the ring of the first silo and that of both: the other one's points are all in one piece.
+fn arcs_of_cut(silo: Silo, other: Silo) -> Vec<Arc> {
+    let mut points: Vec<(u32, Silo)> = (0..POINTS).flat_map(|number| [(number * STEP, silo), (CUT + number, other)]).collect();
+    points.sort_unstable();
+    let ends = points[1..].iter().map(|point| u64::from(point.0)).chain([1 << 32]);
+    points
+        .iter()
+        .zip(ends)
+        .map(|((start, to), end)| Arc { range: Range { start: *start, size: end - u64::from(*start) }, from: Some(silo), to: Some(*to) })
+        .collect()
+}
+
+fn measure_sight() {
+    let (silo, other) = (silo(1), silo(2));
+    let (holding, arcs) = (thirty_pieces(silo), arcs_of_cut(silo, other));
+    let view = View { version: 2, dead: BTreeSet::new() };
+    let (mut spent, mut sum) = (0, 0u64);
+    for _ in 0..ROUNDS {
+        let mut seen = holding.clone();
+        let start = Instant::now();
+        seen.sight(true, &view, silo, black_box(&arcs));
+        sum += seen.pieces.values().map(|piece| 1 + piece.entries.len() as u64).sum::<u64>();
+        spent += start.elapsed().as_nanos();
+    }
+    println!("sight {} {sum}", spent / u128::from(ROUNDS));
+}
+
+/// How many activations end and start anew, how often is reported, and how many hashes a range has that has about a hundred.
+const ENDS: usize = 1_000;
+const REPORTS: u64 = 20;
+const REPORTED: u64 = 6_553_600;
+
+fn start_firm(host: &mut Host, grain: &Grain) {
+    let number = host.start(grain.clone()).unwrap();
+    host.confirm(number);
+}
+
+fn measure_host() {
+    let entries = shuffled(&entries(silo(1), 0));
+    let mut host = Host::new(silo(1));
+    for entry in &entries {
+        start_firm(&mut host, &entry.grain);
+    }
+    let start = Instant::now();
+    for entry in &entries[..ENDS] {
+        host.end(&entry.grain);
+        start_firm(&mut host, &entry.grain);
+    }
+    report("end_and_start", start, ENDS as u64, host.next_count + host.held_count() as u64);
+    let range = Range { start: 1 << 31, size: REPORTED };
+    let mut sum = 0u64;
+    let start = Instant::now();
+    for _ in 0..REPORTS {
+        let entries = black_box(host.firm_entries(black_box(&range)));
+        sum += entries.iter().map(|entry| 1 + entry.activation.count).sum::<u64>();
+    }
+    report("report", start, REPORTS, sum);
+}
+
 fn main() {
     measure_handing();
     measure_hints();
+    measure_sight();
+    measure_host();
 }

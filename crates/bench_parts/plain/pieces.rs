@@ -4,6 +4,7 @@ use crate::entry::{Activation, Entry, Grain, Silo};
 use crate::snapshot::Snapshot;
 use std::collections::{BTreeMap, BTreeSet};
 use std::iter::once;
+use std::mem;
 use std::ops::RangeInclusive;
 
 /// Hashes from a start on, round the circle.
@@ -26,10 +27,9 @@ pub struct View {
 }
 
 #[derive(Clone, Copy, PartialEq, Eq)]
-#[allow(dead_code)]
 pub enum State {
     Settled,
-    Awaiting(Silo),
+    Awaiting(#[allow(dead_code)] Silo),
     Recovering,
 }
 
@@ -65,8 +65,8 @@ impl Range {
     }
 }
 
-/// Those entries of a table that are hashed into the range.
-pub fn entries_within<'a>(table: &'a Table, range: &Range) -> impl Iterator<Item = (&'a (u32, Grain), &'a Activation)> {
+/// What stands under hashes of the range.
+pub fn range_within<'a, V>(table: &'a BTreeMap<(u32, Grain), V>, range: &Range) -> impl Iterator<Item = (&'a (u32, Grain), &'a V)> + use<'a, V> {
     let first = Grain::parse("!/!").unwrap();
     range.stretches().flat_map(move |stretch| {
         let last = *stretch.end();
@@ -102,7 +102,7 @@ impl Holding {
                 let (to, met) = (arc.to?, self.settled_pieces(&arc.range)?);
                 let mut entries: Vec<Entry> = met
                     .iter()
-                    .flat_map(|piece| entries_within(&piece.entries, &arc.range))
+                    .flat_map(|piece| range_within(&piece.entries, &arc.range))
                     .filter(|(_, activation)| !view.dead.contains(&activation.silo))
                     .map(|((_, grain), activation)| Entry { grain: grain.clone(), activation: *activation })
                     .collect();
@@ -110,5 +110,42 @@ impl Holding {
                 Some(Snapshot::new(view.version, arc.range, silo, to, entries))
             })
             .collect()
+    }
+
+    /// The pieces of the arcs that the silo owns in the view: one that was settled keeps its entries, without those on dead
+    /// silos, and another awaits them from the owner before, or recovers.
+    pub fn sight(&mut self, next: bool, view: &View, silo: Silo, arcs: &[Arc]) {
+        let mut pieces = BTreeMap::new();
+        for arc in arcs.iter().filter(|arc| arc.to == Some(silo)) {
+            let mut piece = match self.pieces.get_mut(&arc.range.start) {
+                Some(whole) if whole.state == State::Settled && whole.range == arc.range => {
+                    Piece { range: arc.range, state: State::Settled, entries: mem::take(&mut whole.entries) }
+                }
+                _ => self.part(next, view, silo, arc),
+            };
+            if !view.dead.is_empty() {
+                piece.entries.retain(|_, activation| !view.dead.contains(&activation.silo));
+            }
+            pieces.insert(arc.range.start, piece);
+        }
+        self.pieces = pieces;
+    }
+
+    /// The piece of an arc that is no whole piece so far.
+    fn part(&self, next: bool, view: &View, silo: Silo, arc: &Arc) -> Piece {
+        let range = arc.range;
+        let Some(met) = self.settled_pieces(&range) else {
+            let state = match arc.from {
+                Some(from) if next && from != silo && !view.dead.contains(&from) => State::Awaiting(from),
+                _ => State::Recovering,
+            };
+            return Piece { range, state, entries: Table::new() };
+        };
+        let entries = met
+            .iter()
+            .flat_map(|piece| range_within(&piece.entries, &range))
+            .map(|(key, activation)| (key.clone(), *activation))
+            .collect();
+        Piece { range, state: State::Settled, entries }
     }
 }

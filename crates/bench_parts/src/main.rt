@@ -9,6 +9,8 @@ mod entries;
 mod fault;
 mod handing;
 mod hints;
+mod hosts;
+mod sights;
 mod stopwatch;
 
 use fault::Fault;
@@ -23,5 +25,7 @@ fn main(rt: HostRuntime) -> Result<(), Fault> {
 
 fn measure(rt: &HostRuntime) -> Result<(), Fault> {
     handing::measure(rt)?;
-    hints::measure(rt)
+    hints::measure(rt)?;
+    sights::measure(rt)?;
+    hosts::measure(rt)
 }
