@@ -6,9 +6,9 @@ ghost use Rattle.std.specs.BTreeMap.{insert_entry, is_at};
 ghost use Rattle.silo_address.specs.Silo.{silo_cmp};
 ghost use Rattle.directory_rules.specs.Piece.{Piece as PieceValue};
 ghost use Rattle.directory_rules.specs.Answer.{answered, is_numbered, last_served, piece_with, serving_piece, with_piece};
-ghost use Rattle.directory_rules.specs.declared.PieceState.TheVariants.{Settled};
+ghost use Rattle.directory_rules.specs.declared.PieceState.TheVariants.{Recovering, Settled};
 ghost use Rattle.directory_rules.specs.Sight.{entries_within};
-ghost use Rattle.directory_rules.specs.Sight.{pieces_after, was_settled};
+ghost use Rattle.directory_rules.specs.Sight.{pieces_after, sealed, was_settled};
 ghost use Rattle.grain_partition.specs.Holding.{HasPiece, IsHolding};
 ghost use Rattle.grain_partition.specs.Serving.{IsTurnOf};
 ghost use Rattle.grain_partition.specs.Settled.{LiesSettled};
@@ -16,16 +16,18 @@ ghost use Rattle.grain_partition.specs.Sight.{AreOfRings};
 
 use crate::Piece;
 use crate::entries::entries_within;
+use crate::sealing::sealed;
 use crate::search::piece_with;
 use crate::served::serve_numbered;
 use crate::settled::are_settled;
 use crate::sight::pieces_after;
-use directory_rules::{Act, Reply, Request, Why};
+use directory_rules::{Act, PieceState, Reply, Request, Why};
 use grain_table::Table;
 use hash_ring::Hashing;
 use membership_view::View;
 use range_moves::Arc;
 use ring_range::RingRange;
+use seal_snapshot::Snapshot;
 use silo_address::SiloAddress;
 use std::alloc::{AllocError, Global};
 use std::collections::BTreeMap;
@@ -254,6 +256,33 @@ impl Holding {
         other.seen == self.seen
             && same_served(&self.served, &other.served)
             && same_pieces(&self.pieces, &other.pieces)
+    }
+
+    /// What the silo seals at the sight of the view, which is the next one after that seen: a snapshot for each arc that it
+    /// owned, that another silo owns now, and all of which is in settled pieces, with the entries hashed into it but those on
+    /// silos that are Dead in the view. Asked before the sight, since it looks at the pieces so far. Fails only when memory
+    /// runs out (`docs/RULES.md#pieces`).
+    pub fn seal(
+        &self,
+        alloc: Global,
+        hashing: Hashing,
+        view: &View,
+        silo: &SiloAddress,
+        arcs: &[Arc],
+    ) -> Result<Vec<Snapshot>, AllocError>
+        ensures { IfOk result (λ snapshots. snapshots.items ≡ sealed hashing view.now silo.now self.now.pieces arcs.now) }
+    {
+        sealed(alloc, &self.pieces, hashing, view, silo, arcs)
+    }
+
+    /// The piece of just this range recovers from now on, without entries. Asks of its caller that there is such a piece
+    /// (`docs/RULES.md#pieces`).
+    pub fn wait_for_reports(&mut self, alloc: Global, hashing: Hashing, range: RingRange)
+        requires { HasPiece range self.old.pieces }
+        ensures { self.new ≡ record self.old { pieces = with_piece (record { range = range; state = Recovering; entries = [] }) self.old.pieces } }
+    {
+        let piece = Piece::bare(alloc, hashing, range, PieceState::Recovering);
+        replace(&mut self.pieces, piece);
     }
 }
 

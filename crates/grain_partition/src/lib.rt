@@ -5,6 +5,7 @@
 mod entries;
 mod holding;
 mod piece;
+mod sealing;
 mod search;
 mod served;
 mod settled;

@@ -18,4 +18,6 @@ mod rules;
 #[cfg(test)]
 mod samples;
 #[cfg(test)]
+mod sealing;
+#[cfg(test)]
 mod tables;

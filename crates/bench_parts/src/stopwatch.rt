@@ -1,0 +1,36 @@
+use crate::fault::Fault;
+use std::time::{Duration, Instant};
+
+/// Time that calls took, and a sum of their answers.
+#[derive(Drop)]
+pub(crate) struct Stopwatch {
+    spent: u128,
+    sum: u64,
+}
+
+impl Stopwatch {
+    /// No call yet.
+    pub(crate) fn new() -> Stopwatch {
+        Stopwatch { spent: 0, sum: 0 }
+    }
+
+    /// Notes what was spent on calls since a moment, and the sum of their answers.
+    pub(crate) fn note(
+        &mut self,
+        rt: &HostRuntime,
+        since: &Instant,
+        sum: u64,
+    ) -> Result<(), Fault> {
+        let elapsed: Duration = since.elapsed(rt)?;
+        self.spent = self.spent.wrapping_add(elapsed.as_nanos());
+        self.sum = self.sum.wrapping_add(sum);
+        Ok(())
+    }
+
+    /// Prints the line of a measure: nanoseconds for each of so many calls.
+    pub(crate) fn report(&self, rt: &HostRuntime, name: &str, calls: u64) -> Result<(), Fault> {
+        let each = self.spent.checked_div(u128::from(calls)).unwrap_or(0);
+        println!(rt; "{name} {each} {}", self.sum)?;
+        Ok(())
+    }
+}

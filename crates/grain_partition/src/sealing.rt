@@ -1,0 +1,92 @@
+//! What a sight seals: the entries of the arcs that the silo hands over to others.
+ghost use Rattle.std.specs.Prelude.{◌≡◌, None, if◌then◌else◌, IfOk};
+ghost use Rattle.directory_rules.specs.Sight.{is_handed_over, kept_entries, sealed};
+ghost use Rattle.directory_rules.specs.Table.{entries_of};
+ghost use Rattle.grain_partition.specs.Holding.{ArePieces};
+
+use crate::Piece;
+use crate::entries::all_entries;
+use crate::settled::are_settled;
+use grain_table::Table;
+use hash_ring::Hashing;
+use membership_view::View;
+use range_moves::Arc;
+use ring_range::RingRange;
+use seal_snapshot::Snapshot;
+use silo_address::SiloAddress;
+use std::alloc::{AllocError, Global};
+use std::collections::BTreeMap;
+
+/// The snapshots of the arcs that are handed over at the sight of the view, in the order of the arcs. Fails only when memory
+/// runs out.
+pub(crate) fn sealed(
+    alloc: Global,
+    pieces: &BTreeMap<u32, Piece>,
+    hashing: Hashing,
+    view: &View,
+    silo: &SiloAddress,
+    arcs: &[Arc],
+) -> Result<Vec<Snapshot>, AllocError>
+    requires { ArePieces pieces.now.entries }
+    ensures { IfOk result (λ snapshots. snapshots.items ≡ sealed hashing view.now silo.now pieces.now.entries arcs.now) }
+{
+    let mut snapshots = Vec::new(alloc);
+    'arcs: for arc in arcs {
+        let Some(to) = next_owner(pieces, silo, arc) else {
+            continue;
+        };
+        let entries = kept_within(alloc, pieces, hashing, view, &arc.range)?;
+        let snapshot = snapshot_of(alloc, view, *silo, to, arc.range, &entries)?;
+        snapshots.push(snapshot)?;
+    }
+    Ok(snapshots)
+}
+
+// For whom the arc is sealed: for its owner in the view, where that is another silo, this one was its owner before, and all
+// of it was settled.
+fn next_owner(pieces: &BTreeMap<u32, Piece>, silo: &SiloAddress, arc: &Arc) -> Option<SiloAddress>
+    requires { ArePieces pieces.now.entries }
+    ensures { result ≡ (if is_handed_over silo.now pieces.now.entries arc.now then arc.now.to else None) }
+{
+    let from = arc.from?;
+    let to = arc.to?;
+    if from != *silo {
+        return None;
+    }
+    if to == *silo {
+        return None;
+    }
+    if !are_settled(pieces, &arc.range) {
+        return None;
+    }
+    Some(to)
+}
+
+// The entries of the pieces that are hashed into the range, without those on silos that are Dead in the view.
+fn kept_within(
+    alloc: Global,
+    pieces: &BTreeMap<u32, Piece>,
+    hashing: Hashing,
+    view: &View,
+    range: &RingRange,
+) -> Result<Table, AllocError>
+    ensures { IfOk result (λ kept. kept ≡ record { hashing = hashing; entries = kept_entries hashing view.now pieces.now.entries range.now }) }
+{
+    let all = all_entries(alloc, hashing, pieces)?;
+    all.kept(alloc, view, range)
+}
+
+// The snapshot of the entries for the silo that owns their range in the view.
+fn snapshot_of(
+    alloc: Global,
+    view: &View,
+    from: SiloAddress,
+    to: SiloAddress,
+    range: RingRange,
+    entries: &Table,
+) -> Result<Snapshot, AllocError>
+    ensures { IfOk result (λ snapshot. snapshot ≡ record { version = view.now.version; range = range; from = from; to = to; entries = entries_of entries.now.entries }) }
+{
+    let entries = entries.in_order(alloc)?;
+    Ok(Snapshot::seal(view.version(), range, from, to, entries))
+}
