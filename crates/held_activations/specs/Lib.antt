@@ -1,0 +1,3 @@
+pub mod Activations
+pub mod InOrder
+pub mod Begun
