@@ -5,3 +5,4 @@ pub mod Ordered
 pub mod Changes
 pub mod Counted
 pub mod Same
+pub mod Tables

@@ -6,10 +6,12 @@ ghost use Rattle.directory_rules.specs.declared.Phase.TheVariants.{Asking};
 ghost use Rattle.silo_address.specs.Grain.{Grain, grain_cmp, grain_eq};
 ghost use Rattle.held_activations.specs.Begun.{IsNext};
 
+mod firm;
 mod order;
 mod same;
 
 use directory_rules::{Held, Phase};
+pub use firm::entry_on;
 use indexmap::IndexMap;
 use silo_address::{ActivationId, GrainId};
 use std::alloc::{AllocError, Global};

@@ -3,4 +3,4 @@
 
 mod activations;
 
-pub use activations::Activations;
+pub use activations::{Activations, entry_on};

@@ -1,6 +1,6 @@
 use Rattle.std.proofs.Common.{sym, ap, ◌∙◌, fold}
-use Rattle.host_activations.proofs.Tables.{firm_kept, with_firm}
-use Rattle.host_activations.proofs.host.telling.firm_table.Goals as goal
+use Rattle.held_activations.proofs.Tables.{firm_kept, with_firm}
+use Rattle.held_activations.proofs.activations.firm.firm_table.Goals as goal
 
 pub returns : goal.returns
 returns c =

@@ -1,7 +1,7 @@
 use Rattle.std.proofs.Common.{◌≡◌, []}
 use Rattle.std.specs.Prelude.{fold}
-use Rattle.host_activations.proofs.Tables.{with_firm}
-use Rattle.host_activations.proofs.host.telling.firm_table.Given as goal
+use Rattle.held_activations.proofs.Tables.{with_firm}
+use Rattle.held_activations.proofs.activations.firm.firm_table.Given as goal
 
 -- with the activations that are left, the table is that of all
 abbrev pub invariant-loop-grain : goal.invariant-loop-grain
