@@ -13,13 +13,14 @@ ghost use Rattle.script_output.specs.Spaced.{BeginsWith};
 ghost use Rattle.console_play.specs.Performing.{Performs, in_session};
 
 use directory_core::World;
+use directory_rules::Held;
 use host_activations::Host;
 use membership_view::Status;
 use ring_range::RingRange;
 use script_output::{
     laws, write_held, write_no_owner, write_owner, write_range, write_silo, write_version,
 };
-use silo_address::SiloAddress;
+use silo_address::{GrainId, SiloAddress};
 use std::alloc::{AllocError, Global};
 
 /// Writes the line that tells the owner of a hash in the current view.
@@ -57,13 +58,14 @@ fn show_silos(alloc: Global, world: &World, out: &mut Vec<u8>) -> Result<(), All
         unreachable!()
     };
     for row in view.rows() {
-        show_silo(world, &row.0, row.1, out)?;
+        show_silo(alloc, world, &row.0, row.1, out)?;
     }
     Ok(())
 }
 
 // A silo, and the activations that it holds.
 fn show_silo(
+    alloc: Global,
     world: &World,
     silo: &SiloAddress,
     status: Status,
@@ -78,16 +80,33 @@ fn show_silo(
     };
     let standing = (node.view().version(), node.host().held_count());
     write_silo(out, silo, status, Some(standing))?;
-    show_held(node.host(), silo, out)
+    show_held(alloc, node.host(), silo, out)
 }
 
 // The activations that a silo holds, in the order in which they began.
-fn show_held(host: &Host, silo: &SiloAddress, out: &mut Vec<u8>) -> Result<(), AllocError>
+fn show_held(
+    alloc: Global,
+    host: &Host,
+    silo: &SiloAddress,
+    out: &mut Vec<u8>,
+) -> Result<(), AllocError>
     ensures shown { OnOk result (out.new.items ≡ out.old.items ++ text_of_lines (map (λ e. held_line silo.now e.0 e.1) host.now.held)) }
     ensures kept { BeginsWith out.old.items out.new.items }
 {
-    for (grain, held) in host.activations() {
-        write_held(out, silo, grain, held)?;
+    let activations = host.activations(alloc)?;
+    show_each_held(activations.as_slice(), silo, out)
+}
+
+fn show_each_held(
+    activations: &[(GrainId, Held)],
+    silo: &SiloAddress,
+    out: &mut Vec<u8>,
+) -> Result<(), AllocError>
+    ensures shown { OnOk result (out.new.items ≡ out.old.items ++ text_of_lines (map (λ e. held_line silo.now e.0 e.1) activations.now)) }
+    ensures kept { BeginsWith out.old.items out.new.items }
+{
+    for row in activations {
+        write_held(out, silo, &row.0, &row.1)?;
     }
     Ok(())
 }

@@ -1,5 +1,5 @@
 -- Where something begins, the new fields keep what every host keeps, and mean the rule's new host.
-use Rattle.std.proofs.Common.{◌≡◌, sym, ap, subst, ◌∙◌, ℕ, ◌+◌, ◌^◌, ◌≤◌, List, [], ◌∷◌, ◌++◌, length, true, Option, Some, None, option_and_then, is_some, arith}
+use Rattle.std.proofs.Common.{◌≡◌, refl, sym, ap, subst, ◌∙◌, ℕ, ◌+◌, ◌^◌, ◌≤◌, List, [], ◌∷◌, ◌++◌, length, true, Option, Some, None, option_and_then, is_some, arith}
 use Rattle.std.specs.List.{IsDistinct}
 use Rattle.std.specs.Map.{keys_of, set_value}
 use Rattle.std.specs.BTreeMap.{is_at, insert_entry}
@@ -9,6 +9,8 @@ use Rattle.silo_address.specs.declared.ActivationId.{ActivationId}
 use Rattle.directory_rules.specs.declared.Held.{Held}
 use Rattle.directory_rules.specs.declared.Phase.TheVariants.{Closing}
 use Rattle.directory_rules.specs.Host.{Host, held_of, is_firm, next_held, with_started, with_closing, with_find}
+use Rattle.held_activations.specs.Activations.{ActivationsValue}
+use Rattle.membership_view.proofs.Entries.{sorted-nil}
 use Rattle.host_activations.specs.declared.asked.Asked.{Asked}
 use Rattle.host_activations.specs.declared.asked.Asked.TheVariants.{Activation, Find}
 use Rattle.host_activations.specs.declared.host.Host.TheInside.{Inside}
@@ -33,12 +35,11 @@ module _ (h : Inside) (is : IsWhole h) (host : Host) (means : host_of h ≡ host
   AreNow new now = AreHeld (h.next_number + 1) new now
 
   -- an activation begins
-  pub started_is : (new : List (Grain × Held)) (now : List (ℕ × Asked)) (grain : Grain) (previous : Option ActivationId) → held_of host grain ≡ None → host.next_number ≤ 2 ^ 60 → host.next_count ≤ 2 ^ 60
+  pub started_is : (new : List (Grain × Held)) (now : List (ℕ × Asked)) (grain : Grain) (previous : Option ActivationId) → held_of host grain ≡ None → host.next_number ≤ 2 ^ 60
       → new ≡ h.held.entries ++ (grain, next_held (host_of h) previous) ∷ [] → IsDistinct grain_eq (keys_of new) → now ≡ insert_entry nat_cmp h.outstanding.entries h.next_number (Activation grain)
-      → IsHost (h.next_number + 1) (h.next_count + 1) new now h.find_count
-  started_is new now grain previous none number_left count_left held_is apart now_is = record {
+      → IsHost (h.next_number + 1) new now h.find_count
+  started_is new now grain previous none number_left held_is apart now_is = record {
     number = step_on h.next_number is.number (subst (λ (x : Host). x.next_number ≤ 2 ^ 60) (sym means) number_left);
-    count = step_on h.next_count is.count (subst (λ (x : Host). x.next_count ≤ 2 ^ 60) (sym means) count_left);
     are_held = subst (AreNow new) (sym now_is)
         (asking_more h.next_number h.held.entries new h.outstanding.entries is.are_held grain (ap (λ found. option_and_then (λ (x : Held). number_in x.phase) found) absent)
         (λ q. ap (λ (l : List (Grain × Held)). number_of q l) held_is ∙ begun grain (next_held (host_of h) previous) h.held.entries absent q) apart);
@@ -50,19 +51,18 @@ module _ (h : Inside) (is : IsWhole h) (host : Host) (means : host_of h ≡ host
 
   pub started_means : (new : List (Grain × Held)) (now : List (ℕ × Asked)) (grain : Grain) (previous : Option ActivationId)
       → new ≡ h.held.entries ++ (grain, next_held (host_of h) previous) ∷ [] → now ≡ insert_entry nat_cmp h.outstanding.entries h.next_number (Activation grain)
-      → meant h.silo (h.next_number + 1) (h.next_count + 1) new now ≡ with_started host grain previous
+      → meant h.silo (h.next_number + 1) (h.held.next_count + 1) new now ≡ with_started host grain previous
   started_means new now grain previous held_is now_is =
-      (λ i. made h.silo (h.next_number + 1) (h.next_count + 1) (held_is i) (finds_same now grain now_is i))
+      (λ i. made h.silo (h.next_number + 1) (h.held.next_count + 1) (held_is i) (finds_same now grain now_is i))
       ∙ ap (λ (x : Host). with_started x grain previous) means
 
   -- a firm activation begins to close
   pub closing_is : (new : List (Grain × Held)) (now : List (ℕ × Asked)) (grain : Grain) (held : Held) → held_of (host_of h) grain ≡ Some held → is_firm held.phase ≡ true → host.next_number ≤ 2 ^ 60
       → new ≡ set_value (is_at (grain_cmp grain)) h.held.entries (record held { phase = Closing h.next_number }) → IsDistinct grain_eq (keys_of new)
       → now ≡ insert_entry nat_cmp h.outstanding.entries h.next_number (Activation grain)
-      → IsHost (h.next_number + 1) h.next_count new now h.find_count
+      → IsHost (h.next_number + 1) new now h.find_count
   closing_is new now grain held there firm number_left held_is apart now_is = record {
     number = step_on h.next_number is.number (subst (λ (x : Host). x.next_number ≤ 2 ^ 60) (sym means) number_left);
-    count = is.count;
     are_held = subst (AreNow new) (sym now_is)
         (asking_more h.next_number h.held.entries new h.outstanding.entries is.are_held grain
         (ap (λ found. option_and_then (λ (x : Held). number_in x.phase) found) there ∙ firm_rests held.phase firm)
@@ -75,17 +75,16 @@ module _ (h : Inside) (is : IsWhole h) (host : Host) (means : host_of h ≡ host
   pub closing_means : (new : List (Grain × Held)) (now : List (ℕ × Asked)) (grain : Grain) (held : Held)
       → new ≡ set_value (is_at (grain_cmp grain)) h.held.entries (record held { phase = Closing h.next_number })
       → now ≡ insert_entry nat_cmp h.outstanding.entries h.next_number (Activation grain)
-      → meant h.silo (h.next_number + 1) h.next_count new now ≡ with_closing host grain held
+      → meant h.silo (h.next_number + 1) h.held.next_count new now ≡ with_closing host grain held
   closing_means new now grain held held_is now_is =
-      (λ i. made h.silo (h.next_number + 1) h.next_count (held_is i) (finds_same now grain now_is i))
+      (λ i. made h.silo (h.next_number + 1) h.held.next_count (held_is i) (finds_same now grain now_is i))
       ∙ ap (λ (x : Host). with_closing x grain held) means
 
   -- a find begins
   pub finding_is : (now : List (ℕ × Asked)) (grain : Grain) → host.next_number ≤ 2 ^ 60 → now ≡ insert_entry nat_cmp h.outstanding.entries h.next_number (Find grain)
-      → IsHost (h.next_number + 1) h.next_count h.held.entries now (h.find_count + 1)
+      → IsHost (h.next_number + 1) h.held.entries now (h.find_count + 1)
   finding_is now grain number_left now_is = record {
     number = step_on h.next_number is.number (subst (λ (x : Host). x.next_number ≤ 2 ^ 60) (sym means) number_left);
-    count = is.count;
     are_held = subst (AreNow h.held.entries) (sym now_is) (finding_more h.next_number h.held.entries h.outstanding.entries is.are_held grain);
     counted = let more = find_more h.outstanding.entries is.are_held.in_order h.next_number grain none_next in let counted = is.counted in
         omega (counted, more, ap (λ (l : List (ℕ × Asked)). length (finds_in l)) now_is, arith);
@@ -93,7 +92,42 @@ module _ (h : Inside) (is : IsWhole h) (host : Host) (means : host_of h ≡ host
   }
 
   pub finding_means : (now : List (ℕ × Asked)) (grain : Grain) → now ≡ insert_entry nat_cmp h.outstanding.entries h.next_number (Find grain)
-      → meant h.silo (h.next_number + 1) h.next_count h.held.entries now ≡ with_find host grain
+      → meant h.silo (h.next_number + 1) h.held.next_count h.held.entries now ≡ with_find host grain
   finding_means now grain now_is =
-      (λ i. made h.silo (h.next_number + 1) h.next_count h.held.entries ((ap finds_in now_is ∙ finds_put h.outstanding.entries is.are_held.in_order h.next_number grain) i))
+      (λ i. made h.silo (h.next_number + 1) h.held.next_count h.held.entries ((ap finds_in now_is ∙ finds_put h.outstanding.entries is.are_held.in_order h.next_number grain) i))
       ∙ ap (λ (x : Host). with_find x grain) means
+
+-- ---- Nothing began.
+distinct_none : IsDistinct grain_eq []
+unfolding IsDistinct
+distinct_none = tt
+
+pub nothing_is : (held : ActivationsValue) (out : List (ℕ × Asked)) → held.entries ≡ [] → out ≡ [] → IsHost 1 held.entries out 0
+nothing_is held out none nothing =
+    subst (λ l. IsHost 1 held.entries l 0) (sym nothing)
+    (subst (λ l. IsHost 1 l [] 0) (sym none)
+    (record {
+      number = record { above = omega arith; within = omega arith };
+      are_held = record {
+        apart = distinct_none;
+        in_order = sorted-nil nat_cmp;
+        asked = record { there = λ grain number is. no_number number is; only = λ grain number is. no_asked grain number is };
+        below = λ number asked is. cc;
+      };
+      counted = refl;
+      few = omega arith;
+    }))
+  where
+    no_number : {P : Type 0} (number : ℕ) → None ≡ Some number → P
+    no_number number is = cc
+
+    no_asked : {P : Type 0} (grain : Grain) (number : ℕ) → None ≡ Some (Activation grain) → P
+    no_asked grain number is = cc
+
+module _ (h : Inside) (is : IsWhole h) where
+  pub not_started_is : (held : ActivationsValue) (now : List (ℕ × Asked)) → held ≡ h.held → now ≡ h.outstanding.entries → IsHost h.next_number held.entries now h.find_count
+  not_started_is held now same back = subst (λ l. IsHost h.next_number held.entries l h.find_count) (sym back) (subst (λ (v : ActivationsValue). IsHost h.next_number v.entries h.outstanding.entries h.find_count) (sym same) is)
+
+  pub not_started_means : (host : Host) → host_of h ≡ host → (held : ActivationsValue) (now : List (ℕ × Asked)) → held ≡ h.held → now ≡ h.outstanding.entries
+      → meant h.silo h.next_number held.next_count held.entries now ≡ host
+  not_started_means host means held now same back = (λ i. meant h.silo h.next_number (same i).next_count (same i).entries (back i)) ∙ means

@@ -53,28 +53,27 @@ module _ (h : Inside) (is : IsWhole h) where
 
   -- what every host keeps, where the activation of a grain has nothing outstanding any more, or is no more
   pub rested_is : (new : List (Grain × Held)) (now : List (ℕ × Asked)) (grain : Grain) → GivesNumber grain None h.held.entries new → IsDistinct grain_eq (keys_of new)
-      → now ≡ left grain → IsHost h.next_number h.next_count new now h.find_count
+      → now ≡ left grain → IsHost h.next_number new now h.find_count
   rested_is new now grain gives apart now_is = record {
     number = is.number;
-    count = is.count;
     are_held = subst (λ o. AreHeld h.next_number new o) (sym now_is) (rested new grain (number_of grain h.held.entries) refl gives apart);
     counted = is.counted ∙ ap (λ (l : List (ℕ × Grain)). length l) (sym (ap finds_in now_is ∙ same_finds grain (number_of grain h.held.entries) refl));
     few = is.few;
   }
 
   rested_means : (new old : List (Grain × Held)) (now : List (ℕ × Asked)) (grain : Grain) → new ≡ old → now ≡ left grain
-      → meant h.silo h.next_number h.next_count new now ≡ made h.silo h.next_number h.next_count old (finds_in h.outstanding.entries)
+      → meant h.silo h.next_number h.held.next_count new now ≡ made h.silo h.next_number h.held.next_count old (finds_in h.outstanding.entries)
   rested_means new old now grain held_is now_is =
-      λ i. made h.silo h.next_number h.next_count (held_is i) ((ap finds_in now_is ∙ same_finds grain (number_of grain h.held.entries) refl) i)
+      λ i. made h.silo h.next_number h.held.next_count (held_is i) ((ap finds_in now_is ∙ same_finds grain (number_of grain h.held.entries) refl) i)
 
   -- an activation ends
   pub ended_is : (new : List (Grain × Held)) (now : List (ℕ × Asked)) (grain : Grain) → new ≡ remove_entry (is_at (grain_cmp grain)) h.held.entries → IsDistinct grain_eq (keys_of new)
-      → now ≡ left grain → IsHost h.next_number h.next_count new now h.find_count
+      → now ≡ left grain → IsHost h.next_number new now h.find_count
   ended_is new now grain held_is apart now_is =
       rested_is new now grain (λ q. ap (λ (l : List (Grain × Held)). number_of q l) held_is ∙ gone grain h.held.entries is.are_held.apart q) apart now_is
 
   pub ended_means : (host : Host) → host_of h ≡ host → (new : List (Grain × Held)) (now : List (ℕ × Asked)) (grain : Grain) → new ≡ remove_entry (is_at (grain_cmp grain)) h.held.entries
-      → now ≡ left grain → meant h.silo h.next_number h.next_count new now ≡ without_held host grain
+      → now ≡ left grain → meant h.silo h.next_number h.held.next_count new now ≡ without_held host grain
   ended_means host means new now grain held_is now_is = rested_means new _ now grain held_is now_is ∙ ap (λ (x : Host). without_held x grain) means
 
   -- an asking activation is firm
@@ -84,31 +83,34 @@ module _ (h : Inside) (is : IsWhole h) where
       let both = found_by_search (λ e. is_asking_under number e.1.phase) h.held.entries h.held.entries (each_found h.held.entries is.are_held.apart) (grain, held) found in
       (both.0, ap (λ o. option_and_then (λ (x : Held). number_in x.phase) o) both.0 ∙ asking_has number held.phase both.1)
 
+  pub there : (host : Host) → host_of h ≡ host → (number : ℕ) (grain : Grain) (held : Held) → asking_under host number ≡ Some (grain, held)
+      → (held_of (host_of h) grain ≡ Some held) × (number_of grain h.held.entries ≡ Some number)
+  there host means number grain held found = asking_there number grain held (subst (λ (x : Host). asking_under x number ≡ Some (grain, held)) (sym means) found)
+
   module _ (host : Host) (means : host_of h ≡ host) (number : ℕ) (grain : Grain) (held : Held) (found : asking_under host number ≡ Some (grain, held))
       (new : List (Grain × Held)) (now : List (ℕ × Asked))
       (held_is : new ≡ set_value (is_at (grain_cmp grain)) h.held.entries (record held { phase = Firm; previous = None })) (now_is : now ≡ remove_entry (is_at (nat_cmp number)) h.outstanding.entries) where
-    there : (held_of (host_of h) grain ≡ Some held) × (number_of grain h.held.entries ≡ Some number)
-    there = asking_there number grain held (subst (λ (x : Host). asking_under x number ≡ Some (grain, held)) (sym means) found)
+    was : (held_of (host_of h) grain ≡ Some held) × (number_of grain h.held.entries ≡ Some number)
+    was = there host means number grain held found
 
     taken : now ≡ left grain
-    taken = now_is ∙ ap (λ o. without_number o h.outstanding.entries) (sym there.1)
+    taken = now_is ∙ ap (λ o. without_number o h.outstanding.entries) (sym was.1)
 
-    pub confirmed_is : IsDistinct grain_eq (keys_of new) → IsHost h.next_number h.next_count new now h.find_count
+    pub confirmed_is : IsDistinct grain_eq (keys_of new) → IsHost h.next_number new now h.find_count
     confirmed_is apart =
         rested_is new now grain
         (λ q. ap (λ (l : List (Grain × Held)). number_of q l) held_is
-        ∙ changed grain (record held { phase = Firm; previous = None }) h.held.entries (ap is_some there.0) q) apart taken
+        ∙ changed grain (record held { phase = Firm; previous = None }) h.held.entries (ap is_some was.0) q) apart taken
 
-    pub confirmed_means : meant h.silo h.next_number h.next_count new now ≡ confirmed host grain held
+    pub confirmed_means : meant h.silo h.next_number h.held.next_count new now ≡ confirmed host grain held
     confirmed_means = rested_means new _ now grain held_is taken ∙ ap (λ (x : Host). confirmed x grain held) means
 
   -- a find ends
   module _ (now : List (ℕ × Asked)) (number : ℕ) (grain : Grain) (there : asked_under number h.outstanding.entries ≡ Some (Find grain))
       (now_is : now ≡ remove_entry (is_at (nat_cmp number)) h.outstanding.entries) where
-    pub found_is : IsHost h.next_number h.next_count h.held.entries now (h.find_count - 1)
+    pub found_is : IsHost h.next_number h.held.entries now (h.find_count - 1)
     found_is = record {
       number = is.number;
-      count = is.count;
       are_held = subst (λ o. AreHeld h.next_number h.held.entries o) (sym now_is) (finding_less h.next_number h.held.entries h.outstanding.entries is.are_held grain number there);
       counted = let less = find_less h.outstanding.entries is.are_held.in_order number grain there in let counted = is.counted in
           let same : length (finds_in now) ≡ length (finds_in (remove_entry (is_at (nat_cmp number)) h.outstanding.entries)) = ap (λ (l : List (ℕ × Asked)). length (finds_in l)) now_is in
@@ -120,14 +122,14 @@ module _ (h : Inside) (is : IsWhole h) where
     pub some_find : 1 ≤ h.find_count
     some_find = let less = find_less h.outstanding.entries is.are_held.in_order number grain there in let counted = is.counted in omega (counted, less, arith)
 
-    pub found_means : (host : Host) → host_of h ≡ host → meant h.silo h.next_number h.next_count h.held.entries now ≡ without_find host number
+    pub found_means : (host : Host) → host_of h ≡ host → meant h.silo h.next_number h.held.next_count h.held.entries now ≡ without_find host number
     found_means host means =
-        (λ i. made h.silo h.next_number h.next_count h.held.entries ((ap finds_in now_is ∙ finds_taken h.outstanding.entries is.are_held.in_order number) i))
+        (λ i. made h.silo h.next_number h.held.next_count h.held.entries ((ap finds_in now_is ∙ finds_taken h.outstanding.entries is.are_held.in_order number) i))
         ∙ ap (λ (x : Host). without_find x number) means
 
   -- no find has the number
   pub not_found_means : (host : Host) → host_of h ≡ host → (number : ℕ) → option_and_then find_in (asked_under number h.outstanding.entries) ≡ None → host ≡ without_find host number
   not_found_means host means number none =
       subst (λ (x : Host). x ≡ without_find x number) means
-      (λ i. made h.silo h.next_number h.next_count h.held.entries
+      (λ i. made h.silo h.next_number h.held.next_count h.held.entries
       (sym (remove_absent (is_at (nat_cmp number)) (finds_in h.outstanding.entries) (find_under h.outstanding.entries is.are_held.in_order number ∙ none)) i))

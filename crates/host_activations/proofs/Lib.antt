@@ -5,6 +5,7 @@ pub mod Asking
 pub mod Finds
 pub mod Kept
 pub mod Found
+pub mod Setting
 pub mod Fields
 pub mod Beginnings
 pub mod Endings
@@ -13,7 +14,6 @@ pub mod PutAll
 pub mod Outstanding
 pub mod Counted
 pub mod Same
-pub mod Tables
 pub mod Ranks
 pub mod Renumbering
 pub mod Renewing

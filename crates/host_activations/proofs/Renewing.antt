@@ -99,14 +99,14 @@ module _ (h : Inside) (is : IsWhole h) where
   counts k =
       ap (λ (n : ℕ). h.next_number + n)
       (below_keys k (outstanding (host_of h))
-      ∙ ap (λ ks. count_by (λ j. nat_lt j k) ks) (keys_are h.silo h.next_number h.next_count h.held.entries out is.are_held)
+      ∙ ap (λ ks. count_by (λ j. nat_lt j k) ks) (keys_are h.silo h.next_number h.held.next_count h.held.entries out is.are_held)
       ∙ sym (below_keys k out))
 
   ranks : Ranks new h.next_number out
   ranks = ranks_from new 0 h.next_number out is.are_held.in_order (all_high (keys_of out)) (λ k high. counts k)
 
   many : length (outstanding (host_of h)) ≡ length out
-  many = as_many h.silo h.next_number h.next_count h.held.entries out is.are_held
+  many = as_many h.silo h.next_number h.held.next_count h.held.entries out is.are_held
 
   -- ---- The activations.
   only_under : (q : Grain) (k : ℕ) → number_of q h.held.entries ≡ Some k → AllByRecursion (λ e. is_request_of q e.1 ≡ true → e.0 ≡ k) out
@@ -180,17 +180,16 @@ module _ (h : Inside) (is : IsWhole h) where
         let all = many in omega (left_here, all, arith)
 
     module _ (held_new : List (Grain × Held)) (out_new : List (ℕ × Asked)) (count : ℕ) (held_made : held_new ≡ held_now) (out_made : out_new ≡ now) (counted : count ≡ length out) where
-      pub renewed_is : IsHost (h.next_number + count) h.next_count held_new out_new h.find_count
+      pub renewed_is : IsHost (h.next_number + count) held_new out_new h.find_count
       renewed_is = record {
         number = let above = is.number.above in record { above = omega (above, arith); within = omega (enough, counted, arith) };
-        count = is.count;
         are_held = subst (λ (n : ℕ). AreHeld (h.next_number + n) held_new out_new) (sym counted)
             (subst (λ l. AreHeld (h.next_number + length out) l out_new) (sym held_made) (subst (λ l. AreHeld (h.next_number + length out) held_now l) (sym out_made) are_now));
         counted = is.counted ∙ sym (length-map (finds_in out) (λ e. (new e.0, e.1))) ∙ ap (λ (l : List (ℕ × Grain)). length l) (sym (ap finds_in out_made ∙ finds_now));
         few = let few = is.few in omega (few, arith);
       }
 
-      pub renewed_means : meant h.silo (h.next_number + count) h.next_count held_new out_new ≡ renewed host
+      pub renewed_means : meant h.silo (h.next_number + count) h.held.next_count held_new out_new ≡ renewed host
       renewed_means =
-          (λ i. made h.silo (h.next_number + (counted ∙ sym many) i) h.next_count (held_made i) ((ap finds_in out_made ∙ finds_now) i))
+          (λ i. made h.silo (h.next_number + (counted ∙ sym many) i) h.held.next_count (held_made i) ((ap finds_in out_made ∙ finds_now) i))
           ∙ ap renewed means

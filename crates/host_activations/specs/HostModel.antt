@@ -9,11 +9,11 @@ abbrev pub host_of : Inside → Host
 host_of h = record {
   silo = h.silo;
   next_number = h.next_number;
-  next_count = h.next_count;
+  next_count = h.held.next_count;
   held = h.held.entries;
   finds = finds_in h.outstanding.entries;
 }
 
 -- what the fields keep
 abbrev pub IsWhole : Inside → Type 0
-IsWhole h = IsHost h.next_number h.next_count h.held.entries h.outstanding.entries h.find_count
+IsWhole h = IsHost h.next_number h.held.entries h.outstanding.entries h.find_count

@@ -1,18 +1,14 @@
 -- What the fields of a host keep.
-use Rattle.std.specs.Prelude.{◌≡◌, ℕ, ◌+◌, ◌^◌, ◌<◌, ◌≤◌, List, length, Some}
+use Rattle.std.specs.Prelude.{◌≡◌, ℕ, ◌<◌, List, length, Some}
 use Rattle.std.specs.Ordering.{nat_cmp}
 use Rattle.std.specs.List.{IsDistinct}
 use Rattle.std.specs.List.Sorted.{IsStrictlySortedBy}
 use Rattle.std.specs.Map.{keys_of}
 use Rattle.silo_address.specs.Grain.{Grain, grain_eq}
 use Rattle.directory_rules.specs.declared.Held.{Held}
+use Rattle.held_activations.specs.Begun.{IsNext}
 use Rattle.host_activations.specs.declared.asked.Asked.{Asked}
 use Rattle.host_activations.specs.Asked.{AreAsked, asked_under, finds_in}
-
--- a number or a count that may be the next one
-pub record IsNext (number : ℕ) : Type 0 where
-  pub above : 1 ≤ number
-  pub within : number ≤ 2 ^ 60 + 1
 
 -- the activations and what is outstanding agree, and all numbers lie below the next one
 pub record AreHeld (next_number : ℕ) (held : List (Grain × Held)) (outstanding : List (ℕ × Asked)) : Type 0 where
@@ -23,9 +19,8 @@ pub record AreHeld (next_number : ℕ) (held : List (Grain × Held)) (outstandin
   pub below : (number : ℕ) (asked : Asked) → asked_under number outstanding ≡ Some asked → number < next_number
 
 -- what every host keeps
-pub record IsHost (next_number next_count : ℕ) (held : List (Grain × Held)) (outstanding : List (ℕ × Asked)) (find_count : ℕ) : Type 0 where
+pub record IsHost (next_number : ℕ) (held : List (Grain × Held)) (outstanding : List (ℕ × Asked)) (find_count : ℕ) : Type 0 where
   pub number : IsNext next_number
-  pub count : IsNext next_count
   pub are_held : AreHeld next_number held outstanding
   pub counted : find_count ≡ length (finds_in outstanding)
   -- each find has had a number

@@ -1,8 +1,5 @@
-ghost use Rattle.std.specs.Map.Iter.{ShowsInOrder, deref_pair};
-ghost use Rattle.std.specs.Prelude.{◌≡◌, length};
+ghost use Rattle.std.specs.Prelude.{◌≡◌, IfOk, length};
 ghost use Rattle.directory_rules.specs.Host.{held_of, new_host};
-ghost use Rattle.directory_rules.specs.declared.Held.{Held as HeldSeen};
-ghost use Rattle.silo_address.specs.Grain.{Grain};
 
 mod begin;
 mod end;
@@ -13,24 +10,21 @@ mod same;
 mod telling;
 
 use crate::asked::Asked;
-use crate::held_map::{HeldMap, held_at};
 use directory_rules::Held;
-use indexmap::IndexMap;
-use indexmap::map::Iter;
+use held_activations::Activations;
 use silo_address::{GrainId, SiloAddress};
-use std::alloc::Global;
+use std::alloc::{AllocError, Global};
 use std::collections::BTreeMap;
 use std::marker::Model;
 
-/// A silo as the host of activations: the activations that it holds, in the order in which they began, and the requests
-/// that it has outstanding, each under a number of its own (`docs/RULES.md#phases`).
+/// A silo as the host of activations: the activations that it holds, and the requests that it has outstanding, each
+/// under a number of its own (`docs/RULES.md#phases`).
 #[derive(Drop)]
 pub struct Host {
     alloc: Global,
     silo: SiloAddress,
     next_number: u64,
-    next_count: u64,
-    held: HeldMap,
+    held: Activations,
     // All that is outstanding, by number, so that a reply finds what it answers at once.
     outstanding: BTreeMap<u64, Asked>,
     // How many of them are finds.
@@ -58,8 +52,7 @@ impl Host {
             alloc,
             silo,
             next_number: 1,
-            next_count: 1,
-            held: IndexMap::new(alloc),
+            held: Activations::new(alloc),
             outstanding: BTreeMap::new(alloc),
             find_count: 0,
         }
@@ -83,14 +76,14 @@ impl Host {
     pub fn next_count(&self) -> u64
         ensures { result ≡ self.now.next_count }
     {
-        self.next_count
+        self.held.next_count()
     }
 
     /// What the host holds of the grain.
     pub fn held(&self, grain: &GrainId) -> Option<Held>
         ensures { result ≡ held_of self.now grain.now }
     {
-        held_at(&self.held, grain)
+        self.held.get(grain)
     }
 
     /// How many activations the host holds.
@@ -100,11 +93,11 @@ impl Host {
         self.held.len()
     }
 
-    /// The activations, under their grains, in the order in which they began.
-    pub fn activations(&self) -> Iter<'_, GrainId, Held>
-        ensures rest { result ≡ self.now.held }
-        ensures runs { ShowsInOrder (deref_pair {K = Grain} {X = HeldSeen}) }
+    /// The activations, under their grains, in the order in which they began. Costs a sort of all of them. Fails only when memory
+    /// runs out.
+    pub fn activations(&self, alloc: Global) -> Result<Vec<(GrainId, Held)>, AllocError>
+        ensures { IfOk result (λ list. list.items ≡ self.now.held) }
     {
-        self.held.iter()
+        self.held.in_order(alloc)
     }
 }

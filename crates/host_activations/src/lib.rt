@@ -3,7 +3,6 @@
 #![tactic(auto)]
 
 mod asked;
-mod held_map;
 mod host;
 
 pub use host::Host;

@@ -174,12 +174,33 @@ fn two_firm(rt: &impl Abort, alloc: Global) -> Host {
 #[test]
 fn activations_are_told_as_they_began(rt: HostRuntime) {
     let host = two_firm(&rt, rt.alloc());
-    let mut count = 0u64;
-    for (_, held) in host.activations() {
-        count = count.wrapping_add(1);
-        assert_eq!(rt; held.count, count);
+    assert!(rt; begin_in_order(&rt, rt.alloc(), &host, &[BOB, ANN]));
+}
+
+// Whether the host has just the activations of these grains, which began in this order.
+fn begin_in_order(rt: &impl Abort, alloc: Global, host: &Host, grains: &[&str]) -> bool {
+    let activations = host.activations(alloc).expect(rt, "memory");
+    if activations.len() != grains.len() {
+        return false;
     }
-    assert_eq!(rt; count, 2);
+    for (row, text) in activations.iter().zip(grains.iter()) {
+        if row.0 != grain(rt, *text) {
+            return false;
+        }
+    }
+    true
+}
+
+#[test]
+fn one_that_ends_leaves_the_order_of_the_others(rt: HostRuntime) {
+    let mut host = new_host(&rt, rt.alloc());
+    start(&rt, &mut host, CID, None);
+    start(&rt, &mut host, BOB, None);
+    start(&rt, &mut host, ANN, None);
+    host.end(&grain(&rt, CID));
+    assert!(rt; begin_in_order(&rt, rt.alloc(), &host, &[BOB, ANN]));
+    start(&rt, &mut host, CID, None);
+    assert!(rt; begin_in_order(&rt, rt.alloc(), &host, &[BOB, ANN, CID]));
 }
 
 #[test]

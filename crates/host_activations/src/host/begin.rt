@@ -3,8 +3,7 @@ ghost use Rattle.directory_rules.specs.Host.{held_of, is_firm, with_closing, wit
 
 use super::Host;
 use crate::asked::Asked;
-use crate::held_map::{self, held_at};
-use directory_rules::{Held, Phase};
+use directory_rules::Phase;
 use silo_address::{ActivationId, GrainId};
 use std::alloc::AllocError;
 
@@ -22,19 +21,19 @@ impl Host {
         ensures started { OnOk result (self.new ≡ with_started self.old grain previous) }
         ensures unchanged { OnErr result (self.new ≡ self.old) }
     {
-        self.held.reserve(1)?;
         self.outstanding
             .insert(self.next_number, Asked::Activation(grain))?;
-        held_map::push(
-            &mut self.held,
-            grain,
-            self.next_count,
-            self.next_number,
-            previous,
-        );
-        self.next_number += 1;
-        self.next_count += 1;
-        Ok(())
+        match self.held.begin(grain, self.next_number, previous) {
+            Ok(()) => {
+                self.held.whole();
+                self.next_number += 1;
+                Ok(())
+            }
+            Err(error) => {
+                self.outstanding.remove(&self.next_number);
+                Err(error)
+            }
+        }
     }
 
     /// The grain's firm activation asks to be taken out. Fails only when memory runs out.
@@ -44,14 +43,12 @@ impl Host {
         ensures closing { OnOk result (IfSome (held_of self.old grain.now) (λ held. self.new ≡ with_closing self.old grain.now held)) }
         ensures unchanged { OnErr result (self.new ≡ self.old) }
     {
-        let held = held_at(&self.held, grain).unwrap();
+        let held = self.held.get(grain).unwrap();
         self.outstanding
             .insert(self.next_number, Asked::Activation(*grain))?;
-        let closing = Held {
-            phase: Phase::Closing(self.next_number),
-            ..held
-        };
-        held_map::put(&mut self.held, grain, closing);
+        let closing = Phase::Closing(self.next_number);
+        self.held.set(grain, closing, held.previous);
+        self.held.whole();
         self.next_number += 1;
         Ok(())
     }

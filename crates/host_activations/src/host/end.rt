@@ -1,14 +1,15 @@
 ghost use Rattle.std.specs.Prelude.{◌≡◌, MatchOption};
 ghost use Rattle.directory_rules.specs.Host.{asking_under, confirmed, without_find, without_held};
+ghost use Rattle.host_activations.specs.Numbers.{number_of};
 ghost use Rattle.std.specs.BTreeMap.{is_at};
 ghost use Rattle.std.specs.Map.{remove_entry};
 ghost use Rattle.std.specs.Ordering.{nat_cmp};
 
 use super::Host;
 use super::replies::find_under;
-use crate::asked::Asked;
-use crate::held_map::{self, number_of};
-use directory_rules::{Held, Phase};
+use crate::asked::{Asked, number_in};
+use directory_rules::Phase;
+use held_activations::Activations;
 use silo_address::GrainId;
 use std::collections::BTreeMap;
 
@@ -20,14 +21,10 @@ impl Host {
         let Some(found) = self.asking_under(number) else {
             return;
         };
-        let (grain, held) = found;
-        let firm = Held {
-            phase: Phase::Firm,
-            previous: None,
-            ..held
-        };
+        let (grain, _) = found;
         self.outstanding.remove(&number);
-        held_map::put(&mut self.held, &grain, firm);
+        self.held.set(&grain, Phase::Firm, None);
+        self.held.whole();
     }
 
     /// The grain's activation goes, and with it the request that it has outstanding. Where there is none, nothing changes.
@@ -36,7 +33,8 @@ impl Host {
     {
         let number = number_of(&self.held, grain);
         free(&mut self.outstanding, number);
-        held_map::remove(&mut self.held, grain);
+        self.held.end(grain);
+        self.held.whole();
     }
 
     /// The find that has the number goes. Where there is none, nothing changes.
@@ -48,6 +46,16 @@ impl Host {
         };
         self.outstanding.remove(&number);
         self.find_count -= 1;
+    }
+}
+
+// The number of the request that the grain's activation has outstanding.
+fn number_of(held: &Activations, grain: &GrainId) -> Option<u64>
+    ensures { result ≡ number_of grain.now held.now.entries }
+{
+    match held.get(grain) {
+        Some(held) => number_in(held.phase),
+        None => None,
     }
 }
 

@@ -32,7 +32,7 @@ impl Host {
     pub fn has_count(&self, settings: &Settings) -> bool
         ensures { result ≡ has_count settings.now self.now }
     {
-        self.next_count <= settings.last_number()
+        self.held.next_count() <= settings.last_number()
     }
 
     /// How many requests the host has outstanding, finds among them.

@@ -10,8 +10,8 @@ ghost use Rattle.host_activations.specs.declared.host.Host.TheInside.{Inside};
 
 use super::Host;
 use crate::asked::Asked;
-use crate::held_map::HeldMap;
 use directory_rules::Phase;
+use held_activations::Activations;
 use silo_address::GrainId;
 use std::alloc::{AllocError, Global};
 use std::collections::BTreeMap;
@@ -52,8 +52,9 @@ fn renumbered(
 
 // Each activation whose request is told has it under the number that is told: so the activations of a host, whose requests are
 // told under the numbers from its next one on, are renewed.
-fn set_numbers(held: &mut HeldMap, numbered: &BTreeMap<u64, Asked>)
-    ensures { (host : Inside) → IsWhole host → held.old.entries ≡ host.held.entries
+fn set_numbers(held: &mut Activations, numbered: &BTreeMap<u64, Asked>)
+    ensures count { held.new.next_count ≡ held.old.next_count }
+    ensures renewed { (host : Inside) → IsWhole host → held.old.entries ≡ host.held.entries
         → numbered.now.entries ≡ enumerate_from host.next_number (values_of host.outstanding.entries) → held.new.entries ≡ (renewed (host_of host)).held }
 {
     for (number, asked) in numbered {
@@ -64,13 +65,15 @@ fn set_numbers(held: &mut HeldMap, numbered: &BTreeMap<u64, Asked>)
 }
 
 // The request of the grain's activation, if it has one, is under this number from now on.
-fn set_number(map: &mut HeldMap, grain: &GrainId, number: u64)
+fn set_number(map: &mut Activations, grain: &GrainId, number: u64)
     ensures set { MatchOption (lookup (is_at (grain_cmp grain.now)) map.old.entries) (map.new.entries ≡ map.old.entries)
         (λ held. map.new.entries ≡ set_value (is_at (grain_cmp grain.now)) map.old.entries (record held { phase = phase_under number held.phase })) }
+    ensures count { map.new.next_count ≡ map.old.next_count }
     ensures apart { IsDistinct grain_eq (keys_of map.old.entries) }
 {
-    if let Some(held) = map.get_mut(grain) {
-        held.phase = phase_under(number, &held.phase);
+    map.whole();
+    if let Some(held) = map.get(grain) {
+        map.set(grain, phase_under(number, &held.phase), held.previous);
     }
 }
 

@@ -6,7 +6,6 @@ ghost use Rattle.silo_address.specs.Grain.{Grain};
 
 use super::Host;
 use crate::asked::{Asked, find_in};
-use crate::held_map::held_at;
 use directory_rules::{Held, Phase};
 use silo_address::GrainId;
 use std::collections::BTreeMap;
@@ -17,7 +16,7 @@ impl Host {
         ensures { result ≡ asking_under self.now number }
     {
         let grain = activation_under(&self.outstanding, number)?;
-        let held = held_at(&self.held, &grain)?;
+        let held = self.held.get(&grain)?;
         match held.phase {
             Phase::Asking(_) => Some((grain, held)),
             Phase::Firm => None,
@@ -30,7 +29,7 @@ impl Host {
         ensures { result ≡ closing_under self.now number }
     {
         let grain = activation_under(&self.outstanding, number)?;
-        let held = held_at(&self.held, &grain)?;
+        let held = self.held.get(&grain)?;
         match held.phase {
             Phase::Asking(_) => None,
             Phase::Firm => None,

@@ -4,12 +4,11 @@ ghost use Rattle.std.specs.Map.{keys_of};
 ghost use Rattle.std.specs.Ordering.{nat_cmp};
 ghost use Rattle.std.specs.Prelude.{◌≡◌, ◌↔◌, IsTrue, IfOk};
 ghost use Rattle.directory_rules.specs.Laws.{AreNumbered};
-ghost use Rattle.host_activations.specs.IsHost.{IsNext};
+ghost use Rattle.held_activations.specs.Begun.{IsNext};
 ghost use Rattle.silo_address.specs.Grain.{grain_eq};
 
 use super::Host;
 use crate::asked::Asked;
-use crate::held_map::HeldMap;
 use std::alloc::AllocError;
 use std::collections::BTreeMap;
 
@@ -22,20 +21,19 @@ impl Host {
         ensures grains { IsDistinct grain_eq (keys_of self.now.held) }
         ensures finds { IsStrictlySortedBy nat_cmp (keys_of self.now.finds) }
     {
-        let _next_number = self.next_number;
+        self.held.whole();
     }
 
     /// An equal host. Fails only when memory runs out.
     pub fn copy(&self) -> Result<Host, AllocError>
         ensures { IfOk result (λ host. host ≡ self.now) }
     {
-        let held = self.held.clone()?;
+        let held = self.held.copy()?;
         let outstanding = self.outstanding.clone()?;
         Ok(Host {
             alloc: self.alloc,
             silo: self.silo,
             next_number: self.next_number,
-            next_count: self.next_count,
             held,
             outstanding,
             find_count: self.find_count,
@@ -49,20 +47,14 @@ impl Host {
         if !self.silo.same(&other.silo) {
             return false;
         }
-        if self.next_number != other.next_number || self.next_count != other.next_count {
+        if self.next_number != other.next_number {
             return false;
         }
-        if !same_held(&self.held, &other.held) {
+        if !self.held.same(&other.held) {
             return false;
         }
         same_outstanding(&self.outstanding, &other.outstanding)
     }
-}
-
-fn same_held(one: &HeldMap, other: &HeldMap) -> bool
-    ensures { IsTrue result ↔ (one.now.entries ≡ other.now.entries) }
-{
-    one.as_slice() == other.as_slice()
 }
 
 fn same_outstanding(one: &BTreeMap<u64, Asked>, other: &BTreeMap<u64, Asked>) -> bool

@@ -4,5 +4,5 @@ use Rattle.host_activations.proofs.host.Host.same.Goals as goal
 
 pub returns : goal.returns
 returns c =
-    Decides-host c.self.inside c.other.inside c.self.invariant c.other.invariant (c.if-not-same.ensures.0 refl) c.if-self-other.false c.if-self-other-2.false (c.if-not-same_held.ensures.0 refl)
+    Decides-host c.self.inside c.other.inside c.self.invariant c.other.invariant (c.if-not-same.ensures.0 refl) c.if-self-other.false (c.if-not-same-2.ensures.0 refl)
     c.same_outstanding.result c.same_outstanding.ensures c.args.self.now c.args.other.now c.self.view_is c.other.view_is

@@ -11,7 +11,7 @@ use Rattle.host_activations.proofs.host.Host.whole.Goals as goal
 pub returns-clause-numbered : goal.returns-clause-numbered
 returns-clause-numbered c =
     subst AreNumbered c.self.view_is
-    (are_numbered c.self.inside.silo c.self.inside.next_number c.self.inside.next_count c.self.inside.held.entries c.self.inside.outstanding.entries c.self.invariant.are_held)
+    (are_numbered c.self.inside.silo c.self.inside.next_number c.self.inside.held.next_count c.self.inside.held.entries c.self.inside.outstanding.entries c.self.invariant.are_held)
 
 pub returns-clause-finds : goal.returns-clause-finds
 returns-clause-finds c =

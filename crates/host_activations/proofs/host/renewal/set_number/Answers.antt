@@ -1,21 +1,24 @@
-use Rattle.std.proofs.Common.{sym, ap, ◌∙◌}
-use Rattle.std.specs.Map.{lookup, set_value}
-use Rattle.silo_address.specs.Grain.{grain_eq}
+use Rattle.std.proofs.Common.{refl, sym, ap, ◌∙◌}
+use Rattle.std.specs.Map.{set_value}
+use Rattle.std.specs.BTreeMap.{is_at}
+use Rattle.silo_address.specs.Grain.{grain_cmp}
 use Rattle.directory_rules.specs.declared.Phase.{Phase}
-use Rattle.host_activations.proofs.Grains.{tests_alike}
-use Rattle.host_activations.proofs.Renumbering.{held_as, set_none, set_some}
+use Rattle.held_activations.specs.Activations.{ActivationsValue}
+use Rattle.host_activations.proofs.Renumbering.{set_none, set_some}
+use Rattle.host_activations.proofs.Setting.{set_there}
 use Rattle.host_activations.proofs.host.renewal.set_number.Goals as goal
 
 pub returns-in-Some-clause-set : goal.returns-in-Some-clause-set
 returns-in-Some-clause-set c =
-    set_some c.args.number c.args.grain.now c.args.map.now.entries _ c.in-Some.held.now
-    (ap (λ test. lookup test c.args.map.now.entries) (sym (tests_alike c.args.grain.now)) ∙ sym c.in-Some.ensures.value)
-    ((c.get_mut.follows.holds (record c.in-Some.held.now { phase = c.phase_under-held.result })).0
-    ∙ ap (λ (p : Phase). set_value (grain_eq c.args.grain.now) c.args.map.now.entries (record c.in-Some.held.now { phase = p })) c.phase_under-held.ensures
-    ∙ ap (λ test. set_value test c.args.map.now.entries (held_as c.args.number c.in-Some.held.now)) (tests_alike c.args.grain.now))
+    set_some c.args.number c.args.grain.now c.args.map.now.entries c.set.new.self.entries c.in-Some.held (sym c.in-Some.ensures)
+    (ap (λ (v : ActivationsValue). v.entries)
+    (set_there c.args.grain.now c.args.map.now c.set.new.self c.phase_under.result c.in-Some.held.previous c.in-Some.held (sym c.in-Some.ensures) c.set.ensures)
+    ∙ ap (λ (p : Phase). set_value (is_at (grain_cmp c.args.grain.now)) c.args.map.now.entries (record c.in-Some.held { phase = p })) c.phase_under.ensures)
+
+pub returns-in-Some-clause-count : goal.returns-in-Some-clause-count
+returns-in-Some-clause-count c =
+    ap (λ (v : ActivationsValue). v.next_count)
+    (set_there c.args.grain.now c.args.map.now c.set.new.self c.phase_under.result c.in-Some.held.previous c.in-Some.held (sym c.in-Some.ensures) c.set.ensures)
 
 pub returns-in_default-clause-set : goal.returns-in_default-clause-set
-returns-in_default-clause-set c =
-    set_none c.args.number c.args.grain.now c.args.map.now.entries _
-    (ap (λ test. lookup test c.args.map.now.entries) (sym (tests_alike c.args.grain.now)) ∙ sym c.in_default.ensures.value)
-    (ap (λ m. m.entries) c.get_mut.follows.holds-at-none)
+returns-in_default-clause-set c = set_none c.args.number c.args.grain.now c.args.map.now.entries _ (sym c.in_default.ensures) refl

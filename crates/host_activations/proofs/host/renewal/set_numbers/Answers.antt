@@ -9,18 +9,24 @@ loop-number-preserved c =
     let taken : c.loop-number.number-iterator ≡ (c.in-Some.number.now, c.in-Some.asked.now) ∷ c.next.new.self = c.in-Some.ensures.steps in
     let same : with_number c.loop-number.held.entries (c.in-Some.number.now, c.in-Some.asked.now) ≡ c.loop-number.held.entries =
     ap (λ (a : Asked). with_number c.loop-number.held.entries (c.in-Some.number.now, a)) c.in_default.is ∙ with_find c.loop-number.held.entries c.in-Some.number.now c.in_default.field-0 in
-    ap (λ l. with_numbers c.next.new.self l) (sym same) ∙ ap (λ l. with_numbers l c.loop-number.held.entries) (sym taken) ∙ c.loop-number.invariant
+    record {
+      all = ap (λ l. with_numbers c.next.new.self l) (sym same) ∙ ap (λ l. with_numbers l c.loop-number.held.entries) (sym taken) ∙ c.loop-number.invariant.all;
+      count = c.loop-number.invariant.count;
+    }
 
 pub loop-number-preserved-in-Activation : goal.loop-number-preserved-in-Activation
 loop-number-preserved-in-Activation c =
     let taken : c.loop-number.number-iterator ≡ (c.in-Some.number.now, c.in-Some.asked.now) ∷ c.next.new.self = c.in-Some.ensures.steps in
     let set = set_is c.in-Some.number.now c.in-Activation.grain c.loop-number.held.entries c.set_number.new.map.entries c.set_number.ensures.apart c.set_number.ensures.set in
-    ap (λ l. with_numbers c.next.new.self l) (set ∙ ap (λ (a : Asked). with_number c.loop-number.held.entries (c.in-Some.number.now, a)) (sym c.in-Activation.is))
-    ∙ ap (λ l. with_numbers l c.loop-number.held.entries) (sym taken) ∙ c.loop-number.invariant
+    record {
+      all = ap (λ l. with_numbers c.next.new.self l) (set ∙ ap (λ (a : Asked). with_number c.loop-number.held.entries (c.in-Some.number.now, a)) (sym c.in-Activation.is))
+          ∙ ap (λ l. with_numbers l c.loop-number.held.entries) (sym taken) ∙ c.loop-number.invariant.all;
+      count = c.set_number.ensures.count ∙ c.loop-number.invariant.count;
+    }
 
-pub returns : goal.returns
-returns c = λ host is old_is new_is.
+pub returns-clause-renewed : goal.returns-clause-renewed
+returns-clause-renewed c = λ host is old_is new_is.
     ap (λ l. with_numbers l c.loop-number.held.entries) (sym c.in-None.ensures.steps.0)
-    ∙ c.loop-number.invariant
+    ∙ c.loop-number.invariant.all
     ∙ (λ i. with_numbers (new_is i) (old_is i))
     ∙ held_is host is

@@ -1,0 +1,4 @@
+pub mod Activations
+pub mod InOrder
+pub mod Begun
+pub mod Firm
