@@ -8,14 +8,15 @@ use Rattle.silo_address.specs.Grain.{Grain, grain_cmp}
 use Rattle.directory_rules.specs.declared.Held.{Held}
 use Rattle.directory_rules.specs.declared.Phase.{Phase}
 use Rattle.directory_rules.specs.declared.Phase.TheVariants.{Asking, Firm, Closing}
-use Rattle.directory_rules.specs.Host.{is_asking_under, is_closing_under}
+use Rattle.directory_rules.specs.Host.{Host, is_asking_under, is_closing_under}
+use Rattle.host_activations.specs.declared.host.Host.TheInside.{Inside}
+use Rattle.host_activations.specs.HostModel.{IsWhole, host_of}
 use Rattle.host_activations.specs.declared.asked.Asked.{Asked}
 use Rattle.host_activations.specs.declared.asked.Asked.TheVariants.{Activation, Find}
 use Rattle.host_activations.specs.Numbers.{number_in}
 use Rattle.host_activations.specs.Asked.{asked_under}
 use Rattle.host_activations.specs.IsHost.{AreHeld}
 use Rattle.host_activations.proofs.Asking.{same_activation, no_find, nothing}
-use Rattle.host_activations.proofs.Fields.{asking_has, closing_has}
 use Rattle.host_activations.proofs.Found.{IsFoundIn, all_map, each_found, search_finds, search_fails}
 
 -- what is outstanding under a number is an activation's request just where it is not a find's
@@ -82,43 +83,45 @@ module _ (next : ℕ) (held : List (Grain × Held)) (out : List (ℕ × Asked)) 
   not_asked never = none_passes (λ e found passes. never e.0 (stands e found passes))
 
 -- the number of a phase that asks, or closes, is that under which it does
-asking_if : (phase : Phase) (its n : ℕ) → phase ≡ Asking its → number_in phase ≡ Some n → is_asking_under n phase ≡ true
+pub asking_if : (phase : Phase) (its n : ℕ) → phase ≡ Asking its → number_in phase ≡ Some n → is_asking_under n phase ≡ true
 asking_if (Asking its) k n is has = (Decides-eqb its n).1 (same_Some its n has)
 asking_if Firm its n is has = cc
 asking_if (Closing other) its n is has = cc
 
-closing_if : (phase : Phase) (its n : ℕ) → phase ≡ Closing its → number_in phase ≡ Some n → is_closing_under n phase ≡ true
+pub closing_if : (phase : Phase) (its n : ℕ) → phase ≡ Closing its → number_in phase ≡ Some n → is_closing_under n phase ≡ true
 closing_if (Asking other) its n is has = cc
 closing_if Firm its n is has = cc
 closing_if (Closing its) k n is has = (Decides-eqb its n).1 (same_Some its n has)
 
-module _ (next : ℕ) (held : List (Grain × Held)) (out : List (ℕ × Asked)) (are : AreHeld next held out) (n : ℕ) where
-  module _ (g : Grain) (is : asked_under n out ≡ Some (Activation g)) where
-    has_number : (h : Held) → lookup (is_at (grain_cmp g)) held ≡ Some h → number_in h.phase ≡ Some n
-    has_number h there = sym (ap (λ o. option_and_then (λ (x : Held). number_in x.phase) o) there) ∙ are.asked.only g n is
+-- the activation that the number means has its request under it, and is what a search finds, if it passes
+module _ (h : Inside) (is : IsWhole h) (host : Host) (means : host_of h ≡ host) (n : ℕ) where
+  abbrev pub Finds : Option (Grain × Held) → Type 0
+  Finds result = (test : Phase → Bool) → ((phase : Phase) → test phase ≡ true → number_in phase ≡ Some n)
+      → find (λ e. test e.1.phase) host.held ≡ option_and_then (λ e. cond (test e.1.phase) (Some e) None) result
 
-    abbrev chosen : Held → Bool → Option (Grain × Held)
-    chosen h b = cond b (Some (g, h)) None
+  -- there is none of the number
+  pub finds_none : ((g : Grain) → asked_under n h.outstanding.entries ≡ Some (Activation g) → ⊥) → (result : Option (Grain × Held)) → result ≡ None → Finds result
+  finds_none never result none test has =
+      ap (λ (x : Host). find (λ e. test e.1.phase) x.held) (sym means)
+      ∙ not_asked h.next_number h.held.entries h.outstanding.entries is.are_held test n has never
+      ∙ ap (option_and_then (λ e. cond (test e.1.phase) (Some e) None)) (sym none)
 
-    abbrev passed : (Phase → Bool) → Option Held → Option (Grain × Held)
-    passed test o = option_and_then (λ h. chosen h (test h.phase)) o
+  module _ (g : Grain) (asked : asked_under n h.outstanding.entries ≡ Some (Activation g)) where
+    -- so its activation is held
+    pub is_held : {P : Type 0} → None ≡ lookup (is_at (grain_cmp g)) h.held.entries → P
+    is_held there = nothing n (ap (λ o. option_and_then (λ (x : Held). number_in x.phase) o) there ∙ is.are_held.asked.only g n asked)
 
-    -- the activation asks
-    pub asking_found : (h : Held) (its : ℕ) → Some h ≡ lookup (is_at (grain_cmp g)) held → h.phase ≡ Asking its → Some (g, h) ≡ find (λ e. is_asking_under n e.1.phase) held
-    asking_found h its there phase =
-        sym (of_grain next held out are (is_asking_under n) n (asking_has n) g is ∙ ap (passed (is_asking_under n)) (sym there) ∙ ap (chosen h) (asking_if h.phase its n phase (has_number h (sym there))))
+    module _ (held : Held) (there : Some held ≡ lookup (is_at (grain_cmp g)) h.held.entries) where
+      pub has_number : number_in held.phase ≡ Some n
+      has_number = ap (λ o. option_and_then (λ (x : Held). number_in x.phase) o) there ∙ is.are_held.asked.only g n asked
 
-    -- it closes
-    pub closing_found : (h : Held) (its : ℕ) → Some h ≡ lookup (is_at (grain_cmp g)) held → h.phase ≡ Closing its → Some (g, h) ≡ find (λ e. is_closing_under n e.1.phase) held
-    closing_found h its there phase =
-        sym (of_grain next held out are (is_closing_under n) n (closing_has n) g is ∙ ap (passed (is_closing_under n)) (sym there) ∙ ap (chosen h) (closing_if h.phase its n phase (has_number h (sym there))))
+      pub finds_held : Finds (Some (g, held))
+      finds_held test has =
+          ap (λ (x : Host). find (λ e. test e.1.phase) x.held) (sym means)
+          ∙ of_grain h.next_number h.held.entries h.outstanding.entries is.are_held test n has g asked
+          ∙ ap (λ o. option_and_then (λ (x : Held). cond (test x.phase) (Some (g, x)) None) o) (sym there)
 
-    -- it is in another phase
-    pub other_found : (test : Phase → Bool) → ((x : Phase) → test x ≡ true → number_in x ≡ Some n) → (h : Held) (phase : Phase)
-        → Some h ≡ lookup (is_at (grain_cmp g)) held → h.phase ≡ phase → test phase ≡ false → None ≡ find (λ e. test e.1.phase) held
-    other_found test has h phase there same fails =
-        sym (of_grain next held out are test n has g is ∙ ap (passed test) (sym there) ∙ ap (chosen h) (ap test same ∙ fails))
-
-    -- there is none
-    pub none_held : (test : Phase → Bool) → ((x : Phase) → test x ≡ true → number_in x ≡ Some n) → None ≡ lookup (is_at (grain_cmp g)) held → None ≡ find (λ e. test e.1.phase) held
-    none_held test has there = sym (of_grain next held out are test n has g is ∙ ap (passed test) (sym there))
+-- what passes is found, and what doesn't isn't
+pub found_if : (test : Phase → Bool) (held : List (Grain × Held)) (e : Grain × Held) (b : Bool) → test e.1.phase ≡ b
+    → find (λ x. test x.1.phase) held ≡ cond (test e.1.phase) (Some e) None → cond b (Some e) None ≡ find (λ x. test x.1.phase) held
+found_if test held e b is found = sym (found ∙ ap (λ t. cond t (Some e) None) is)

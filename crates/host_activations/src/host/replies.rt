@@ -1,4 +1,6 @@
-ghost use Rattle.std.specs.Prelude.{◌≡◌, ◌↔◌, Some, option_and_then};
+ghost use Rattle.std.specs.Prelude.{◌≡◌, ◌↔◌, if◌then◌else◌, Bool, IfSome, IsTrue, None, Some, find, option_and_then};
+ghost use Rattle.directory_rules.specs.declared.Phase.{Phase as PhaseSeen};
+ghost use Rattle.host_activations.specs.Numbers.{number_in};
 ghost use Rattle.directory_rules.specs.Host.{asking_under, closing_under, is_finding, is_outstanding};
 ghost use Rattle.host_activations.specs.Asked.{asked_under, find_in};
 ghost use Rattle.host_activations.specs.declared.asked.Asked.TheVariants.{Activation};
@@ -15,10 +17,9 @@ impl Host {
     pub fn asking_under(&self, number: u64) -> Option<(GrainId, Held)>
         ensures { result ≡ asking_under self.now number }
     {
-        let grain = activation_under(&self.outstanding, number)?;
-        let held = self.held.get(&grain)?;
-        match held.phase {
-            Phase::Asking(_) => Some((grain, held)),
+        let found = self.held_under(number)?;
+        match found.1.phase {
+            Phase::Asking(_) => Some(found),
             Phase::Firm => None,
             Phase::Closing(_) => None,
         }
@@ -28,13 +29,23 @@ impl Host {
     pub fn closing_under(&self, number: u64) -> Option<(GrainId, Held)>
         ensures { result ≡ closing_under self.now number }
     {
-        let grain = activation_under(&self.outstanding, number)?;
-        let held = self.held.get(&grain)?;
-        match held.phase {
+        let found = self.held_under(number)?;
+        match found.1.phase {
             Phase::Asking(_) => None,
             Phase::Firm => None,
-            Phase::Closing(_) => Some((grain, held)),
+            Phase::Closing(_) => Some(found),
         }
+    }
+
+    // The activation whose request has the number, whatever that asks. A search for a phase that has the number finds it or none.
+    fn held_under(&self, number: u64) -> Option<(GrainId, Held)>
+        ensures asked { IfSome result (λ e. number_in e.1.phase ≡ Some number) }
+        ensures found { (test : PhaseSeen → Bool) → ((phase : PhaseSeen) → IsTrue (test phase) → number_in phase ≡ Some number)
+            → find (λ e. test e.1.phase) self.now.held ≡ option_and_then (λ e. if test e.1.phase then Some e else None) result }
+    {
+        let grain = activation_under(&self.outstanding, number)?;
+        let held = self.held.get(&grain)?;
+        Some((grain, held))
     }
 
     /// Whether a request of the number is outstanding.
