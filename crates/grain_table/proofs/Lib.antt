@@ -9,3 +9,5 @@ pub mod Stretches
 pub mod Ranges
 pub mod Same
 pub mod Within
+pub mod HashesBelow
+pub mod Lying

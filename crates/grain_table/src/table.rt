@@ -1,11 +1,12 @@
 ghost use Rattle.std.specs.List.Sorted.{IsStrictlySortedBy};
 ghost use Rattle.std.specs.Map.{keys_of};
-ghost use Rattle.std.specs.Prelude.{◌≡◌, [], IfOk, OnOk, OnErr, length, is_none};
+ghost use Rattle.std.specs.Prelude.{◌≡◌, [], IfOk, OnOk, OnErr, fold, length, is_none};
 ghost use Rattle.silo_address.specs.Grain.{grain_cmp};
 ghost use Rattle.directory_rules.specs.Recovery.{with_reported};
-ghost use Rattle.directory_rules.specs.Table.{entry_at, with_entry, without_grain};
+ghost use Rattle.directory_rules.specs.Table.{entries_of, entry_at, with_entry, without_grain};
 ghost use Rattle.grain_table.specs.Hashed.{IsKeyOf};
 
+mod lying;
 mod order;
 mod put;
 mod same;
@@ -99,6 +100,13 @@ impl Table {
     /// A law: the entries stand in the order of their grains, each grain once.
     pub fn whole(&self)
         ensures { IsStrictlySortedBy grain_cmp (keys_of self.now.entries) }
+    {
+        let _hashing = self.hashing;
+    }
+
+    /// A law: the entries, put into a table without any, make this one again.
+    pub fn made_again(&self)
+        ensures { fold with_entry [] (entries_of self.now.entries) ≡ self.now.entries }
     {
         let _hashing = self.hashing;
     }

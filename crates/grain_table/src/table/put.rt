@@ -64,8 +64,8 @@ impl Table {
         Ok(table)
     }
 
-    // Takes out the entries on silos that are Dead in the view.
-    fn remove_dead(&mut self, view: &View)
+    /// Takes out the entries on silos that are Dead in the view.
+    pub fn remove_dead(&mut self, view: &View)
         ensures { self.new ≡ record self.old { entries = filter (λ e. not (is_dead_in view.now e.1.activation.silo)) self.old.entries } }
     {
         self.map
