@@ -11,3 +11,5 @@ pub mod FromArcs
 pub mod AtTheEnd
 pub mod Sighted
 pub mod Within
+pub mod Tidy
+pub mod StayedPieces

@@ -83,8 +83,10 @@ fn sees(
     let between = arcs(alloc, &old, &new).expect(rt, "memory");
     let next = to.saturating_sub(from) == 1;
     let silo = silo(rt, who);
-    let sighted = holding.sight(alloc, next, Hashing::Stated, &seen, &silo, &between);
-    sighted.expect(rt, "memory")
+    let mut after = holding.copy().expect(rt, "memory");
+    let sighted = after.sight(alloc, next, Hashing::Stated, &seen, &silo, &between);
+    assert!(rt; sighted.is_ok());
+    after
 }
 
 // What the silo keeps after a first sight.
