@@ -11,3 +11,4 @@ pub mod Same
 pub mod Within
 pub mod HashesBelow
 pub mod Lying
+pub mod OnSilos

@@ -26,8 +26,8 @@ returns-in-Some c =
     ∙ same_passed (λ e. range_contains hashed_cmp (Included (first_at c.args.first)) (end_at c.args.end) e.0) (λ e. is_between c.args.first c.args.end e.0.hash) es
     (under_keys c.self.inside.hashing
     (λ key. range_contains hashed_cmp (Included (first_at c.args.first)) (end_at c.args.end) key ≡ is_between c.args.first c.args.end key.hash)
-    (λ key of. stands_between c.self.inside.hashing c.args.first c.args.end c.requires key of) es c.self.invariant.keys) in
-    sym (some_there c.self.inside.hashing c.args.first c.args.end es c.self.invariant _ _ (sym is ∙ c.in-Some.ensures.steps))
+    (λ key of. stands_between c.self.inside.hashing c.args.first c.args.end c.requires key of) es c.self.invariant.are.keys) in
+    sym (some_there c.self.inside.hashing c.args.first c.args.end es c.self.invariant.are _ _ (sym is ∙ c.in-Some.ensures.steps))
     ∙ ap (λ (v : TableValue). list_all (λ e. not (is_between c.args.first c.args.end (hash_grain v.hashing e.grain))) (entries_of v.entries)) c.self.view_is
 
 pub returns-in-None : goal.returns-in-None
@@ -39,6 +39,6 @@ returns-in-None c =
     ∙ same_passed (λ e. range_contains hashed_cmp (Included (first_at c.args.first)) (end_at c.args.end) e.0) (λ e. is_between c.args.first c.args.end e.0.hash) es
     (under_keys c.self.inside.hashing
     (λ key. range_contains hashed_cmp (Included (first_at c.args.first)) (end_at c.args.end) key ≡ is_between c.args.first c.args.end key.hash)
-    (λ key of. stands_between c.self.inside.hashing c.args.first c.args.end c.requires key of) es c.self.invariant.keys) in
-    sym (none_there c.self.inside.hashing c.args.first c.args.end es c.self.invariant (sym is ∙ c.in-None.ensures.steps.0))
+    (λ key of. stands_between c.self.inside.hashing c.args.first c.args.end c.requires key of) es c.self.invariant.are.keys) in
+    sym (none_there c.self.inside.hashing c.args.first c.args.end es c.self.invariant.are (sym is ∙ c.in-None.ensures.steps.0))
     ∙ ap (λ (v : TableValue). list_all (λ e. not (is_between c.args.first c.args.end (hash_grain v.hashing e.grain))) (entries_of v.entries)) c.self.view_is
