@@ -13,3 +13,4 @@ pub mod Sighted
 pub mod Within
 pub mod Tidy
 pub mod StayedPieces
+pub mod Gathering

@@ -5,7 +5,7 @@ ghost use Rattle.std.specs.Ordering.{nat_cmp};
 ghost use Rattle.directory_rules.specs.Sight.{is_owner, missing_state, piece_of, pieces_after};
 ghost use Rattle.grain_partition.specs.Holding.{ArePieces};
 ghost use Rattle.grain_partition.specs.Sight.{AreOfRings};
-ghost use Rattle.grain_partition.specs.Staying.{piece_made, pieces_made};
+ghost use Rattle.grain_partition.specs.Staying.{are_tidy, piece_made, pieces_made};
 
 use crate::Piece;
 use crate::entries::kept_entries;
@@ -58,6 +58,7 @@ fn pieces_made(
     arcs: &[Arc],
 ) -> Result<BTreeMap<u32, Piece>, AllocError>
     requires pieces { ArePieces pieces.now.entries }
+    requires tidy { tidy ≡ are_tidy hashing pieces.now.entries }
     requires arcs { AreOfRings arcs.now }
     ensures { IfOk result (λ made. made.entries ≡ pieces_made tidy next hashing view.now silo.now pieces.now.entries arcs.now) }
 {
@@ -86,12 +87,13 @@ fn piece_made(
     arc: &Arc,
 ) -> Result<Piece, AllocError>
     requires pieces { ArePieces pieces.now.entries }
+    requires tidy { tidy ≡ are_tidy hashing pieces.now.entries }
     ensures { IfOk result (λ piece. piece ≡ piece_made tidy next hashing view.now silo.now pieces.now.entries arc.now) }
 {
     if tidy && stays(pieces, &arc.range) {
         return Ok(Piece::settled(arc.range, Table::new(alloc, hashing)));
     }
-    piece_of(alloc, pieces, next, hashing, view, silo, arc)
+    piece_of(alloc, pieces, tidy, next, hashing, view, silo, arc)
 }
 
 // The piece of an arc that the silo owns in the view: it stays settled where it was, and then has its entries from those that
@@ -99,6 +101,7 @@ fn piece_made(
 fn piece_of(
     alloc: Global,
     pieces: &BTreeMap<u32, Piece>,
+    tidy: bool,
     next: bool,
     hashing: Hashing,
     view: &View,
@@ -106,10 +109,11 @@ fn piece_of(
     arc: &Arc,
 ) -> Result<Piece, AllocError>
     requires pieces { ArePieces pieces.now.entries }
+    requires tidy { tidy ≡ are_tidy hashing pieces.now.entries }
     ensures { IfOk result (λ piece. piece ≡ piece_of next hashing view.now silo.now pieces.now.entries arc.now) }
 {
     if are_settled(pieces, &arc.range) {
-        let entries = kept_entries(alloc, pieces, hashing, view, &arc.range)?;
+        let entries = kept_entries(alloc, pieces, tidy, hashing, view, &arc.range)?;
         return Ok(Piece::settled(arc.range, entries));
     }
     let state = missing_state(next, view, silo, arc.from);
