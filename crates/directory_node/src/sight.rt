@@ -2,13 +2,14 @@ ghost use Rattle.std.specs.Prelude.{◌≡◌, ◌&&◌, ◌==◌, ◌+◌, ◌<
 ghost use Rattle.std.specs.BTreeMap.{insert_entry};
 ghost use Rattle.std.specs.Ordering.{nat_cmp};
 ghost use Rattle.directory_rules.specs.Host.{has_numbers, outstanding, renewed};
-ghost use Rattle.directory_rules.specs.Sight.{is_next};
+ghost use Rattle.directory_rules.specs.Sight.{is_next, pieces_after};
 ghost use Rattle.directory_rules.specs.Sending.{all_requests, all_wants, query_letters, recovery_of, request_letters};
 ghost use Rattle.directory_rules.specs.Step.{compared_points, new_recoveries, node_after, see, sight};
 ghost use Rattle.directory_rules.specs.declared.PieceState.TheVariants.{Recovering};
 ghost use Rattle.hash_ring.specs.Places.{PlacesValue};
 ghost use Rattle.hash_ring.specs.Ring.{ring_of};
 ghost use Rattle.range_moves.specs.Arcs.{AreArcs, arcs_of};
+ghost use Rattle.grain_partition.specs.Sight.{AreOfRings};
 ghost use Rattle.directory_node.specs.First.{IsFirst};
 ghost use Rattle.directory_node.specs.Follows.{Follows};
 ghost use Rattle.directory_node.specs.Numbers.{step_refusal_number};
@@ -162,7 +163,7 @@ impl Node {
     {
         let silo = self.host.silo();
         let hashing = self.settings.hashing();
-        let holding = self.holding.sight(alloc, next, hashing, view, &silo, arcs)?;
+        let holding = holding_after(alloc, &self.holding, next, hashing, view, &silo, arcs)?;
         holding.whole();
         let recoveries = new_recoveries(alloc, hashing, view, &holding)?;
         let host = self.renewed_host()?;
@@ -255,6 +256,24 @@ impl Node {
             }
         }
     }
+}
+
+// The holding after the sight, made beside this one. A first sight finds no pieces, so that none are copied.
+fn holding_after(
+    alloc: Global,
+    holding: &Holding,
+    next: bool,
+    hashing: Hashing,
+    view: &View,
+    silo: &SiloAddress,
+    arcs: &[Arc],
+) -> Result<Holding, AllocError>
+    requires { AreOfRings arcs.now }
+    ensures { IfOk result (λ after. after ≡ record { seen = view.now.version; served = []; pieces = pieces_after next hashing view.now silo.now holding.now.pieces arcs.now }) }
+{
+    let mut after = holding.copy()?;
+    after.sight(alloc, next, hashing, view, silo, arcs)?;
+    Ok(after)
 }
 
 // The recoveries of the pieces that recover.

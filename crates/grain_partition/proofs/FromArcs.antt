@@ -34,7 +34,7 @@ one_at_most [] = omega arith
 one_at_most (place ∷ places) = omega arith
 
 module _ (f : Arc → Piece) (q : Arc → Bool) where
-  abbrev made : List Arc → List (ℕ × Piece)
+  abbrev pub made : List Arc → List (ℕ × Piece)
   made arcs = map (λ arc. (arc.range.start, f arc)) (filter q arcs)
 
   all_above : (start : ℕ) (arcs : List Arc) → All (λ later. start < later.range.start) arcs → AllByRecursion (λ key. nat_cmp start key ≡ Less) (keys_of (made arcs))

@@ -11,3 +11,6 @@ pub mod FromArcs
 pub mod AtTheEnd
 pub mod Sighted
 pub mod Within
+pub mod Tidy
+pub mod StayedPieces
+pub mod Gathering

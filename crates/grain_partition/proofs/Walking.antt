@@ -11,6 +11,7 @@ use Rattle.ring_range.proofs.Parts.{holds-part, IsRange-part}
 use Rattle.directory_rules.specs.Piece.{Piece}
 use Rattle.directory_rules.specs.Sight.{was_settled}
 use Rattle.directory_rules.specs.Laws.{lies_settled}
+use Rattle.directory_rules.proofs.Cases.{on_bool}
 use Rattle.grain_partition.specs.Holding.{ArePieces}
 use Rattle.grain_partition.specs.Settled.{LiesSettled}
 use Rattle.grain_partition.specs.Search.{SettlesAt}
@@ -53,24 +54,32 @@ module _ (pieces : List (ℕ × Piece)) (are : ArePieces pieces) (range : Range)
   behind_in lies hash below held =
       lies hash below (both (nat_le covered (distance range.start hash)) (nat_lt (distance range.start hash) range.size) (sym (behind_is hash below) ∙ held)).1
 
-  -- a hash of the range is behind or the first piece's
-  in_behind : LiesSettled pieces (part_behind range first) → LiesSettled pieces range
-  in_behind lies hash below held = by (cases_lt (distance range.start hash) covered)
+  -- a hash of the range that isn't the first piece's is behind
+  pub behind_first : (hash : ℕ) → hash < circle → holds range hash ≡ true → holds first hash ≡ false → holds (part_behind range first) hash ≡ true
+  behind_first hash below held apart = by (cases_lt (distance range.start hash) covered)
     where
-      by : (distance range.start hash < covered) ⊎ (covered ≤ distance range.start hash) → lies_settled hash pieces ≡ true
+      tests : covered ≤ distance range.start hash → distance range.start hash < range.size → (nat_le covered (distance range.start hash) && nat_lt (distance range.start hash) range.size) ≡ true
+      tests le lt = grind (arith, nat_tests)
+
+      by : (distance range.start hash < covered) ⊎ (covered ≤ distance range.start hash) → holds (part_behind range first) hash ≡ true
       by (inl near) =
           let over = distance-over first.start range.start hash first_ok.start_below ok.start_below below (omega (arith, begins, first_ok.size_within)) in
-          lies_by pieces hash first (record {
-            piece = at.piece;
-            there = at.there;
-            settled = at.settled;
-            range_is = at.range_is;
-            has = holds-below first hash (omega (arith, over, begins));
-          })
-      by (inr far) = lies hash below (behind_is hash below ∙ tests far (below-holds range hash held))
-        where
-          tests : covered ≤ distance range.start hash → distance range.start hash < range.size → (nat_le covered (distance range.start hash) && nat_lt (distance range.start hash) range.size) ≡ true
-          tests le lt = grind (arith, nat_tests)
+          let no : false ≡ true = sym apart ∙ holds-below first hash (omega (arith, over, begins)) in cc
+      by (inr far) = behind_is hash below ∙ tests far (below-holds range hash held)
+
+  -- a hash of the range is behind or the first piece's
+  in_behind : LiesSettled pieces (part_behind range first) → LiesSettled pieces range
+  in_behind lies hash below held =
+      on_bool (λ b. holds first hash ≡ b → lies_settled hash pieces ≡ true) (holds first hash)
+      (λ t has.
+      lies_by pieces hash first (record {
+        piece = at.piece;
+        there = at.there;
+        settled = at.settled;
+        range_is = at.range_is;
+        has = has;
+      }))
+      (λ f apart. lies hash below (behind_first hash below held apart)) refl
 
   pub settled-behind : was_settled pieces range ≡ was_settled pieces (part_behind range first)
   settled-behind =

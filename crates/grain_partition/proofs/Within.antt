@@ -117,6 +117,15 @@ module _ (hashing : Hashing) (range : Range) where
   fold_behind [] other table = refl
   fold_behind (entry ∷ entries) other table = fold_behind entries other (with_within hashing range table entry)
 
+  -- the entries of one piece more
+  pub one_piece_more : (start : ℕ) (piece : Piece) (rest : List (ℕ × Piece)) (table new : Table)
+      → new ≡ fold with_entry table (filter (λ e. within_range hashing range e.grain) (entries_of piece.entries))
+      → fold (with_within hashing range) new (flat_map (λ e. entries_of e.1.entries) rest)
+      ≡ fold (with_within hashing range) table (flat_map (λ e. entries_of e.1.entries) ((start, piece) ∷ rest))
+  one_piece_more start piece rest table new put =
+      ap (λ t. fold (with_within hashing range) t (flat_map (λ e. entries_of e.1.entries) rest)) (put ∙ put_within (entries_of piece.entries) table)
+      ∙ sym (fold_behind (entries_of piece.entries) (flat_map (λ e. entries_of e.1.entries) rest) table)
+
   abbrev all_of : List (ℕ × Piece) → List Entry
   all_of pieces = flat_map (λ e. entries_of e.1.entries) (settled_pieces pieces)
 
@@ -125,6 +134,5 @@ module _ (hashing : Hashing) (range : Range) where
       → new ≡ fold with_entry table (filter (λ e. within_range hashing range e.grain) (entries_of piece.entries))
       → fold (with_within hashing range) new (all_of rest) ≡ fold (with_within hashing range) table (all_of ((start, piece) ∷ rest))
   one_more_within start piece rest settled table new put =
-      ap (λ t. fold (with_within hashing range) t (all_of rest)) (put ∙ put_within (entries_of piece.entries) table)
-      ∙ sym (fold_behind (entries_of piece.entries) (all_of rest) table)
+      one_piece_more start piece (settled_pieces rest) table new put
       ∙ ap (λ b. fold (with_within hashing range) table (flat_map (λ e. entries_of e.1.entries) (cond b ((start, piece) ∷ settled_pieces rest) (settled_pieces rest)))) (sym settled)

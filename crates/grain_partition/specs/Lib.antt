@@ -3,3 +3,4 @@ pub mod Search
 pub mod Serving
 pub mod Settled
 pub mod Sight
+pub mod Staying

@@ -20,7 +20,7 @@ use crate::sealing::sealed;
 use crate::search::piece_with;
 use crate::served::serve_numbered;
 use crate::settled::are_settled;
-use crate::sight::pieces_after;
+use crate::sight::sight;
 use directory_rules::{Act, PieceState, Reply, Request, Why};
 use grain_table::Table;
 use hash_ring::Hashing;
@@ -183,28 +183,28 @@ impl Holding {
         self.served.get(silo).copied().unwrap_or(0)
     }
 
-    /// What the silo keeps once it sees the view: one piece for each of the arcs that it owns there, which is settled where it
-    /// was, and else awaits its entries where this view is the `next` one after that seen before. The arcs are those from the
-    /// ring of the version seen before to the ring of the view, under the cluster's hashing. Costs what the holding has,
-    /// times a logarithm. Fails only when memory runs out (`docs/RULES.md#pieces`).
+    /// The silo sees the view: it keeps one piece for each of the arcs that it owns there, which is settled where it was, and
+    /// else awaits its entries where this view is the `next` one after that seen before. The arcs are those from the ring of the
+    /// version seen before to the ring of the view, under the cluster's hashing. A settled piece whose range is one of these arcs
+    /// keeps its table; for each other arc just the entries hashed into it are copied. Fails only when memory runs out, and then
+    /// changes nothing (`docs/RULES.md#pieces`).
     pub fn sight(
-        &self,
+        &mut self,
         alloc: Global,
         next: bool,
         hashing: Hashing,
         view: &View,
         silo: &SiloAddress,
         arcs: &[Arc],
-    ) -> Result<Holding, AllocError>
+    ) -> Result<(), AllocError>
         requires { AreOfRings arcs.now }
-        ensures { IfOk result (λ holding. holding ≡ record { seen = view.now.version; served = []; pieces = pieces_after next hashing view.now silo.now self.now.pieces arcs.now }) }
+        ensures seen { OnOk result (self.new ≡ record { seen = view.now.version; served = []; pieces = pieces_after next hashing view.now silo.now self.old.pieces arcs.now }) }
+        ensures unchanged { OnErr result (self.new ≡ self.old) }
     {
-        let pieces = pieces_after(alloc, &self.pieces, next, hashing, view, silo, arcs)?;
-        Ok(Holding {
-            seen: view.version(),
-            served: BTreeMap::new(alloc),
-            pieces,
-        })
+        sight(alloc, &mut self.pieces, next, hashing, view, silo, arcs)?;
+        self.seen = view.version();
+        self.served = BTreeMap::new(alloc);
+        Ok(())
     }
 
     /// Whether every hash of the range is in a settled piece.

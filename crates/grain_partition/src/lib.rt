@@ -10,6 +10,7 @@ mod search;
 mod served;
 mod settled;
 mod sight;
+mod staying;
 
 pub use holding::Holding;
 pub use piece::Piece;

@@ -1,12 +1,14 @@
-ghost use Rattle.std.specs.Prelude.{◌≡◌, ◌↔◌, [], IsTrue, IfOk, OnOk, OnErr};
+ghost use Rattle.std.specs.Prelude.{◌≡◌, ◌↔◌, [], ◌∷◌, IsTrue, IfOk, OnOk, OnErr};
 ghost use Rattle.directory_rules.specs.Answer.{turned};
 ghost use Rattle.directory_rules.specs.declared.PieceState.TheVariants.{Settled};
-ghost use Rattle.directory_rules.specs.Sight.{is_settled};
-ghost use Rattle.directory_rules.specs.Table.{entry_at};
+ghost use Rattle.directory_rules.specs.Sight.{all_entries, is_settled};
+ghost use Rattle.directory_rules.specs.Table.{entries_of, entry_at, lie_in};
+ghost use Rattle.grain_partition.specs.Staying.{is_settled_of, living};
 
 use directory_rules::{Act, PieceState, Reply};
 use grain_table::Table;
 use hash_ring::Hashing;
+use membership_view::View;
 use ring_range::RingRange;
 use silo_address::{Entry, GrainId};
 use std::alloc::{AllocError, Global};
@@ -92,6 +94,38 @@ impl Piece {
         match self.state {
             PieceState::Settled => true,
             PieceState::Awaiting(_) | PieceState::Recovering => false,
+        }
+    }
+
+    // Whether the piece is settled, and has just this range.
+    pub(crate) fn is_settled_of(&self, range: &RingRange) -> bool
+        ensures { result ≡ is_settled_of range.now self.now }
+    {
+        self.is_settled() && self.range == *range
+    }
+
+    // Whether the entries are hashed into the range.
+    pub(crate) fn is_tidy(&self, hashing: Hashing) -> bool
+        ensures { result ≡ lie_in hashing self.now.range (entries_of self.now.entries) }
+    {
+        self.entries.lies_in(hashing, &self.range)
+    }
+
+    // The piece less its entries on silos that are Dead in the view.
+    pub(crate) fn without_dead(self, view: &View) -> Piece
+        ensures { result ≡ record self { entries = living view.now (all_entries ((0, self) ∷ [])) } }
+    {
+        let Piece {
+            range,
+            state,
+            mut entries,
+        } = self;
+        entries.made_again();
+        entries.remove_dead(view);
+        Piece {
+            range,
+            state,
+            entries,
         }
     }
 

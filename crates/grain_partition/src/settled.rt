@@ -39,8 +39,8 @@ pub(crate) fn settled_at(pieces: &BTreeMap<u32, Piece>, hash: u32) -> Option<Rin
     Some(piece.range())
 }
 
-// What of the range lies behind another one that has its first hash.
-fn part_behind(range: &RingRange, first: &RingRange) -> RingRange
+/// What of the range lies behind another one that has its first hash.
+pub(crate) fn part_behind(range: &RingRange, first: &RingRange) -> RingRange
     requires { holds first.now range.now.start ≡ true }
     ensures { result ≡ part_of range.now (first.now.size - distance first.now.start range.now.start) range.now.size }
 {

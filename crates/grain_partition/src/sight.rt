@@ -1,14 +1,16 @@
-//! A sight: the pieces of the arcs that the silo owns in a newer view, and the entries that they keep.
-ghost use Rattle.std.specs.Prelude.{◌≡◌, IfOk, OnOk};
+//! A sight: the pieces of the arcs that the silo owns in a newer view. A piece whose range is again one of them keeps its table.
+ghost use Rattle.std.specs.Prelude.{◌≡◌, IfOk, OnOk, OnErr};
 ghost use Rattle.std.specs.BTreeMap.{insert_entry};
 ghost use Rattle.std.specs.Ordering.{nat_cmp};
-ghost use Rattle.directory_rules.specs.Sight.{all_entries, is_owner, missing_state, piece_of, pieces_after};
+ghost use Rattle.directory_rules.specs.Sight.{is_owner, missing_state, piece_of, pieces_after};
 ghost use Rattle.grain_partition.specs.Holding.{ArePieces};
 ghost use Rattle.grain_partition.specs.Sight.{AreOfRings};
+ghost use Rattle.grain_partition.specs.Staying.{are_tidy, piece_made, pieces_made};
 
 use crate::Piece;
-use crate::entries::all_entries;
+use crate::entries::kept_entries;
 use crate::settled::are_settled;
+use crate::staying::{are_tidy, put_all_back, stays};
 use directory_rules::PieceState;
 use grain_table::{Table, is_dead_in};
 use hash_ring::Hashing;
@@ -17,11 +19,38 @@ use range_moves::Arc;
 use silo_address::SiloAddress;
 use std::alloc::{AllocError, Global};
 use std::collections::BTreeMap;
+use std::mem;
 
-/// The pieces after the sight of the view. Costs what the pieces before have, times a logarithm. Fails only when memory runs out.
-pub(crate) fn pieces_after(
+/// The pieces become those after the sight of the view. First the new ones are made, which needs memory, without the entries
+/// of those that stay; then these are put back. Fails only when memory runs out, and then changes nothing.
+pub(crate) fn sight(
+    alloc: Global,
+    pieces: &mut BTreeMap<u32, Piece>,
+    next: bool,
+    hashing: Hashing,
+    view: &View,
+    silo: &SiloAddress,
+    arcs: &[Arc],
+) -> Result<(), AllocError>
+    requires pieces { ArePieces pieces.old.entries }
+    requires arcs { AreOfRings arcs.now }
+    ensures after { OnOk result (pieces.new.entries ≡ pieces_after next hashing view.now silo.now pieces.old.entries arcs.now) }
+    ensures unchanged { OnErr result (pieces.new.entries ≡ pieces.old.entries) }
+{
+    let tidy = are_tidy(hashing, pieces);
+    let after = pieces_made(alloc, pieces, tidy, next, hashing, view, silo, arcs)?;
+    let before = mem::replace(pieces, after);
+    if tidy {
+        put_all_back(pieces, before, view);
+    }
+    Ok(())
+}
+
+// The pieces of the arcs that the silo owns in the view.
+fn pieces_made(
     alloc: Global,
     pieces: &BTreeMap<u32, Piece>,
+    tidy: bool,
     next: bool,
     hashing: Hashing,
     view: &View,
@@ -29,39 +58,62 @@ pub(crate) fn pieces_after(
     arcs: &[Arc],
 ) -> Result<BTreeMap<u32, Piece>, AllocError>
     requires pieces { ArePieces pieces.now.entries }
+    requires tidy { tidy ≡ are_tidy hashing pieces.now.entries }
     requires arcs { AreOfRings arcs.now }
-    ensures { IfOk result (λ after. after.entries ≡ pieces_after next hashing view.now silo.now pieces.now.entries arcs.now) }
+    ensures { IfOk result (λ made. made.entries ≡ pieces_made tidy next hashing view.now silo.now pieces.now.entries arcs.now) }
 {
-    let all = all_entries(alloc, hashing, pieces)?;
-    let mut after = BTreeMap::new(alloc);
+    let mut made = BTreeMap::new(alloc);
     'arcs: for arc in arcs {
         if !is_owner(silo, arc.to) {
             continue;
         }
-        let piece = piece_of(alloc, pieces, next, hashing, view, silo, arc, &all)?;
-        put(&mut after, piece)?;
+        let piece = piece_made(alloc, pieces, tidy, next, hashing, view, silo, arc)?;
+        put(&mut made, piece)?;
     }
-    Ok(after)
+    Ok(made)
 }
 
-// The piece of an arc that the silo owns in the view: it stays settled where it was, and then keeps its entries of all that
-// the pieces before have.
-fn piece_of(
+// The piece of an arc that the silo owns in the view, without its entries where a piece stays as this one: it gets them once
+// nothing more needs memory. Pieces that aren't tidy have entries in each other's ranges, so that none of them stays; only by
+// hand can such be made.
+fn piece_made(
     alloc: Global,
     pieces: &BTreeMap<u32, Piece>,
+    tidy: bool,
     next: bool,
     hashing: Hashing,
     view: &View,
     silo: &SiloAddress,
     arc: &Arc,
-    all: &Table,
 ) -> Result<Piece, AllocError>
     requires pieces { ArePieces pieces.now.entries }
-    requires all { all.now ≡ record { hashing = hashing; entries = all_entries pieces.now.entries } }
+    requires tidy { tidy ≡ are_tidy hashing pieces.now.entries }
+    ensures { IfOk result (λ piece. piece ≡ piece_made tidy next hashing view.now silo.now pieces.now.entries arc.now) }
+{
+    if tidy && stays(pieces, &arc.range) {
+        return Ok(Piece::settled(arc.range, Table::new(alloc, hashing)));
+    }
+    piece_of(alloc, pieces, tidy, next, hashing, view, silo, arc)
+}
+
+// The piece of an arc that the silo owns in the view: it stays settled where it was, and then has its entries from those that
+// the pieces before have in its range.
+fn piece_of(
+    alloc: Global,
+    pieces: &BTreeMap<u32, Piece>,
+    tidy: bool,
+    next: bool,
+    hashing: Hashing,
+    view: &View,
+    silo: &SiloAddress,
+    arc: &Arc,
+) -> Result<Piece, AllocError>
+    requires pieces { ArePieces pieces.now.entries }
+    requires tidy { tidy ≡ are_tidy hashing pieces.now.entries }
     ensures { IfOk result (λ piece. piece ≡ piece_of next hashing view.now silo.now pieces.now.entries arc.now) }
 {
     if are_settled(pieces, &arc.range) {
-        let entries = all.kept(alloc, view, &arc.range)?;
+        let entries = kept_entries(alloc, pieces, tidy, hashing, view, &arc.range)?;
         return Ok(Piece::settled(arc.range, entries));
     }
     let state = missing_state(next, view, silo, arc.from);

@@ -31,7 +31,7 @@ pub record IsTable (table : Table) : Type 0 where
 pub nothing_is_table : IsTable []
 nothing_is_table = record { in_order = sorted-nil grain_cmp; under = tt }
 
-all_insert : {K X : Type 0} (R : K → K → Ordering) (P : K × X → Type 0) → ((a b : K) → R a b ≡ Equal → a ≡ b) → (k : K) (v : X) (es : List (K × X)) → P (k, v)
+pub all_insert : {K X : Type 0} (R : K → K → Ordering) (P : K × X → Type 0) → ((a b : K) → R a b ≡ Equal → a ≡ b) → (k : K) (v : X) (es : List (K × X)) → P (k, v)
     → AllByRecursion P es → AllByRecursion P (insert_entry R es k v)
 all_insert R P exact k v [] here all = (here, tt)
 all_insert {K} {X} R P exact k v (e ∷ es) here all = by (R k e.0) refl (all_insert R P exact k v es here all.1)

@@ -29,7 +29,7 @@ use Rattle.grain_table.proofs.Order.{hashed_cmp_total, hashed_cmp_exact}
 use Rattle.grain_table.proofs.ByGrain.{IsTable, by_grain_is_table, entry_of, found, found_by_grain, same_tables}
 
 module _ {K X : Type 0} (p : K × X → Bool) where
-  all_passed : (P : K × X → Type 0) (es : List (K × X)) → AllByRecursion P es → AllByRecursion P (filter p es)
+  pub all_passed : (P : K × X → Type 0) (es : List (K × X)) → AllByRecursion P es → AllByRecursion P (filter p es)
   all_passed P [] all = tt
   all_passed P (e ∷ es) all = by (p e) (all_passed P es all.1)
     where

@@ -9,3 +9,6 @@ pub mod Stretches
 pub mod Ranges
 pub mod Same
 pub mod Within
+pub mod HashesBelow
+pub mod Lying
+pub mod OnSilos

@@ -1,10 +1,12 @@
 -- How a table keeps its entries: activations under hashed grains, in order of hash, then grain.
-use Rattle.std.specs.Prelude.{◌≡◌, ◌<◌, List, [], ◌∷◌}
-use Rattle.std.specs.List.{AllByRecursion}
+use Rattle.std.specs.Prelude.{◌≡◌, ◌<◌, Bool, true, List, [], ◌∷◌}
+use Rattle.std.specs.List.{AllByRecursion, list_any}
 use Rattle.std.specs.List.Sorted.{IsStrictlySortedBy}
 use Rattle.std.specs.Map.{keys_of}
+use Rattle.std.specs.BTreeMap.{is_at}
 use Rattle.std.specs.Ordering.{nat_cmp, on, then_cmp}
 use Rattle.std.specs.declared.cmp.Ordering.{Ordering}
+use Rattle.silo_address.specs.Silo.{Silo, silo_cmp}
 use Rattle.silo_address.specs.Grain.{Grain, IsGrain, grain_cmp}
 use Rattle.silo_address.specs.declared.ActivationId.{ActivationId}
 use Rattle.silo_address.specs.declared.Entry.{Entry}
@@ -32,10 +34,19 @@ pub record IsKeyOf (hashing : Hashing) (key : HashedGrain) : Type 0 where
   pub below : key.hash < circle
   pub is_grain : IsGrain key.grain
 
--- what every table keeps
+-- what the entries of every table keep
 pub record AreHashed (hashing : Hashing) (hashed : Hashed) : Type 0 where
   pub in_order : IsStrictlySortedBy hashed_cmp (keys_of hashed)
   pub keys : AllByRecursion (IsKeyOf hashing) (keys_of hashed)
+
+-- whether the silo is one of these
+abbrev pub is_among : List Silo → Silo → Bool
+is_among silos silo = list_any (is_at (silo_cmp silo)) silos
+
+-- what every table keeps: each entry's silo is among those that it has noted
+pub record AreKept (hashing : Hashing) (silos : List Silo) (hashed : Hashed) : Type 0 where
+  pub are : AreHashed hashing hashed
+  pub on : AllByRecursion (λ e. is_among silos e.1.silo ≡ true) hashed
 
 -- the entry of an activation that stands under its hashed grain
 abbrev pub entry_under : HashedGrain × ActivationId → Entry

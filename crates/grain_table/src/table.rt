@@ -1,11 +1,12 @@
 ghost use Rattle.std.specs.List.Sorted.{IsStrictlySortedBy};
 ghost use Rattle.std.specs.Map.{keys_of};
-ghost use Rattle.std.specs.Prelude.{◌≡◌, [], IfOk, OnOk, OnErr, length, is_none};
+ghost use Rattle.std.specs.Prelude.{◌≡◌, [], IfOk, OnOk, OnErr, fold, length, is_none};
 ghost use Rattle.silo_address.specs.Grain.{grain_cmp};
 ghost use Rattle.directory_rules.specs.Recovery.{with_reported};
-ghost use Rattle.directory_rules.specs.Table.{entry_at, with_entry, without_grain};
+ghost use Rattle.directory_rules.specs.Table.{entries_of, entry_at, with_entry, without_grain};
 ghost use Rattle.grain_table.specs.Hashed.{IsKeyOf};
 
+mod lying;
 mod order;
 mod put;
 mod same;
@@ -13,18 +14,20 @@ mod turn;
 
 use crate::hashed_grain::{HashedGrain, HashedMap, key_of};
 use hash_ring::Hashing;
-use silo_address::{ActivationId, Entry, GrainId};
+use silo_address::{ActivationId, Entry, GrainId, SiloAddress};
 use std::alloc::{AllocError, Global};
-use std::collections::BTreeMap;
+use std::collections::{BTreeMap, BTreeSet};
 use std::marker::Model;
 
 /// Entries, one a grain. They are kept in order of their grains' hashes, so that a search compares numbers and a range of
-/// hashes stands together, and each grain is there once: an `Entry` is put together where it is handed out
+/// hashes stands together, and each grain is there once: an `Entry` is put together where it is handed out. Beside them stand
+/// the silos that they may be on, few of them, so that who asks for the entries of a dead silo mostly looks at no entry
 /// (`docs/RULES.md#pieces`).
 #[derive(Drop)]
 pub struct Table {
     hashing: Hashing,
     map: HashedMap,
+    silos: BTreeSet<SiloAddress>,
 }
 
 impl Model for Table {
@@ -32,11 +35,11 @@ impl Model for Table {
 
     ghost Value = { TableValue };
 
-    ghost use Rattle.grain_table.specs.Hashed.{AreHashed, by_grain};
+    ghost use Rattle.grain_table.specs.Hashed.{AreKept, by_grain};
 
     ghost view = { λ t. record { hashing = t.hashing; entries = by_grain t.map.entries } };
 
-    ghost invariant = { λ t. AreHashed t.hashing t.map.entries };
+    ghost invariant = { λ t. AreKept t.hashing t.silos.keys t.map.entries };
 }
 
 impl Table {
@@ -47,6 +50,7 @@ impl Table {
         Table {
             hashing,
             map: BTreeMap::new(alloc),
+            silos: BTreeSet::new(alloc),
         }
     }
 
@@ -103,6 +107,13 @@ impl Table {
         let _hashing = self.hashing;
     }
 
+    /// A law: the entries, put into a table without any, make this one again.
+    pub fn made_again(&self)
+        ensures { fold with_entry [] (entries_of self.now.entries) ≡ self.now.entries }
+    {
+        let _hashing = self.hashing;
+    }
+
     // The entry under a hashed grain.
     fn at(&self, key: &HashedGrain) -> Option<Entry>
         requires { IsKeyOf self.now.hashing key.now }
@@ -121,6 +132,7 @@ impl Table {
         ensures put { OnOk result (self.new ≡ record self.old { entries = with_entry self.old.entries (record { grain = key.grain; activation = activation }) }) }
         ensures unchanged { OnErr result (self.new ≡ self.old) }
     {
+        self.silos.insert(activation.silo)?;
         self.map.insert(key, activation)?;
         Ok(())
     }
@@ -138,9 +150,11 @@ impl Table {
         ensures { IfOk result (λ table. table ≡ self.now) }
     {
         let map = self.map.clone()?;
+        let silos = self.silos.clone()?;
         Ok(Table {
             hashing: self.hashing,
             map,
+            silos,
         })
     }
 }

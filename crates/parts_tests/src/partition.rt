@@ -46,15 +46,11 @@ fn sees(
     let new = Ring::anew(alloc, &seen, &places).expect(rt, "a ring");
     let between = arcs(alloc, &old, &new).expect(rt, "memory");
     let next = to.saturating_sub(from) == 1;
-    let sighted = holding.sight(
-        alloc,
-        next,
-        Hashing::Stated,
-        &seen,
-        &silo(rt, who),
-        &between,
-    );
-    sighted.expect(rt, "memory")
+    let silo = silo(rt, who);
+    let mut after = holding.copy().expect(rt, "memory");
+    let sighted = after.sight(alloc, next, Hashing::Stated, &seen, &silo, &between);
+    assert!(rt; sighted.is_ok());
+    after
 }
 
 fn install(rt: &impl Abort, holding: &mut Holding, text: &str, entries: Table) {

@@ -1,5 +1,6 @@
 //! Entries of one table put into another.
 ghost use Rattle.std.specs.Prelude.{◌≡◌, ◌≤◌, filter, fold, map, not, IfOk};
+ghost use Rattle.std.specs.List.{list_any};
 ghost use Rattle.directory_rules.specs.Membership.{is_dead_in};
 ghost use Rattle.directory_rules.specs.Sight.{is_kept};
 ghost use Rattle.directory_rules.specs.Table.{entries_of, with_entry};
@@ -15,7 +16,9 @@ use crate::stretch::{CIRCLE, end_at, first_at};
 use hash_ring::Hashing;
 use membership_view::View;
 use ring_range::RingRange;
+use silo_address::SiloAddress;
 use std::alloc::{AllocError, Global};
+use std::collections::BTreeSet;
 use std::ops::Bound;
 
 impl Table {
@@ -64,13 +67,30 @@ impl Table {
         Ok(table)
     }
 
-    // Takes out the entries on silos that are Dead in the view.
-    fn remove_dead(&mut self, view: &View)
+    /// Takes out the entries on silos that are Dead in the view. Looks at the entries only where there may be some: a silo that
+    /// had an entry here counts until it is Dead.
+    pub fn remove_dead(&mut self, view: &View)
         ensures { self.new ≡ record self.old { entries = filter (λ e. not (is_dead_in view.now e.1.activation.silo)) self.old.entries } }
     {
+        if !is_any_dead(view, &self.silos) {
+            return;
+        }
         self.map
             .retain(|_, activation| !is_dead_in(view, &activation.silo));
+        self.silos.retain(|silo| !is_dead_in(view, silo));
     }
+}
+
+// Whether one of the silos is Dead in the view.
+fn is_any_dead(view: &View, silos: &BTreeSet<SiloAddress>) -> bool
+    ensures { result ≡ list_any (is_dead_in view.now) silos.now.keys }
+{
+    'silos: for silo in silos {
+        if is_dead_in(view, silo) {
+            return true;
+        }
+    }
+    false
 }
 
 // The table with what stands in a map.

@@ -14,7 +14,7 @@ returns-then-has_all c =
       λ same.
           c.has_all-then-has_all.ensures.1
           (subst (λ table. HasAll table c.other.inside.map.entries) (ap (λ (v : TableValue). v.entries) c.other.view_is ∙ sym same)
-          (has_own c.other.inside.hashing c.other.inside.map c.other.invariant)),
+          (has_own c.other.inside.hashing c.other.inside.map c.other.invariant.are)),
     )
 
 pub returns-else-has_all : goal.returns-else-has_all
@@ -23,5 +23,5 @@ returns-else-has_all c = (
   λ same.
       c.has_all.ensures.1
       (subst (λ table. HasAll table c.self.inside.map.entries) (ap (λ (v : TableValue). v.entries) c.self.view_is ∙ same)
-      (has_own c.self.inside.hashing c.self.inside.map c.self.invariant)),
+      (has_own c.self.inside.hashing c.self.inside.map c.self.invariant.are)),
 )

@@ -9,7 +9,7 @@ pub returns : goal.returns
 returns c =
     let table : c.in_ok-by_grain.by_grain.entries ≡ c.args.self.now.entries =
     c.in_ok-by_grain.ensures
-    ∙ put_by_hash c.self.inside.hashing [] c.self.inside.map.entries nothing_is_table c.self.invariant
+    ∙ put_by_hash c.self.inside.hashing [] c.self.inside.map.entries nothing_is_table c.self.invariant.are
     ∙ put_in_nothing _ (by_grain_is_table c.self.inside.map.entries)
     ∙ ap (λ (v : TableValue). v.entries) c.self.view_is in
     subst (λ (t : Table). IfOk c.entries_of.result (λ entries. entries.items ≡ entries_of t)) table c.entries_of.ensures

@@ -9,6 +9,6 @@ pub returns : goal.returns
 returns c =
     let is = subst (λ (v : TableValue). IsTable v.entries) c.self.view_is (by_grain_is_table c.self.inside.map.entries) in
     subst (λ entries. IfOk c.put_all.result (λ table. table ≡ record c.args.self { entries = entries }))
-    (put_by_hash c.other.inside.hashing c.args.self.entries c.other.inside.map.entries is c.other.invariant
+    (put_by_hash c.other.inside.hashing c.args.self.entries c.other.inside.map.entries is c.other.invariant.are
     ∙ ap (λ (v : TableValue). put_in c.args.self.entries (entries_of v.entries)) c.other.view_is)
     c.put_all.ensures

@@ -1,8 +1,0 @@
-use Rattle.std.proofs.Common.{sym, ◌∙◌}
-use Rattle.grain_partition.proofs.Sighted.{one_more}
-use Rattle.grain_partition.proofs.sight.pieces_after.Goals as goal
-
-pub arcs-preserved : goal.arcs-preserved
-arcs-preserved c =
-    one_more c.args.next c.args.hashing c.args.view.now c.args.silo.now c.args.pieces.now.entries c.args.arcs.now c.requires.arcs c.arcs.arc-index c.arc-item.result c.arcs-test.true c.arc-item.is
-    (sym c.is_owner.ensures ∙ c.if-not-is_owner.false) c.arcs.after.entries c.arcs.invariant c.in_ok-piece.piece c.in_ok-piece.ensures c.put.new.pieces.entries c.in_ok-put.ensures
