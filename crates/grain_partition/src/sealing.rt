@@ -1,12 +1,13 @@
 //! What a sight seals: the entries of the arcs that the silo hands over to others.
-ghost use Rattle.std.specs.Prelude.{◌≡◌, None, if◌then◌else◌, IfOk};
-ghost use Rattle.directory_rules.specs.Sight.{is_handed_over, kept_entries, sealed};
+ghost use Rattle.std.specs.Prelude.{◌≡◌, None, if◌then◌else◌, IfOk, IsSome, true};
+ghost use Rattle.directory_rules.specs.Sight.{is_handed_over, sealed, was_settled};
 ghost use Rattle.directory_rules.specs.Table.{entries_of};
 ghost use Rattle.grain_partition.specs.Holding.{ArePieces};
 
 use crate::Piece;
-use crate::entries::all_entries;
+use crate::entries::kept_entries;
 use crate::settled::are_settled;
+use crate::staying::are_tidy;
 use grain_table::Table;
 use hash_ring::Hashing;
 use membership_view::View;
@@ -17,8 +18,8 @@ use silo_address::SiloAddress;
 use std::alloc::{AllocError, Global};
 use std::collections::BTreeMap;
 
-/// The snapshots of the arcs that are handed over at the sight of the view, in the order of the arcs. Fails only when memory
-/// runs out.
+/// The snapshots of the arcs that are handed over at the sight of the view, in the order of the arcs. Where each piece has just
+/// entries of its own range, costs the pieces that these arcs meet. Fails only when memory runs out.
 pub(crate) fn sealed(
     alloc: Global,
     pieces: &BTreeMap<u32, Piece>,
@@ -30,12 +31,13 @@ pub(crate) fn sealed(
     requires { ArePieces pieces.now.entries }
     ensures { IfOk result (λ snapshots. snapshots.items ≡ sealed hashing view.now silo.now pieces.now.entries arcs.now) }
 {
+    let tidy = are_tidy(hashing, pieces);
     let mut snapshots = Vec::new(alloc);
     'arcs: for arc in arcs {
         let Some(to) = next_owner(pieces, silo, arc) else {
             continue;
         };
-        let entries = kept_within(alloc, pieces, hashing, view, &arc.range)?;
+        let entries = kept_entries(alloc, pieces, tidy, hashing, view, &arc.range)?;
         let snapshot = snapshot_of(alloc, view, *silo, to, arc.range, &entries)?;
         snapshots.push(snapshot)?;
     }
@@ -46,7 +48,8 @@ pub(crate) fn sealed(
 // of it was settled.
 fn next_owner(pieces: &BTreeMap<u32, Piece>, silo: &SiloAddress, arc: &Arc) -> Option<SiloAddress>
     requires { ArePieces pieces.now.entries }
-    ensures { result ≡ (if is_handed_over silo.now pieces.now.entries arc.now then arc.now.to else None) }
+    ensures exact { result ≡ (if is_handed_over silo.now pieces.now.entries arc.now then arc.now.to else None) }
+    ensures settled { IsSome result → was_settled pieces.now.entries arc.now.range ≡ true }
 {
     let from = arc.from?;
     let to = arc.to?;
@@ -60,20 +63,6 @@ fn next_owner(pieces: &BTreeMap<u32, Piece>, silo: &SiloAddress, arc: &Arc) -> O
         return None;
     }
     Some(to)
-}
-
-// The entries of the pieces that are hashed into the range, without those on silos that are Dead in the view.
-fn kept_within(
-    alloc: Global,
-    pieces: &BTreeMap<u32, Piece>,
-    hashing: Hashing,
-    view: &View,
-    range: &RingRange,
-) -> Result<Table, AllocError>
-    ensures { IfOk result (λ kept. kept ≡ record { hashing = hashing; entries = kept_entries hashing view.now pieces.now.entries range.now }) }
-{
-    let all = all_entries(alloc, hashing, pieces)?;
-    all.kept(alloc, view, range)
 }
 
 // The snapshot of the entries for the silo that owns their range in the view.
