@@ -1,4 +1,5 @@
 //! A silo as the host of activations.
+use crate::samples::{grain, silo};
 use directory_rules::{Act, Phase, Settings};
 use hash_ring::Hashing;
 use host_activations::Host;
@@ -14,14 +15,6 @@ const ANN: &str = "user/ann";
 const BOB: &str = "user/bob";
 
 const CID: &str = "user/cid";
-
-fn silo(rt: &impl Abort, text: &str) -> SiloAddress {
-    SiloAddress::parse(text.as_bytes()).expect(rt, text)
-}
-
-fn grain(rt: &impl Abort, text: &str) -> GrainId {
-    GrainId::parse(text.as_bytes()).expect(rt, text)
-}
 
 // A host on the first silo that holds nothing yet.
 fn new_host(rt: &impl Abort, alloc: Global) -> Host {
@@ -85,8 +78,8 @@ fn is_closing(rt: &impl Abort, host: &Host, number: u64, text: &str) -> bool {
 fn numbers_are_taken_in_turn(rt: HostRuntime) {
     let host = three_requests(&rt, rt.alloc());
     assert!(rt; host.silo() == silo(&rt, "10.0.0.1:1000@1"));
-    assert_eq!(rt; (host.next_number(), host.next_count()), (4, 3));
-    assert_eq!(rt; (host.held_count(), host.outstanding_count()), (2, 3));
+    assert!(rt; host.next_number() == 4 && host.next_count() == 3);
+    assert!(rt; host.held_count() == 2 && host.outstanding_count() == 3);
     assert!(rt; host.is_outstanding(3) && !host.is_outstanding(4));
     assert!(rt; host.is_finding(3) && !host.is_finding(2));
 }
@@ -124,9 +117,9 @@ fn requests_are_told_by_number(rt: HostRuntime) {
     let mut number = 0u64;
     for ((its, act), want) in requests.iter().zip(wanted.iter()) {
         number = number.wrapping_add(1);
-        assert!(rt; *its == number && act.same(want), "request {number}");
+        assert!(rt; *its == number && act.same(want));
     }
-    assert_eq!(rt; (requests.len(), number), (3, 3));
+    assert!(rt; requests.len() == 3 && number == 3);
 }
 
 #[test]
@@ -143,7 +136,7 @@ fn replies_end_what_they_answer(rt: HostRuntime) {
     assert!(rt; host.held(&ann).is_none() && !host.is_outstanding(4));
     host.end_find(3);
     assert!(rt; !host.is_finding(3));
-    assert_eq!(rt; (host.held_count(), host.outstanding_count()), (1, 1));
+    assert!(rt; host.held_count() == 1 && host.outstanding_count() == 1);
 }
 
 #[test]
@@ -154,7 +147,7 @@ fn renewal_keeps_the_order(rt: HostRuntime) {
     let before = host.copy().expect(&rt, "memory");
     renew(&rt, &mut host);
     assert!(rt; !host.same(&before));
-    assert_eq!(rt; (host.next_number(), host.outstanding_count()), (8, 3));
+    assert!(rt; host.next_number() == 8 && host.outstanding_count() == 3);
     assert!(rt; is_asking(&rt, &host, 5, BOB));
     assert!(rt; host.is_finding(6));
     assert!(rt; is_closing(&rt, &host, 7, ANN));
@@ -214,7 +207,7 @@ fn firm_activations_are_told_by_grain(rt: HostRuntime) {
         entry(grain(&rt, ANN), silo, 2),
         entry(grain(&rt, BOB), silo, 1),
     ];
-    assert_eq!(rt; firm.as_slice(), wanted.as_slice());
+    assert!(rt; firm.as_slice() == wanted.as_slice());
 }
 
 #[test]
