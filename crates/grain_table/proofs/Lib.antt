@@ -12,3 +12,4 @@ pub mod Within
 pub mod HashesBelow
 pub mod Lying
 pub mod OnSilos
+pub mod Sorting

@@ -34,7 +34,7 @@ found_there table (e ∷ es) all grain entry is =
     by true at is later = ap (λ g. entry_at g table) (grain_cmp_exact grain e.0.grain (Equal-from (grain_cmp grain e.0.grain) at)) ∙ all.0 ∙ is
     by false at is later = later is
 
-same_found : (one other : Option Entry) → ((entry : Entry) → one ≡ Some entry → other ≡ Some entry) → ((entry : Entry) → other ≡ Some entry → one ≡ Some entry) → one ≡ other
+pub same_found : (one other : Option Entry) → ((entry : Entry) → one ≡ Some entry → other ≡ Some entry) → ((entry : Entry) → other ≡ Some entry → one ≡ Some entry) → one ≡ other
 same_found None None there back = refl
 same_found None (Some entry) there back = back entry refl
 same_found (Some entry) other there back = sym (there entry refl)
