@@ -51,6 +51,7 @@ refused_told world silo input node number own there refuses =
     by_none : (outcome : Result Stepped ℕ) → Sends 1 outcome → RefusesBy IsOk (letters_number world 1) (done_by outcome world silo)
     by_none (Ok stepped) one = sending_decided world stepped.letters _ 1 one
     by_none (Err refusal) one = absurd one
+
     by : (outcome : Result Stepped ℕ) (number : Option ℕ) → RefusesBy (Excuses input) number outcome → RefusesBy IsOk (option_or number (letters_number world 1)) (done_by outcome world silo)
     by (Ok stepped) (Some number) refuses = absurd (cc (refuses))
     by (Err refusal) (Some number) refuses = cc (refuses)

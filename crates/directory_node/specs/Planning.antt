@@ -1,5 +1,5 @@
 -- A step in two parts: a plan, which says what is sent and done, and the change that it makes of the node.
-use Rattle.std.specs.Prelude.{◌≡◌, ℕ, ◌^◌, ◌≤◌, true, IsTrue, IsOk, IsOkAnd, IsSomeAnd, List, [], length, Option, Some, None, Result}
+use Rattle.std.specs.Prelude.{◌≡◌, ℕ, ◌^◌, ◌≤◌, true, IsTrue, IsOk, IsOkAnd, IsSomeAnd, length, Option, Some, None, Result}
 use Rattle.silo_address.specs.Grain.{Grain}
 use Rattle.directory_rules.specs.declared.Held.{Held}
 use Rattle.directory_rules.specs.Answer.{answered}

@@ -87,7 +87,6 @@ impl Model for Letter {
     ghost Value = { Letter };
 
     ghost use Rattle.directory_node.specs.LetterModel.{body_of};
-ghost use Rattle.directory_node.specs.Planning.{answer_count};
 
     ghost view = { λ l. record { from = l.from; to = l.to; version = l.version; body = body_of l.body } };
 }

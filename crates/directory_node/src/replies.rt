@@ -10,13 +10,7 @@ use std::alloc::Global;
 
 impl Node {
     // A reply comes, of a version and under a number. It is answered by no letter.
-    pub(crate) fn plan_reply(
-        &self,
-        alloc: Global,
-        version: u64,
-        number: u64,
-        reply: &Reply,
-    ) -> Plan
+    pub(crate) fn plan_reply(&self, alloc: Global, version: u64, number: u64, reply: &Reply) -> Plan
         ensures planned { step_by self.now result ≡ replied self.now version number reply.now }
         ensures fits { Fits result.change self.now }
     {
