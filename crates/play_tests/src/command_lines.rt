@@ -61,17 +61,27 @@ For more information, try '--help'.
     }
 }
 
-// The places are the first four bytes of the SHA-256 of `10.0.0.1:1000@1#2`, `#3` and `#29`.
+// The places are the first four bytes of the SHA-256 of the silo's text with `#0`, `#1` and so on; with 30 points three of them
+// are those of `#2`, `#3` and `#29`.
 #[test]
 fn hashed_points(rt: HostRuntime) {
     let script = b"join 10.0.0.1:1000@1\nowner 3641977640\nowner 3089745447\nowner 335007437";
-    let printed = "view 1 joined 10.0.0.1:1000@1
+    let thirty = "view 1 joined 10.0.0.1:1000@1
 owner 3641977640 10.0.0.1:1000@1 2
 owner 3089745447 10.0.0.1:1000@1 3
 owner 335007437 10.0.0.1:1000@1 29
 ";
-    let alloc = rt.alloc();
-    check_course(&rt, alloc, (&PLAY, script), (1000, 1000), (0, printed, ""));
+    let three = "view 1 joined 10.0.0.1:1000@1
+owner 3641977640 10.0.0.1:1000@1 2
+owner 3089745447 10.0.0.1:1000@1 0
+owner 335007437 10.0.0.1:1000@1 2
+";
+    let points: [&str; 4] = ["g", "play", "--points", "3"];
+    let table: [(&[&str], &str); 2] = [(&PLAY, thirty), (&points, three)];
+    for (words, printed) in table {
+        let course = (0, printed, "");
+        check_course(&rt, rt.alloc(), (words, script), (1000, 1000), course);
+    }
 }
 
 // An output that fails in the middle of a line or of the help, and errors that fail.

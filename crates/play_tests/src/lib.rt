@@ -11,6 +11,8 @@ mod examples;
 #[cfg(test)]
 mod fakes;
 #[cfg(test)]
+mod limits;
+#[cfg(test)]
 mod plays;
 #[cfg(test)]
 mod rows;
