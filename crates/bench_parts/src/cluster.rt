@@ -52,8 +52,8 @@ impl Cluster {
     /// What the first silo keeps at version 1: each of its pieces settled, with those of the entries that are hashed into it.
     pub(crate) fn first_pieces(&self, silo: &SiloAddress, all: &Table) -> Result<Holding, Fault> {
         let (view, arcs) = (self.view(1)?, self.arcs(0, 1)?);
-        let nothing = Holding::new(self.alloc);
-        let mut holding = nothing.sight(self.alloc, true, Hashing::Stated, &view, silo, &arcs)?;
+        let mut holding = Holding::new(self.alloc);
+        holding.sight(self.alloc, true, Hashing::Stated, &view, silo, &arcs)?;
         for arc in &arcs {
             install(self.alloc, &mut holding, arc.range, all)?;
         }

@@ -9,7 +9,6 @@ use hash_ring::Hashing;
 use membership_view::View;
 use range_moves::Arc;
 use silo_address::SiloAddress;
-use std::alloc::Global;
 use std::time::Instant;
 
 const ROUNDS: u64 = 5;
@@ -58,23 +57,10 @@ fn measure_sight(
     for _ in 0..ROUNDS {
         let mut seen = holding.copy()?;
         let start = Instant::now(rt)?;
-        see(rt.alloc(), &mut seen, view, silo, arcs)?;
+        seen.sight(rt.alloc(), true, Hashing::Stated, view, silo, arcs)?;
         stopwatch.note(rt, &start, sum_of(&seen))?;
     }
     stopwatch.report(rt, "sight", ROUNDS)
-}
-
-fn see(
-    alloc: Global,
-    holding: &mut Holding,
-    view: &View,
-    silo: &SiloAddress,
-    arcs: &[Arc],
-) -> Result<(), Fault>
-    requires { AreOfRings arcs.now }
-{
-    *holding = holding.sight(alloc, true, Hashing::Stated, view, silo, arcs)?;
-    Ok(())
 }
 
 // How many pieces there are, and how many entries they have.

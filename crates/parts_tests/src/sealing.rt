@@ -94,14 +94,13 @@ fn first_pieces(rt: &impl Abort, alloc: Global) -> Holding {
         Err(_) => arcs(alloc, &old, &new).expect(rt, "memory"),
     };
     let (view, silo) = (view(rt, alloc, 2), silo(rt, A));
-    let nothing = Holding::new(alloc);
-    match nothing.sight(alloc, false, Hashing::Stated, &view, &silo, &between) {
-        Ok(holding) => holding,
-        Err(_) => {
-            let sighted = nothing.sight(alloc, false, Hashing::Stated, &view, &silo, &between);
-            sighted.expect(rt, "memory")
-        }
+    let mut holding = Holding::new(alloc);
+    let sighted = holding.sight(alloc, false, Hashing::Stated, &view, &silo, &between);
+    if sighted.is_err() {
+        let sighted = holding.sight(alloc, false, Hashing::Stated, &view, &silo, &between);
+        sighted.expect(rt, "memory");
     }
+    holding
 }
 
 fn put(rt: &impl Abort, table: &mut Table, entry: &Entry) {
