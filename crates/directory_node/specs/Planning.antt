@@ -41,17 +41,18 @@ changed (Ends number) node = without (closing_under node.host number) node
 changed (EndsFind number) node = record node { host = without_find node.host number }
 changed (Counts report) node = (recovered_by (recovered (recovery_of node report.range) report) report.range node).node
 
--- what a change asks of its node: an activation begins under a number and a count that are left, where there is none of the
--- grain; a firm one closes under a number that is left; and a report counts where the piece recovers
+-- an activation may begin: there is none of the grain, and a number and a count are left
 pub record MayStart (node : Node) (grain : Grain) : Type 0 where
   pub new : held_of node.host grain ≡ None
   pub number : node.host.next_number ≤ 2 ^ 60
   pub count : node.host.next_count ≤ 2 ^ 60
 
+-- an activation may close: it is firm, and a number is left
 pub record MayClose (node : Node) (grain : Grain) : Type 0 where
   pub firm : IsSomeAnd (held_of node.host grain) (λ held. IsTrue (is_firm held.phase))
   pub number : node.host.next_number ≤ 2 ^ 60
 
+-- what a change asks of its node; a report counts where the piece recovers
 abbrev pub Fits : Change → Node → Type 0
 Fits Nothing node = Unit {0}
 Fits (Becomes other) node = Unit {0}
