@@ -13,7 +13,7 @@ use Rattle.directory_rules.specs.World.{Posted}
 use Rattle.directory_rules.specs.declared.Act.TheVariants as act
 use Rattle.directory_rules.specs.declared.Reply.TheVariants as reply
 use Rattle.letter_mail.specs.declared.kept.Says.{Says}
-use Rattle.letter_mail.specs.declared.kept.Says.TheVariants.{Register, Deregister, Find, Registered, Taken, Removed, Absent, Found, Nothing, Retry, Query, Behind, Ahead, Offer}
+use Rattle.letter_mail.specs.declared.kept.Says.TheVariants.{Register, Deregister, Find, Registered, Taken, Removed, Absent, Found, Nothing, Retry, Ask, Missing, Done, Query, Behind, Ahead, Offer}
 use Rattle.letter_mail.specs.declared.kept.Kept.{Kept}
 use Rattle.letter_mail.specs.declared.kept.Kept.TheVariants.{Brief, Whole}
 use Rattle.letter_mail.specs.declared.slots.Slot.{Slot}
@@ -47,6 +47,9 @@ more_says count most (Absent number) up is = is
 more_says count most (Found number entry) up is = omega arith
 more_says count most (Nothing number) up is = is
 more_says count most (Retry number why) up is = is
+more_says count most (Ask range page) up is = is
+more_says count most (Missing range) up is = is
+more_says count most (Done range) up is = is
 more_says count most (Query range) up is = is
 more_says count most (Behind range) up is = is
 more_says count most (Ahead range) up is = is
@@ -80,6 +83,9 @@ same_said grains more from version (Found number entry) is =
     ap (λ (g : Grain). Reply_letter number (reply.Found (record { grain = g; activation = entry.activation }))) (same_grain grains more entry.grain is)
 same_said grains more from version (Nothing number) is = refl
 same_said grains more from version (Retry number why) is = refl
+same_said grains more from version (Ask range page) is = refl
+same_said grains more from version (Missing range) is = refl
+same_said grains more from version (Done range) is = refl
 same_said grains more from version (Query range) is = refl
 same_said grains more from version (Behind range) is = refl
 same_said grains more from version (Ahead range) is = refl

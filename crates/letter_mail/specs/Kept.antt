@@ -7,7 +7,7 @@ use Rattle.silo_address.specs.declared.Entry.{Entry}
 use Rattle.directory_rules.specs.declared.Act.{Act}
 use Rattle.directory_rules.specs.declared.Act.TheVariants as act
 use Rattle.directory_rules.specs.declared.Reply.TheVariants as reply
-use Rattle.directory_rules.specs.Letter.{Letter, Body, Request_letter, Reply_letter, Query_letter, Behind_letter, Ahead_letter, Offer_letter}
+use Rattle.directory_rules.specs.Letter.{Letter, Body, Request_letter, Reply_letter, Ask_letter, Missing_letter, Done_letter, Query_letter, Behind_letter, Ahead_letter, Offer_letter}
 use Rattle.directory_rules.specs.World.{Posted}
 use Rattle.letter_mail.specs.declared.kept.Named.{Named}
 use Rattle.letter_mail.specs.declared.kept.Says.{Says}
@@ -41,6 +41,9 @@ said_by grains from version (says.Absent number) = Reply_letter number reply.Abs
 said_by grains from version (says.Found number entry) = Reply_letter number (reply.Found (entry_by grains entry))
 said_by grains from version (says.Nothing number) = Reply_letter number reply.Nothing
 said_by grains from version (says.Retry number why) = Reply_letter number (reply.Retry why)
+said_by grains from version (says.Ask range page) = Ask_letter range page
+said_by grains from version (says.Missing range) = Missing_letter range
+said_by grains from version (says.Done range) = Done_letter range
 said_by grains from version (says.Query range) = Query_letter range
 said_by grains from version (says.Behind range) = Behind_letter range
 said_by grains from version (says.Ahead range) = Ahead_letter range
@@ -80,6 +83,9 @@ IsNumbered count (says.Absent number) = Unit {0}
 IsNumbered count (says.Found number entry) = entry.grain < count
 IsNumbered count (says.Nothing number) = Unit {0}
 IsNumbered count (says.Retry number why) = Unit {0}
+IsNumbered count (says.Ask range page) = Unit {0}
+IsNumbered count (says.Missing range) = Unit {0}
+IsNumbered count (says.Done range) = Unit {0}
 IsNumbered count (says.Query range) = Unit {0}
 IsNumbered count (says.Behind range) = Unit {0}
 IsNumbered count (says.Ahead range) = Unit {0}

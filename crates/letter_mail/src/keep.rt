@@ -66,8 +66,14 @@ fn says(
             asks(grains, request)
         }
         Body::Reply { number, reply } => Ok(Some(replies(grains, *number, reply)?)),
+        Body::Ask { range, page } => Ok(Some(Says::Ask {
+            range: *range,
+            page: *page,
+        })),
+        Body::Page(_) | Body::Report(_) => Ok(None),
+        Body::Missing(range) => Ok(Some(Says::Missing(*range))),
+        Body::Done(range) => Ok(Some(Says::Done(*range))),
         Body::Query(range) => Ok(Some(Says::Query(*range))),
-        Body::Report(_) => Ok(None),
         Body::Behind(range) => Ok(Some(Says::Behind(*range))),
         Body::Ahead(range) => Ok(Some(Says::Ahead(*range))),
         Body::Offer(entry) => Ok(Some(Says::Offer(named(grains, entry)?))),

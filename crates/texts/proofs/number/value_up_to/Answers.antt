@@ -1,4 +1,5 @@
 use Rattle.std.proofs.Common.{◌<◌, ◌+◌, arith, length}
+use Rattle.std.proofs.lemmas.Grind.{common_steps}
 use Rattle.std.proofs.lemmas.Int.Digits.{digits_value_more}
 use Rattle.std.proofs.lemmas.Str.Parse.{digits_value-take-le}
 use Rattle.texts.proofs.number.value_up_to.Goals as goal
@@ -18,3 +19,6 @@ loop-digit-preserved c =
     let inside : c.loop-digit.digit-index < length c.args.numeral.now = omega arith in
     let more = digits_value_more 10 c.args.numeral.now c.loop-digit.digit-index inside in
     cc (c.in_ok-value.ensures.1)
+
+pub returns-else-value-most : goal.returns-else-value-most
+returns-else-value-most c = grind (arith, common_steps)
