@@ -24,7 +24,7 @@ pub(crate) fn measure(rt: &HostRuntime) -> Result<(), Fault> {
     let alloc = rt.alloc();
     let silo = silo(alloc, 1)?;
     let entries = shuffled(alloc, &entries(alloc, silo, 0)?)?;
-    let mut host = Host::new(alloc, silo);
+    let mut host = Host::new(alloc, silo, Hashing::Stated);
     for entry in &entries {
         start(&mut host, entry.grain)?;
     }

@@ -14,3 +14,5 @@ pub mod Within
 pub mod Tidy
 pub mod StayedPieces
 pub mod Gathering
+pub mod Foreseen
+pub mod Listing

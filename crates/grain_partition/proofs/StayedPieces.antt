@@ -1,10 +1,11 @@
 -- The pieces that stay, put back among the pieces made, are the pieces after the sight.
-use Rattle.std.proofs.Common.{◌≡◌, refl, sym, ap, ◌∙◌, subst, ℕ, List, [], ◌∷◌}
+use Rattle.std.proofs.Common.{arith, ◌≡◌, refl, sym, ap, ◌∙◌, subst, ℕ, ◌<◌, ◌≤◌, nat_le, List, [], ◌∷◌}
 use Rattle.std.specs.Prelude.{Bool, true, false, cond, Option, Some, None, fold, map, filter}
 use Rattle.std.specs.List.Sorted.{IsStrictlySortedBy}
 use Rattle.std.specs.Map.{keys_of, lookup, set_value}
 use Rattle.std.specs.BTreeMap.{is_at}
 use Rattle.std.specs.Ordering.{nat_cmp}
+use Rattle.std.proofs.lemmas.Bool.Decides.{nat_tests}
 use Rattle.std.proofs.lemmas.Cmp.{eq_by_cmp_equiv, nat_cmp_total}
 use Rattle.std.proofs.lemmas.Map.{keys-set_value, lookup-none}
 use Rattle.std.proofs.lemmas.Map.Entries.{none_past_head}
@@ -15,43 +16,43 @@ use Rattle.membership_view.specs.View.{ViewValue}
 use Rattle.membership_view.proofs.Entries.{Equal-from}
 use Rattle.membership_view.proofs.Found.{same_entries}
 use Rattle.texts.proofs.Decided.{both}
-use Rattle.ring_range.specs.Range.{Range, IsRange, range_eq}
-use Rattle.ring_range.proofs.Same.{Decides-range}
+use Rattle.ring_range.specs.Range.{Range, IsRange, circle, distance, holds}
 use Rattle.hash_ring.specs.declared.Hashing.{Hashing}
 use Rattle.range_moves.specs.declared.Arc.{Arc}
 use Rattle.directory_rules.specs.declared.PieceState.{PieceState}
-use Rattle.directory_rules.specs.declared.PieceState.TheVariants.{Settled, Awaiting, Recovering}
+use Rattle.directory_rules.specs.declared.PieceState.TheVariants.{Settled}
 use Rattle.directory_rules.specs.Piece.{Piece}
-use Rattle.directory_rules.specs.Sight.{all_entries, is_owner, is_settled, kept_entries, missing_state, piece_of, pieces_after, was_settled}
+use Rattle.directory_rules.specs.Sight.{is_owner, is_settled, kept_entries, missing_state, piece_of, pieces_after, was_settled}
 use Rattle.directory_rules.specs.Table.{Table}
 use Rattle.directory_rules.proofs.Pieces.{piece_range}
 use Rattle.grain_partition.specs.Holding.{ArePieces}
 use Rattle.grain_partition.specs.Sight.{AreOfRings}
-use Rattle.grain_partition.specs.Staying.{are_tidy, is_settled_of, living, piece_made, pieces_made, put_back, staying, stays_as, with_staying}
+use Rattle.grain_partition.specs.Staying.{are_tidy, covers, left_of, piece_made, pieces_made, put_back, staying, stays_as, with_staying}
+use Rattle.grain_partition.proofs.Around.{below-holds, holds-below}
 use Rattle.grain_partition.proofs.FromArcs.{made, sorted_made}
 use Rattle.grain_partition.proofs.OnePiece.{at_lookup}
 use Rattle.grain_partition.proofs.SettledHashes.{lies_by}
 use Rattle.grain_partition.proofs.SettledParts.{Decides-was_settled}
-use Rattle.grain_partition.proofs.Tidy.{kept_of_one}
+use Rattle.grain_partition.proofs.Tidy.{kept_of_part}
 
 -- ---- What is found where pieces were put back.
-module _ (view : ViewValue) where
-  keys-put_back : (e : ℕ × Piece) (pieces : List (ℕ × Piece)) → keys_of (with_staying view pieces e) ≡ keys_of pieces
+module _ (hashing : Hashing) (view : ViewValue) where
+  keys-put_back : (e : ℕ × Piece) (pieces : List (ℕ × Piece)) → keys_of (with_staying hashing view pieces e) ≡ keys_of pieces
   keys-put_back e pieces = by (lookup (is_at (nat_cmp e.0)) pieces)
     where
-      by : (o : Option Piece) → keys_of (put_back view e o pieces) ≡ keys_of pieces
+      by : (o : Option Piece) → keys_of (put_back hashing view e o pieces) ≡ keys_of pieces
       by None = refl
-      by (Some made) = keys-set_value (is_at (nat_cmp e.0)) pieces (staying view e made)
+      by (Some made) = keys-set_value (is_at (nat_cmp e.0)) pieces (staying hashing view e made)
 
-  keys-all_back : (es pieces : List (ℕ × Piece)) → keys_of (fold (with_staying view) pieces es) ≡ keys_of pieces
+  keys-all_back : (es pieces : List (ℕ × Piece)) → keys_of (fold (with_staying hashing view) pieces es) ≡ keys_of pieces
   keys-all_back [] pieces = refl
-  keys-all_back (e ∷ es) pieces = keys-all_back es (with_staying view pieces e) ∙ keys-put_back e pieces
+  keys-all_back (e ∷ es) pieces = keys-all_back es (with_staying hashing view pieces e) ∙ keys-put_back e pieces
 
   -- what is found where one was put back
   abbrev back_at : Option Piece → Option Piece → Option Piece
   back_at None there = there
   back_at (Some piece) None = None
-  back_at (Some piece) (Some there) = Some (staying view (0, piece) there)
+  back_at (Some piece) (Some there) = Some (staying hashing view (0, piece) there)
 
   set_at : (k : ℕ) (pieces : List (ℕ × Piece)) (old new : Piece) → lookup (is_at (nat_cmp k)) pieces ≡ Some old → lookup (is_at (nat_cmp k)) (set_value (is_at (nat_cmp k)) pieces new) ≡ Some new
   set_at k [] old new found = absurd (let no : None ≡ Some old = found in cc)
@@ -79,30 +80,30 @@ module _ (view : ViewValue) where
   key_is k key at = exact_unsigned k key (Equal-from (nat_cmp k key) at)
 
   found_back : (k : ℕ) (e : ℕ × Piece) (pieces : List (ℕ × Piece))
-      → lookup (is_at (nat_cmp k)) (with_staying view pieces e) ≡ cond (is_at (nat_cmp k) e.0) (back_at (Some e.1) (lookup (is_at (nat_cmp k)) pieces)) (lookup (is_at (nat_cmp k)) pieces)
+      → lookup (is_at (nat_cmp k)) (with_staying hashing view pieces e) ≡ cond (is_at (nat_cmp k) e.0) (back_at (Some e.1) (lookup (is_at (nat_cmp k)) pieces)) (lookup (is_at (nat_cmp k)) pieces)
   found_back k e pieces = by (is_at (nat_cmp k) e.0) refl
     where
-      here : (o : Option Piece) → lookup (is_at (nat_cmp e.0)) pieces ≡ o → lookup (is_at (nat_cmp e.0)) (put_back view e o pieces) ≡ back_at (Some e.1) o
+      here : (o : Option Piece) → lookup (is_at (nat_cmp e.0)) pieces ≡ o → lookup (is_at (nat_cmp e.0)) (put_back hashing view e o pieces) ≡ back_at (Some e.1) o
       here None is = is
-      here (Some there) is = set_at e.0 pieces there (staying view e there) is
+      here (Some there) is = set_at e.0 pieces there (staying hashing view e there) is
 
-      aside : (is_at (nat_cmp k) e.0 ≡ false) → (o : Option Piece) → lookup (is_at (nat_cmp k)) (put_back view e o pieces) ≡ lookup (is_at (nat_cmp k)) pieces
+      aside : (is_at (nat_cmp k) e.0 ≡ false) → (o : Option Piece) → lookup (is_at (nat_cmp k)) (put_back hashing view e o pieces) ≡ lookup (is_at (nat_cmp k)) pieces
       aside other None = refl
       aside other (Some there) =
-          set_apart e.0 k (λ key at. ap (is_at (nat_cmp k)) (sym (key_is e.0 key at)) ∙ other) pieces (staying view e there)
+          set_apart e.0 k (λ key at. ap (is_at (nat_cmp k)) (sym (key_is e.0 key at)) ∙ other) pieces (staying hashing view e there)
 
       by : (b : Bool) → is_at (nat_cmp k) e.0 ≡ b
-          → lookup (is_at (nat_cmp k)) (with_staying view pieces e) ≡ cond b (back_at (Some e.1) (lookup (is_at (nat_cmp k)) pieces)) (lookup (is_at (nat_cmp k)) pieces)
+          → lookup (is_at (nat_cmp k)) (with_staying hashing view pieces e) ≡ cond b (back_at (Some e.1) (lookup (is_at (nat_cmp k)) pieces)) (lookup (is_at (nat_cmp k)) pieces)
       by true at =
-          subst (λ n. lookup (is_at (nat_cmp n)) (with_staying view pieces e) ≡ back_at (Some e.1) (lookup (is_at (nat_cmp n)) pieces)) (sym (key_is k e.0 at))
+          subst (λ n. lookup (is_at (nat_cmp n)) (with_staying hashing view pieces e) ≡ back_at (Some e.1) (lookup (is_at (nat_cmp n)) pieces)) (sym (key_is k e.0 at))
           (here (lookup (is_at (nat_cmp e.0)) pieces) refl)
       by false at = aside at (lookup (is_at (nat_cmp e.0)) pieces)
 
   pub found_all_back : (k : ℕ) (es pieces : List (ℕ × Piece)) → IsStrictlySortedBy nat_cmp (keys_of es)
-      → lookup (is_at (nat_cmp k)) (fold (with_staying view) pieces es) ≡ back_at (lookup (is_at (nat_cmp k)) es) (lookup (is_at (nat_cmp k)) pieces)
+      → lookup (is_at (nat_cmp k)) (fold (with_staying hashing view) pieces es) ≡ back_at (lookup (is_at (nat_cmp k)) es) (lookup (is_at (nat_cmp k)) pieces)
   found_all_back k [] pieces s = refl
   found_all_back k (e ∷ es) pieces s =
-      found_all_back k es (with_staying view pieces e) (sorted_tail nat_cmp e.0 (keys_of es) s)
+      found_all_back k es (with_staying hashing view pieces e) (sorted_tail nat_cmp e.0 (keys_of es) s)
       ∙ ap (back_at (lookup (is_at (nat_cmp k)) es)) (found_back k e pieces)
       ∙ by (is_at (nat_cmp k) e.0) refl
     where
@@ -132,10 +133,8 @@ module _ (k : ℕ) (q : Arc → Bool) (f g : Arc → Piece) (h : Option Piece �
       by false rest = rest
 
 -- ---- A piece that stays is the piece of its arc.
-state_is : (state : PieceState) → is_settled state ≡ true → state ≡ Settled
-state_is Settled is = refl
-state_is (Awaiting from) is = absurd (let no : false ≡ true = is in cc)
-state_is Recovering is = absurd (let no : false ≡ true = is in cc)
+fits_from : (a b : ℕ) → nat_le a b ≡ true → a ≤ b
+fits_from a b is = grind (arith, nat_tests)
 
 abbrev piece_with_all : Range → PieceState → Table → Piece
 piece_with_all range state entries = record { range = range; state = state; entries = entries }
@@ -147,57 +146,67 @@ module _ (next : Bool) (hashing : Hashing) (view : ViewValue) (silo : Silo) (pie
   abbrev bare : Arc → Piece
   bare arc = piece_with_all arc.range Settled []
 
-  module _ (arc : Arc) (piece : Piece) (found : lookup (is_at (nat_cmp arc.range.start)) pieces ≡ Some piece) (settled : is_settled piece.state ≡ true) (same : piece.range ≡ arc.range) where
-    there : lookup (is_at (nat_cmp piece.range.start)) pieces ≡ Some piece
-    there = ap (λ (r : Range). lookup (is_at (nat_cmp r.start)) pieces) same ∙ found
+  module _ (arc : Arc) (piece : Piece) (found : lookup (is_at (nat_cmp arc.range.start)) pieces ≡ Some piece) (settled : is_settled piece.state ≡ true) (fits : arc.range.size ≤ piece.range.size) where
+    begins : piece.range.start ≡ arc.range.start
+    begins = at_lookup (λ e. e.1.range.start ≡ e.0) pieces are.under_start arc.range.start piece found
+
+    piece_ok : IsRange piece.range
+    piece_ok = at_lookup (λ e. IsRange e.1.range) pieces are.ranges arc.range.start piece found
 
     arc_ok : IsRange arc.range
-    arc_ok = subst IsRange same (at_lookup (λ e. IsRange e.1.range) pieces are.ranges arc.range.start piece found)
+    arc_ok = record { start_below = subst (λ k. k < circle) begins piece_ok.start_below; size_within = omega (arith, fits, piece_ok.size_within) }
+
+    -- the piece has each hash of the arc
+    inside : (hash : ℕ) → hash < circle → holds arc.range hash ≡ true → holds piece.range hash ≡ true
+    inside hash below held =
+        let less : distance arc.range.start hash < arc.range.size = below-holds arc.range hash held in
+        holds-below piece.range hash (subst (λ k. distance k hash < piece.range.size) (sym begins) (omega (arith, less, fits)))
 
     was : was_settled pieces arc.range ≡ true
     was = (Decides-was_settled pieces are arc.range arc_ok).1
-        (λ hash below held. lies_by pieces hash arc.range (record { piece = piece; there = there; settled = settled; range_is = same; has = held }))
+        (λ hash below held. lies_by pieces hash piece.range (record {
+          piece = piece;
+          there = ap (λ k. lookup (is_at (nat_cmp k)) pieces) begins ∙ found;
+          settled = settled;
+          range_is = refl;
+          has = inside hash below held;
+        }))
 
-    after_is : after_of arc ≡ piece_with_all arc.range Settled (kept_entries hashing view pieces arc.range)
-    after_is = ap (λ b. cond b (piece_with_all arc.range Settled (kept_entries hashing view pieces arc.range)) (piece_with_all arc.range (missing_state next view silo arc.from) [])) was
+    left_is : left_of hashing view arc.range piece ≡ after_of arc
+    left_is =
+        ap (piece_with_all arc.range Settled) (kept_of_part hashing view pieces are tidy arc.range arc.range.start piece found inside)
+        ∙ sym (ap (λ b. cond b (piece_with_all arc.range Settled (kept_entries hashing view pieces arc.range)) (piece_with_all arc.range (missing_state next view silo arc.from) [])) was)
 
-    stayed_is : piece_with_all piece.range piece.state (living view (all_entries ((0, piece) ∷ []))) ≡ after_of arc
-    stayed_is =
-        (λ i. piece_with_all (same i) (state_is piece.state settled i) (kept_of_one hashing view pieces are tidy arc.range arc.range.start piece found same i))
-        ∙ sym after_is
-
-  at_arc : (arc : Arc) → back_at view (lookup (is_at (nat_cmp arc.range.start)) pieces) (Some (piece_made true next hashing view silo pieces arc)) ≡ Some (after_of arc)
+  at_arc : (arc : Arc) → back_at hashing view (lookup (is_at (nat_cmp arc.range.start)) pieces) (Some (piece_made true next hashing view silo pieces arc)) ≡ Some (after_of arc)
   at_arc arc = by (lookup (is_at (nat_cmp arc.range.start)) pieces) refl
     where
-      stayed : (piece : Piece) → lookup (is_at (nat_cmp arc.range.start)) pieces ≡ Some piece → (b : Bool) → is_settled_of arc.range piece ≡ b
-          → staying view (0, piece) (cond b (bare arc) (after_of arc)) ≡ after_of arc
+      stayed : (piece : Piece) → lookup (is_at (nat_cmp arc.range.start)) pieces ≡ Some piece → (b : Bool) → covers arc.range piece ≡ b
+          → staying hashing view (0, piece) (cond b (bare arc) (after_of arc)) ≡ after_of arc
       stayed piece found true is =
-          let so = both (is_settled piece.state) (range_eq piece.range arc.range) is in
-          ap (λ b. cond b (piece_with_all piece.range piece.state (living view (all_entries ((0, piece) ∷ [])))) (bare arc)) is
-          ∙ stayed_is arc piece found so.0 ((Decides-range piece.range arc.range).0 so.1)
+          let so = both (is_settled piece.state) (nat_le arc.range.size piece.range.size) is in
+          ap (λ b. cond b (left_of hashing view arc.range piece) (bare arc)) is ∙ left_is arc piece found so.0 (fits_from arc.range.size piece.range.size so.1)
       stayed piece found false is =
-          ap (λ b. cond b (piece_with_all piece.range piece.state (living view (all_entries ((0, piece) ∷ [])))) (after_of arc))
-          (ap (λ r. is_settled_of r piece) (piece_range next hashing view silo pieces arc) ∙ is)
+          ap (λ b. cond b (left_of hashing view (after_of arc).range piece) (after_of arc)) (ap (λ r. covers r piece) (piece_range next hashing view silo pieces arc) ∙ is)
 
-      by : (o : Option Piece) → lookup (is_at (nat_cmp arc.range.start)) pieces ≡ o → back_at view o (Some (cond (stays_as arc.range o) (bare arc) (after_of arc))) ≡ Some (after_of arc)
+      by : (o : Option Piece) → lookup (is_at (nat_cmp arc.range.start)) pieces ≡ o → back_at hashing view o (Some (cond (stays_as arc.range o) (bare arc) (after_of arc))) ≡ Some (after_of arc)
       by None found = refl
-      by (Some piece) found = ap (λ p. Some p) (stayed piece found (is_settled_of arc.range piece) refl)
+      by (Some piece) found = ap (λ p. Some p) (stayed piece found (covers arc.range piece) refl)
 
   -- so the pieces that stay, put back, make the pieces after
   pub stayed_are_after : (arcs : List Arc) → AreOfRings arcs
-      → fold (with_staying view) (pieces_made true next hashing view silo pieces arcs) pieces ≡ pieces_after next hashing view silo pieces arcs
+      → fold (with_staying hashing view) (pieces_made true next hashing view silo pieces arcs) pieces ≡ pieces_after next hashing view silo pieces arcs
   stayed_are_after arcs of =
-      same_entries nat_cmp_total exact_unsigned (fold (with_staying view) (pieces_made true next hashing view silo pieces arcs) pieces) (pieces_after next hashing view silo pieces arcs)
-      (subst (λ keys. IsStrictlySortedBy nat_cmp keys) (sym (keys-all_back view pieces (pieces_made true next hashing view silo pieces arcs)))
+      same_entries nat_cmp_total exact_unsigned (fold (with_staying hashing view) (pieces_made true next hashing view silo pieces arcs) pieces) (pieces_after next hashing view silo pieces arcs)
+      (subst (λ keys. IsStrictlySortedBy nat_cmp keys) (sym (keys-all_back hashing view pieces (pieces_made true next hashing view silo pieces arcs)))
       (sorted_made (piece_made true next hashing view silo pieces) (λ arc. is_owner silo arc.to) arcs of.are.in_order))
       (sorted_made after_of (λ arc. is_owner silo arc.to) arcs of.are.in_order)
       (λ k.
-      found_all_back view k pieces (pieces_made true next hashing view silo pieces arcs) are.in_order
-      ∙ found_made k (λ arc. is_owner silo arc.to) (piece_made true next hashing view silo pieces) after_of (back_at view (lookup (is_at (nat_cmp k)) pieces))
+      found_all_back hashing view k pieces (pieces_made true next hashing view silo pieces arcs) are.in_order
+      ∙ found_made k (λ arc. is_owner silo arc.to) (piece_made true next hashing view silo pieces) after_of (back_at hashing view (lookup (is_at (nat_cmp k)) pieces))
       (nothing (lookup (is_at (nat_cmp k)) pieces))
-      (λ arc key. subst (λ n. back_at view (lookup (is_at (nat_cmp n)) pieces) (Some (piece_made true next hashing view silo pieces arc)) ≡ Some (after_of arc)) (sym key) (at_arc arc))
+      (λ arc key. subst (λ n. back_at hashing view (lookup (is_at (nat_cmp n)) pieces) (Some (piece_made true next hashing view silo pieces arc)) ≡ Some (after_of arc)) (sym key) (at_arc arc))
       arcs)
     where
-      nothing : (o : Option Piece) → back_at view o None ≡ None
+      nothing : (o : Option Piece) → back_at hashing view o None ≡ None
       nothing None = refl
       nothing (Some piece) = refl

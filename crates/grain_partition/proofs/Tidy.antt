@@ -1,6 +1,6 @@
 -- Where each piece has just entries that are hashed into its range, what is kept of a piece's range is what is kept of the piece.
 use Rattle.std.proofs.Common.{arith, ◌≡◌, refl, sym, ap, ◌∙◌, subst, ℕ, List, [], ◌∷◌, ◌++◌, ◌+◌, ◌<◌, ◌≤◌, append-nil}
-use Rattle.std.specs.Prelude.{Bool, true, false, cond, filter, flat_map, fold, Some, None}
+use Rattle.std.specs.Prelude.{Bool, true, false, cond, not, filter, flat_map, fold, Some, None}
 use Rattle.std.specs.Map.{lookup}
 use Rattle.std.specs.BTreeMap.{is_at}
 use Rattle.std.specs.Ordering.{nat_cmp}
@@ -14,16 +14,17 @@ use Rattle.texts.proofs.Decided.{both}
 use Rattle.ring_range.specs.Range.{Range, circle, holds}
 use Rattle.hash_ring.specs.declared.Hashing.{Hashing}
 use Rattle.hash_ring.specs.Hash.{hash_grain}
+use Rattle.directory_rules.specs.Membership.{is_dead_in}
 use Rattle.directory_rules.specs.Piece.{Piece}
-use Rattle.directory_rules.specs.Sight.{all_entries, kept_entries}
+use Rattle.directory_rules.specs.Sight.{all_entries, is_kept, kept_entries}
 use Rattle.directory_rules.specs.Table.{entries_of, lie_in, with_entry}
 use Rattle.directory_rules.proofs.Cases.{on_bool}
-use Rattle.grain_table.proofs.ByGrain.{nothing_is_table}
+use Rattle.grain_table.proofs.ByGrain.{IsTable, nothing_is_table}
 use Rattle.grain_table.proofs.Filters.{kept_of}
 use Rattle.grain_table.proofs.HashesBelow.{grain_below}
 use Rattle.grain_table.proofs.Put.{put_in_is_table}
 use Rattle.grain_partition.specs.Holding.{ArePieces}
-use Rattle.grain_partition.specs.Staying.{are_tidy, living}
+use Rattle.grain_partition.specs.Staying.{are_tidy}
 use Rattle.grain_partition.proofs.OnePiece.{by_entry, found_counts, passing}
 use Rattle.grain_partition.proofs.Within.{put_within, within-fold, within_range}
 
@@ -75,37 +76,73 @@ module _ (hashing : Hashing) (range : Range) where
           (λ t held. let none = miss hash below held in let one = one_for (holds e.1.range hash) here in absurd (omega (arith, none, one, counted hash e es)))
           (λ f held. refl) refl
 
-  -- where no hash is in two pieces, the entries that pass are those of the piece of the range
-  pub of_one : (k : ℕ) (piece : Piece) → piece.range ≡ range → (es : List (ℕ × Piece)) → are_tidy hashing es ≡ true → ((hash : ℕ) → hash < circle → having hash es ≤ 1)
-      → lookup (is_at (nat_cmp k)) es ≡ Some piece → filter is_within (entries_in es) ≡ entries_of piece.entries
-  of_one k piece same [] tidy once found = absurd (let no : None ≡ Some piece = found in cc)
-  of_one k piece same (e ∷ es) tidy once found =
+  -- where no hash is in two pieces, the entries that pass are those of the piece that has the range
+  pub of_part : (k : ℕ) (piece : Piece) → ((hash : ℕ) → hash < circle → holds range hash ≡ true → holds piece.range hash ≡ true) → (es : List (ℕ × Piece)) → are_tidy hashing es ≡ true
+      → ((hash : ℕ) → hash < circle → having hash es ≤ 1) → lookup (is_at (nat_cmp k)) es ≡ Some piece → filter is_within (entries_in es) ≡ filter is_within (entries_of piece.entries)
+  of_part k piece inside [] tidy once found = absurd (let no : None ≡ Some piece = found in cc)
+  of_part k piece inside (e ∷ es) tidy once found =
       let so = both (lie_in hashing e.1.range (entries_of e.1.entries)) (are_tidy hashing es) tidy in
       filter-append is_within (entries_of e.1.entries) (entries_in es)
-      ∙ by_entry k piece (filter is_within (entries_of e.1.entries) ++ filter is_within (entries_in es) ≡ entries_of piece.entries) e es found
+      ∙ by_entry k piece (filter is_within (entries_of e.1.entries) ++ filter is_within (entries_in es) ≡ filter is_within (entries_of piece.entries)) e es found
       (λ key value.
-      (λ i. all_pass (entries_of e.1.entries) (subst (λ r. lie_in hashing r (entries_of e.1.entries) ≡ true) (ap (λ (p : Piece). p.range) value ∙ same) so.0) i
-      ++ pieces_miss es so.1 (λ hash below held.
-      let one = one_for (holds e.1.range hash) (ap (λ (p : Piece). holds p.range hash) value ∙ ap (λ r. holds r hash) same ∙ held) in
-      let few = once hash below in omega (arith, one, few, counted hash e es)) i)
-      ∙ append-nil (entries_of e.1.entries) ∙ ap (λ (p : Piece). entries_of p.entries) value)
+      ap (λ l. filter is_within (entries_of e.1.entries) ++ l)
+      (pieces_miss es so.1 (λ hash below held.
+      let one = one_for (holds e.1.range hash) (ap (λ (p : Piece). holds p.range hash) value ∙ inside hash below held) in
+      let few = once hash below in omega (arith, one, few, counted hash e es)))
+      ∙ append-nil (filter is_within (entries_of e.1.entries)) ∙ ap (λ (p : Piece). filter is_within (entries_of p.entries)) value)
       (λ behind.
       (λ i. none_pass e.1.range (apart behind) (entries_of e.1.entries) so.0 i
-      ++ of_one k piece same es so.1 (λ hash below. let few = once hash below in omega (arith, few, counted hash e es)) behind i))
+      ++ of_part k piece inside es so.1 (λ hash below. let few = once hash below in omega (arith, few, counted hash e es)) behind i))
     where
       apart : lookup (is_at (nat_cmp k)) es ≡ Some piece → (hash : ℕ) → hash < circle → holds e.1.range hash ≡ true → holds range hash ≡ false
       apart behind hash below here =
           on_bool (λ b. holds range hash ≡ b → b ≡ false) (holds range hash)
-          (λ t held. let more = found_counts (λ p. holds p.range hash) es k piece behind (ap (λ r. holds r hash) same ∙ held) in
+          (λ t held. let more = found_counts (λ p. holds p.range hash) es k piece behind (inside hash below held) in
           let one = one_for (holds e.1.range hash) here in let few = once hash below in absurd (omega (arith, more, one, few, counted hash e es)))
           (λ f held. refl) refl
 
--- what is kept of a piece's range
-pub kept_of_one : (hashing : Hashing) (view : ViewValue) (pieces : List (ℕ × Piece)) → ArePieces pieces → are_tidy hashing pieces ≡ true → (range : Range) (k : ℕ) (piece : Piece)
-    → lookup (is_at (nat_cmp k)) pieces ≡ Some piece → piece.range ≡ range → living view (all_entries ((k, piece) ∷ [])) ≡ kept_entries hashing view pieces range
-kept_of_one hashing view pieces are tidy range k piece found same =
-    ap (living view)
-    (ap (fold with_entry []) (append-nil (entries_of piece.entries) ∙ sym (of_one hashing range k piece same pieces tidy are.once found))
-    ∙ put_within hashing range (flat_map (λ e. entries_of e.1.entries) pieces) []
-    ∙ sym (within-fold hashing range (flat_map (λ e. entries_of e.1.entries) pieces) [] (sorted-nil grain_cmp)))
-    ∙ kept_of hashing view range (all_entries pieces) (put_in_is_table [] (flat_map (λ e. entries_of e.1.entries) pieces) nothing_is_table)
+  -- a piece's entries lie in its range
+  lies_there : (k : ℕ) (piece : Piece) (es : List (ℕ × Piece)) → are_tidy hashing es ≡ true → lookup (is_at (nat_cmp k)) es ≡ Some piece → lie_in hashing piece.range (entries_of piece.entries) ≡ true
+  lies_there k piece [] tidy found = absurd (let no : None ≡ Some piece = found in cc)
+  lies_there k piece (e ∷ es) tidy found =
+      let so = both (lie_in hashing e.1.range (entries_of e.1.entries)) (are_tidy hashing es) tidy in
+      by_entry k piece (lie_in hashing piece.range (entries_of piece.entries) ≡ true) e es found
+      (λ key value. ap (λ (p : Piece). lie_in hashing p.range (entries_of p.entries)) (sym value) ∙ so.0)
+      (λ behind. lies_there k piece es so.1 behind)
+
+  -- and those of a piece of just the range are all of its own
+  pub of_one : (k : ℕ) (piece : Piece) → piece.range ≡ range → (es : List (ℕ × Piece)) → are_tidy hashing es ≡ true → ((hash : ℕ) → hash < circle → having hash es ≤ 1)
+      → lookup (is_at (nat_cmp k)) es ≡ Some piece → filter is_within (entries_in es) ≡ entries_of piece.entries
+  of_one k piece same es tidy once found =
+      of_part k piece (λ hash below held. ap (λ r. holds r hash) same ∙ held) es tidy once found
+      ∙ all_pass (entries_of piece.entries) (subst (λ r. lie_in hashing r (entries_of piece.entries) ≡ true) same (lies_there k piece es tidy found))
+
+-- what is kept of a table: what lies in the range, and then what is living
+pub kept_in_steps : (hashing : Hashing) (view : ViewValue) (range : Range) (piece : Piece) → fold with_entry [] (entries_of piece.entries) ≡ piece.entries
+    → filter (λ e. not (is_dead_in view e.1.activation.silo)) (filter (λ e. within_range hashing range e.0) piece.entries) ≡ kept_entries hashing view ((0, piece) ∷ []) range
+kept_in_steps hashing view range piece again =
+    kept_of hashing view range piece.entries (subst IsTable again (put_in_is_table [] (entries_of piece.entries) nothing_is_table))
+    ∙ ap (filter (λ e. is_kept hashing view range e.1)) (sym again ∙ ap (fold with_entry []) (sym (append-nil (entries_of piece.entries))))
+
+-- what is kept of a range that a piece has
+pub kept_of_part : (hashing : Hashing) (view : ViewValue) (pieces : List (ℕ × Piece)) → ArePieces pieces → are_tidy hashing pieces ≡ true → (range : Range) (k : ℕ) (piece : Piece)
+    → lookup (is_at (nat_cmp k)) pieces ≡ Some piece → ((hash : ℕ) → hash < circle → holds range hash ≡ true → holds piece.range hash ≡ true)
+    → kept_entries hashing view ((0, piece) ∷ []) range ≡ kept_entries hashing view pieces range
+kept_of_part hashing view pieces are tidy range k piece found inside =
+    sym (kept_by_steps ((0, piece) ∷ []))
+    ∙ ap (filter (λ e. not (is_dead_in view e.1.activation.silo)))
+    (by_range ((0, piece) ∷ [])
+    ∙ ap (fold with_entry [])
+    (ap (filter (λ e. within_range hashing range e.grain)) (append-nil (entries_of piece.entries)) ∙ sym (of_part hashing range k piece inside pieces tidy are.once found))
+    ∙ sym (by_range pieces))
+    ∙ kept_by_steps pieces
+  where
+    by_range : (pieces : List (ℕ × Piece))
+        → filter (λ e. within_range hashing range e.0) (all_entries pieces) ≡ fold with_entry [] (filter (λ e. within_range hashing range e.grain) (flat_map (λ e. entries_of e.1.entries) pieces))
+    by_range pieces =
+        within-fold hashing range (flat_map (λ e. entries_of e.1.entries) pieces) [] (sorted-nil grain_cmp)
+        ∙ sym (put_within hashing range (flat_map (λ e. entries_of e.1.entries) pieces) [])
+
+    kept_by_steps : (pieces : List (ℕ × Piece))
+        → filter (λ e. not (is_dead_in view e.1.activation.silo)) (filter (λ e. within_range hashing range e.0) (all_entries pieces)) ≡ kept_entries hashing view pieces range
+    kept_by_steps pieces = kept_of hashing view range (all_entries pieces) (put_in_is_table [] (flat_map (λ e. entries_of e.1.entries) pieces) nothing_is_table)

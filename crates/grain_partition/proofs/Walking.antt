@@ -46,13 +46,15 @@ module _ (pieces : List (ℕ × Piece)) (are : ArePieces pieces) (range : Range)
   begins : distance first.start range.start < first.size
   begins = below-holds first range.start at.has
 
-  behind_is : (hash : ℕ) → hash < circle → holds (part_behind range first) hash ≡ (nat_le covered (distance range.start hash) && nat_lt (distance range.start hash) range.size)
+  pub behind_is : (hash : ℕ) → hash < circle → holds (part_behind range first) hash ≡ (nat_le covered (distance range.start hash) && nat_lt (distance range.start hash) range.size)
   behind_is hash below = holds-part range covered range.size hash ok (omega arith) below
 
   -- a hash behind is the range's
+  pub behind_in_range : (hash : ℕ) → hash < circle → holds (part_behind range first) hash ≡ true → holds range hash ≡ true
+  behind_in_range hash below held = (both (nat_le covered (distance range.start hash)) (nat_lt (distance range.start hash) range.size) (sym (behind_is hash below) ∙ held)).1
+
   behind_in : LiesSettled pieces range → LiesSettled pieces (part_behind range first)
-  behind_in lies hash below held =
-      lies hash below (both (nat_le covered (distance range.start hash)) (nat_lt (distance range.start hash) range.size) (sym (behind_is hash below) ∙ held)).1
+  behind_in lies hash below held = lies hash below (behind_in_range hash below held)
 
   -- a hash of the range that isn't the first piece's is behind
   pub behind_first : (hash : ℕ) → hash < circle → holds range hash ≡ true → holds first hash ≡ false → holds (part_behind range first) hash ≡ true

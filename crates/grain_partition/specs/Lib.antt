@@ -4,3 +4,4 @@ pub mod Serving
 pub mod Settled
 pub mod Sight
 pub mod Staying
+pub mod Seen

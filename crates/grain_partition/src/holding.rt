@@ -9,7 +9,8 @@ ghost use Rattle.directory_rules.specs.Answer.{answered, is_numbered, last_serve
 ghost use Rattle.directory_rules.specs.declared.PieceState.TheVariants.{Recovering, Settled};
 ghost use Rattle.directory_rules.specs.Sight.{entries_within};
 ghost use Rattle.directory_rules.specs.Sight.{pieces_after, sealed, was_settled};
-ghost use Rattle.grain_partition.specs.Holding.{HasPiece, IsHolding};
+ghost use Rattle.grain_partition.specs.Holding.{ArePieces, HasPiece, IsHolding};
+ghost use Rattle.grain_partition.specs.Seen.{pieces_seen};
 ghost use Rattle.grain_partition.specs.Serving.{IsTurnOf};
 ghost use Rattle.grain_partition.specs.Settled.{LiesSettled};
 ghost use Rattle.grain_partition.specs.Sight.{AreOfRings};
@@ -18,6 +19,7 @@ use crate::Piece;
 use crate::entries::entries_within;
 use crate::sealing::sealed;
 use crate::search::piece_with;
+use crate::seen::pieces_seen;
 use crate::served::serve_numbered;
 use crate::settled::are_settled;
 use crate::sight::sight;
@@ -185,9 +187,9 @@ impl Holding {
 
     /// The silo sees the view: it keeps one piece for each of the arcs that it owns there, which is settled where it was, and
     /// else awaits its entries where this view is the `next` one after that seen before. The arcs are those from the ring of the
-    /// version seen before to the ring of the view, under the cluster's hashing. A settled piece whose range is one of these arcs
-    /// keeps its table; for each other arc just the entries hashed into it are copied. Fails only when memory runs out, and then
-    /// changes nothing (`docs/RULES.md#pieces`).
+    /// version seen before to the ring of the view, under the cluster's hashing. A settled piece that has all of an arc, and begins
+    /// where it does, keeps its table, less what is hashed elsewhere; for each other arc just the entries hashed into it are
+    /// copied. Fails only when memory runs out, and then changes nothing (`docs/RULES.md#pieces`).
     pub fn sight(
         &mut self,
         alloc: Global,
@@ -205,6 +207,24 @@ impl Holding {
         self.seen = view.version();
         self.served = BTreeMap::new(alloc);
         Ok(())
+    }
+
+    /// The pieces that `sight` will leave, without their entries: asked before the sight by whoever wants to know what the pieces
+    /// will want. Fails only when memory runs out.
+    pub fn pieces_seen(
+        &self,
+        alloc: Global,
+        next: bool,
+        hashing: Hashing,
+        view: &View,
+        silo: &SiloAddress,
+        arcs: &[Arc],
+    ) -> Result<BTreeMap<u32, Piece>, AllocError>
+        requires { AreOfRings arcs.now }
+        ensures exact { IfOk result (λ seen. seen.entries ≡ pieces_seen next hashing view.now silo.now self.now.pieces arcs.now) }
+        ensures pieces { IfOk result (λ seen. ArePieces seen.entries) }
+    {
+        pieces_seen(alloc, &self.pieces, next, hashing, view, silo, arcs)
     }
 
     /// Whether every hash of the range is in a settled piece.

@@ -4,9 +4,11 @@
 
 mod entries;
 mod holding;
+mod listed;
 mod piece;
 mod sealing;
 mod search;
+mod seen;
 mod served;
 mod settled;
 mod sight;

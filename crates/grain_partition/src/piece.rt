@@ -1,9 +1,9 @@
 ghost use Rattle.std.specs.Prelude.{◌≡◌, ◌↔◌, [], ◌∷◌, IsTrue, IfOk, OnOk, OnErr};
 ghost use Rattle.directory_rules.specs.Answer.{turned};
 ghost use Rattle.directory_rules.specs.declared.PieceState.TheVariants.{Settled};
-ghost use Rattle.directory_rules.specs.Sight.{all_entries, is_settled};
+ghost use Rattle.directory_rules.specs.Sight.{is_settled};
 ghost use Rattle.directory_rules.specs.Table.{entries_of, entry_at, lie_in};
-ghost use Rattle.grain_partition.specs.Staying.{is_settled_of, living};
+ghost use Rattle.grain_partition.specs.Staying.{covers, left_of};
 
 use directory_rules::{Act, PieceState, Reply};
 use grain_table::Table;
@@ -97,11 +97,11 @@ impl Piece {
         }
     }
 
-    // Whether the piece is settled, and has just this range.
-    pub(crate) fn is_settled_of(&self, range: &RingRange) -> bool
-        ensures { result ≡ is_settled_of range.now self.now }
+    // Whether the piece is settled, and has every hash of a range that begins where it does.
+    pub(crate) fn covers(&self, range: &RingRange) -> bool
+        ensures { result ≡ covers range.now self.now }
     {
-        self.is_settled() && self.range == *range
+        self.is_settled() && range.size() <= self.range.size()
     }
 
     // Whether the entries are hashed into the range.
@@ -111,22 +111,20 @@ impl Piece {
         self.entries.lies_in(hashing, &self.range)
     }
 
-    // The piece less its entries on silos that are Dead in the view.
-    pub(crate) fn without_dead(self, view: &View) -> Piece
-        ensures { result ≡ record self { entries = living view.now (all_entries ((0, self) ∷ [])) } }
+    // What is left of the piece where it stays as a settled one of the range: it keeps its table, less what is hashed outside and
+    // what is on silos that are Dead in the view.
+    pub(crate) fn left_of(self, hashing: Hashing, view: &View, range: RingRange) -> Piece
+        ensures { result ≡ left_of hashing view.now range self }
     {
         let Piece {
-            range,
-            state,
+            range: _,
+            state: _,
             mut entries,
         } = self;
         entries.made_again();
+        entries.keep_within(hashing, &range);
         entries.remove_dead(view);
-        Piece {
-            range,
-            state,
-            entries,
-        }
+        Piece::settled(range, entries)
     }
 
     // What the piece answers to an act.

@@ -1,18 +1,15 @@
 //! What a sight seals: the entries of the arcs that the silo hands over to others.
 ghost use Rattle.std.specs.Prelude.{◌≡◌, None, if◌then◌else◌, IfOk, IsSome, true};
 ghost use Rattle.directory_rules.specs.Sight.{is_handed_over, sealed, was_settled};
-ghost use Rattle.directory_rules.specs.Table.{entries_of};
 ghost use Rattle.grain_partition.specs.Holding.{ArePieces};
 
 use crate::Piece;
-use crate::entries::kept_entries;
+use crate::listed::listed;
 use crate::settled::are_settled;
 use crate::staying::are_tidy;
-use grain_table::Table;
 use hash_ring::Hashing;
 use membership_view::View;
 use range_moves::Arc;
-use ring_range::RingRange;
 use seal_snapshot::Snapshot;
 use silo_address::SiloAddress;
 use std::alloc::{AllocError, Global};
@@ -37,9 +34,8 @@ pub(crate) fn sealed(
         let Some(to) = next_owner(pieces, silo, arc) else {
             continue;
         };
-        let entries = kept_entries(alloc, pieces, tidy, hashing, view, &arc.range)?;
-        let snapshot = snapshot_of(alloc, view, *silo, to, arc.range, &entries)?;
-        snapshots.push(snapshot)?;
+        let entries = listed(alloc, pieces, tidy, hashing, view, &arc.range)?;
+        snapshots.push(Snapshot::seal(view.version(), arc.range, *silo, to, entries))?;
     }
     Ok(snapshots)
 }
@@ -63,19 +59,4 @@ fn next_owner(pieces: &BTreeMap<u32, Piece>, silo: &SiloAddress, arc: &Arc) -> O
         return None;
     }
     Some(to)
-}
-
-// The snapshot of the entries for the silo that owns their range in the view.
-fn snapshot_of(
-    alloc: Global,
-    view: &View,
-    from: SiloAddress,
-    to: SiloAddress,
-    range: RingRange,
-    entries: &Table,
-) -> Result<Snapshot, AllocError>
-    ensures { IfOk result (λ snapshot. snapshot ≡ record { version = view.now.version; range = range; from = from; to = to; entries = entries_of entries.now.entries }) }
-{
-    let entries = entries.in_order(alloc)?;
-    Ok(Snapshot::seal(view.version(), range, from, to, entries))
 }

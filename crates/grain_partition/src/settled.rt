@@ -1,5 +1,5 @@
 //! Whether a range is settled throughout: a walk from piece to piece.
-ghost use Rattle.std.specs.Prelude.{◌≡◌, ◌-◌, ◌<◌, MatchOption, false, true};
+ghost use Rattle.std.specs.Prelude.{◌≡◌, ◌-◌, ◌<◌, ◌≤◌, MatchOption, false, true};
 ghost use Rattle.ring_range.specs.Range.{circle, distance, holds, part_of};
 ghost use Rattle.directory_rules.specs.Laws.{lies_settled};
 ghost use Rattle.directory_rules.specs.Sight.{was_settled};
@@ -49,6 +49,14 @@ pub(crate) fn part_behind(range: &RingRange, first: &RingRange) -> RingRange
         return nothing(range);
     }
     behind(range, covered)
+}
+
+/// What of the range lies before the last part of it.
+pub(crate) fn front_of(range: &RingRange, last: &RingRange) -> RingRange
+    requires { last.now.size ≤ range.now.size }
+    ensures { result ≡ record { start = range.now.start; size = range.now.size - last.now.size } }
+{
+    RingRange::new(range.start(), range.size() - last.size()).unwrap()
 }
 
 // No hash, told at the range's start.

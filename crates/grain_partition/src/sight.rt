@@ -1,4 +1,5 @@
-//! A sight: the pieces of the arcs that the silo owns in a newer view. A piece whose range is again one of them keeps its table.
+//! A sight: the pieces of the arcs that the silo owns in a newer view. A piece that has all of an arc, and begins where it does,
+//! keeps its table.
 ghost use Rattle.std.specs.Prelude.{◌≡◌, IfOk, OnOk, OnErr};
 ghost use Rattle.std.specs.BTreeMap.{insert_entry};
 ghost use Rattle.std.specs.Ordering.{nat_cmp};
@@ -41,7 +42,7 @@ pub(crate) fn sight(
     let after = pieces_made(alloc, pieces, tidy, next, hashing, view, silo, arcs)?;
     let before = mem::replace(pieces, after);
     if tidy {
-        put_all_back(pieces, before, view);
+        put_all_back(pieces, before, hashing, view);
     }
     Ok(())
 }
@@ -120,8 +121,8 @@ fn piece_of(
     Ok(Piece::bare(alloc, hashing, arc.range, state))
 }
 
-// The piece stands under its start.
-fn put(pieces: &mut BTreeMap<u32, Piece>, piece: Piece) -> Result<(), AllocError>
+/// The piece stands under its start.
+pub(crate) fn put(pieces: &mut BTreeMap<u32, Piece>, piece: Piece) -> Result<(), AllocError>
     ensures { OnOk result (pieces.new.entries ≡ insert_entry nat_cmp pieces.old.entries piece.range.start piece) }
 {
     let start = piece.range().start();
@@ -129,8 +130,8 @@ fn put(pieces: &mut BTreeMap<u32, Piece>, piece: Piece) -> Result<(), AllocError
     Ok(())
 }
 
-// Whether the arc's owner is the silo.
-fn is_owner(silo: &SiloAddress, owner: Option<SiloAddress>) -> bool
+/// Whether the arc's owner is the silo.
+pub(crate) fn is_owner(silo: &SiloAddress, owner: Option<SiloAddress>) -> bool
     ensures { result ≡ is_owner silo.now owner }
 {
     match owner {
@@ -139,8 +140,8 @@ fn is_owner(silo: &SiloAddress, owner: Option<SiloAddress>) -> bool
     }
 }
 
-// The state of a piece that wasn't settled before: a skipped version has no snapshots.
-fn missing_state(
+/// The state of a piece that wasn't settled before: a skipped version has no snapshots.
+pub(crate) fn missing_state(
     next: bool,
     view: &View,
     silo: &SiloAddress,

@@ -20,36 +20,45 @@ pub(crate) fn are_tidy(hashing: Hashing, pieces: &BTreeMap<u32, Piece>) -> bool
     true
 }
 
-/// Whether there is a settled piece of just this range.
+/// Whether a settled piece that begins where the range does has every hash of the range.
 pub(crate) fn stays(pieces: &BTreeMap<u32, Piece>, range: &RingRange) -> bool
     ensures { result ≡ stays pieces.now.entries range.now }
 {
     match pieces.get(&range.start()) {
-        Some(piece) => piece.is_settled_of(range),
+        Some(piece) => piece.covers(range),
         None => false,
     }
 }
 
-/// Each of the pieces before is put back among those made where it stays, less its entries on silos that are Dead in the view.
+/// Each of the pieces before is put back among those made where it stays: it keeps what is hashed into the range of the one made,
+/// less its entries on silos that are Dead in the view.
 pub(crate) fn put_all_back(
     made: &mut BTreeMap<u32, Piece>,
     before: BTreeMap<u32, Piece>,
+    hashing: Hashing,
     view: &View,
 )
-    ensures { made.new.entries ≡ fold (with_staying view.now) made.old.entries before.entries }
+    ensures { made.new.entries ≡ fold (with_staying hashing view.now) made.old.entries before.entries }
 {
     'pieces: for (start, piece) in before {
-        put_back(made, start, piece, view);
+        put_back(made, start, piece, hashing, view);
     }
 }
 
 // The piece is put back where it stays.
-fn put_back(made: &mut BTreeMap<u32, Piece>, start: u32, piece: Piece, view: &View)
-    ensures { made.new.entries ≡ with_staying view.now made.old.entries (start, piece) }
+fn put_back(
+    made: &mut BTreeMap<u32, Piece>,
+    start: u32,
+    piece: Piece,
+    hashing: Hashing,
+    view: &View,
+)
+    ensures { made.new.entries ≡ with_staying hashing view.now made.old.entries (start, piece) }
 {
     if let Some(there) = made.get_mut(&start) {
-        if piece.is_settled_of(&there.range()) {
-            *there = piece.without_dead(view);
+        let range = there.range();
+        if piece.covers(&range) {
+            *there = piece.left_of(hashing, view, range);
         }
     }
 }

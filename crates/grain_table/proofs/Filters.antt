@@ -107,6 +107,29 @@ entries_passed p table is = each table is.under
         by e (filter (λ e. p e.0) es) (filter (λ e. p e.grain) (entries_of es)) (p e.0) (each es all.1)
         ∙ ap (λ g. cond (p g) (e.1 ∷ filter (λ e. p e.grain) (entries_of es)) (filter (λ e. p e.grain) (entries_of es))) (sym all.0)
 
+-- ---- By a test of the grain.
+pub grains_by_grain : (hashing : Hashing) (p : Grain → Bool) (es : Hashed) → AreHashed hashing es
+    → by_grain (filter (λ e. p e.0.grain) es) ≡ filter (λ e. p e.0) (by_grain es)
+grains_by_grain hashing p es are =
+    same_tables (by_grain (filter (λ e. p e.0.grain) es)) (filter (λ e. p e.0) (by_grain es)) (by_grain_is_table (filter (λ e. p e.0.grain) es))
+    (passed_is_table (λ e. p e.0) (by_grain es) (by_grain_is_table es))
+    (λ grain.
+    found_by_grain hashing (filter (λ e. p e.0.grain) es) (passed_are_hashed hashing (λ e. p e.0.grain) es are).keys grain
+    ∙ ap (option_map (entry_of grain)) (lookup-filter-keys (is_at (hashed_cmp (key_of hashing grain))) (λ k. p k.grain) (p grain) (under grain) es)
+    ∙ by grain (p grain)
+    ∙ ap (λ o. cond (p grain) o None) (sym (found_by_grain hashing es are.keys grain))
+    ∙ sym (lookup-filter-keys (is_at (grain_cmp grain)) p (p grain) (at grain) (by_grain es)))
+  where
+    under : (grain : Grain) (key : HashedGrain) → is_at (hashed_cmp (key_of hashing grain)) key ≡ true → p key.grain ≡ p grain
+    under grain key is = ap (λ (k : HashedGrain). p k.grain) (sym (hashed_cmp_exact (key_of hashing grain) key (Equal-from (hashed_cmp (key_of hashing grain) key) is)))
+
+    at : (grain other : Grain) → is_at (grain_cmp grain) other ≡ true → p other ≡ p grain
+    at grain other is = ap p (sym (grain_cmp_exact grain other (Equal-from (grain_cmp grain other) is)))
+
+    by : (grain : Grain) (b : Bool) → option_map (entry_of grain) (cond b (lookup (is_at (hashed_cmp (key_of hashing grain))) es) None) ≡ cond b (found hashing grain es) None
+    by grain true = refl
+    by grain false = refl
+
 -- ---- By a test of the activation.
 pub living_by_grain : (hashing : Hashing) (p : ActivationId → Bool) (es : Hashed) → AreHashed hashing es
     → by_grain (filter (λ e. p e.1) es) ≡ filter (λ e. p e.1.activation) (by_grain es)

@@ -13,3 +13,4 @@ pub mod HashesBelow
 pub mod Lying
 pub mod OnSilos
 pub mod Sorting
+pub mod Listed

@@ -1,8 +1,8 @@
 -- Whether entries lie in a range is told by the stretches of hashes outside it.
 use Rattle.std.proofs.Common.{arith, ◌≡◌, refl, sym, ap, ◌∙◌, ℕ, ◌+◌, ◌<◌, ◌≤◌, List, [], ◌∷◌}
 use Rattle.std.proofs.lemmas.Bool.Decides.{nat_tests}
-use Rattle.std.specs.Prelude.{Bool, true, false, cond, not, ◌&&◌, Some, None}
-use Rattle.std.specs.List.{list_all}
+use Rattle.std.specs.Prelude.{Bool, true, false, cond, filter, not, ◌&&◌, Some, None}
+use Rattle.std.specs.List.{AllByRecursion, list_all}
 use Rattle.std.specs.Map.{lookup}
 use Rattle.std.specs.BTreeMap.{insert_entry, is_at}
 use Rattle.std.specs.Ordering.{is_eq, match_ordering}
@@ -11,6 +11,7 @@ use Rattle.std.specs.declared.cmp.Ordering.TheVariants.{Less, Equal, Greater}
 use Rattle.silo_address.specs.Grain.{Grain, grain_cmp}
 use Rattle.silo_address.specs.declared.ActivationId.{ActivationId}
 use Rattle.silo_address.specs.declared.Entry.{Entry}
+use Rattle.texts.proofs.Decided.{both}
 use Rattle.ring_range.specs.Range.{Range, IsRange, circle, holds}
 use Rattle.hash_ring.specs.declared.Hashing.{Hashing}
 use Rattle.hash_ring.specs.Hash.{hash_grain}
@@ -54,6 +55,16 @@ each_by_grain hashing p [] are = refl
 each_by_grain hashing p (e ∷ es) are =
     all_inserted (λ x. p (hash_grain hashing x.grain)) e.0.grain (entry_under e) (by_grain es) (none_behind hashing e es are)
     ∙ (λ i. p (sym are.keys.0.hash_is i) && each_by_grain hashing p es (are_behind hashing e es are) i)
+
+-- where all lie in a range, none is outside
+pub all_lie : (hashing : Hashing) (range : Range) (table : Table) → AllByRecursion (λ e. e.1.grain ≡ e.0) table → lie_in hashing range (entries_of table) ≡ true
+    → filter (λ e. holds range (hash_grain hashing e.0)) table ≡ table
+all_lie hashing range [] under lie = refl
+all_lie hashing range (e ∷ es) under lie =
+    let so = both (holds range (hash_grain hashing e.1.grain)) (lie_in hashing range (entries_of es)) lie in
+    ap (λ b. cond b (e ∷ filter (λ e. holds range (hash_grain hashing e.0)) es) (filter (λ e. holds range (hash_grain hashing e.0)) es))
+    (ap (λ g. holds range (hash_grain hashing g)) (sym under.0) ∙ so.0)
+    ∙ ap (λ l. e ∷ l) (all_lie hashing range es under.1 so.1)
 
 -- ---- What stands in a stretch.
 module _ (hashing : Hashing) (first end : ℕ) (es : Hashed) (are : AreHashed hashing es) where

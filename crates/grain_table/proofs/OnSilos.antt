@@ -17,7 +17,7 @@ use Rattle.hash_ring.specs.declared.Hashing.{Hashing}
 use Rattle.grain_table.specs.declared.hashed_grain.HashedGrain.{HashedGrain}
 use Rattle.grain_table.specs.Hashed.{AreKept, Hashed, IsKeyOf, hashed_cmp, is_among}
 use Rattle.grain_table.proofs.ByGrain.{all_insert, hashed_put}
-use Rattle.grain_table.proofs.Filters.{passed_are_hashed}
+use Rattle.grain_table.proofs.Filters.{all_passed, passed_are_hashed}
 use Rattle.grain_table.proofs.Order.{hashed_cmp_exact}
 use Rattle.grain_table.proofs.Taken.{all_without, hashed_taken}
 
@@ -76,6 +76,12 @@ kept_taken hashing silos test es kept = record {
 }
 
 -- ---- Those that pass.
+pub kept_some : (hashing : Hashing) (silos : List Silo) (q : HashedGrain × ActivationId → Bool) (es : Hashed) → AreKept hashing silos es → AreKept hashing silos (filter q es)
+kept_some hashing silos q es kept = record {
+  are = passed_are_hashed hashing q es kept.are;
+  on = all_passed q (λ e. is_among silos e.1.silo ≡ true) es kept.on;
+}
+
 module _ (p : Silo → Bool) where
   among_passed : (silos : List Silo) (silo : Silo) → p silo ≡ true → is_among silos silo ≡ true → is_among (filter p silos) silo ≡ true
   among_passed [] silo passes among = among

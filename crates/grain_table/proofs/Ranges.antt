@@ -72,7 +72,7 @@ module _ (range : Range) (low : ℕ) (is : IsRange range) (ends : range.start + 
   high : (hash : ℕ) → second hash ≡ true → low ≤ hash
   high hash other = let start = is.start_below in let size = is.size_within in grind (arith, nat_tests)
 
-  both_stretches : (hashing : Hashing) (es : Hashed) → AreHashed hashing es → passed first es ++ passed second es ≡ passed (holds range) es
+  pub both_stretches : (hashing : Hashing) (es : Hashed) → AreHashed hashing es → passed first es ++ passed second es ≡ passed (holds range) es
   both_stretches hashing [] are = refl
   both_stretches hashing (e ∷ es) are =
       by (first e.0.hash) (second e.0.hash) refl refl (both_stretches hashing es (are_behind hashing e es are))

@@ -20,8 +20,8 @@ use Rattle.membership_view.proofs.Entries.{Equal-from}
 use Rattle.hash_ring.specs.declared.Hashing.{Hashing}
 use Rattle.directory_rules.specs.Table.{Table, entries_of, entry_at, table_of}
 use Rattle.grain_table.specs.Hashed.{AreHashed, Hashed, by_grain}
-use Rattle.grain_table.proofs.ByGrain.{by_grain_is_table, same_tables}
-use Rattle.grain_table.proofs.Put.{IsOnce, entries_under, found_under, hashed_once}
+use Rattle.grain_table.proofs.ByGrain.{IsTable, by_grain_is_table, same_tables}
+use Rattle.grain_table.proofs.Put.{IsOnce, entries_under, found_under, hashed_once, table_again, table_once}
 use Rattle.grain_table.proofs.Same.{same_found}
 
 -- ---- Each grain once, however the entries stand.
@@ -173,14 +173,22 @@ entries_again : (entries : List Entry) → entries_of (table_of entries) ≡ ent
 entries_again [] = refl
 entries_again (entry ∷ entries) = ap (λ l. entry ∷ l) (entries_again entries)
 
+module _ (one : List Entry) (once : IsOnce one) (table : Table) (is : IsTable table) (found : (grain : Grain) → entry_at grain (table_of one) ≡ entry_at grain table) where
+  sorted_once : (sorted : List Entry) → IsPermutation one sorted → IsSorted entry_cmp sorted → sorted ≡ entries_of table
+  sorted_once sorted moved in_order =
+      sym (entries_again sorted)
+      ∙ ap entries_of
+      (same_tables (table_of sorted) table (record { in_order = strictly_sorted sorted too in_order; under = under_grains sorted }) is
+      (λ grain. found_moved one sorted once too moved grain ∙ found grain))
+    where
+      too : IsOnce sorted
+      too = once_from_few sorted (λ grain. subst (λ n. n ≤ 1) (sym (times_moved grain one sorted moved)) (few_from_once one once grain))
+
 -- a map's entries, sorted, are those of the table by grain
 pub sorted_by_grain : (hashing : Hashing) (es : Hashed) → AreHashed hashing es → (sorted : List Entry) → IsPermutation (entries_under es) sorted → IsSorted entry_cmp sorted
     → sorted ≡ entries_of (by_grain es)
-sorted_by_grain hashing es are sorted moved in_order =
-    sym (entries_again sorted)
-    ∙ ap entries_of
-    (same_tables (table_of sorted) (by_grain es) (record { in_order = strictly_sorted sorted once in_order; under = under_grains sorted }) (by_grain_is_table es)
-    (λ grain. found_moved (entries_under es) sorted (hashed_once hashing es are) once moved grain ∙ found_under grain es))
-  where
-    once : IsOnce sorted
-    once = once_from_few sorted (λ grain. subst (λ n. n ≤ 1) (sym (times_moved grain (entries_under es) sorted moved)) (few_from_once (entries_under es) (hashed_once hashing es are) grain))
+sorted_by_grain hashing es are = sorted_once (entries_under es) (hashed_once hashing es are) (by_grain es) (by_grain_is_table es) (λ grain. found_under grain es)
+
+-- and those of a table, sorted, are in its order
+pub sorted_again : (table : Table) → IsTable table → (sorted : List Entry) → IsPermutation (entries_of table) sorted → IsSorted entry_cmp sorted → sorted ≡ entries_of table
+sorted_again table is = sorted_once (entries_of table) (table_once table is) table is (λ grain. ap (entry_at grain) (table_again table is))

@@ -20,7 +20,7 @@ use Rattle.grain_table.proofs.Ranges.{passed, one_stretch, two_stretches}
 abbrev pub with_under : TableValue → Hashed → TableValue
 with_under table es = record table { entries = put_in table.entries (entries_under es) }
 
-if_ok : {T E : Type 0} {P Q : T → Type 0} (r : Result T E) → IfOk r P → ((x : T) → P x → Q x) → IfOk r Q
+pub if_ok : {T E : Type 0} {P Q : T → Type 0} (r : Result T E) → IfOk r P → ((x : T) → P x → Q x) → IfOk r Q
 if_ok (Ok x) is then = then x is
 if_ok (Err e) is then = tt
 

@@ -1,4 +1,4 @@
-use crate::samples::{A, B, C, grain, join, no_silos, silo, view};
+use crate::samples::{A, B, C, grain, join, no_silos, ring_now, silo, view};
 use hash_ring::{Hashing, Places, Point, Ring, hash_text, laws};
 use membership_view::{View, Views};
 use ring_range::RingRange;
@@ -84,13 +84,6 @@ fn copies_of_places(rt: HostRuntime) {
     assert!(rt; !empty.same(&places));
     places.remove(&silo(&rt, A));
     assert!(rt; empty.same(&places));
-}
-
-// The ring of the current view.
-fn ring_now(rt: &impl Abort, alloc: Global, views: &Views, places: &Places) -> Ring {
-    let now = view(rt, alloc, views, views.current());
-    assert!(rt; places.has_active_of(&now));
-    Ring::anew(alloc, &now, places).expect(rt, "a ring")
 }
 
 // The ring of B and A, each with three points.

@@ -1,6 +1,5 @@
-use crate::samples::{A, B, C, join, no_silos, range, silo, view};
-use hash_ring::{Places, Ring};
-use membership_view::Views;
+use crate::samples::{A, B, C, join, no_silos, range, ring_now, silo};
+use hash_ring::Ring;
 use range_moves::{Arc, Move, arcs, laws, moves};
 use silo_address::SiloAddress;
 use std::alloc::Global;
@@ -14,11 +13,6 @@ fn owner(rt: &impl Abort, text: &str) -> Option<SiloAddress> {
         return None;
     }
     Some(silo(rt, text))
-}
-
-fn ring_now(rt: &impl Abort, alloc: Global, views: &Views, places: &Places) -> Ring {
-    let now = view(rt, alloc, views, views.current());
-    Ring::anew(alloc, &now, places).expect(rt, "a ring")
 }
 
 // The ring of silos that joined, each with its places.

@@ -1,6 +1,6 @@
 //! Values by their texts, for the tests.
 
-use hash_ring::{Hashing, Places};
+use hash_ring::{Hashing, Places, Ring};
 use membership_view::{View, Views};
 use ring_range::RingRange;
 use silo_address::{ActivationId, GrainId, SiloAddress};
@@ -55,4 +55,11 @@ pub(crate) fn join(
     places
         .add(silo, given)
         .expect(rt, "places that may be given");
+}
+
+/// The ring of the current view.
+pub(crate) fn ring_now(rt: &impl Abort, alloc: Global, views: &Views, places: &Places) -> Ring {
+    let now = view(rt, alloc, views, views.current());
+    assert!(rt; places.has_active_of(&now));
+    Ring::anew(alloc, &now, places).expect(rt, "a ring")
 }

@@ -4,5 +4,7 @@ pub mod Unique
 pub mod Ordered
 pub mod Changes
 pub mod Counted
+pub mod Indexed
 pub mod Same
 pub mod Tables
+pub mod Listed

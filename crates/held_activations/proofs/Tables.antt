@@ -19,7 +19,7 @@ use Rattle.directory_rules.specs.declared.Held.{Held}
 use Rattle.directory_rules.specs.Host.{entry_on, is_firm}
 use Rattle.directory_rules.specs.Table.{Table, entry_at, with_entry}
 use Rattle.held_activations.specs.Begun.{AreApart}
-use Rattle.held_activations.specs.Firm.{firm_table}
+use Rattle.held_activations.specs.Firm.{firm_table, with_firm_of}
 use Rattle.held_activations.specs.InOrder.{in_order}
 use Rattle.held_activations.proofs.Grains.{either, either_none, on_grain, same_test}
 use Rattle.held_activations.proofs.Ordered.{lookup_in_order, row_in_order}
@@ -40,6 +40,9 @@ fold_kept test entry table (e ∷ es) = by (test e) (λ t. fold_kept test entry 
 abbrev pub with_firm : Silo → Hashing → Range → Table → Grain × Held → Table
 with_firm silo hashing range table e = cond (is_firm e.1.phase && holds range (hash_grain hashing e.0)) (with_entry table (entry_on silo e.0 e.1)) table
 
+pub firm_onto : (silo : Silo) (hashing : Hashing) (range : Range) (table : Table) (held : List (Grain × Held)) → fold (with_firm silo hashing range) table held ≡ with_firm_of silo hashing range table held
+firm_onto silo hashing range table held = fold_kept (λ e. is_firm e.1.phase && holds range (hash_grain hashing e.0)) (λ e. entry_on silo e.0 e.1) table held
+
 pub firm_kept : (silo : Silo) (hashing : Hashing) (range : Range) (held : List (Grain × Held))
     → fold (with_firm silo hashing range) [] held ≡ fold with_entry [] (map (λ e. entry_on silo e.0 e.1) (filter (λ e. is_firm e.1.phase && holds range (hash_grain hashing e.0)) held))
 firm_kept silo hashing range held = fold_kept (λ e. is_firm e.1.phase && holds range (hash_grain hashing e.0)) (λ e. entry_on silo e.0 e.1) [] held
@@ -50,10 +53,10 @@ abbrev pub told : Silo → Hashing → Range → Grain → Option Held → Optio
 told silo hashing range q None = None
 told silo hashing range q (Some h) = cond (is_firm h.phase && holds range (hash_grain hashing q)) (Some (entry_on silo q h)) None
 
-abbrev tell : Silo → Hashing → Range → Grain × Held → Bool → Option Entry → Option Entry
+abbrev pub tell : Silo → Hashing → Range → Grain × Held → Bool → Option Entry → Option Entry
 tell silo hashing range e here there = cond here (cond (is_firm e.1.phase && holds range (hash_grain hashing e.0)) (Some (entry_on silo e.0 e.1)) there) there
 
-lookup_with : (silo : Silo) (hashing : Hashing) (range : Range) (q : Grain) (table : Table) (e : Grain × Held)
+pub lookup_with : (silo : Silo) (hashing : Hashing) (range : Range) (q : Grain) (table : Table) (e : Grain × Held)
     → entry_at q (with_firm silo hashing range table e) ≡ tell silo hashing range e (is_at (grain_cmp q) e.0) (entry_at q table)
 lookup_with silo hashing range q table e = by (is_firm e.1.phase && holds range (hash_grain hashing e.0))
   where
@@ -90,7 +93,7 @@ found_with silo hashing range q table (e ∷ es) apart =
         none [] all = tt
         none (x ∷ xs) all = (ap (λ (g : Grain). is_at (grain_cmp g) x.0) same ∙ sym (same_test e.0 x.0) ∙ all.0, none xs all.1)
 
-table_sorted : (silo : Silo) (hashing : Hashing) (range : Range) (table : Table) (es : List (Grain × Held)) → IsStrictlySortedBy grain_cmp (keys_of table)
+pub table_sorted : (silo : Silo) (hashing : Hashing) (range : Range) (table : Table) (es : List (Grain × Held)) → IsStrictlySortedBy grain_cmp (keys_of table)
     → IsStrictlySortedBy grain_cmp (keys_of (fold (with_firm silo hashing range) table es))
 table_sorted silo hashing range table [] sorted = sorted
 table_sorted silo hashing range table (e ∷ es) sorted = table_sorted silo hashing range (with_firm silo hashing range table e) es (by (is_firm e.1.phase && holds range (hash_grain hashing e.0)))

@@ -10,9 +10,13 @@ use Rattle.directory_rules.specs.declared.Held.{Held}
 use Rattle.directory_rules.specs.Host.{entry_on, is_firm}
 use Rattle.directory_rules.specs.Table.{Table, entries_of, with_entry}
 
--- those of a silo's activations that are firm and hashed into the range, as entries under their grains
+-- a table with those of a silo's activations that are firm and hashed into the range, as entries under their grains
+abbrev pub with_firm_of : Silo → Hashing → Range → Table → List (Grain × Held) → Table
+with_firm_of silo hashing range table es = fold with_entry table (map (λ e. entry_on silo e.0 e.1) (filter (λ e. is_firm e.1.phase && holds range (hash_grain hashing e.0)) es))
+
+-- them alone
 abbrev pub firm_table : Silo → Hashing → Range → List (Grain × Held) → Table
-firm_table silo hashing range es = fold with_entry [] (map (λ e. entry_on silo e.0 e.1) (filter (λ e. is_firm e.1.phase && holds range (hash_grain hashing e.0)) es))
+firm_table silo hashing range es = with_firm_of silo hashing range [] es
 
 -- and in the order of their grains
 abbrev pub firm_among : Silo → Hashing → Range → List (Grain × Held) → List Entry

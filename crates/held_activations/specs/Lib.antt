@@ -1,4 +1,6 @@
 pub mod Activations
 pub mod InOrder
 pub mod Begun
+pub mod ByHash
+pub mod Stretch
 pub mod Firm

@@ -1,29 +1,37 @@
 ghost use Rattle.std.specs.BTreeMap.{is_at};
 ghost use Rattle.std.specs.List.{IsDistinct};
 ghost use Rattle.std.specs.Map.{keys_of, lookup, remove_entry, set_value};
-ghost use Rattle.std.specs.Prelude.{◌≡◌, ◌+◌, ◌≤◌, ◌^◌, ◌++◌, [], ◌∷◌, if◌then◌else◌, None, IfOk, MatchOption, OnOk, OnErr, length};
+ghost use Rattle.std.specs.Prelude.{⊤, ◌≡◌, ◌<◌, ◌+◌, ◌≤◌, ◌^◌, ◌++◌, [], ◌∷◌, if◌then◌else◌, None, Some, IfOk, IsOk, IsSome, MatchOption, OnOk, OnErr, length, slice_get};
 ghost use Rattle.directory_rules.specs.declared.Phase.TheVariants.{Asking};
+ghost use Rattle.indexmap.specs.IndexMap.{spare};
 ghost use Rattle.silo_address.specs.Grain.{Grain, grain_cmp, grain_eq};
 ghost use Rattle.held_activations.specs.Begun.{IsNext};
+ghost use Rattle.held_activations.specs.ByHash.{AreByHash, hashed_count_cmp, key_of};
 
 mod firm;
 mod order;
 mod same;
 
+use crate::by_hash::{ByHash, HashedCount, key_of};
 use directory_rules::{Held, Phase};
 pub use firm::entry_on;
+use hash_ring::Hashing;
 use indexmap::IndexMap;
 use silo_address::{ActivationId, GrainId};
 use std::alloc::{AllocError, Global};
+use std::collections::BTreeMap;
 use std::marker::Model;
 
 /// The activations of a host, one a grain, each with its count, which rises from activation to activation. One is found by its
-/// grain at once, and one that ends leaves its room to the one that stands last, so that ending costs the same however many
-/// there are. Whoever asks for all of them gets them in the order in which they began (`docs/RULES.md#phases`).
+/// grain at once, and one that ends leaves its room to the one that stands last, so that the others stay where they are. Beside
+/// them stand their indices in order of hash, so that those of a range are found without a look at the others. Whoever asks for
+/// all of them gets them in the order in which they began (`docs/RULES.md#phases`).
 #[derive(Drop)]
 pub struct Activations {
     next_count: u64,
     map: IndexMap<GrainId, Held>,
+    hashing: Hashing,
+    by_hash: ByHash,
 }
 
 impl Model for Activations {
@@ -31,22 +39,25 @@ impl Model for Activations {
 
     ghost Value = { ActivationsValue };
 
-    ghost use Rattle.held_activations.specs.Begun.{AreBegun};
+    ghost use Rattle.held_activations.specs.ByHash.{AreKept};
     ghost use Rattle.held_activations.specs.InOrder.{in_order};
 
     ghost view = { λ a. record { next_count = a.next_count; entries = in_order a.map.entries } };
 
-    ghost invariant = { λ a. AreBegun a.next_count a.map.entries };
+    ghost invariant = { λ a. AreKept a.hashing a.next_count a.map.entries a.by_hash.entries };
 }
 
 impl Activations {
-    /// No activations; the first one will have the count 1.
-    pub fn new(alloc: Global) -> Activations
+    /// No activations; the first one will have the count 1. Those of a range of hashes are found fast where their grains are hashed
+    /// in this way.
+    pub fn new(alloc: Global, hashing: Hashing) -> Activations
         ensures { result ≡ record { next_count = 1; entries = [] } }
     {
         Activations {
             next_count: 1,
             map: IndexMap::new(alloc),
+            hashing,
+            by_hash: BTreeMap::new(alloc),
         }
     }
 
@@ -87,12 +98,19 @@ impl Activations {
         }) }
         ensures unchanged { OnErr result (self.new ≡ self.old) }
     {
-        let held = Held {
+        let key = HashedCount {
+            hash: self.hashing.hash_grain(&grain),
             count: self.next_count,
-            phase: Phase::Asking(number),
-            previous,
         };
-        self.map.insert(grain, held)?;
+        let asking = Phase::Asking(number);
+        put_in(
+            &mut self.map,
+            &mut self.by_hash,
+            key,
+            grain,
+            asking,
+            previous,
+        )?;
         self.next_count += 1;
         Ok(())
     }
@@ -110,7 +128,7 @@ impl Activations {
     pub fn end(&mut self, grain: &GrainId)
         ensures { self.new ≡ record self.old { entries = remove_entry (is_at (grain_cmp grain.now)) self.old.entries } }
     {
-        take_out(&mut self.map, grain);
+        take_out(self.hashing, &mut self.map, &mut self.by_hash, grain);
     }
 
     /// A law: each grain has one activation, and the next count is one that may be the next.
@@ -126,9 +144,12 @@ impl Activations {
         ensures { IfOk result (λ activations. activations ≡ self.now) }
     {
         let map = self.map.clone()?;
+        let by_hash = self.by_hash.clone()?;
         Ok(Activations {
             next_count: self.next_count,
             map,
+            hashing: self.hashing,
+            by_hash,
         })
     }
 }
@@ -153,10 +174,82 @@ fn write(
     }
 }
 
+// An activation of a grain without one is put in, with the count in its key, as the last one, and its index under the key. Fails
+// only when memory runs out, and then changes nothing.
+fn put_in(
+    map: &mut IndexMap<GrainId, Held>,
+    by_hash: &mut ByHash,
+    key: HashedCount,
+    grain: GrainId,
+    phase: Phase,
+    previous: Option<ActivationId>,
+) -> Result<(), AllocError>
+    requires { lookup (is_at (grain_cmp grain)) map.old.entries ≡ None }
+    ensures map { OnOk result (map.new.entries ≡ map.old.entries ++ (grain, record { count = key.count; phase = phase; previous = previous }) ∷ []) }
+    ensures apart { IsDistinct grain_eq (keys_of map.new.entries) }
+    ensures by_hash { OnOk result ((q : HashedCount) → lookup (is_at (hashed_count_cmp q)) by_hash.new.entries
+        ≡ (if is_at (hashed_count_cmp key) q then Some (length map.old.entries) else lookup (is_at (hashed_count_cmp q)) by_hash.old.entries)) }
+    ensures same_map { OnErr result (map.new.entries ≡ map.old.entries) }
+    ensures same_by_hash { OnErr result (by_hash.new.entries ≡ by_hash.old.entries) }
+{
+    map.reserve(1)?;
+    by_hash.insert(key, map.len())?;
+    put_last(map, grain, key.count, phase, previous)
+}
+
+// An activation of a grain without one is put in, as the last one. Where there is room it does not fail.
+fn put_last(
+    map: &mut IndexMap<GrainId, Held>,
+    grain: GrainId,
+    count: u64,
+    phase: Phase,
+    previous: Option<ActivationId>,
+) -> Result<(), AllocError>
+    requires { lookup (is_at (grain_cmp grain)) map.old.entries ≡ None }
+    ensures put { OnOk result (map.new.entries ≡ map.old.entries ++ (grain, record { count = count; phase = phase; previous = previous }) ∷ []) }
+    ensures apart { IsDistinct grain_eq (keys_of map.new.entries) }
+    ensures room { 0 < spare map.old → IsOk result }
+{
+    let held = Held {
+        count,
+        phase,
+        previous,
+    };
+    map.insert(grain, held)?;
+    Ok(())
+}
+
 // What is held of the grain, if anything, goes; the last one takes its room.
-fn take_out(map: &mut IndexMap<GrainId, Held>, grain: &GrainId)
+fn take_out(
+    hashing: Hashing,
+    map: &mut IndexMap<GrainId, Held>,
+    by_hash: &mut ByHash,
+    grain: &GrainId,
+)
+    requires apart { IsDistinct grain_eq (keys_of map.old.entries) }
+    requires by_hash { AreByHash hashing map.old.entries by_hash.old.entries }
     ensures gone { (q : Grain) → lookup (is_at (grain_cmp q)) map.new.entries ≡ (if is_at (grain_cmp grain.now) q then None else lookup (is_at (grain_cmp q)) map.old.entries) }
     ensures apart { IsDistinct grain_eq (keys_of map.new.entries) }
+    ensures by_hash { AreByHash hashing map.new.entries by_hash.new.entries }
 {
-    map.swap_remove(grain);
+    let Some((index, grain, held)) = map.get_full(grain) else {
+        return;
+    };
+    let key = key_of(hashing, grain, held);
+    map.swap_remove_index(index);
+    by_hash.remove(&key);
+    note_index(hashing, map, by_hash, index);
+}
+
+// The activation that stands at the index now, if there is one, is found there by its hash.
+fn note_index(hashing: Hashing, map: &IndexMap<GrainId, Held>, by_hash: &mut ByHash, index: usize)
+    requires { MatchOption (slice_get map.now.entries index) ⊤ (λ e. IsSome (lookup (is_at (hashed_count_cmp (key_of hashing e))) by_hash.old.entries)) }
+    ensures { MatchOption (slice_get map.now.entries index) (by_hash.new.entries ≡ by_hash.old.entries) (λ e. (q : HashedCount) → lookup (is_at (hashed_count_cmp q)) by_hash.new.entries
+        ≡ (if is_at (hashed_count_cmp (key_of hashing e)) q then Some index else lookup (is_at (hashed_count_cmp q)) by_hash.old.entries)) }
+{
+    if let Some((grain, held)) = map.get_index(index) {
+        let key = key_of(hashing, grain, held);
+        let put: Result<_, _> = by_hash.insert(key, index);
+        put.unwrap();
+    }
 }

@@ -2,5 +2,6 @@
 #![tactic(auto)]
 
 mod activations;
+mod by_hash;
 
 pub use activations::{Activations, entry_on};

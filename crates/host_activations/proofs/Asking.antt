@@ -11,11 +11,12 @@ use Rattle.std.proofs.lemmas.Option.{same_Some}
 use Rattle.silo_address.specs.Grain.{Grain, grain_cmp}
 use Rattle.membership_view.proofs.Entries.{lookup-insert_entry}
 use Rattle.directory_rules.specs.declared.Held.{Held}
+use Rattle.held_activations.proofs.Grains.{at_itself, on_grain}
 use Rattle.host_activations.specs.declared.asked.Asked.{Asked}
 use Rattle.host_activations.specs.declared.asked.Asked.TheVariants.{Activation, Find}
 use Rattle.host_activations.specs.Numbers.{number_of}
 use Rattle.host_activations.specs.Asked.{AreAsked, asked_under}
-use Rattle.host_activations.proofs.Numbers.{GivesNumber, on_grain, on_number, at_itself, number_at_itself}
+use Rattle.host_activations.proofs.Numbers.{GivesNumber, on_number, number_at_itself}
 
 pub same_activation : (g q : Grain) → Some (Activation g) ≡ Some (Activation q) → g ≡ q
 same_activation g q e = cc

@@ -1,4 +1,3 @@
-pub mod Grains
 pub mod Entries
 pub mod Numbers
 pub mod Asking
@@ -16,4 +15,5 @@ pub mod Counted
 pub mod Same
 pub mod Ranks
 pub mod Renumbering
+pub mod AskedAgain
 pub mod Renewing

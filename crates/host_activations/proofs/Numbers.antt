@@ -1,41 +1,26 @@
 -- The number that a grain's activation has outstanding, after an activation begins, changes, or goes.
-use Rattle.std.proofs.Common.{◌≡◌, refl, sym, ap, subst, ◌∙◌, ℕ, List, [], ◌∷◌, ◌++◌, cond, Bool, true, false, Option, Some, None, option_and_then, IsSome}
+use Rattle.std.proofs.Common.{◌≡◌, refl, sym, ap, ◌∙◌, ℕ, List, [], ◌∷◌, ◌++◌, cond, Bool, true, false, Option, Some, None, option_and_then, IsSome}
 use Rattle.std.specs.List.{IsDistinct}
 use Rattle.std.specs.Map.{lookup, set_value, remove_entry, keys_of}
 use Rattle.std.specs.BTreeMap.{is_at}
-use Rattle.std.specs.Ordering.{is_eq, nat_cmp, eq_by_cmp}
+use Rattle.std.specs.Ordering.{is_eq, nat_cmp}
 use Rattle.std.proofs.lemmas.Cmp.{eq_by_cmp_equiv, tied_itself, nat_cmp_total}
 use Rattle.std.proofs.lemmas.Map.{lookup-set_value, lookup-remove_entry}
 use Rattle.std.proofs.lemmas.Map.Lookups.{exact_unsigned}
 use Rattle.silo_address.specs.Grain.{Grain, grain_cmp, grain_eq}
-use Rattle.silo_address.proofs.Order.{grain_cmp_total, grain_cmp_exact}
+use Rattle.silo_address.proofs.Order.{grain_cmp_total}
 use Rattle.membership_view.proofs.Entries.{Equal-from}
 use Rattle.directory_rules.specs.declared.Held.{Held}
+use Rattle.held_activations.proofs.Grains.{at_itself, by_order, on_grain, on_test}
 use Rattle.host_activations.specs.Numbers.{number_in, number_of}
-use Rattle.host_activations.proofs.Grains.{same_test}
 use Rattle.host_activations.proofs.Entries.{lookup_last, lookup_before}
 
-on_test : (P : Bool → Type 0) (b : Bool) → (b ≡ true → P true) → (b ≡ false → P false) → P b
-on_test P true same other = same refl
-on_test P false same other = other refl
-
--- two grains: one, or not
-pub on_grain : (P : Bool → Type 0) (a b : Grain) → (a ≡ b → P true) → (is_at (grain_cmp a) b ≡ false → P false) → P (is_at (grain_cmp a) b)
-on_grain P a b same other = on_test P (is_at (grain_cmp a) b) (λ h. same (grain_cmp_exact a b (Equal-from (grain_cmp a b) h))) other
-
--- two numbers likewise
+-- two numbers: one, or not
 pub on_number : (P : Bool → Type 0) (a b : ℕ) → (a ≡ b → P true) → (is_at (nat_cmp a) b ≡ false → P false) → P (is_at (nat_cmp a) b)
 on_number P a b same other = on_test P (is_at (nat_cmp a) b) (λ h. same (exact_unsigned a b (Equal-from (nat_cmp a b) h))) other
 
-pub at_itself : (g : Grain) → is_at (grain_cmp g) g ≡ true
-at_itself g = ap is_eq (tied_itself grain_cmp_total g)
-
 pub number_at_itself : (n : ℕ) → is_at (nat_cmp n) n ≡ true
 number_at_itself n = ap is_eq (tied_itself nat_cmp_total n)
-
--- distinct by equality is distinct by order
-pub by_order : (gs : List Grain) → IsDistinct grain_eq gs → IsDistinct (eq_by_cmp grain_cmp) gs
-by_order gs apart = subst (λ (test : Grain → Grain → Bool). IsDistinct test gs) (λ i a b. same_test a b i) apart
 
 -- a function over a choice
 pub through : {A B : Type 0} (f : A → Option B) (b : Bool) (x y : Option A) → option_and_then f (cond b x y) ≡ cond b (option_and_then f x) (option_and_then f y)

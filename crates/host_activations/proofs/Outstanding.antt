@@ -20,6 +20,7 @@ use Rattle.directory_rules.specs.declared.Held.{Held}
 use Rattle.directory_rules.specs.declared.Phase.{Phase}
 use Rattle.directory_rules.specs.declared.Phase.TheVariants.{Asking, Firm, Closing}
 use Rattle.directory_rules.specs.Host.{Host, act_in, find_acts, held_acts, new_host, outstanding}
+use Rattle.held_activations.proofs.Grains.{on_grain}
 use Rattle.host_activations.specs.declared.asked.Asked.{Asked}
 use Rattle.host_activations.specs.declared.asked.Asked.TheVariants.{Activation, Find}
 use Rattle.host_activations.specs.Numbers.{number_in}
@@ -27,7 +28,7 @@ use Rattle.host_activations.specs.Asked.{asked_under, find_in, finds_in}
 use Rattle.directory_rules.specs.Host.{entry_on}
 use Rattle.host_activations.specs.Acts.{act_for, acts_in}
 use Rattle.host_activations.specs.IsHost.{AreHeld}
-use Rattle.host_activations.proofs.Numbers.{on_grain, on_number, number_at_itself}
+use Rattle.host_activations.proofs.Numbers.{on_number, number_at_itself}
 use Rattle.host_activations.proofs.Asking.{same_activation, no_find, nothing}
 use Rattle.host_activations.proofs.Entries.{keys-map, lookup-map}
 use Rattle.host_activations.proofs.Found.{IsFoundIn, all_map, each_found}

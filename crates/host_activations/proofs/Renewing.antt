@@ -1,12 +1,8 @@
 -- After a renewal the new fields keep what every host keeps, and mean the rule's renewed host.
 use Rattle.std.proofs.Common.{arith, ◌≡◌, refl, sym, ap, subst, ◌∙◌, ℕ, List, [], ◌∷◌, ◌+◌, ◌^◌, ◌≤◌, ◌<◌, cond, length, map, true, Option, Some, None, option_and_then}
 use Rattle.std.specs.Prelude.{nat_lt, count_by}
-use Rattle.std.specs.List.{AllByRecursion, IsDistinct, enumerate_from}
+use Rattle.std.specs.List.{AllByRecursion, IsDistinct, enumerate_from, filter_map}
 use Rattle.std.specs.Option.{option_map}
-use Rattle.std.specs.List.Sorted.{IsStrictlySortedBy}
-use Rattle.std.specs.Ordering.{nat_cmp}
-use Rattle.std.proofs.lemmas.Map.Keys.{sorted_tail}
-use Rattle.host_activations.proofs.Numbers.{number_at_itself}
 use Rattle.std.specs.Map.{lookup, keys_of, values_of}
 use Rattle.std.specs.BTreeMap.{is_at}
 use Rattle.std.proofs.lemmas.Option.{same_Some}
@@ -26,12 +22,15 @@ use Rattle.host_activations.specs.Numbers.{number_in, number_of, phase_under}
 use Rattle.host_activations.specs.Asked.{asked_under, finds_in, AreAsked}
 use Rattle.host_activations.specs.IsHost.{AreHeld, IsHost}
 use Rattle.host_activations.specs.HostModel.{IsWhole, host_of}
+use Rattle.host_activations.specs.Acts.{acts_in}
+use Rattle.host_activations.specs.Renewal.{asked_by, renewal_of}
 use Rattle.host_activations.proofs.Asking.{nothing}
 use Rattle.host_activations.proofs.Entries.{keys-map, lookup-map}
 use Rattle.host_activations.proofs.Found.{IsFoundIn, all_map, each_found}
-use Rattle.host_activations.proofs.Outstanding.{keys_are, as_many}
+use Rattle.host_activations.proofs.Outstanding.{acts_are, keys_are, as_many}
+use Rattle.host_activations.proofs.AskedAgain.{asked_again, each_asked, same_act}
 use Rattle.host_activations.proofs.Fields.{made, meant}
-use Rattle.host_activations.proofs.Ranks.{Ranks, below, found_behind, ranks_from, rank_found, rank_back, sorted-enumerate_from, finds-enumerate_from}
+use Rattle.host_activations.proofs.Ranks.{Ranks, below, ranks_from, rank_found, rank_back, sorted-enumerate_from, finds-enumerate_from}
 use Rattle.host_activations.proofs.Renumbering.{after, after_asking, after_resting, each_after, is_request_of, with_numbers}
 
 below_keys : {X : Type 0} (k : ℕ) (es : List (ℕ × X)) → below k es ≡ count_by (λ j. nat_lt j k) (keys_of es)
@@ -67,15 +66,6 @@ asks host (Closing j) k is = ap (λ (n : ℕ). Closing (new_number host n)) (sym
 of_grain : (q : Grain) (asked : Asked) → is_request_of q asked ≡ true → asked ≡ Activation q
 of_grain q (Activation g) is = ap (λ (x : Grain). Activation x) (grain_cmp_exact g q (Equal-from (grain_cmp g q) is))
 of_grain q (Find g) is = cc
-
--- each is what is found under its number
-each_asked : (es : List (ℕ × Asked)) → IsStrictlySortedBy nat_cmp (keys_of es) → AllByRecursion (λ e. asked_under e.0 es ≡ Some e.1) es
-each_asked [] sorted = tt
-each_asked (e ∷ es) sorted = (
-  ap (λ b. cond b (Some e.1) (asked_under e.0 es)) (number_at_itself e.0),
-  all_map (λ x. asked_under x.0 es ≡ Some x.1) (λ x. asked_under x.0 (e ∷ es) ≡ Some x.1) es (λ x found. found_behind e es x.0 x.1 sorted found)
-      (each_asked es (sorted_tail nat_cmp e.0 (keys_of es) sorted)),
-)
 
 module _ (h : Inside) (is : IsWhole h) where
   abbrev out : List (ℕ × Asked)
@@ -172,24 +162,38 @@ module _ (h : Inside) (is : IsWhole h) where
   finds_now : finds_in now ≡ map (λ e. (new e.0, e.1)) (finds_in out)
   finds_now = finds-enumerate_from new h.next_number out ranks
 
-  module _ (host : Host) (means : host_of h ≡ host) (left : host.next_number + length (outstanding host) ≤ 2 ^ 60 + 1) where
-    -- there are enough numbers
-    pub enough : h.next_number + length out ≤ 2 ^ 60 + 1
-    enough =
-        let left_here : h.next_number + length (outstanding (host_of h)) ≤ 2 ^ 60 + 1 = subst (λ (x : Host). x.next_number + length (outstanding x) ≤ 2 ^ 60 + 1) (sym means) left in
-        let all = many in omega (left_here, all, arith)
-
+  module _ (host : Host) (means : host_of h ≡ host) where
     module _ (held_new : List (Grain × Held)) (out_new : List (ℕ × Asked)) (count : ℕ) (held_made : held_new ≡ held_now) (out_made : out_new ≡ now) (counted : count ≡ length out) where
-      pub renewed_is : IsHost (h.next_number + count) held_new out_new h.find_count
-      renewed_is = record {
+      pub renewed_means : meant h.silo (h.next_number + count) h.held.next_count held_new out_new ≡ renewed host
+      renewed_means =
+          (λ i. made h.silo (h.next_number + (counted ∙ sym many) i) h.held.next_count (held_made i) ((ap finds_in out_made ∙ finds_now) i))
+          ∙ ap renewed means
+
+    -- what a renewal makes is what is outstanding then
+    pub renewal_is : renewal_of host ≡ now
+    renewal_is =
+        ap (λ (x : Host). map (λ e. (e.0, asked_by e.1)) (outstanding x)) (sym (renewed_means held_now now (length out) refl refl refl))
+        ∙ asked_again h.silo (h.next_number + length out) h.held.next_count held_now now are_now
+
+    -- and its requests ask what those before do
+    pub requests_are : acts_in h.silo h.held.entries now ≡ outstanding (renewed host)
+    requests_are =
+        (λ i. filter_map (λ e. option_map (λ act. (e.0, act)) (sym (same_act (host_of h) h.silo h.held.entries e.1) i)) now)
+        ∙ acts_are h.silo (h.next_number + length out) h.held.next_count held_now now are_now
+        ∙ ap outstanding (renewed_means held_now now (length out) refl refl refl)
+
+    module _ (left : host.next_number + length (outstanding host) ≤ 2 ^ 60 + 1) where
+      -- there are enough numbers
+      pub enough : h.next_number + length out ≤ 2 ^ 60 + 1
+      enough =
+          let left_here : h.next_number + length (outstanding (host_of h)) ≤ 2 ^ 60 + 1 = subst (λ (x : Host). x.next_number + length (outstanding x) ≤ 2 ^ 60 + 1) (sym means) left in
+          let all = many in omega (left_here, all, arith)
+
+      pub renewed_is : (held_new : List (Grain × Held)) (out_new : List (ℕ × Asked)) (count : ℕ) → held_new ≡ held_now → out_new ≡ now → count ≡ length out → IsHost (h.next_number + count) held_new out_new h.find_count
+      renewed_is held_new out_new count held_made out_made counted = record {
         number = let above = is.number.above in record { above = omega (above, arith); within = omega (enough, counted, arith) };
         are_held = subst (λ (n : ℕ). AreHeld (h.next_number + n) held_new out_new) (sym counted)
             (subst (λ l. AreHeld (h.next_number + length out) l out_new) (sym held_made) (subst (λ l. AreHeld (h.next_number + length out) held_now l) (sym out_made) are_now));
         counted = is.counted ∙ sym (length-map (finds_in out) (λ e. (new e.0, e.1))) ∙ ap (λ (l : List (ℕ × Grain)). length l) (sym (ap finds_in out_made ∙ finds_now));
         few = let few = is.few in omega (few, arith);
       }
-
-      pub renewed_means : meant h.silo (h.next_number + count) h.held.next_count held_new out_new ≡ renewed host
-      renewed_means =
-          (λ i. made h.silo (h.next_number + (counted ∙ sym many) i) h.held.next_count (held_made i) ((ap finds_in out_made ∙ finds_now) i))
-          ∙ ap renewed means

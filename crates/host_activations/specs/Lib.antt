@@ -3,3 +3,4 @@ pub mod Asked
 pub mod Acts
 pub mod IsHost
 pub mod HostModel
+pub mod Renewal

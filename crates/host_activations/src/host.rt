@@ -11,7 +11,9 @@ mod telling;
 
 use crate::asked::Asked;
 use directory_rules::Held;
+use hash_ring::Hashing;
 use held_activations::Activations;
+pub use renewal::Renewal;
 use silo_address::{GrainId, SiloAddress};
 use std::alloc::{AllocError, Global};
 use std::collections::BTreeMap;
@@ -21,7 +23,6 @@ use std::marker::Model;
 /// under a number of its own (`docs/RULES.md#phases`).
 #[derive(Drop)]
 pub struct Host {
-    alloc: Global,
     silo: SiloAddress,
     next_number: u64,
     held: Activations,
@@ -44,15 +45,15 @@ impl Model for Host {
 }
 
 impl Host {
-    /// The host of a silo, which has nothing yet.
-    pub fn new(alloc: Global, silo: SiloAddress) -> Host
+    /// The host of a silo, which has nothing yet. It reports the firm activations of a range fast where grains are hashed in this
+    /// way.
+    pub fn new(alloc: Global, silo: SiloAddress, hashing: Hashing) -> Host
         ensures { result ≡ new_host silo }
     {
         Host {
-            alloc,
             silo,
             next_number: 1,
-            held: Activations::new(alloc),
+            held: Activations::new(alloc, hashing),
             outstanding: BTreeMap::new(alloc),
             find_count: 0,
         }

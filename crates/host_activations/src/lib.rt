@@ -5,4 +5,4 @@
 mod asked;
 mod host;
 
-pub use host::Host;
+pub use host::{Host, Renewal};

@@ -18,7 +18,7 @@ const CID: &str = "user/cid";
 
 // A host on the first silo that holds nothing yet.
 fn new_host(rt: &impl Abort, alloc: Global) -> Host {
-    Host::new(alloc, silo(rt, "10.0.0.1:1000@1"))
+    Host::new(alloc, silo(rt, "10.0.0.1:1000@1"), Hashing::Stated)
 }
 
 fn start(rt: &impl Abort, host: &mut Host, text: &str, previous: Option<ActivationId>) {
@@ -42,10 +42,11 @@ fn ask(rt: &impl Abort, host: &mut Host, text: &str) {
     host.ask(grain(rt, text)).expect(rt, "memory");
 }
 
-fn renew(rt: &impl Abort, host: &mut Host) {
+fn renew(rt: &impl Abort, alloc: Global, host: &mut Host) {
     assert!(rt; host.next_number() <= 1_000);
     assert!(rt; host.outstanding_count() <= 1_000);
-    host.renew().expect(rt, "memory");
+    let renewal = host.renewal(alloc).expect(rt, "memory");
+    host.renew(renewal);
 }
 
 // A host whose activation of ANN asks under 1, that of BOB, in the place of another, under 2, and whose find of CID has 3.
@@ -145,7 +146,7 @@ fn renewal_keeps_the_order(rt: HostRuntime) {
     host.confirm(1);
     close(&rt, &mut host, ANN);
     let before = host.copy().expect(&rt, "memory");
-    renew(&rt, &mut host);
+    renew(&rt, rt.alloc(), &mut host);
     assert!(rt; !host.same(&before));
     assert!(rt; host.next_number() == 8 && host.outstanding_count() == 3);
     assert!(rt; is_asking(&rt, &host, 5, BOB));

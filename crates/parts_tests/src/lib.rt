@@ -14,6 +14,8 @@ mod placement;
 #[cfg(test)]
 mod recovery;
 #[cfg(test)]
+mod reports;
+#[cfg(test)]
 mod rules;
 #[cfg(test)]
 mod samples;

@@ -1,5 +1,7 @@
-//! What a sight seals, and a piece that waits for reports, in a form that any one refusal of an allocation leaves true: a call
-//! that is refused is made again. `rt try --test --fail-alloc N` refuses each test its Nth allocation.
+//! What a sight seals, a piece that it cuts, and one that waits for reports, in a form that any one refusal of an allocation
+//! leaves true: a call that is refused is made again. `rt try --test --fail-alloc N` refuses each test its Nth allocation.
+ghost use Rattle.grain_partition.specs.Sight.{AreOfRings};
+
 use directory_rules::PieceState;
 use grain_partition::Holding;
 use grain_table::Table;
@@ -86,13 +88,20 @@ fn ring(rt: &impl Abort, alloc: Global, version: u64) -> Ring {
     }
 }
 
-// What A has after its first sight, at version 2: the piece 10+90.
-fn first_pieces(rt: &impl Abort, alloc: Global) -> Holding {
-    let (old, new) = (ring(rt, alloc, 0), ring(rt, alloc, 2));
-    let between = match arcs(alloc, &old, &new) {
+// The arcs from the ring of one version to that of another.
+fn between(rt: &impl Abort, alloc: Global, old: u64, new: u64) -> Vec<Arc>
+    ensures { AreOfRings result.items }
+{
+    let (old, new) = (ring(rt, alloc, old), ring(rt, alloc, new));
+    match arcs(alloc, &old, &new) {
         Ok(between) => between,
         Err(_) => arcs(alloc, &old, &new).expect(rt, "memory"),
-    };
+    }
+}
+
+// What A has after its first sight, at version 2: the piece 10+90.
+fn first_pieces(rt: &impl Abort, alloc: Global) -> Holding {
+    let between = between(rt, alloc, 0, 2);
     let (view, silo) = (view(rt, alloc, 2), silo(rt, A));
     let mut holding = Holding::new(alloc);
     let sighted = holding.sight(alloc, false, Hashing::Stated, &view, &silo, &between);
@@ -158,6 +167,31 @@ fn a_sight_seals(rt: HostRuntime) {
     assert!(rt; snapshot.from() == silo(&rt, A));
     let kept = [entry(&rt, "user/bob#70", A)];
     assert!(rt; snapshot.entries() == kept.as_slice());
+}
+
+// At a version, A has just this piece, which has so many entries.
+fn check_piece(rt: &impl Abort, holding: &Holding, (seen, text): (u64, &str), entries: usize) {
+    assert!(rt; holding.seen() == seen, "{text}");
+    assert!(rt; holding.pieces().count() == 1, "{text}");
+    let piece = holding.piece_with(50).expect(rt, text);
+    assert!(rt; piece.range() == range(rt, text), "{text}");
+    assert!(rt; piece.entries().len() == entries, "{text}");
+}
+
+// At version 3 C gets 60+40, and A keeps what is left of its piece. Where the sight is refused, all is as it was.
+#[test]
+fn a_piece_is_cut(rt: HostRuntime) {
+    let alloc = rt.alloc();
+    let mut holding = settled_pieces(&rt, alloc);
+    let between = between(&rt, alloc, 2, 3);
+    let (view, silo) = (view(&rt, alloc, 3), silo(&rt, A));
+    let sighted = holding.sight(alloc, true, Hashing::Stated, &view, &silo, &between);
+    if sighted.is_err() {
+        check_piece(&rt, &holding, (2, "10+90"), 3);
+        let sighted = holding.sight(alloc, true, Hashing::Stated, &view, &silo, &between);
+        sighted.expect(&rt, "memory");
+    }
+    check_piece(&rt, &holding, (3, "10+50"), 1);
 }
 
 #[test]

@@ -139,10 +139,18 @@ fn entries_of_a_range(rt: HostRuntime) {
     for (text, want) in ranges {
         let range = RingRange::parse(text.as_bytes()).expect(&rt, text);
         for table in [&stated, &hashed] {
-            let within = Table::new(alloc, Hashing::Stated).with_all_within(alloc, table, &range);
-            assert_counts(&rt, alloc, &within.expect(&rt, "memory"), want);
+            check_within(&rt, alloc, table, &range, want);
         }
     }
+}
+
+// Of the table just these are hashed into the range, put elsewhere or left where they are.
+fn check_within(rt: &impl Abort, alloc: Global, table: &Table, range: &RingRange, want: &[u64]) {
+    let within = Table::new(alloc, Hashing::Stated).with_all_within(alloc, table, range);
+    assert_counts(rt, alloc, &within.expect(rt, "memory"), want);
+    let mut left = table.copy().expect(rt, "memory");
+    left.keep_within(Hashing::Stated, range);
+    assert_counts(rt, alloc, &left, want);
 }
 
 #[test]
@@ -150,8 +158,11 @@ fn entries_on_living_silos(rt: HostRuntime) {
     let alloc = rt.alloc();
     let table = four(&rt, alloc, Hashing::Stated);
     let range = RingRange::parse(b"0+60").expect(&rt, "a range");
-    let kept = table.kept(alloc, &view(&rt, alloc), &range);
+    let view = view(&rt, alloc);
+    let kept = table.kept(alloc, &view, &range);
     assert_counts(&rt, alloc, &kept.expect(&rt, "memory"), &[4, 2]);
+    let listed = table.list_kept(alloc, Vec::new(alloc), Hashing::Stated, &view, &range);
+    assert!(rt; listed.expect(&rt, "memory").len() == 2);
 }
 
 // What comes replaces what is there, and tables are the same however they hash.

@@ -92,9 +92,3 @@ in_order-kept p (s ∷ shelf) behind order =
     all = All-append Behind (filter p shelf) behind
         (All-filter p Behind shelf (All-from_each Behind shelf (λ other there. All-of Behind (shelf ++ behind) other order.0 (In-left other shelf behind there))))
         (All-from_each Behind behind (λ other there. All-of Behind (shelf ++ behind) other order.0 (In-right other shelf behind there)))
-
--- ---- after a sight, with memory or without
-pub in_order_after : {A B : Type 0} (result : Result A B) (p : Snapshot → Bool) (before sealed after : List Snapshot)
-    → OnOk result (after ≡ filter p before ++ sealed) → OnErr result (after ≡ before) → AreInOrder before → AreInOrder (before ++ sealed) → AreInOrder after
-in_order_after (Ok value) p before sealed after added unchanged order both = subst AreInOrder (sym added) (in_order-kept p before sealed both)
-in_order_after (Err fault) p before sealed after added unchanged order both = subst AreInOrder (sym unchanged) order

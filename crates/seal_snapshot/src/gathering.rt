@@ -246,6 +246,14 @@ impl Gathering {
     }
 }
 
+impl Clone for Gathering {
+    ghost is_clone = { λ one other. other ≡ one };
+
+    fn clone(&self) -> Result<Gathering, AllocError> {
+        self.copy()
+    }
+}
+
 // Whether the page has as many entries as one of its number may have.
 fn is_entry_count(page: &Page) -> bool
     ensures { result ≡ is_entry_count page.now.page page.now.pages (length page.now.entries) }

@@ -1,4 +1,4 @@
-ghost use Rattle.std.specs.Prelude.{◌≡◌, ◌↔◌, ◌++◌, [], All, IsTrue, IsOk, IfOk, IfSome, IfNone, OnOk, OnErr, Some, filter, not, true, false};
+ghost use Rattle.std.specs.Prelude.{◌≡◌, ◌↔◌, ◌+◌, ◌≤◌, ◌++◌, [], All, IsTrue, IsOk, IfOk, IfSome, IfNone, Some, filter, length, not, true, false, vec_capacity};
 ghost use Rattle.std.specs.List.Sorted.{IsPartitionPoint};
 ghost use Rattle.directory_rules.specs.Membership.{is_dead_in};
 ghost use Rattle.directory_rules.specs.Sight.{shelf_after};
@@ -11,6 +11,7 @@ use ring_range::RingRange;
 use silo_address::SiloAddress;
 use std::alloc::{AllocError, Global};
 use std::marker::Model;
+use std::mem;
 
 /// The snapshots that a silo keeps for their new owners, in the order in which they were sealed: by version, and at one
 /// version by where their ranges begin (`docs/RULES.md#pieces`). One of many is found by a search.
@@ -110,15 +111,25 @@ impl Shelf {
         meets(&self.snapshots, sealed) && are_in_order(sealed)
     }
 
+    /// Room for a sight of the next version: for what is kept, and for what the sight seals. Fails only when memory runs out.
+    pub fn room(&self, alloc: Global, sealed: &[Snapshot]) -> Result<Vec<Snapshot>, AllocError>
+        ensures empty { IfOk result (λ room. room.items ≡ []) }
+        ensures large { IfOk result (λ room. length self.now + length sealed.now ≤ vec_capacity room) }
+    {
+        Vec::with_capacity(alloc, self.snapshots.len() + sealed.len())
+    }
+
     /// A sight of the next version: what is kept for silos that are Dead in the view is dropped, and what the sight seals is
     /// put behind the rest. Asks of its caller that it comes behind (`takes`), as what is sealed at a later version does, from
-    /// arcs that come one after the other. Fails only when memory runs out, and then changes nothing.
-    pub fn sight(&mut self, view: &View, sealed: Vec<Snapshot>) -> Result<(), AllocError>
-        requires { AreInOrder (self.old ++ sealed.items) }
-        ensures seen { OnOk result (self.new ≡ shelf_after true view.now self.old sealed.items) }
-        ensures unchanged { OnErr result (self.new ≡ self.old) }
+    /// arcs that come one after the other; and that there is `room` for it, so that it can't fail.
+    pub fn sight(&mut self, room: Vec<Snapshot>, view: &View, sealed: Vec<Snapshot>)
+        requires behind { AreInOrder (self.old ++ sealed.items) }
+        requires empty { room.items ≡ [] }
+        requires large { length self.old + length sealed.items ≤ vec_capacity room }
+        ensures { self.new ≡ shelf_after true view.now self.old sealed.items }
     {
-        add_behind_living(&mut self.snapshots, view, sealed)
+        let kept = mem::replace(&mut self.snapshots, room);
+        fill(&mut self.snapshots, kept, view, sealed);
     }
 
     /// A sight that skips versions: nothing is kept.
@@ -202,18 +213,27 @@ fn are_in_order(snapshots: &[Snapshot]) -> bool
     true
 }
 
-// Drops what is for silos that are Dead in the view, and puts these snapshots behind the rest.
-fn add_behind_living(
-    snapshots: &mut Vec<Snapshot>,
-    view: &View,
-    mut sealed: Vec<Snapshot>,
-) -> Result<(), AllocError>
-    ensures added { OnOk result (snapshots.new.items ≡ filter (λ s. not (is_dead_in view.now s.to)) snapshots.old.items ++ sealed.items) }
-    ensures unchanged { OnErr result (snapshots.new.items ≡ snapshots.old.items) }
+// Puts in what isn't for silos that are Dead in the view, and what is sealed behind it.
+fn fill(room: &mut Vec<Snapshot>, mut kept: Vec<Snapshot>, view: &View, sealed: Vec<Snapshot>)
+    requires empty { room.old.items ≡ [] }
+    requires large { length kept.items + length sealed.items ≤ vec_capacity room.old }
+    ensures { room.new.items ≡ filter (λ s. not (is_dead_in view.now s.to)) kept.items ++ sealed.items }
 {
-    snapshots.reserve(sealed.len())?;
-    snapshots.retain(|snapshot| !is_dead(view, snapshot.to()));
-    snapshots.append(&mut sealed)
+    kept.retain(|snapshot| !is_dead(view, snapshot.to()));
+    move_behind(room, kept);
+    move_behind(room, sealed);
+}
+
+// Moves these snapshots behind the others, where there is room.
+fn move_behind(snapshots: &mut Vec<Snapshot>, mut behind: Vec<Snapshot>)
+    requires { length snapshots.old.items + length behind.items ≤ vec_capacity snapshots.old }
+    ensures moved { snapshots.new.items ≡ snapshots.old.items ++ behind.items }
+    ensures room { vec_capacity snapshots.old ≤ vec_capacity snapshots.new }
+{
+    match snapshots.append(&mut behind) {
+        Ok(()) => {}
+        Err(_) => unreachable!(),
+    }
 }
 
 // Whether the silo is Dead in the view.

@@ -16,13 +16,6 @@ fn snapshot(rt: &impl Abort, alloc: Global, start: u32, count: u64) -> Snapshot 
     }
 }
 
-fn copy_of(rt: &impl Abort, snapshot: &Snapshot) -> Snapshot {
-    match snapshot.copy() {
-        Ok(copy) => copy,
-        Err(_) => snapshot.copy().expect(rt, "memory"),
-    }
-}
-
 fn page(rt: &impl Abort, alloc: Global, snapshot: &Snapshot, number: u64) -> Page {
     let page = match snapshot.page(alloc, number) {
         Ok(page) => page,
@@ -35,13 +28,6 @@ fn gathering_before(rt: &impl Abort, gathering: &Gathering) -> Gathering {
     match gathering.copy() {
         Ok(copy) => copy,
         Err(_) => gathering.copy().expect(rt, "memory"),
-    }
-}
-
-fn shelf_before(rt: &impl Abort, shelf: &Shelf) -> Shelf {
-    match shelf.copy() {
-        Ok(copy) => copy,
-        Err(_) => shelf.copy().expect(rt, "memory"),
     }
 }
 
@@ -106,17 +92,13 @@ fn alone(rt: &impl Abort, alloc: Global, snapshot: Snapshot) -> Vec<Snapshot> {
 
 // The shelf sees the view, at which the snapshot is sealed.
 fn see(rt: &impl Abort, alloc: Global, shelf: &mut Shelf, view: &View, snapshot: Snapshot) {
-    let before = shelf_before(rt, shelf);
-    let copy = copy_of(rt, &snapshot);
     let sealed = alone(rt, alloc, snapshot);
     assert!(rt; shelf.takes(&sealed));
-    if shelf.sight(view, sealed).is_ok() {
-        return;
-    }
-    assert!(rt; shelf.same(&before), "a sight refused");
-    let sealed = alone(rt, alloc, copy);
-    assert!(rt; shelf.takes(&sealed));
-    shelf.sight(view, sealed).expect(rt, "memory");
+    let room = match shelf.room(alloc, &sealed) {
+        Ok(room) => room,
+        Err(_) => shelf.room(alloc, &sealed).expect(rt, "memory"),
+    };
+    shelf.sight(room, view, sealed);
 }
 
 // The page that is answered for the range that begins there.

@@ -36,7 +36,8 @@ fn three(rt: &impl Abort, alloc: Global) -> Vec<Snapshot> {
 
 fn see(rt: &impl Abort, alloc: Global, shelf: &mut Shelf, sealed: Vec<Snapshot>) {
     assert!(rt; shelf.takes(&sealed));
-    shelf.sight(&view(rt, alloc), sealed).expect(rt, "memory");
+    let room = shelf.room(alloc, &sealed).expect(rt, "memory");
+    shelf.sight(room, &view(rt, alloc), sealed);
 }
 
 fn shelf_of_three(rt: &impl Abort, alloc: Global) -> Shelf {

@@ -1,12 +1,17 @@
 //! The firm activations, as entries.
 ghost use Rattle.std.specs.Prelude.{◌≡◌, ◌&&◌, if◌then◌else◌, IfOk, OnOk};
+ghost use Rattle.std.specs.List.{AllByRecursion};
 ghost use Rattle.directory_rules.specs.Host.{entry_on, is_firm};
 ghost use Rattle.directory_rules.specs.Table.{entries_of, with_entry};
-ghost use Rattle.hash_ring.specs.Hash.{hash_grain};
-ghost use Rattle.held_activations.specs.Firm.{firm_among, firm_table};
-ghost use Rattle.ring_range.specs.Range.{holds};
+ghost use Rattle.held_activations.specs.Begun.{AreApart};
+ghost use Rattle.held_activations.specs.ByHash.{AreByHash, IsUnder};
+ghost use Rattle.held_activations.specs.Firm.{firm_among, firm_table, with_firm_of};
+ghost use Rattle.held_activations.specs.InOrder.{in_order};
+ghost use Rattle.held_activations.specs.Stretch.{standing_at};
+ghost use Rattle.ring_range.specs.Range.{circle, holds};
 
 use super::Activations;
+use crate::by_hash::{ByHash, CIRCLE, HashedCount, end_at, first_at};
 use directory_rules::{Held, Phase};
 use hash_ring::Hashing;
 use indexmap::IndexMap;
@@ -14,10 +19,13 @@ use ring_range::RingRange;
 use silo_address::{ActivationId, Entry, GrainId, SiloAddress};
 use std::alloc::{AllocError, Global};
 use std::collections::BTreeMap;
+use std::collections::btree_map::Range;
+use std::ops::Bound;
 
 impl Activations {
-    /// The entries of those activations on the silo that are firm and hashed into the range, in the order of their grains. Fails
-    /// only when memory runs out.
+    /// The entries of those activations on the silo that are firm and hashed into the range, in the order of their grains. Looks
+    /// at those of the range alone, where the hashing is the one by which the activations are in order; otherwise at all of them.
+    /// Fails only when memory runs out.
     pub fn firm_entries(
         &self,
         alloc: Global,
@@ -27,6 +35,10 @@ impl Activations {
     ) -> Result<Vec<Entry>, AllocError>
         ensures { IfOk result (λ entries. entries.items ≡ firm_among silo hashing range.now self.now.entries) }
     {
+        if self.hashing.same(&hashing) {
+            let table = firm_by_hash(alloc, silo, &self.map, &self.by_hash, hashing, range)?;
+            return entries_of(alloc, &table);
+        }
         let table = firm_table(alloc, silo, &self.map, hashing, range)?;
         entries_of(alloc, &table)
     }
@@ -50,7 +62,7 @@ fn entries_of(alloc: Global, table: &BTreeMap<GrainId, Entry>) -> Result<Vec<Ent
     table.values().copied().collect(alloc)
 }
 
-// The entries of the firm activations that are hashed into the range, under their grains.
+// The entries of the firm activations that are hashed into the range, under their grains: each activation is looked at.
 fn firm_table(
     alloc: Global,
     silo: SiloAddress,
@@ -62,7 +74,55 @@ fn firm_table(
 {
     let mut table = BTreeMap::new(alloc);
     for (grain, held) in held {
-        put_firm(&mut table, silo, hashing, range, *grain, held)?;
+        let hash = hashing.hash_grain(grain);
+        put_firm(&mut table, silo, range, hash, *grain, held)?;
+    }
+    Ok(table)
+}
+
+// The same, by the order of their hashes: they stand in at most two stretches of it.
+fn firm_by_hash(
+    alloc: Global,
+    silo: SiloAddress,
+    held: &IndexMap<GrainId, Held>,
+    by_hash: &ByHash,
+    hashing: Hashing,
+    range: &RingRange,
+) -> Result<BTreeMap<GrainId, Entry>, AllocError>
+    requires apart { AreApart held.now.entries }
+    requires by_hash { AreByHash hashing held.now.entries by_hash.now.entries }
+    ensures { IfOk result (λ table. table.entries ≡ firm_table silo hashing range.now (in_order held.now.entries)) }
+{
+    range.in_range();
+    let table = BTreeMap::new(alloc);
+    let start = range.start();
+    let end = u64::from(start) + range.size();
+    if end <= CIRCLE {
+        let only = by_hash.range((Bound::Included(first_at(start)), end_at(end)));
+        return put_listed(table, silo, held, only, hashing, range);
+    }
+    let first = by_hash.range((Bound::Included(first_at(0)), end_at(end - CIRCLE)));
+    let table = put_listed(table, silo, held, first, hashing, range)?;
+    let second = by_hash.range((Bound::Included(first_at(start)), end_at(CIRCLE)));
+    put_listed(table, silo, held, second, hashing, range)
+}
+
+// The entries of those listed that are firm and hashed into the range are put in.
+fn put_listed(
+    mut table: BTreeMap<GrainId, Entry>,
+    silo: SiloAddress,
+    held: &IndexMap<GrainId, Held>,
+    listed: Range<'_, HashedCount, usize>,
+    hashing: Hashing,
+    range: &RingRange,
+) -> Result<BTreeMap<GrainId, Entry>, AllocError>
+    requires { AllByRecursion (IsUnder hashing held.now.entries) listed }
+    ensures { IfOk result (λ new. new.entries ≡ with_firm_of silo hashing range.now table.entries (standing_at held.now.entries listed.entry)) }
+{
+    'listed: for (key, index) in listed {
+        if let Some((grain, held)) = held.get_index(*index) {
+            put_firm(&mut table, silo, range, key.hash, *grain, held)?;
+        }
     }
     Ok(table)
 }
@@ -71,15 +131,15 @@ fn firm_table(
 fn put_firm(
     table: &mut BTreeMap<GrainId, Entry>,
     silo: SiloAddress,
-    hashing: Hashing,
     range: &RingRange,
+    hash: u32,
     grain: GrainId,
     held: &Held,
 ) -> Result<(), AllocError>
     ensures { OnOk result (table.new.entries
-        ≡ (if is_firm held.now.phase && holds range.now (hash_grain hashing grain) then with_entry table.old.entries (entry_on silo grain held.now) else table.old.entries)) }
+        ≡ (if is_firm held.now.phase && holds range.now hash then with_entry table.old.entries (entry_on silo grain held.now) else table.old.entries)) }
 {
-    if is_firm(&held.phase) && range.contains(hashing.hash_grain(&grain)) {
+    if is_firm(&held.phase) && range.contains(hash) {
         table.insert(grain, entry_on(silo, grain, held))?;
     }
     Ok(())

@@ -1,34 +1,73 @@
 ghost use Rattle.std.specs.BTreeMap.{is_at};
 ghost use Rattle.std.specs.List.{IsDistinct, enumerate_from};
 ghost use Rattle.std.specs.Map.{keys_of, lookup, set_value, values_of};
-ghost use Rattle.std.specs.Prelude.{◌≡◌, ◌+◌, ◌≤◌, ◌^◌, length, IfOk, MatchOption, OnOk, OnErr};
+ghost use Rattle.std.specs.Prelude.{◌≡◌, ◌+◌, ◌≤◌, ◌^◌, length, IfOk, MatchOption};
 ghost use Rattle.silo_address.specs.Grain.{grain_cmp, grain_eq};
 ghost use Rattle.directory_rules.specs.Host.{outstanding, renewed};
 ghost use Rattle.host_activations.specs.HostModel.{IsWhole, host_of};
 ghost use Rattle.host_activations.specs.Numbers.{phase_under};
+ghost use Rattle.host_activations.specs.Renewal.{renewal_of};
 ghost use Rattle.host_activations.specs.declared.host.Host.TheInside.{Inside};
 
 use super::Host;
+use super::telling::acts_in;
 use crate::asked::Asked;
-use directory_rules::Phase;
+use directory_rules::{Act, Phase};
 use held_activations::Activations;
 use silo_address::GrainId;
 use std::alloc::{AllocError, Global};
 use std::collections::BTreeMap;
+use std::marker::Model;
+
+/// All that a host has outstanding, each request under a new number, in the order of the old ones: made before the host is
+/// changed, so that the change needs no memory.
+#[derive(Drop)]
+pub struct Renewal {
+    numbered: BTreeMap<u64, Asked>,
+}
+
+impl Model for Renewal {
+    ghost use Rattle.std.specs.Prelude.{ℕ, List};
+    ghost use Rattle.host_activations.specs.declared.asked.Asked.{Asked as AskedSeen};
+
+    ghost Value = { List (ℕ × AskedSeen) };
+
+    ghost view = { λ r. r.numbered.entries };
+}
 
 impl Host {
-    /// Every outstanding request gets a new number, in the order of the old ones. Fails only when memory runs out.
-    pub fn renew(&mut self) -> Result<(), AllocError>
-        requires { self.old.next_number + length (outstanding self.old) ≤ 2 ^ 60 + 1 }
-        ensures renewed { OnOk result (self.new ≡ renewed self.old) }
-        ensures unchanged { OnErr result (self.new ≡ self.old) }
+    /// A new number for every outstanding request, in the order of the old ones. Fails only when memory runs out.
+    pub fn renewal(&self, alloc: Global) -> Result<Renewal, AllocError>
+        requires { self.now.next_number + length (outstanding self.now) ≤ 2 ^ 60 + 1 }
+        ensures { IfOk result (λ renewal. renewal ≡ renewal_of self.now) }
     {
-        let renewed = renumbered(self.alloc, &self.outstanding, self.next_number)?;
+        let numbered = renumbered(alloc, &self.outstanding, self.next_number)?;
+        Ok(Renewal { numbered })
+    }
+
+    /// Every outstanding request has its new number from now on. Asks of its caller that this is the host's own renewal.
+    pub fn renew(&mut self, renewal: Renewal)
+        requires own { renewal ≡ renewal_of self.old }
+        requires numbers { self.old.next_number + length (outstanding self.old) ≤ 2 ^ 60 + 1 }
+        ensures { self.new ≡ renewed self.old }
+    {
+        let Renewal { numbered } = renewal;
         let count = self.outstanding.len() as u64;
-        set_numbers(&mut self.held, &renewed);
+        set_numbers(&mut self.held, &numbered);
         self.next_number += count;
-        self.outstanding = renewed;
-        Ok(())
+        self.outstanding = numbered;
+    }
+
+    /// What is outstanding once the host is renewed, under the new numbers in their order. Fails only when memory runs out.
+    pub fn renewed_requests(
+        &self,
+        alloc: Global,
+        renewal: &Renewal,
+    ) -> Result<Vec<(u64, Act)>, AllocError>
+        requires { renewal.now ≡ renewal_of self.now }
+        ensures { IfOk result (λ requests. requests.items ≡ outstanding (renewed self.now)) }
+    {
+        acts_in(alloc, self.silo, &self.held, &renewal.numbered)
     }
 }
 

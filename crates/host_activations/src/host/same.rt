@@ -31,7 +31,6 @@ impl Host {
         let held = self.held.copy()?;
         let outstanding = self.outstanding.clone()?;
         Ok(Host {
-            alloc: self.alloc,
             silo: self.silo,
             next_number: self.next_number,
             held,

@@ -14,8 +14,9 @@ use std::alloc::{AllocError, Global};
 use std::collections::BTreeMap;
 
 impl Host {
-    /// The entries of the firm activations that are hashed into the range, in the order of their grains. Fails only when
-    /// memory runs out.
+    /// The entries of the firm activations that are hashed into the range, in the order of their grains. Costs what it tells,
+    /// and a logarithm, where the hashing is the host's own; otherwise it looks at all activations. Fails only when memory runs
+    /// out.
     pub fn firm_entries(
         &self,
         alloc: Global,
@@ -36,7 +37,7 @@ impl Host {
 }
 
 // The requests as acts, under their numbers.
-fn acts_in(
+pub(super) fn acts_in(
     alloc: Global,
     silo: SiloAddress,
     held: &Activations,

@@ -11,5 +11,5 @@ returns c =
     c.copied.ensures
     ∙ c.get.ensures.value
     ∙ ap (λ test. lookup test c.self.inside.map.entries) (tests_alike c.args.grain.now)
-    ∙ sym (lookup_in_order c.args.grain.now c.self.inside.map.entries c.self.invariant.apart)
+    ∙ sym (lookup_in_order c.args.grain.now c.self.inside.map.entries c.self.invariant.begun.apart)
     ∙ ap (λ (v : ActivationsValue). at c.args.grain.now v.entries) c.self.view_is

@@ -1,5 +1,0 @@
-use Rattle.std.proofs.Common.{rules}
-use Rattle.grain_partition.proofs.piece.Piece.is_settled_of.Goals as goal
-
-pub returns-then-is_settled : goal.returns-then-is_settled
-returns-then-is_settled c = search rules
