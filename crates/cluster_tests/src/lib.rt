@@ -3,6 +3,8 @@
 #![tactic(auto)]
 
 #[cfg(test)]
+mod handing;
+#[cfg(test)]
 mod nodes;
 #[cfg(test)]
 mod worlds;

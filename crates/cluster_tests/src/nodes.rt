@@ -1,4 +1,4 @@
-ghost use Rattle.directory_node.specs.First.{IsFirstSight};
+ghost use Rattle.directory_node.specs.Placed.{IsPlaced};
 ghost use Rattle.directory_node.specs.InputModel.{input_of};
 
 use directory_node::{Body, Input, Letter, Node};
@@ -23,8 +23,7 @@ fn circle(rt: &impl Abort) -> RingRange {
 fn joined(rt: &impl Abort, alloc: Global) -> Node {
     let settings = Settings::of_directory(Hashing::Stated, 30, 0).expect(rt, "settings");
     let settings = settings.with_silos(1).expect(rt, "one silo");
-    assert!(rt; settings.cache() == 0);
-    Node::new(alloc, settings, silo(rt))
+    Node::new(alloc, settings, silo(rt)).expect(rt, "memory")
 }
 
 // The view of its joining.
@@ -43,7 +42,7 @@ fn places(rt: &impl Abort, alloc: Global) -> Places {
 
 // The step beside the node, and its plan carried out, say and leave the same: this effect, and one letter.
 fn check_plan(rt: &impl Abort, alloc: Global, node: &mut Node, input: &Input<'_>, effect: Effect)
-    requires { IsFirstSight node.old (input_of input.now) }
+    requires { IsPlaced (input_of input.now) }
 {
     let stepped = node.step(alloc, input).expect(rt, "a step");
     let plan = node.plan(alloc, input).expect(rt, "a plan");
@@ -55,7 +54,7 @@ fn check_plan(rt: &impl Abort, alloc: Global, node: &mut Node, input: &Input<'_>
 
 // The number that refuses an input.
 fn refusal_of(rt: &impl Abort, alloc: Global, node: &Node, input: &Input<'_>) -> Option<u16>
-    requires { IsFirstSight node.now (input_of input.now) }
+    requires { IsPlaced (input_of input.now) }
 {
     let refusal = node.plan(alloc, input).err();
     refusal.expect(rt, "a refusal").number()
@@ -67,8 +66,7 @@ fn recovering(rt: &impl Abort, alloc: Global) -> Node {
     let before = View::empty(alloc);
     let view = view(rt, alloc);
     let places = places(rt, alloc);
-    assert!(rt; node.view().version() == 0);
-    assert!(rt; places.has_active_of(&view));
+    assert!(rt; places.has_active_of(&before) && places.has_active_of(&view));
     let input = Input::Sees {
         before: &before,
         view: &view,

@@ -44,7 +44,7 @@ sending_decided world (letter ∷ letters) accepted count some =
 
 -- a step of the silo's own is refused by the step's number, or by the letter's
 pub refused_told : (world : World) (silo : Silo) (input : Input) (node : Node) (number : Option ℕ) → IsOwn input → node_of world silo ≡ Some node
-    → RefusesBy (Excuses input) number (step node input) → RefusesBy IsOk (option_or number (letters_number world 1)) (does world silo input)
+    → RefusesBy (Excuses node input) number (step node input) → RefusesBy IsOk (option_or number (letters_number world 1)) (does world silo input)
 refused_told world silo input node number own there refuses =
     subst (λ n. RefusesBy IsOk (option_or number (letters_number world 1)) (does_at n world silo input)) (sym there) (by (step node input) number refuses)
   where
@@ -52,10 +52,10 @@ refused_told world silo input node number own there refuses =
     by_none (Ok stepped) one = sending_decided world stepped.letters _ 1 one
     by_none (Err refusal) one = absurd one
 
-    by : (outcome : Result Stepped ℕ) (number : Option ℕ) → RefusesBy (Excuses input) number outcome → RefusesBy IsOk (option_or number (letters_number world 1)) (done_by outcome world silo)
+    by : (outcome : Result Stepped ℕ) (number : Option ℕ) → RefusesBy (Excuses node input) number outcome → RefusesBy IsOk (option_or number (letters_number world 1)) (done_by outcome world silo)
     by (Ok stepped) (Some number) refuses = absurd (cc (refuses))
     by (Err refusal) (Some number) refuses = cc (refuses)
-    by outcome None excused = by_none outcome (own.one outcome excused)
+    by outcome None excused = by_none outcome (own.one node outcome excused)
 
 -- so is a delivery
 pub delivery_refused : (world : World) (number : ℕ) (letter : Letter) (node : Node) (count : ℕ) → letter_of world number ≡ Some letter → node_of world letter.to ≡ Some node
@@ -92,7 +92,7 @@ pub planned_as : (node : Node) (letter : Letter) (plan : Plan) → step node (Re
 planned_as node letter plan is = cc (is)
 
 -- where there is none, memory ran out for a known number of letters
-pub unplanned : (node : Node) (letter : Letter) (number : Option ℕ) → RefusesBy (Excuses (Receives letter)) number (step node (Receives letter)) → length (received node letter).letters ≡ answer_count letter.body
+pub unplanned : (node : Node) (letter : Letter) (number : Option ℕ) → RefusesBy (Excuses node (Receives letter)) number (step node (Receives letter)) → length (received node letter).letters ≡ answer_count node letter.body
 unplanned node letter (Some number) refuses = absurd (cc (refuses))
 unplanned node letter None excused = excused
 

@@ -1,6 +1,6 @@
 pub mod Sending
 pub mod Entries
 pub mod Kept
-pub mod FirstSight
+pub mod PlacedSight
 pub mod Happening
 pub mod Running

@@ -8,7 +8,7 @@ use Rattle.directory_rules.specs.Step.{Stepped}
 use Rattle.directory_rules.specs.World.{World}
 use Rattle.directory_rules.specs.Mail.{with_sent}
 use Rattle.directory_rules.specs.Happens.{with_node, counted}
-use Rattle.directory_node.specs.First.{IsFirstSight}
+use Rattle.directory_node.specs.Placed.{IsPlaced}
 use Rattle.directory_node.specs.Planning.{Excuses, Sends}
 
 -- the world after an event in which the silo's node became this one and these letters were sent
@@ -21,5 +21,5 @@ letters_number world count = if (count == 0) || nat_le (world.sent + count) worl
 
 -- an input of the silo's own that is no sight: a plan of it needs memory only for the one letter that it sends
 pub record IsOwn (input : Input) : Type 0 where
-  pub any_time : (node : Node) → IsFirstSight node input
-  pub one : (outcome : Result Stepped ℕ) → Excuses input outcome → Sends 1 outcome
+  pub placed : IsPlaced input
+  pub one : (node : Node) (outcome : Result Stepped ℕ) → Excuses node input outcome → Sends 1 outcome

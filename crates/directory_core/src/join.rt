@@ -5,6 +5,7 @@ ghost use Rattle.silo_address.specs.Silo.{silo_cmp};
 ghost use Rattle.membership_view.specs.Changes.{after_join, occupant, with_join};
 ghost use Rattle.hash_ring.specs.Places.{after_add};
 ghost use Rattle.directory_rules.specs.Happens.{join};
+ghost use Rattle.directory_rules.specs.Node.{new_node};
 ghost use Rattle.directory_node.specs.Follows.{Follows};
 ghost use Rattle.directory_core.specs.Applying.{accepted_as};
 ghost use Rattle.directory_core.specs.Joining.{with_admitted};
@@ -13,10 +14,11 @@ ghost use Rattle.directory_core.specs.Numbers.{event_refusal_number};
 use crate::{EventRefusal, World};
 use cluster_events::{Happening, Outcome};
 use directory_node::Node;
+use directory_rules::Settings;
 use hash_ring::{Places, RingError};
 use membership_view::{Joined, Views};
 use silo_address::SiloAddress;
-use std::alloc::AllocError;
+use std::alloc::{AllocError, Global};
 use std::collections::BTreeMap;
 
 impl World {
@@ -54,14 +56,14 @@ impl World {
         ensures replaced { IfOk result (λ joined. joined.replaced ≡ occupant silo self.old.views.rows) }
         ensures unchanged { OnErr result (self.new ≡ self.old) }
     {
-        let node = Node::new(self.alloc, self.settings, silo);
         let joined = put_in(
+            self.alloc,
+            self.settings,
             &mut self.views,
             &mut self.places,
             &mut self.nodes,
             silo,
             given,
-            node,
         )?;
         self.accepted += 1;
         Ok(joined)
@@ -70,18 +72,19 @@ impl World {
 
 // The silo gets its places, its node and its row; where memory runs out, what it got is taken out again.
 fn put_in(
+    alloc: Global,
+    settings: Settings,
     views: &mut Views,
     places: &mut Places,
     nodes: &mut BTreeMap<SiloAddress, Node>,
     silo: SiloAddress,
     given: &[u32],
-    node: Node,
 ) -> Result<Joined, EventRefusal>
     requires may { after_join views.old silo ≡ Ok (with_join views.old silo) }
     requires absent { lookup (is_at (silo_cmp silo)) nodes.old.entries ≡ None }
     ensures views { OnOk result (views.new ≡ with_join views.old silo) }
     ensures places { Follows (λ _. places.new) event_refusal_number IsOk (after_add places.old silo given.now) result }
-    ensures nodes { OnOk result (nodes.new.entries ≡ insert_entry silo_cmp nodes.old.entries silo node) }
+    ensures nodes { OnOk result (nodes.new.entries ≡ insert_entry silo_cmp nodes.old.entries silo (new_node settings silo)) }
     ensures version { IfOk result (λ joined. joined.version ≡ views.new.version) }
     ensures replaced { IfOk result (λ joined. joined.replaced ≡ occupant silo views.old.rows) }
     ensures views_unchanged { OnErr result (views.new ≡ views.old) }
@@ -92,7 +95,7 @@ fn put_in(
         Ok(()) => {}
         Err(refusal) => return Err(EventRefusal::of_ring(refusal)),
     }
-    match put_beside(views, nodes, silo, node) {
+    match put_beside(alloc, settings, views, nodes, silo) {
         Ok(joined) => Ok(joined),
         Err(_) => {
             places.remove(&silo);
@@ -103,21 +106,22 @@ fn put_in(
 
 // The silo gets its node and its row.
 fn put_beside(
+    alloc: Global,
+    settings: Settings,
     views: &mut Views,
     nodes: &mut BTreeMap<SiloAddress, Node>,
     silo: SiloAddress,
-    node: Node,
 ) -> Result<Joined, AllocError>
     requires may { after_join views.old silo ≡ Ok (with_join views.old silo) }
     requires absent { lookup (is_at (silo_cmp silo)) nodes.old.entries ≡ None }
     ensures views { OnOk result (views.new ≡ with_join views.old silo) }
-    ensures nodes { OnOk result (nodes.new.entries ≡ insert_entry silo_cmp nodes.old.entries silo node) }
+    ensures nodes { OnOk result (nodes.new.entries ≡ insert_entry silo_cmp nodes.old.entries silo (new_node settings silo)) }
     ensures version { IfOk result (λ joined. joined.version ≡ views.new.version) }
     ensures replaced { IfOk result (λ joined. joined.replaced ≡ occupant silo views.old.rows) }
     ensures views_unchanged { OnErr result (views.new ≡ views.old) }
     ensures nodes_unchanged { OnErr result (nodes.new.entries ≡ nodes.old.entries) }
 {
-    nodes.insert(silo, node)?;
+    nodes.insert(silo, Node::new(alloc, settings, silo)?)?;
     match views.join(silo) {
         Ok(joined) => Ok(joined),
         Err(_) => {

@@ -140,7 +140,7 @@ impl World {
             return Err(EventRefusal::DeadSilo);
         };
         let Ok(plan) = node.plan(self.allocator(), &Input::Receives(letter)) else {
-            return Err(self.refused_sending(letter.answer_count()));
+            return Err(self.refused_sending(node.answer_count(letter)));
         };
         drop(mailed);
         if !self.has_room_for(&plan.letters) {

@@ -42,7 +42,10 @@ pub kept_by_taking : (node : Node) (report : Report) (complete : Bool) (new : Li
 kept_by_taking node report complete new is piece takes =
     let had = its_recovery node report.range is piece in
     record {
-      uncached = is.uncached;
+      cached = is.cached;
+      shelved = is.shelved;
+      rising = is.rising;
+      unshelved = is.unshelved;
       recovers = still_serve node report had.recovery (recovered had.recovery report) new complete had.there is.recovers (takes had.recovery had.there);
       unseen = is.unseen;
       bare = is.bare;

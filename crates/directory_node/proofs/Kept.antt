@@ -1,9 +1,11 @@
 -- What every step keeps: each piece that recovers has its recovery.
 use Rattle.std.proofs.Common.{◌≡◌, inl, inr, refl, sym, ap, ◌∙◌, ℕ, List, [], ◌∷◌}
-use Rattle.std.specs.Prelude.{◌⊎◌, Bool, true, false, cond, not, nat_lt, ◌==◌, ◌&&◌, Option, Some, None, Result, Ok, Err}
-use Rattle.std.specs.Ordering.{nat_cmp}
+use Rattle.std.specs.Prelude.{◌⊎◌, All, filter, Bool, true, false, cond, not, nat_lt, ◌==◌, ◌&&◌, Option, Some, None, Result, Ok, Err}
+use Rattle.std.specs.Ordering.{is_eq, nat_cmp}
 use Rattle.std.specs.Map.{lookup, set_value, remove_entry}
-use Rattle.std.specs.BTreeMap.{is_at}
+use Rattle.std.specs.BTreeMap.{insert_entry, is_at}
+use Rattle.std.proofs.lemmas.Cmp.{nat_cmp_total, tied_itself}
+use Rattle.std.proofs.lemmas.List.Elements.{All-cons, All-head, All-tail}
 use Rattle.directory_rules.specs.declared.Act.{Act}
 use Rattle.directory_rules.specs.declared.Act.TheVariants.{Register, Deregister, Find}
 use Rattle.directory_rules.specs.declared.Request.{Request}
@@ -16,7 +18,7 @@ use Rattle.directory_rules.specs.Recovery.{Recovery}
 use Rattle.directory_rules.specs.Answer.{with_piece, serving_piece, serving_by_piece, serving_by_state, serving_by_number, answered, answered_from, served_by, piece_with, is_numbered, last_served}
 use Rattle.std.proofs.lemmas.Map.Lookups.{exact_unsigned}
 use Rattle.silo_address.proofs.Order.{apart_in_order}
-use Rattle.membership_view.proofs.Entries.{Equal-from}
+use Rattle.membership_view.proofs.Entries.{Equal-from, lookup-insert_entry}
 use Rattle.directory_rules.proofs.Cases.{on_bool}
 use Rattle.directory_rules.proofs.Tables.{lookup-remove_other}
 use Rattle.directory_node.specs.Node.{HasRecovery, HaveRecoveries}
@@ -147,3 +149,44 @@ settled_removes piece pieces recoveries settled have start other found recoverin
       there = lookup-remove_other (is_at (nat_cmp piece.range.start)) (is_at (nat_cmp start)) (λ j at. apart_from piece.range.start start j f at) recoveries ∙ had.there;
       its_range = had.its_range;
     })
+
+-- what stands where a piece was written is that piece
+written_there : (piece : Piece) (pieces : List (ℕ × Piece)) (start : ℕ) (other : Piece) → piece.range.start ≡ start → lookup (is_at (nat_cmp start)) (with_piece piece pieces) ≡ Some other → other ≡ piece
+written_there piece pieces start other same found =
+    elim (found_or_written (is_at (nat_cmp start)) (is_at (nat_cmp piece.range.start)) pieces piece other found) [
+      | inl written ↦ written
+      | inr was ↦ (
+          let there = written_is_found (is_at (nat_cmp piece.range.start)) pieces piece other (ap (λ s. lookup (is_at (nat_cmp s)) pieces) same ∙ was) in
+          let now = ap (λ s. lookup (is_at (nat_cmp s)) (with_piece piece pieces)) same ∙ found in
+          cc (there, now))
+    ]
+
+-- a piece that is written with its recovery has it
+pub recovering_puts : (piece : Piece) (recovery : Recovery) (pieces : List (ℕ × Piece)) (recoveries : List (ℕ × Recovery)) → recovery.range ≡ piece.range → HaveRecoveries pieces recoveries
+    → HaveRecoveries (with_piece piece pieces) (insert_entry nat_cmp recoveries piece.range.start recovery)
+recovering_puts piece recovery pieces recoveries range have start other found recovering =
+    let key = piece.range.start in
+    let put = lookup-insert_entry nat_cmp_total key recovery start recoveries in
+    on_bool (λ b. HasRecovery (insert_entry nat_cmp recoveries key recovery) start other) (is_at (nat_cmp key) start)
+    (λ t.
+    let same : key ≡ start = exact_unsigned key start (Equal-from (nat_cmp key start) t) in
+    record {
+      recovery = recovery;
+      there = put ∙ ap (λ s. cond (is_at (nat_cmp start) s) (Some recovery) (lookup (is_at (nat_cmp start)) recoveries)) same ∙ ap (λ r. cond (is_eq r) (Some recovery) (lookup (is_at (nat_cmp start)) recoveries)) (tied_itself nat_cmp_total start);
+      its_range = range ∙ ap (λ (p : Piece). p.range) (sym (written_there piece pieces start other same found));
+    })
+    (λ f.
+    let had = have start other (sym (other_than_written (is_at (nat_cmp key)) (is_at (nat_cmp start)) pieces piece (λ j at. apart_from key start j f at)) ∙ found) recovering in
+    record {
+      recovery = had.recovery;
+      there = put ∙ ap (λ b. cond b (Some recovery) (lookup (is_at (nat_cmp start)) recoveries)) (apart_from key start key f (ap is_eq (tied_itself nat_cmp_total key))) ∙ had.there;
+      its_range = had.its_range;
+    })
+
+-- what all of them have, those kept have
+pub all_kept : {X : Type 0} (P : X → Type 0) (test : X → Bool) (xs : List X) → All P xs → All P (filter test xs)
+all_kept P test [] all = all
+all_kept P test (x ∷ xs) all =
+    on_bool (λ b. All P (cond b (x ∷ filter test xs) (filter test xs))) (test x)
+    (λ t. All-cons P x (filter test xs) (All-head P x xs all) (all_kept P test xs (All-tail P x xs all)))
+    (λ f. all_kept P test xs (All-tail P x xs all))

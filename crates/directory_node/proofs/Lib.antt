@@ -1,10 +1,13 @@
 pub mod Kept
-pub mod PieceRecoveries
 pub mod Numbers
 pub mod Taking
 pub mod Reports
 pub mod Absorbing
 pub mod Writing
-pub mod Wants
-pub mod FirstSights
-pub mod FirstArcs
+pub mod Pages
+pub mod Gatherings
+pub mod Results
+pub mod Tabled
+pub mod Begun
+pub mod Alike
+pub mod AfterSight

@@ -1,5 +1,7 @@
--- Values written among entries under numbers.
+-- Values written among entries under numbers, and taken out.
 use Rattle.std.proofs.Common.{◌≡◌, ℕ, refl, sym, ap, ◌∙◌, List, [], ◌∷◌, cond, Bool, Some, None}
+use Rattle.std.specs.Prelude.{All}
+use Rattle.std.proofs.lemmas.List.Elements.{All-head, All-tail, All-nil, All-cons}
 use Rattle.std.specs.List.Sorted.{IsStrictlySortedBy}
 use Rattle.std.specs.Map.{lookup, keys_of, remove_entry, set_value}
 use Rattle.std.specs.BTreeMap.{is_at, insert_entry}
@@ -32,3 +34,28 @@ insert_entry-there k v w (e ∷ es) s there = by (nat_cmp k e.0) refl there (ins
         (let no : None ≡ Some w = sym (lookup-none (is_at (nat_cmp k)) (e ∷ es) (none_below_head nat_cmp_total k e es s is)) ∙ ap (λ r. cond (is_eq r) (Some e.1) (lookup (is_at (nat_cmp k)) es)) is ∙ there in cc)
     by Equal is there later = refl
     by Greater is there later = ap (λ l. e ∷ l) (later there)
+
+-- what all have, all others have
+pub all_but_one : {X : Type 0} (P : ℕ × X → Type 0) (at : ℕ → Bool) (es : List (ℕ × X)) → All P es → All P (remove_entry at es)
+all_but_one P at [] all = All-nil P
+all_but_one P at (e ∷ es) all =
+    on_bool (λ b. All P (cond b es (e ∷ remove_entry at es))) (at e.0)
+    (λ t. All-tail P e es all)
+    (λ f. All-cons P e (remove_entry at es) (All-head P e es all) (all_but_one P at es (All-tail P e es all)))
+
+-- and with one more that has it
+pub all_put : {X : Type 0} (P : X → Type 0) (key : ℕ) (value : X) (es : List (ℕ × X)) → P value → All (λ e. P e.1) es → All (λ e. P e.1) (insert_entry nat_cmp es key value)
+all_put P key value [] new all = All-cons (λ e. P e.1) (key, value) [] new all
+all_put P key value (e ∷ es) new all = by (nat_cmp key e.0) (all_put P key value es new (All-tail (λ e. P e.1) e es all))
+  where
+    by : (r : Ordering) → All (λ e. P e.1) (insert_entry nat_cmp es key value) → All (λ e. P e.1) (match_ordering r ((key, value) ∷ e ∷ es) ((e.0, value) ∷ es) (e ∷ insert_entry nat_cmp es key value))
+    by Less later = All-cons (λ e. P e.1) (key, value) (e ∷ es) new all
+    by Equal later = All-cons (λ e. P e.1) (e.0, value) es new (All-tail (λ e. P e.1) e es all)
+    by Greater later = All-cons (λ e. P e.1) e (insert_entry nat_cmp es key value) (All-head (λ e. P e.1) e es all) later
+
+pub all_written : {X : Type 0} (P : X → Type 0) (at : ℕ → Bool) (value : X) (es : List (ℕ × X)) → P value → All (λ e. P e.1) es → All (λ e. P e.1) (set_value at es value)
+all_written P at value [] new all = all
+all_written P at value (e ∷ es) new all =
+    on_bool (λ b. All (λ e. P e.1) (cond b ((e.0, value) ∷ es) (e ∷ set_value at es value))) (at e.0)
+    (λ t. All-cons (λ e. P e.1) (e.0, value) es new (All-tail (λ e. P e.1) e es all))
+    (λ f. All-cons (λ e. P e.1) e (set_value at es value) (All-head (λ e. P e.1) e es all) (all_written P at value es new (All-tail (λ e. P e.1) e es all)))

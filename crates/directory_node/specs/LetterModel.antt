@@ -1,12 +1,16 @@
 -- How a letter's body of the code is one of the rule.
 use Rattle.directory_rules.specs.Letter as rule
 use Rattle.directory_node.specs.declared.letter.Body.{Body}
-use Rattle.directory_node.specs.declared.letter.Body.TheVariants.{Request, Reply, Query, Report, Behind, Ahead, Offer}
+use Rattle.directory_node.specs.declared.letter.Body.TheVariants.{Request, Reply, Ask, Page, Missing, Done, Query, Report, Behind, Ahead, Offer}
 
 -- what the letter says, in the rule's words
 abbrev pub body_of : Body → rule.Body
 body_of (Request request) = rule.Request_letter request
 body_of (Reply number reply) = rule.Reply_letter number reply
+body_of (Ask range page) = rule.Ask_letter range page
+body_of (Page page) = rule.Page_letter page
+body_of (Missing range) = rule.Missing_letter range
+body_of (Done range) = rule.Done_letter range
 body_of (Query range) = rule.Query_letter range
 body_of (Report report) = rule.Report_letter report
 body_of (Behind range) = rule.Behind_letter range

@@ -5,4 +5,6 @@ pub mod Follows
 pub mod Planning
 pub mod Node
 pub mod NodeModel
-pub mod First
+pub mod Placed
+pub mod Beginning
+pub mod Sender

@@ -1,10 +1,11 @@
 -- What every node of the code keeps.
-use Rattle.std.specs.Prelude.{◌≡◌, ℕ, List, [], Some}
+use Rattle.std.specs.Prelude.{◌≡◌, ◌≤◌, ℕ, true, List, [], Some, All}
 use Rattle.std.specs.Ordering.{nat_cmp}
 use Rattle.std.specs.Map.{lookup}
 use Rattle.std.specs.BTreeMap.{is_at}
 use Rattle.directory_rules.specs.declared.PieceState.TheVariants.{Recovering}
 use Rattle.directory_rules.specs.Piece.{Piece}
+use Rattle.directory_rules.specs.Table.{rise_by_grain}
 use Rattle.directory_rules.specs.Recovery.{Recovery}
 use Rattle.directory_rules.specs.Node.{Node}
 
@@ -19,10 +20,14 @@ abbrev pub HaveRecoveries : List (ℕ × Piece) → List (ℕ × Recovery) → T
 HaveRecoveries pieces recoveries =
     (start : ℕ) (piece : Piece) → lookup (is_at (nat_cmp start)) pieces ≡ Some piece → piece.state ≡ Recovering → HasRecovery recoveries start piece
 
--- what a node keeps: it caches nothing, each piece that recovers has its recovery, and before the first view it has no
--- piece, and its ring no point
+-- what a node keeps: its cache is as large as the settings say, each piece that recovers has its recovery, what is gathered
+-- stands in the order of the grains, and each snapshot on the shelf was sealed at a version that the silo has seen; before the
+-- first view there is no piece and no snapshot, and the ring has no point
 pub record IsNode (node : Node) : Type 0 where
-  pub uncached : node.settings.cache ≡ 0
+  pub cached : node.cache.capacity ≡ node.settings.cache
   pub recovers : HaveRecoveries node.holding.pieces node.recoveries
+  pub rising : All (λ e. rise_by_grain e.1.entries ≡ true) node.gatherings
+  pub shelved : All (λ s. s.version ≤ node.view.version) node.shelf
   pub unseen : node.view.version ≡ 0 → node.holding.pieces ≡ []
+  pub unshelved : node.view.version ≡ 0 → node.shelf ≡ []
   pub bare : node.view.version ≡ 0 → node.ring.points ≡ []

@@ -1,19 +1,23 @@
 -- How the fields of the code's node are the rule's node.
-use Rattle.std.specs.Prelude.{[]}
-use Rattle.directory_rules.specs.Cache.{new_cache}
+use Rattle.std.specs.Prelude.{Option, Some, None}
+use Rattle.directory_rules.specs.Cache.{Cache, new_cache}
 use Rattle.directory_rules.specs.Node.{Node}
 use Rattle.directory_node.specs.declared.node.Node.TheInside.{Inside}
 
--- nothing is cached, sealed or gathered yet
+-- a node without a cache has one for no entry
+abbrev pub cache_of : Option Cache → Cache
+cache_of None = new_cache 0
+cache_of (Some cache) = cache
+
 abbrev pub node_of : Inside → Node
 node_of n = record {
   settings = n.settings;
   view = n.view;
   ring = n.ring;
   holding = n.holding;
-  shelf = [];
-  gatherings = [];
+  shelf = n.shelf;
+  gatherings = n.gatherings.entries;
   recoveries = n.recoveries.entries;
   host = n.host;
-  cache = new_cache 0;
+  cache = cache_of n.cache;
 }

@@ -1,12 +1,14 @@
 ghost use Rattle.std.specs.Prelude.{◌≡◌, OnErr, OnOk};
 ghost use Rattle.directory_rules.specs.Answer.{answered};
+ghost use Rattle.directory_rules.specs.Cache.{learnt};
 ghost use Rattle.directory_rules.specs.Host.{asking_under, closing_under, held_of, without_find};
-ghost use Rattle.directory_rules.specs.Reply.{confirmed_by};
+ghost use Rattle.directory_rules.specs.Reply.{confirmed_by, yielded_by};
 ghost use Rattle.directory_node.specs.Planning.{Fits, MayClose, changed, with_closing_of, without};
 
+use crate::caching::{forget, learn, use_hint};
 use crate::{Change, Node};
 use directory_rules::Request;
-use silo_address::GrainId;
+use silo_address::{Entry, GrainId};
 use std::alloc::AllocError;
 
 impl Node {
@@ -18,15 +20,24 @@ impl Node {
     {
         match change {
             Change::Nothing => {}
-            Change::Becomes(node) => *self = Box::into_inner(node),
+            Change::Sees(sight) => self.see(Box::into_inner(sight))?,
+            Change::Renews(renewal) => self.renew(renewal),
             Change::Starts { grain, previous } => self.host.start(grain, previous)?,
             Change::Closes(grain) => self.close(&grain)?,
             Change::Asks(grain) => self.host.ask(grain)?,
             Change::Serves(request) => self.serve(&request)?,
             Change::Confirms(number) => self.confirm(number),
-            Change::Yields(number) => self.yield_to_other(number),
+            Change::Yields { number, entry } => self.yield_to_other(number, entry)?,
             Change::Ends(number) => self.end_closing(number),
             Change::EndsFind(number) => self.end_find(number),
+            Change::Learns { number, entry } => self.learn(number, entry)?,
+            Change::UsesHint(grain) => use_hint(&mut self.cache, &grain),
+            Change::Forgets { grain, activation } => forget(&mut self.cache, &grain, &activation),
+            Change::Discards { version, range, to } => self.discard(version, range, &to),
+            Change::Gathers(page) => self.gather(&page)?,
+            Change::GathersAnew(range) => self.gather_anew(range)?,
+            Change::Installs { range, entries } => self.settle(range, entries),
+            Change::Recovers(recovery) => self.recover(recovery)?,
             Change::Counts(report) => self.count(&report)?,
         }
         Ok(())
@@ -57,13 +68,16 @@ impl Node {
         self.host.confirm(number);
     }
 
-    // The asking activation goes.
-    fn yield_to_other(&mut self, number: u64)
-        ensures { self.new ≡ without (asking_under self.old.host number) self.old }
+    // The asking activation goes, and the entry that has its grain is learnt.
+    fn yield_to_other(&mut self, number: u64, entry: Entry) -> Result<(), AllocError>
+        ensures made { OnOk result (self.new ≡ (yielded_by (asking_under self.old.host number) entry self.old).node) }
+        ensures unchanged { OnErr result (self.new ≡ self.old) }
     {
         if let Some((grain, _)) = self.host.asking_under(number) {
+            learn(&mut self.cache, entry)?;
             self.host.end(&grain);
         }
+        Ok(())
     }
 
     // The closing activation goes.
@@ -80,5 +94,15 @@ impl Node {
         ensures { self.new ≡ record self.old { host = without_find self.old.host number } }
     {
         self.host.end_find(number);
+    }
+
+    // The find ends, and what it found is learnt.
+    fn learn(&mut self, number: u64, entry: Entry) -> Result<(), AllocError>
+        ensures made { OnOk result (self.new ≡ record self.old { host = without_find self.old.host number; cache = learnt self.old.cache entry }) }
+        ensures unchanged { OnErr result (self.new ≡ self.old) }
+    {
+        learn(&mut self.cache, entry)?;
+        self.host.end_find(number);
+        Ok(())
     }
 }

@@ -20,6 +20,8 @@ pub enum Input<'a> {
     Finds(&'a GrainId),
     /// What the cache has of the grain is to be forgotten.
     Forgets(&'a GrainId),
+    /// All that is outstanding is to be sent again.
+    Nudges,
     /// The activation of the grain is to be offered to another silo.
     Offers {
         grain: &'a GrainId,

@@ -1,11 +1,11 @@
 ghost use Rattle.std.specs.Prelude.{◌≡◌, ◌↔◌, IsTrue, IfOk};
 ghost use Rattle.directory_rules.specs.Letter.{act_kind, kind_of, reply_kind};
 ghost use Rattle.directory_node.specs.LetterModel.{body_of};
-ghost use Rattle.directory_node.specs.Planning.{answer_count};
 
 use directory_rules::{Act, LetterKind, Reply, Request};
 use range_recovery::Report;
 use ring_range::RingRange;
+use seal_snapshot::Page;
 use silo_address::{Entry, SiloAddress};
 use std::alloc::AllocError;
 use std::marker::Model;
@@ -17,6 +17,14 @@ pub enum Body {
     Request(Request),
     /// The owner back, under the request's number.
     Reply { number: u64, reply: Reply },
+    /// The new owner of a range to the previous one: for the page of that number of its snapshot.
+    Ask { range: RingRange, page: u64 },
+    /// A page of the snapshot.
+    Page(Page),
+    /// The asked silo has no such snapshot or page.
+    Missing(RingRange),
+    /// The new owner has the whole snapshot.
+    Done(RingRange),
     /// The new owner of a range to any silo, for what that has firm there.
     Query(RingRange),
     /// What a silo has firm in a range.
@@ -40,6 +48,13 @@ impl Body {
                 number: *number,
                 reply: *reply,
             }),
+            Body::Ask { range, page } => Ok(Body::Ask {
+                range: *range,
+                page: *page,
+            }),
+            Body::Page(page) => Ok(Body::Page(page.copy()?)),
+            Body::Missing(range) => Ok(Body::Missing(*range)),
+            Body::Done(range) => Ok(Body::Done(*range)),
             Body::Query(range) => Ok(Body::Query(*range)),
             Body::Report(report) => Ok(Body::Report(report.copy()?)),
             Body::Behind(range) => Ok(Body::Behind(*range)),
@@ -61,6 +76,16 @@ impl Body {
                     reply: other,
                 },
             ) => { number == its && reply.same(other) }
+            (
+                Body::Ask { range, page },
+                Body::Ask {
+                    range: its,
+                    page: other,
+                },
+            ) => { page == other && range.same(its) }
+            (Body::Page(page), Body::Page(its)) => page.same(its),
+            (Body::Missing(range), Body::Missing(its)) => range.same(its),
+            (Body::Done(range), Body::Done(its)) => range.same(its),
             (Body::Query(range), Body::Query(its)) => range.same(its),
             (Body::Report(report), Body::Report(its)) => report.same(its),
             (Body::Behind(range), Body::Behind(its)) => range.same(its),
@@ -72,7 +97,7 @@ impl Body {
 }
 
 /// A letter from one silo to another. A request, a reply and an offer have the version that their sender had seen, the others
-/// that of the recovery.
+/// that of the transfer or recovery.
 #[derive(Drop)]
 pub struct Letter {
     from: SiloAddress,
@@ -139,26 +164,15 @@ impl Letter {
         match &self.body {
             Body::Request(request) => act_kind(&request.act),
             Body::Reply { reply, .. } => reply_kind(reply),
+            Body::Ask { .. } => LetterKind::Ask,
+            Body::Page(_) => LetterKind::Page,
+            Body::Missing(_) => LetterKind::Missing,
+            Body::Done(_) => LetterKind::Done,
             Body::Query(_) => LetterKind::Query,
             Body::Report(_) => LetterKind::Report,
             Body::Behind(_) => LetterKind::Behind,
             Body::Ahead(_) => LetterKind::Ahead,
             Body::Offer(_) => LetterKind::Offer,
-        }
-    }
-
-    /// How many letters a step sends that needs memory for this one: a report is answered by none, any other by one.
-    pub fn answer_count(&self) -> usize
-        ensures { result ≡ answer_count self.now.body }
-    {
-        match &self.body {
-            Body::Report(_) => 0,
-            Body::Request(_)
-            | Body::Reply { .. }
-            | Body::Query(_)
-            | Body::Behind(_)
-            | Body::Ahead(_)
-            | Body::Offer(_) => 1,
         }
     }
 

@@ -2,8 +2,11 @@
 //! `docs/RULES.md#the-world`.
 #![tactic(auto)]
 
+mod beginning;
+mod caching;
 mod carrying;
 mod closing;
+mod gathering;
 mod input;
 mod letter;
 mod node;
@@ -13,13 +16,15 @@ mod recoveries;
 mod refusal;
 mod replies;
 mod requests;
+mod seeing;
 mod sending;
 mod sight;
 mod step;
+mod transfers;
 
 pub use input::Input;
 pub use letter::{Body, Letter};
 pub use node::Node;
-pub use plan::{Change, Plan};
+pub use plan::{Change, Plan, Sight};
 pub use refusal::StepRefusal;
 pub use step::Stepped;

@@ -1,27 +1,36 @@
-ghost use Rattle.std.specs.Prelude.{◌≡◌, ◌↔◌, IsTrue, IfOk};
+ghost use Rattle.std.specs.Prelude.{◌≡◌, ◌↔◌, ◌≤◌, IsTrue, IfOk, option_copied};
+ghost use Rattle.directory_rules.specs.Cache.{new_cache};
 ghost use Rattle.directory_rules.specs.Node.{new_node};
 ghost use Rattle.directory_node.specs.Node.{IsNode};
+ghost use Rattle.directory_node.specs.NodeModel.{cache_of};
 
 use directory_rules::Settings;
 use grain_partition::Holding;
 use hash_ring::Ring;
 use host_activations::Host;
+use lookup_cache::{Cache, CacheError};
 use membership_view::View;
 use range_recovery::Recovery;
+use seal_snapshot::{Gathering, Shelf};
 use silo_address::SiloAddress;
 use std::alloc::{AllocError, Global};
 use std::collections::BTreeMap;
 use std::marker::Model;
 
-/// All that one silo knows (`docs/RULES.md#the-world`). It keeps no cache yet, and no piece of it awaits a snapshot.
+/// All that one silo knows (`docs/RULES.md#the-world`).
 #[derive(Drop)]
 pub struct Node {
+    pub(crate) alloc: Global,
     pub(crate) settings: Settings,
     pub(crate) view: View,
     pub(crate) ring: Ring,
     pub(crate) holding: Holding,
+    pub(crate) shelf: Shelf,
+    pub(crate) gatherings: BTreeMap<u32, Gathering>,
     pub(crate) recoveries: BTreeMap<u32, Recovery>,
     pub(crate) host: Host,
+    // None where the settings are for no entry.
+    pub(crate) cache: Option<Cache>,
 }
 
 impl Model for Node {
@@ -38,19 +47,31 @@ impl Model for Node {
 }
 
 impl Node {
-    /// The node of a silo that has just joined: it has seen nothing. The settings keep no cache.
-    pub fn new(alloc: Global, settings: Settings, silo: SiloAddress) -> Node
-        requires uncached { settings.cache ≡ 0 }
-        ensures { result ≡ new_node settings silo }
+    /// The node of a silo that has just joined: it has seen nothing. Fails only when memory runs out.
+    pub fn new(alloc: Global, settings: Settings, silo: SiloAddress) -> Result<Node, AllocError>
+        ensures { IfOk result (λ node. node ≡ new_node settings silo) }
     {
-        Node {
+        settings.in_range();
+        let cache = new_cache(alloc, settings.cache())?;
+        Ok(Node {
+            alloc,
             settings,
             view: View::empty(alloc),
             ring: Ring::empty(alloc),
             holding: Holding::new(alloc),
+            shelf: Shelf::new(alloc),
+            gatherings: BTreeMap::new(alloc),
             recoveries: BTreeMap::new(alloc),
-            host: Host::new(alloc, silo),
-        }
+            host: Host::new(alloc, silo, settings.hashing()),
+            cache,
+        })
+    }
+
+    /// What the node is set up with.
+    pub fn settings(&self) -> Settings
+        ensures { result ≡ self.now.settings }
+    {
+        self.settings
     }
 
     /// The view that the silo has seen.
@@ -60,11 +81,49 @@ impl Node {
         &self.view
     }
 
+    /// The ring of that view.
+    pub fn ring(&self) -> &Ring
+        ensures { result.now ≡ self.now.ring }
+    {
+        &self.ring
+    }
+
     /// What the silo keeps for others.
     pub fn holding(&self) -> &Holding
         ensures { result.now ≡ self.now.holding }
     {
         &self.holding
+    }
+
+    /// The snapshots that wait for their new owners.
+    pub fn shelf(&self) -> &Shelf
+        ensures { result.now ≡ self.now.shelf }
+    {
+        &self.shelf
+    }
+
+    /// What the silo has of the snapshots that it awaits, under the starts of their pieces.
+    pub fn gatherings(&self) -> &BTreeMap<u32, Gathering>
+        ensures { result.now.entries ≡ self.now.gatherings }
+    {
+        &self.gatherings
+    }
+
+    /// What the silo has been reported for the pieces that recover, under their starts.
+    pub fn recoveries(&self) -> &BTreeMap<u32, Recovery>
+        ensures { result.now.entries ≡ self.now.recoveries }
+    {
+        &self.recoveries
+    }
+
+    /// The hints of where grains are; `None` where the settings keep none.
+    pub fn cache(&self) -> Option<&Cache>
+        ensures { cache_of (option_copied result) ≡ self.now.cache }
+    {
+        match &self.cache {
+            Some(cache) => Some(cache),
+            None => None,
+        }
     }
 
     /// The silo as the host of activations.
@@ -88,15 +147,22 @@ impl Node {
         let view = self.view.copy()?;
         let ring = self.ring.copy()?;
         let holding = self.holding.copy()?;
+        let shelf = self.shelf.copy()?;
+        let gatherings = self.gatherings.clone()?;
         let recoveries = copied(&self.recoveries)?;
         let host = self.host.copy()?;
+        let cache = copy_of_cache(&self.cache)?;
         Ok(Node {
+            alloc: self.alloc,
             settings: self.settings,
             view,
             ring,
             holding,
+            shelf,
+            gatherings,
             recoveries,
             host,
+            cache,
         })
     }
 
@@ -108,9 +174,67 @@ impl Node {
             && self.view.same(&other.view)
             && self.ring.same(&other.ring)
             && self.holding.same(&other.holding)
+            && self.shelf.same(&other.shelf)
             && self.host.same(&other.host)
-            && are_same(&self.recoveries, &other.recoveries)
+            && same_caches(&self.cache, &other.cache)
+            && same_gatherings(&self.gatherings, &other.gatherings)
+            && same_recoveries(&self.recoveries, &other.recoveries)
     }
+}
+
+// A cache for so many entries, if they are any.
+fn new_cache(alloc: Global, capacity: usize) -> Result<Option<Cache>, AllocError>
+    requires { capacity ≤ 65536 }
+    ensures { IfOk result (λ cache. cache_of cache ≡ new_cache capacity) }
+{
+    if capacity == 0 {
+        return Ok(None);
+    }
+    match Cache::new(alloc, capacity) {
+        Ok(cache) => Ok(Some(cache)),
+        Err(CacheError::Capacity) => unreachable!(),
+        Err(CacheError::OutOfMemory) => Err(AllocError),
+    }
+}
+
+// An equal cache, if there is one.
+fn copy_of_cache(cache: &Option<Cache>) -> Result<Option<Cache>, AllocError>
+    ensures { IfOk result (λ copy. copy ≡ cache.now) }
+{
+    match cache {
+        Some(cache) => Ok(Some(cache.copy()?)),
+        None => Ok(None),
+    }
+}
+
+// Whether both have equal caches; one that isn't there is for no entry, and any other for at least one.
+fn same_caches(one: &Option<Cache>, other: &Option<Cache>) -> bool
+    ensures { IsTrue result ↔ (cache_of one.now ≡ cache_of other.now) }
+{
+    match (one, other) {
+        (Some(one), Some(other)) => one.same(other),
+        (Some(cache), None) | (None, Some(cache)) => {
+            cache.whole();
+            false
+        }
+        (None, None) => true,
+    }
+}
+
+// Whether both have equal gatherings under the same starts.
+fn same_gatherings(one: &BTreeMap<u32, Gathering>, other: &BTreeMap<u32, Gathering>) -> bool
+    ensures { IsTrue result ↔ (one.now.entries ≡ other.now.entries) }
+{
+    let mut others = other.iter();
+    for (start, gathering) in one {
+        let Some((its_start, its)) = others.next() else {
+            return false;
+        };
+        if start != its_start || !gathering.same(its) {
+            return false;
+        }
+    }
+    others.next().is_none()
 }
 
 // Equal recoveries under the same starts.
@@ -121,7 +245,7 @@ fn copied(recoveries: &BTreeMap<u32, Recovery>) -> Result<BTreeMap<u32, Recovery
 }
 
 // Whether both have equal recoveries under the same starts.
-fn are_same(one: &BTreeMap<u32, Recovery>, other: &BTreeMap<u32, Recovery>) -> bool
+fn same_recoveries(one: &BTreeMap<u32, Recovery>, other: &BTreeMap<u32, Recovery>) -> bool
     ensures { IsTrue result ↔ (one.now.entries ≡ other.now.entries) }
 {
     let mut others = other.iter();

@@ -1,10 +1,14 @@
-ghost use Rattle.std.specs.Prelude.{◌≡◌, IfOk, OnErr, None, length};
-ghost use Rattle.directory_rules.specs.Step.{finding, find_grain, forget, started, wake};
+ghost use Rattle.std.specs.Prelude.{◌≡◌, IfOk, OnErr, None, Some, length};
+ghost use Rattle.directory_rules.specs.Cache.{hint_of, in_front};
+ghost use Rattle.directory_rules.specs.Node.{Node as NodeValue};
+ghost use Rattle.directory_rules.specs.Step.{finding, find_grain, forget, silently, started, wake};
+ghost use Rattle.directory_rules.specs.declared.Effect.TheVariants.{Cached};
 ghost use Rattle.hash_ring.specs.Ring.{is_active_in};
 ghost use Rattle.directory_node.specs.Follows.{Follows};
 ghost use Rattle.directory_node.specs.Numbers.{step_refusal_number};
 ghost use Rattle.directory_node.specs.Planning.{Fits, Sends, step_by};
 
+use crate::caching::hint_in;
 use crate::{Change, Node, Plan, StepRefusal};
 use directory_rules::{Act, Effect};
 use silo_address::{ActivationId, Entry, GrainId, SiloAddress};
@@ -56,12 +60,16 @@ impl Node {
         })
     }
 
-    // The silo looks a grain up: 806, 805. Needs memory for the one letter that it sends, if it sends one.
+    // The silo looks a grain up: in its cache, and where that has no hint it asks the owner: 806, 805. Needs memory for the one
+    // letter that it sends, if it sends one.
     pub(crate) fn plan_find(&self, alloc: Global, grain: &GrainId) -> Result<Plan, StepRefusal>
         ensures planned { Follows (step_by self.now) step_refusal_number (Sends 1) (find_grain self.now grain.now) result }
         ensures fits { IfOk result (λ plan. Fits plan.change self.now) }
     {
         self.settings.in_range();
+        if let Some(activation) = hint_in(&self.cache, grain) {
+            return Ok(cached(alloc, grain, activation));
+        }
         if self.host.is_full_of_finds(&self.settings) {
             return Err(StepRefusal::HostFull);
         }
@@ -88,13 +96,20 @@ impl Node {
         })
     }
 
-    // The silo forgets what its cache has of a grain: nothing, as long as it keeps none.
+    // The silo forgets what its cache has of a grain.
     pub(crate) fn plan_forget(&self, alloc: Global, grain: &GrainId) -> Plan
         ensures planned { step_by self.now result ≡ forget self.now grain.now }
         ensures fits { Fits result.change self.now }
     {
-        let _settings = self.settings;
-        Plan::idle(alloc, Effect::NothingCached(*grain))
+        let grain = *grain;
+        match hint_in(&self.cache, &grain) {
+            Some(activation) => Plan::silent(
+                alloc,
+                Effect::Forgot(grain),
+                Change::Forgets { grain, activation },
+            ),
+            None => Plan::idle(alloc, Effect::NothingCached(grain)),
+        }
     }
 
     // Whether the silo is Active in the view that it has seen.
@@ -124,4 +139,17 @@ impl Node {
             activation: ActivationId { silo, count },
         }
     }
+}
+
+// The cache had a hint, which is used.
+fn cached(alloc: Global, grain: &GrainId, activation: ActivationId) -> Plan
+    ensures planned { (node : NodeValue) → hint_of node.cache grain.now ≡ Some activation → step_by node result ≡ silently (record node { cache = in_front node.cache grain.now activation }) (Cached (record { grain = grain.now; activation = activation })) }
+    ensures change { result.change ≡ Change.UsesHint grain.now }
+{
+    let grain = *grain;
+    Plan::silent(
+        alloc,
+        Effect::Cached(Entry { grain, activation }),
+        Change::UsesHint(grain),
+    )
 }

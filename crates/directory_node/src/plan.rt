@@ -2,11 +2,19 @@ ghost use Rattle.std.specs.Prelude.{◌≡◌, [], ◌∷◌, IfOk};
 ghost use Rattle.directory_rules.specs.Node.{Node as NodeValue};
 ghost use Rattle.directory_node.specs.Planning.{changed, step_by};
 
-use crate::{Letter, Node};
+use crate::Letter;
 use directory_rules::{Effect, Request};
-use range_recovery::Report;
-use silo_address::{ActivationId, GrainId};
+use grain_table::Table;
+use hash_ring::Ring;
+use host_activations::Renewal;
+use membership_view::View;
+use range_moves::Arc;
+use range_recovery::{Recovery, Report};
+use ring_range::RingRange;
+use seal_snapshot::{Gathering, Page, Snapshot};
+use silo_address::{ActivationId, Entry, GrainId, SiloAddress};
 use std::alloc::{AllocError, Global};
+use std::collections::BTreeMap;
 
 /// What a step is to do: the letters that it sends, in order, what it did, and the change that the node has still to make.
 /// A plan has changed nothing yet, so that whoever finds no room for its letters may drop it (`docs/RULES.md#the-world`).
@@ -22,8 +30,10 @@ pub struct Plan {
 pub enum Change {
     /// Nothing.
     Nothing,
-    /// The node becomes another one: it has seen a view.
-    Becomes(Box<Node>),
+    /// A view is seen.
+    Sees(Box<Sight>),
+    /// Every outstanding request has a new number.
+    Renews(Renewal),
     /// An activation of the grain begins, in the place of a previous one if one is named, and asks to be entered.
     Starts {
         grain: GrainId,
@@ -37,14 +47,61 @@ pub enum Change {
     Serves(Request),
     /// The activation whose Register has the number is firm.
     Confirms(u64),
-    /// The activation whose Register has the number goes: another one has its grain.
-    Yields(u64),
+    /// The activation whose Register has the number goes: another one has its grain, which is learnt.
+    Yields {
+        number: u64,
+        entry: Entry,
+    },
     /// The activation whose Deregister has the number goes.
     Ends(u64),
     /// The find that has the number ends.
     EndsFind(u64),
+    /// The find that has the number ends, and what it found is learnt.
+    Learns {
+        number: u64,
+        entry: Entry,
+    },
+    /// The hint of the grain was used: it is the most recent one.
+    UsesHint(GrainId),
+    /// Just this hint is forgotten.
+    Forgets {
+        grain: GrainId,
+        activation: ActivationId,
+    },
+    /// The snapshot of that version and range for that silo goes from the shelf.
+    Discards {
+        version: u64,
+        range: RingRange,
+        to: SiloAddress,
+    },
+    /// A page is put behind those gathered for its piece.
+    Gathers(Page),
+    /// Nothing is left of what was gathered for the piece of the range.
+    GathersAnew(RingRange),
+    /// The piece of the range has its entries.
+    Installs {
+        range: RingRange,
+        entries: Table,
+    },
+    /// The piece of the recovery's range recovers from now on.
+    Recovers(Recovery),
     /// A report is counted for the piece that recovers.
     Counts(Report),
+}
+
+/// A sight, as far as it is made before its node changes: the view, and what the node has of it.
+#[derive(Drop)]
+pub struct Sight {
+    // Whether the view is the next one after that seen.
+    pub(crate) next: bool,
+    pub(crate) view: View,
+    pub(crate) ring: Ring,
+    // The arcs between the ring compared and the new one.
+    pub(crate) arcs: Vec<Arc>,
+    pub(crate) sealed: Vec<Snapshot>,
+    pub(crate) gatherings: BTreeMap<u32, Gathering>,
+    pub(crate) recoveries: BTreeMap<u32, Recovery>,
+    pub(crate) renewal: Renewal,
 }
 
 impl Plan {

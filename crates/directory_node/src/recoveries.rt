@@ -9,7 +9,7 @@ ghost use Rattle.directory_rules.specs.Recovery.{Recovery as RecoveryValue, reco
 ghost use Rattle.range_recovery.specs.Progress.{progress_of};
 ghost use Rattle.directory_rules.specs.Table.{is_before_first, lie_in, rise_by_grain};
 ghost use Rattle.directory_rules.specs.Sending.{recovery_of};
-ghost use Rattle.directory_rules.specs.Transfer.{answering, has_range, is_recovering, is_report_awaited, piece_at, queried, recovered_by, recovers, report_of, reported, with_settled};
+ghost use Rattle.directory_rules.specs.Transfer.{answer_to, answering, has_range, is_recovering, is_report_awaited, piece_at, queried, recovered_by, recovers, report_of, reported, with_settled};
 ghost use Rattle.directory_node.specs.LetterModel.{body_of};
 ghost use Rattle.directory_node.specs.Planning.{Fits, step_by};
 
@@ -44,7 +44,7 @@ impl Node {
     }
 
     // One letter back to the sender, of the letter's version.
-    fn answer(
+    pub(crate) fn answer(
         &self,
         alloc: Global,
         letter: &Letter,
@@ -54,8 +54,19 @@ impl Node {
         ensures planned { IfOk result (λ plan. step_by self.now plan ≡ answering letter.now self.now (body_of body) effect) }
         ensures fits { IfOk result (λ plan. Fits plan.change self.now) }
     {
-        let back = Letter::new(self.host.silo(), letter.from(), letter.version(), body);
-        Plan::of_one(alloc, back, effect, Change::Nothing)
+        Plan::of_one(
+            alloc,
+            self.answer_letter(letter, body),
+            effect,
+            Change::Nothing,
+        )
+    }
+
+    // A letter back to the sender, of the letter's version.
+    pub(crate) fn answer_letter(&self, letter: &Letter, body: Body) -> Letter
+        ensures { result ≡ answer_to letter.now self.now (body_of body) }
+    {
+        Letter::new(self.host.silo(), letter.from(), letter.version(), body)
     }
 
     // What is firm here, for a range.
@@ -109,17 +120,18 @@ impl Node {
         ensures unchanged { OnErr result (self.new ≡ self.old) }
     {
         if take_report(&mut self.recoveries, report)? {
-            self.settle(report.range());
+            self.settle_recovered(report.range());
         }
         Ok(())
     }
 
-    // All have reported: the piece has what was gathered, and its recovery goes.
-    fn settle(&mut self, range: RingRange)
+    // All have reported: the piece has what was gathered.
+    fn settle_recovered(&mut self, range: RingRange)
         requires recovers { IsTrue (has_range is_recovering range (piece_at self.old range)) }
         ensures { (recovery : RecoveryValue) → lookup (is_at (nat_cmp range.start)) self.old.recoveries ≡ Some recovery → self.new ≡ with_settled self.old range recovery.gathered }
     {
         if let Some(recovery) = self.recoveries.remove(&range.start()) {
+            self.gatherings.remove(&range.start());
             self.holding.install(range, recovery.into_entries());
         }
     }
@@ -151,7 +163,7 @@ impl Node {
     }
 
     // Whether the entries are all hashed into the range.
-    fn has_hashes_in(&self, range: RingRange, entries: &[Entry]) -> bool
+    pub(crate) fn has_hashes_in(&self, range: RingRange, entries: &[Entry]) -> bool
         ensures { result ≡ lie_in self.now.settings.hashing range entries.now }
     {
         let hashing = self.settings.hashing();
@@ -199,7 +211,7 @@ pub(crate) fn is_recovering(state: PieceState) -> bool
 }
 
 // Whether the entries stand in the order of their grains, each grain once.
-fn rise_by_grain(entries: &[Entry]) -> bool
+pub(crate) fn rise_by_grain(entries: &[Entry]) -> bool
     ensures { result ≡ rise_by_grain entries.now }
 {
     let mut rest = entries;
@@ -213,7 +225,7 @@ fn rise_by_grain(entries: &[Entry]) -> bool
 }
 
 // Whether the entry's grain is below that of the first one.
-fn is_before_first(entry: &Entry, entries: &[Entry]) -> bool
+pub(crate) fn is_before_first(entry: &Entry, entries: &[Entry]) -> bool
     ensures { result ≡ is_before_first entry.now entries.now }
 {
     match entries.first() {

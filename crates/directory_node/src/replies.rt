@@ -1,11 +1,11 @@
 ghost use Rattle.std.specs.Prelude.{◌≡◌};
 ghost use Rattle.directory_rules.specs.Host.{asking_under, closing_under};
 ghost use Rattle.directory_rules.specs.Reply.{confirmed_by, ended_by, found_by, not_found_by, replied, retry_by, yielded_by};
-ghost use Rattle.silo_address.specs.declared.Entry.{Entry};
 ghost use Rattle.directory_node.specs.Planning.{Fits, step_by};
 
 use crate::{Change, Node, Plan};
 use directory_rules::{Effect, Reply};
+use silo_address::Entry;
 use std::alloc::Global;
 
 impl Node {
@@ -22,10 +22,10 @@ impl Node {
         }
         match reply {
             Reply::Registered(_) => self.plan_confirm(alloc, number),
-            Reply::Taken(_) => self.plan_yield(alloc, number),
+            Reply::Taken(entry) => self.plan_yield(alloc, number, entry),
             Reply::Removed | Reply::Absent => self.plan_end(alloc, number),
-            Reply::Found(_) => self.plan_end_find(alloc, number, Effect::Learnt),
-            Reply::Nothing => self.plan_end_find(alloc, number, Effect::Noted),
+            Reply::Found(entry) => self.plan_learn(alloc, number, entry),
+            Reply::Nothing => self.plan_end_find(alloc, number),
             Reply::Retry(_) => unreachable!(),
         }
     }
@@ -41,15 +41,16 @@ impl Node {
         }
     }
 
-    // The asking activation goes; no cache learns of the one that has its grain.
-    fn plan_yield(&self, alloc: Global, number: u64) -> Plan
-        ensures planned { (entry : Entry) → step_by self.now result ≡ yielded_by (asking_under self.now.host number) entry self.now }
+    // The asking activation goes, and the entry that has its grain is learnt.
+    fn plan_yield(&self, alloc: Global, number: u64, entry: &Entry) -> Plan
+        ensures planned { step_by self.now result ≡ yielded_by (asking_under self.now.host number) entry.now self.now }
         ensures fits { Fits result.change self.now }
     {
-        match self.host.asking_under(number) {
-            Some(_) => Plan::silent(alloc, Effect::Yielded, Change::Yields(number)),
-            None => Plan::idle(alloc, Effect::Ignored),
+        if self.host.asking_under(number).is_none() {
+            return Plan::idle(alloc, Effect::Ignored);
         }
+        let entry = *entry;
+        Plan::silent(alloc, Effect::Yielded, Change::Yields { number, entry })
     }
 
     // The closing activation goes.
@@ -63,16 +64,27 @@ impl Node {
         }
     }
 
-    // The find ends; no cache learns of what it found.
-    fn plan_end_find(&self, alloc: Global, number: u64, effect: Effect) -> Plan
-        ensures found { (entry : Entry) → effect ≡ Effect.Learnt → step_by self.now result ≡ found_by number entry self.now }
-        ensures not_found { effect ≡ Effect.Noted → step_by self.now result ≡ not_found_by number self.now }
+    // The find ends, and its entry is learnt.
+    fn plan_learn(&self, alloc: Global, number: u64, entry: &Entry) -> Plan
+        ensures planned { step_by self.now result ≡ found_by number entry.now self.now }
         ensures fits { Fits result.change self.now }
     {
         if !self.host.is_finding(number) {
             return Plan::idle(alloc, Effect::Ignored);
         }
-        Plan::silent(alloc, effect, Change::EndsFind(number))
+        let entry = *entry;
+        Plan::silent(alloc, Effect::Learnt, Change::Learns { number, entry })
+    }
+
+    // The find ends with nothing.
+    fn plan_end_find(&self, alloc: Global, number: u64) -> Plan
+        ensures planned { step_by self.now result ≡ not_found_by number self.now }
+        ensures fits { Fits result.change self.now }
+    {
+        if !self.host.is_finding(number) {
+            return Plan::idle(alloc, Effect::Ignored);
+        }
+        Plan::silent(alloc, Effect::Noted, Change::EndsFind(number))
     }
 
     // The request stays outstanding.

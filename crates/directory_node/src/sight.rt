@@ -1,60 +1,38 @@
-ghost use Rattle.std.specs.Prelude.{◌≡◌, ◌&&◌, ◌==◌, ◌+◌, ◌<◌, ◌≤◌, ◌++◌, [], IfOk, OnOk, IsOk, IfSome, All, flat_map, length, true, None};
-ghost use Rattle.std.specs.BTreeMap.{insert_entry};
-ghost use Rattle.std.specs.Ordering.{nat_cmp};
+//! A sight as a plan: what it sends, and the change that it makes.
+ghost use Rattle.std.specs.Prelude.{◌≡◌, ◌&&◌, ◌==◌, ◌<◌, ◌++◌, if◌then◌else◌, IfOk, IsOk, OnOk, flat_map, length, true};
 ghost use Rattle.directory_rules.specs.Host.{has_numbers, outstanding, renewed};
-ghost use Rattle.directory_rules.specs.Sight.{is_next, pieces_after};
-ghost use Rattle.directory_rules.specs.Sending.{all_requests, all_wants, query_letters, recovery_of, request_letters};
-ghost use Rattle.directory_rules.specs.Step.{compared_points, new_recoveries, node_after, see, sight};
-ghost use Rattle.directory_rules.specs.declared.PieceState.TheVariants.{Recovering};
-ghost use Rattle.hash_ring.specs.Places.{PlacesValue};
-ghost use Rattle.hash_ring.specs.Ring.{ring_of};
+ghost use Rattle.directory_rules.specs.Node.{Node as NodeValue};
+ghost use Rattle.directory_rules.specs.Sending.{all_requests, all_wants, request_letters};
+ghost use Rattle.directory_rules.specs.Sight.{is_next, pieces_after, sealed};
+ghost use Rattle.directory_rules.specs.Step.{compared_points, having_nudged, new_gatherings, new_recoveries, nudge, see, sight};
+ghost use Rattle.directory_rules.specs.declared.Effect.TheVariants.{Next, Skip};
+ghost use Rattle.grain_partition.specs.Holding.{ArePieces};
+ghost use Rattle.grain_partition.specs.Seen.{pieces_seen};
+ghost use Rattle.hash_ring.specs.Ring.{are_added, ring_of};
+ghost use Rattle.host_activations.specs.Renewal.{renewal_of};
 ghost use Rattle.range_moves.specs.Arcs.{AreArcs, arcs_of};
 ghost use Rattle.grain_partition.specs.Sight.{AreOfRings};
-ghost use Rattle.directory_node.specs.First.{IsFirst};
 ghost use Rattle.directory_node.specs.Follows.{Follows};
 ghost use Rattle.directory_node.specs.Numbers.{step_refusal_number};
-ghost use Rattle.directory_node.specs.Planning.{Fits, step_by, stepped_of};
+ghost use Rattle.directory_node.specs.Placed.{ArePlaced};
+ghost use Rattle.directory_node.specs.Planning.{Fits, FitsSight, seen_by, step_by};
+ghost use Rattle.directory_node.specs.Sender.{ahead, wants_of};
 
-use crate::recoveries::is_recovering;
-use crate::step::Stepped;
-use crate::{Body, Change, Letter, Node, Plan, StepRefusal};
+use crate::beginning::{new_gatherings, new_recoveries};
+use crate::sending::Sender;
+use crate::{Change, Letter, Node, Plan, Sight, StepRefusal};
 use directory_rules::{Act, Effect};
-use grain_partition::Holding;
-use hash_ring::{Hashing, Places, Ring};
-use host_activations::Host;
+use grain_partition::Piece;
+use hash_ring::{Places, Ring, RingError};
+use host_activations::Renewal;
 use membership_view::View;
 use range_moves::{Arc, arcs};
-use range_recovery::Recovery;
-use ring_range::RingRange;
-use silo_address::SiloAddress;
+use seal_snapshot::Snapshot;
 use std::alloc::{AllocError, Global};
 use std::collections::BTreeMap;
 
 impl Node {
-    // A version is seen: the new node, made beside this one.
-    pub(crate) fn see(
-        &self,
-        alloc: Global,
-        before: &View,
-        view: &View,
-        places: &Places,
-    ) -> Result<Stepped, StepRefusal>
-        requires first { IsFirst self.now before.now view.now places.now }
-        ensures { Follows stepped_of step_refusal_number IsOk (see self.now before.now view.now places.now) result }
-    {
-        if self.view.version() >= view.version() {
-            return Err(StepRefusal::NotNewer);
-        }
-        if !self.can_renew() {
-            return Err(StepRefusal::NumbersSpent);
-        }
-        match self.sight(alloc, before, view, places) {
-            Ok(stepped) => Ok(stepped),
-            Err(_) => Err(StepRefusal::OutOfMemory),
-        }
-    }
-
-    // A version is seen, as a plan.
+    // A version is seen: 903, 805.
     pub(crate) fn plan_sight(
         &self,
         alloc: Global,
@@ -62,17 +40,18 @@ impl Node {
         view: &View,
         places: &Places,
     ) -> Result<Plan, StepRefusal>
-        requires first { IsFirst self.now before.now view.now places.now }
+        requires placed { ArePlaced before.now view.now places.now }
         ensures planned { Follows (step_by self.now) step_refusal_number IsOk (see self.now before.now view.now places.now) result }
         ensures fits { IfOk result (λ plan. Fits plan.change self.now) }
     {
-        let stepped = self.see(alloc, before, view, places)?;
-        match Box::new(alloc, stepped.node) {
-            Ok(node) => Ok(Plan {
-                letters: stepped.letters,
-                effect: stepped.effect,
-                change: Change::Becomes(node),
-            }),
+        if self.view.version() >= view.version() {
+            return Err(StepRefusal::NotNewer);
+        }
+        if !self.can_renew() {
+            return Err(StepRefusal::NumbersSpent);
+        }
+        match self.plan_newer(alloc, before, view, places) {
+            Ok(plan) => Ok(plan),
             Err(_) => Err(StepRefusal::OutOfMemory),
         }
     }
@@ -86,30 +65,27 @@ impl Node {
     }
 
     // The sight of a newer version.
-    fn sight(
+    fn plan_newer(
         &self,
         alloc: Global,
         before: &View,
         view: &View,
         places: &Places,
-    ) -> Result<Stepped, AllocError>
-        requires first { IsFirst self.now before.now view.now places.now }
+    ) -> Result<Plan, AllocError>
+        requires placed { ArePlaced before.now view.now places.now }
         requires newer { self.now.view.version < view.now.version }
         requires numbers { has_numbers self.now.settings self.now.host (length (outstanding self.now.host)) ≡ true }
-        ensures { IfOk result (λ stepped. stepped_of stepped ≡ sight (is_next self.now.view before.now view.now self.now.host.silo) self.now before.now view.now places.now) }
+        ensures planned { IfOk result (λ plan. step_by self.now plan ≡ sight (is_next self.now.view before.now view.now self.now.host.silo) self.now before.now view.now places.now) }
+        ensures fits { IfOk result (λ plan. Fits plan.change self.now) }
     {
-        self.whole();
         let next = self.is_next(before, view);
         let ring = ring_of(alloc, view, places)?;
         let arcs = self.compared(alloc, next, before, places, &ring)?;
-        let node = self.after_sight(alloc, next, view, ring, &arcs)?;
-        let letters = node.wants_and_requests(alloc)?;
-        let effect = if next { Effect::Next } else { Effect::Skip };
-        Ok(Stepped {
-            node,
-            letters,
-            effect,
-        })
+        let pieces = self.pieces_seen(alloc, next, view, &arcs)?;
+        let sight = self.sight(alloc, next, view, ring, arcs, &pieces)?;
+        let letters = self.letters_after(alloc, &sight, &pieces)?;
+        let plan = plan_of(alloc, letters, seen_effect(next), sight)?;
+        Ok(plan)
     }
 
     // Whether the view is the next one after that seen, or the one in which the silo joined.
@@ -133,6 +109,7 @@ impl Node {
         places: &Places,
         ring: &Ring,
     ) -> Result<Vec<Arc>, AllocError>
+        requires { are_added before.now places.now ≡ true }
         ensures exact { IfOk result (λ arcs. arcs.items ≡ arcs_of (compared_points next self.now before.now places.now) ring.now.points) }
         ensures whole { IfOk result (λ arcs. AreArcs (compared_points next self.now before.now places.now) ring.now.points arcs.items) }
     {
@@ -143,180 +120,207 @@ impl Node {
         arcs(alloc, &self.ring, ring)
     }
 
-    // The node after the sight, by the arcs between the two rings.
-    fn after_sight(
+    // The pieces that it will have, without their entries.
+    fn pieces_seen(
+        &self,
+        alloc: Global,
+        next: bool,
+        view: &View,
+        arcs: &[Arc],
+    ) -> Result<BTreeMap<u32, Piece>, AllocError>
+        requires { AreOfRings arcs.now }
+        ensures exact { IfOk result (λ seen. seen.entries ≡ pieces_seen next self.now.settings.hashing view.now self.now.host.silo self.now.holding.pieces arcs.now) }
+        ensures pieces { IfOk result (λ seen. ArePieces seen.entries) }
+    {
+        let silo = self.host.silo();
+        let hashing = self.settings.hashing();
+        let pieces = self
+            .holding
+            .pieces_seen(alloc, next, hashing, view, &silo, arcs)?;
+        Ok(pieces)
+    }
+
+    // What the node has of the view, by the arcs and the pieces that it will have.
+    fn sight(
         &self,
         alloc: Global,
         next: bool,
         view: &View,
         ring: Ring,
-        arcs: &[Arc],
-    ) -> Result<Node, AllocError>
-        requires nothing { self.now.holding.pieces ≡ [] }
+        arcs: Vec<Arc>,
+        pieces: &BTreeMap<u32, Piece>,
+    ) -> Result<Sight, AllocError>
+        requires newer { self.now.view.version < view.now.version }
         requires numbers { has_numbers self.now.settings self.now.host (length (outstanding self.now.host)) ≡ true }
-        requires newer { 0 < view.now.version }
-        requires ring { (places : PlacesValue) × (ring ≡ ring_of view.now places) }
-        requires arcs { AreArcs [] ring.points arcs.now }
-        requires first { All (λ arc. arc.from ≡ None) arcs.now }
-        ensures made { IfOk result (λ node. (places : PlacesValue) → ring ≡ ring_of view.now places → node ≡ node_after next self.now view.now places arcs.now) }
-        ensures recovering { IfOk result (λ node. All (λ e. e.1.state ≡ Recovering) node.holding.pieces) }
+        requires arcs { AreOfRings arcs.items }
+        requires pieces { ArePieces pieces.now.entries }
+        requires seen { pieces.now.entries ≡ pieces_seen next self.now.settings.hashing view.now self.now.host.silo self.now.holding.pieces arcs.items }
+        ensures fits { IfOk result (λ sight. FitsSight sight self.now) }
+        ensures next { IfOk result (λ sight. sight.next ≡ next) }
+        ensures view { IfOk result (λ sight. sight.view ≡ view.now) }
+        ensures ring { IfOk result (λ sight. sight.ring ≡ ring) }
+        ensures arcs { IfOk result (λ sight. sight.arcs ≡ arcs) }
     {
-        let silo = self.host.silo();
-        let hashing = self.settings.hashing();
-        let holding = holding_after(alloc, &self.holding, next, hashing, view, &silo, arcs)?;
-        holding.whole();
-        let recoveries = new_recoveries(alloc, hashing, view, &holding)?;
-        let host = self.renewed_host()?;
-        let view = view.copy()?;
-        Ok(Node {
-            settings: self.settings,
-            view,
+        let sealed = self.sealed(alloc, next, view, &arcs)?;
+        let gatherings = new_gatherings(alloc, view, pieces)?;
+        let recoveries = new_recoveries(alloc, self.settings.hashing(), view, pieces)?;
+        let renewal = self.renewal(alloc)?;
+        let seen = view.copy()?;
+        Ok(Sight {
+            next,
+            view: seen,
             ring,
-            holding,
+            arcs,
+            sealed,
+            gatherings,
             recoveries,
-            host,
+            renewal,
         })
     }
 
-    // The host, each outstanding request under a new number.
-    fn renewed_host(&self) -> Result<Host, AllocError>
-        requires { has_numbers self.now.settings self.now.host (length (outstanding self.now.host)) ≡ true }
-        ensures { IfOk result (λ host. host ≡ renewed self.now.host) }
-    {
-        self.settings.in_range();
-        let mut host = self.host.copy()?;
-        host.renew()?;
-        Ok(host)
-    }
-
-    // What the pieces want, and then the outstanding requests.
-    fn wants_and_requests(&self, alloc: Global) -> Result<Vec<Letter>, AllocError>
-        requires { All (λ e. e.1.state ≡ Recovering) self.now.holding.pieces }
-        ensures { IfOk result (λ letters. letters.items ≡ all_wants self.now ++ all_requests self.now) }
-    {
-        let mut letters = Vec::new(alloc);
-        self.send_wants(alloc, &mut letters)?;
-        let requests = self.host.requests(alloc)?;
-        self.send_requests(&mut letters, &requests)?;
-        Ok(letters)
-    }
-
-    // What the pieces want: a query for each that recovers.
-    fn send_wants(&self, alloc: Global, letters: &mut Vec<Letter>) -> Result<(), AllocError>
-        requires { All (λ e. e.1.state ≡ Recovering) self.now.holding.pieces }
-        ensures { OnOk result (letters.new.items ≡ letters.old.items ++ all_wants self.now) }
-    {
-        for (_, piece) in self.holding.pieces() {
-            self.send_queries(alloc, letters, piece.range())?;
-        }
-        Ok(())
-    }
-
-    // The letters of requests, each under its number.
-    fn send_requests(
-        &self,
-        letters: &mut Vec<Letter>,
-        requests: &[(u64, Act)],
-    ) -> Result<(), AllocError>
-        ensures { OnOk result (letters.new.items ≡ letters.old.items ++ flat_map (λ e. request_letters self.now e.0 e.1) requests.now) }
-    {
-        let mut rest = requests;
-        while let Some((request, behind)) = rest.split_first() {
-            self.send_request(letters, request.0, request.1)?;
-            rest = behind;
-        }
-        Ok(())
-    }
-
-    // A query to each silo whose report for the piece is missing.
-    fn send_queries(
+    // What a sight of the next version seals.
+    fn sealed(
         &self,
         alloc: Global,
-        letters: &mut Vec<Letter>,
-        range: RingRange,
-    ) -> Result<(), AllocError>
-        ensures { OnOk result (letters.new.items ≡ letters.old.items ++ query_letters self.now range) }
+        next: bool,
+        view: &View,
+        arcs: &[Arc],
+    ) -> Result<Vec<Snapshot>, AllocError>
+        ensures { IfOk result (λ snapshots. next ≡ true → snapshots.items ≡ sealed self.now.settings.hashing view.now self.now.host.silo self.now.holding.pieces arcs.now) }
     {
-        let awaiting = self.awaited(alloc, range)?;
-        for silo in &awaiting {
-            letters.push(self.letter_to(*silo, Body::Query(range)))?;
+        if !next {
+            return Ok(Vec::new(alloc));
+        }
+        let silo = self.host.silo();
+        self.holding
+            .seal(alloc, self.settings.hashing(), view, &silo, arcs)
+    }
+
+    // A new number for every outstanding request.
+    fn renewal(&self, alloc: Global) -> Result<Renewal, AllocError>
+        requires { has_numbers self.now.settings self.now.host (length (outstanding self.now.host)) ≡ true }
+        ensures { IfOk result (λ renewal. renewal ≡ renewal_of self.now.host) }
+    {
+        self.settings.in_range();
+        self.host.renewal(alloc)
+    }
+
+    // The outstanding requests under their new numbers.
+    fn renewed_requests(
+        &self,
+        alloc: Global,
+        renewal: &Renewal,
+    ) -> Result<Vec<(u64, Act)>, AllocError>
+        requires { renewal.now ≡ renewal_of self.now.host }
+        ensures { IfOk result (λ requests. requests.items ≡ outstanding (renewed self.now.host)) }
+    {
+        self.host.renewed_requests(alloc, renewal)
+    }
+
+    // What the pieces will want, and then the outstanding requests.
+    fn letters_after(
+        &self,
+        alloc: Global,
+        sight: &Sight,
+        pieces: &BTreeMap<u32, Piece>,
+    ) -> Result<Vec<Letter>, AllocError>
+        requires { sight.now.renewal ≡ renewal_of self.now.host }
+        ensures { IfOk result (λ letters. letters.items ≡ wants_of (ahead sight.now self.now) pieces.now.entries ++ flat_map (λ e. request_letters (ahead sight.now self.now) e.0 e.1) (outstanding (renewed self.now.host))) }
+    {
+        let sender = Sender {
+            node: self,
+            view: &sight.view,
+            ring: &sight.ring,
+            gatherings: &sight.gatherings,
+            recoveries: &sight.recoveries,
+        };
+        let mut letters = Vec::new(alloc);
+        sender.send_wants(alloc, &mut letters, pieces)?;
+        let requests = self.renewed_requests(alloc, &sight.renewal)?;
+        sender.send_requests(&mut letters, &requests)?;
+        Ok(letters)
+    }
+}
+
+// A nudge.
+impl Node {
+    // All that is outstanding is sent again under new numbers: 805.
+    pub(crate) fn plan_nudge(&self, alloc: Global) -> Result<Plan, StepRefusal>
+        ensures planned { Follows (step_by self.now) step_refusal_number IsOk (nudge self.now) result }
+        ensures fits { IfOk result (λ plan. Fits plan.change self.now) }
+    {
+        if !self.can_renew() {
+            return Err(StepRefusal::NumbersSpent);
+        }
+        match self.plan_again(alloc) {
+            Ok(plan) => Ok(plan),
+            Err(_) => Err(StepRefusal::OutOfMemory),
+        }
+    }
+
+    // The outstanding requests under new numbers, and then what the pieces want.
+    fn plan_again(&self, alloc: Global) -> Result<Plan, AllocError>
+        requires numbers { has_numbers self.now.settings self.now.host (length (outstanding self.now.host)) ≡ true }
+        ensures planned { IfOk result (λ plan. step_by self.now plan ≡ having_nudged (record self.now { host = renewed self.now.host })) }
+        ensures fits { IfOk result (λ plan. Fits plan.change self.now) }
+    {
+        let renewal = self.renewal(alloc)?;
+        let requests = self.renewed_requests(alloc, &renewal)?;
+        let mut letters = Vec::new(alloc);
+        self.sender().send_requests(&mut letters, &requests)?;
+        self.send_wants(alloc, &mut letters)?;
+        Ok(Plan {
+            letters,
+            effect: Effect::Nudged,
+            change: Change::Renews(renewal),
+        })
+    }
+
+    // What the pieces want.
+    fn send_wants(&self, alloc: Global, letters: &mut Vec<Letter>) -> Result<(), AllocError>
+        ensures { OnOk result (letters.new.items ≡ letters.old.items ++ all_wants self.now) }
+    {
+        let sender = self.sender();
+        for (_, piece) in self.holding.pieces() {
+            sender.send_wanted(alloc, letters, piece)?;
         }
         Ok(())
     }
-
-    // The silos whose report for the piece is missing.
-    fn awaited(&self, alloc: Global, range: RingRange) -> Result<Vec<SiloAddress>, AllocError>
-        ensures { IfOk result (λ silos. silos.items ≡ (recovery_of self.now range).awaiting) }
-    {
-        match self.recoveries.get(&range.start()) {
-            Some(recovery) => recovery.awaiting(alloc),
-            None => {
-                let hashing = self.settings.hashing();
-                Recovery::new(alloc, hashing, &self.view, range)?.awaiting(alloc)
-            }
-        }
-    }
 }
 
-// The holding after the sight, made beside this one. A first sight finds no pieces, so that none are copied.
-fn holding_after(
+// The sight as a plan.
+fn plan_of(
     alloc: Global,
-    holding: &Holding,
-    next: bool,
-    hashing: Hashing,
-    view: &View,
-    silo: &SiloAddress,
-    arcs: &[Arc],
-) -> Result<Holding, AllocError>
-    requires { AreOfRings arcs.now }
-    ensures { IfOk result (λ after. after ≡ record { seen = view.now.version; served = []; pieces = pieces_after next hashing view.now silo.now holding.now.pieces arcs.now }) }
+    letters: Vec<Letter>,
+    effect: Effect,
+    sight: Sight,
+) -> Result<Plan, AllocError>
+    ensures planned { IfOk result (λ plan. (node : NodeValue) → step_by node plan ≡ record { node = seen_by sight node; letters = letters.items; effect = effect }) }
+    ensures fits { IfOk result (λ plan. (node : NodeValue) → FitsSight sight node → Fits plan.change node) }
 {
-    let mut after = holding.copy()?;
-    after.sight(alloc, next, hashing, view, silo, arcs)?;
-    Ok(after)
+    let sight = Box::new(alloc, sight)?;
+    Ok(Plan {
+        letters,
+        effect,
+        change: Change::Sees(sight),
+    })
 }
 
-// The recoveries of the pieces that recover.
-fn new_recoveries(
-    alloc: Global,
-    hashing: Hashing,
-    view: &View,
-    holding: &Holding,
-) -> Result<BTreeMap<u32, Recovery>, AllocError>
-    ensures { IfOk result (λ recoveries. recoveries.entries ≡ new_recoveries view.now holding.now.pieces) }
+// What a sight tells.
+fn seen_effect(next: bool) -> Effect
+    ensures { result ≡ (if next then Next else Skip) }
 {
-    holding.whole();
-    let mut recoveries = BTreeMap::new(alloc);
-    for (start, piece) in holding.pieces() {
-        if is_recovering(piece.state()) {
-            put(
-                &mut recoveries,
-                *start,
-                Recovery::new(alloc, hashing, view, piece.range())?,
-            )?;
-        }
-    }
-    Ok(recoveries)
-}
-
-// The recovery stands under the start.
-fn put(
-    recoveries: &mut BTreeMap<u32, Recovery>,
-    start: u32,
-    recovery: Recovery,
-) -> Result<(), AllocError>
-    ensures { OnOk result (recoveries.new.entries ≡ insert_entry nat_cmp recoveries.old.entries start recovery) }
-{
-    recoveries.insert(start, recovery)?;
-    Ok(())
+    if next { Effect::Next } else { Effect::Skip }
 }
 
 // The ring of a view.
 fn ring_of(alloc: Global, view: &View, places: &Places) -> Result<Ring, AllocError>
+    requires { are_added view.now places.now ≡ true }
     ensures { IfOk result (λ ring. ring ≡ ring_of view.now places.now) }
 {
     match Ring::anew(alloc, view, places) {
         Ok(ring) => Ok(ring),
+        Err(RingError::PointsMissing) => unreachable!(),
         Err(_) => Err(AllocError),
     }
 }

@@ -1,7 +1,8 @@
-ghost use Rattle.std.specs.Prelude.{◌≡◌, IfOk, IsOk, OnErr, length};
+ghost use Rattle.std.specs.Prelude.{◌≡◌, IfOk, IsOk, OnErr, filter, length, not};
 ghost use Rattle.directory_rules.specs.Input.{step};
+ghost use Rattle.directory_rules.specs.Membership.{is_dead_status, members_of};
 ghost use Rattle.directory_rules.specs.Receive.{received};
-ghost use Rattle.directory_node.specs.First.{IsFirstSight};
+ghost use Rattle.directory_node.specs.Placed.{IsPlaced};
 ghost use Rattle.directory_node.specs.InputModel.{input_of};
 ghost use Rattle.directory_node.specs.Follows.{Follows};
 ghost use Rattle.directory_node.specs.Numbers.{step_refusal_number};
@@ -9,6 +10,8 @@ ghost use Rattle.directory_node.specs.Planning.{Excuses, Fits, answer_count, ste
 
 use crate::{Body, Input, Letter, Node, Plan, StepRefusal};
 use directory_rules::Effect;
+use membership_view::{Status, View};
+use silo_address::SiloAddress;
 use std::alloc::{AllocError, Global};
 
 /// What a step makes: the new node, the letters that it sends, in order, and what it did.
@@ -21,9 +24,10 @@ pub struct Stepped {
 
 impl Node {
     /// The silo's step with an input, which leaves this node as it is. Refused as the rule says of each input
-    /// (`docs/RULES.md#the-world`). Costs a copy of the node: whoever has the node to change plans the step and carries it out.
+    /// (`docs/RULES.md#the-world`). A sight asks that the places are known of all who are Active in the view, or in the one before.
+    /// Costs a copy of the node: whoever has the node to change plans the step and carries it out.
     pub fn step(&self, alloc: Global, input: &Input<'_>) -> Result<Stepped, StepRefusal>
-        requires first { IsFirstSight self.now (input_of input.now) }
+        requires placed { IsPlaced (input_of input.now) }
         ensures { Follows stepped_of step_refusal_number IsOk (step self.now (input_of input.now)) result }
     {
         let plan = self.plan(alloc, input)?;
@@ -49,10 +53,10 @@ impl Node {
 
     /// The silo's step with an input, as a plan: what it sends and does, and the change that `carry_out` then makes. Refused
     /// as the rule says of each input (`docs/RULES.md#the-world`). Out of memory comes only at an input that isn't refused:
-    /// where one letter is sent, at a report that counts, and at a sight.
+    /// where letters are sent, at a report that counts, and at a sight.
     pub fn plan(&self, alloc: Global, input: &Input<'_>) -> Result<Plan, StepRefusal>
-        requires first { IsFirstSight self.now (input_of input.now) }
-        ensures planned { Follows (step_by self.now) step_refusal_number (Excuses (input_of input.now)) (step self.now (input_of input.now)) result }
+        requires placed { IsPlaced (input_of input.now) }
+        ensures planned { Follows (step_by self.now) step_refusal_number (Excuses self.now (input_of input.now)) (step self.now (input_of input.now)) result }
         ensures fits { IfOk result (λ plan. Fits plan.change self.now) }
     {
         match input {
@@ -65,6 +69,7 @@ impl Node {
             Input::Closes(grain) => self.plan_close(alloc, grain),
             Input::Finds(grain) => self.plan_find(alloc, grain),
             Input::Forgets(grain) => Ok(self.plan_forget(alloc, grain)),
+            Input::Nudges => self.plan_nudge(alloc),
             Input::Offers { grain, to } => self.plan_offer(alloc, grain, to),
             Input::Receives(letter) => match self.plan_letter(alloc, letter) {
                 Ok(plan) => Ok(plan),
@@ -77,17 +82,65 @@ impl Node {
     fn plan_letter(&self, alloc: Global, letter: &Letter) -> Result<Plan, AllocError>
         ensures planned { IfOk result (λ plan. step_by self.now plan ≡ received self.now letter.now) }
         ensures fits { IfOk result (λ plan. Fits plan.change self.now) }
-        ensures answers { OnErr result (length (received self.now letter.now).letters ≡ answer_count letter.now.body) }
+        ensures answers { OnErr result (length (received self.now letter.now).letters ≡ answer_count self.now letter.now.body) }
     {
         match letter.body() {
             Body::Request(request) => self.plan_request(alloc, letter, request),
             Body::Reply { number, reply } => {
                 Ok(self.plan_reply(alloc, letter.version(), *number, reply))
             }
+            Body::Ask { range, page } => self.plan_ask(alloc, letter, *range, *page),
+            Body::Page(page) => self.plan_page(alloc, letter, page),
+            Body::Missing(range) => self.plan_missing(alloc, letter, *range),
+            Body::Done(range) => Ok(self.plan_done(alloc, letter, *range)),
             Body::Query(range) => self.plan_query(alloc, letter, *range),
             Body::Report(report) => self.plan_report(alloc, letter, report),
             Body::Behind(_) | Body::Ahead(_) => Ok(Plan::idle(alloc, Effect::Noted)),
             Body::Offer(entry) => self.plan_offered(alloc, letter, entry),
         }
+    }
+
+    /// How many letters the node sends by this letter, where it needs memory for it: a report is answered by none, and where a
+    /// snapshot is missing all silos are asked.
+    pub fn answer_count(&self, letter: &Letter) -> usize
+        ensures { result ≡ answer_count self.now letter.now.body }
+    {
+        match letter.body() {
+            Body::Report(_) => 0,
+            Body::Missing(_) => member_count(&self.view),
+            Body::Request(_)
+            | Body::Reply { .. }
+            | Body::Ask { .. }
+            | Body::Page(_)
+            | Body::Done(_)
+            | Body::Query(_)
+            | Body::Behind(_)
+            | Body::Ahead(_)
+            | Body::Offer(_) => 1,
+        }
+    }
+}
+
+// How many silos of the view aren't Dead there.
+fn member_count(view: &View) -> usize
+    ensures { result ≡ length (members_of view.now) }
+{
+    living_count(view.rows())
+}
+
+// How many of the rows aren't Dead.
+fn living_count(rows: &[(SiloAddress, Status)]) -> usize
+    ensures { result ≡ length (filter (λ row. not (is_dead_status row.1)) rows.now) }
+{
+    rows.iter().filter(|row| !is_dead(row.1)).count()
+}
+
+// Whether a status is Dead.
+fn is_dead(status: Status) -> bool
+    ensures { result ≡ is_dead_status status }
+{
+    match status {
+        Status::Dead => true,
+        Status::Active | Status::Leaving => false,
     }
 }

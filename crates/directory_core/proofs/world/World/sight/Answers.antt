@@ -1,9 +1,9 @@
 use Rattle.directory_core.specs.WorldModel.{world_of}
-use Rattle.directory_core.proofs.FirstSight.{first_sight_of}
+use Rattle.directory_core.proofs.PlacedSight.{placed_sight}
 use Rattle.directory_core.proofs.world.World.sight.Goals as goal
 
 pub plan-requires : goal.plan-requires
 plan-requires c = record {
-  first = first_sight_of (world_of c.self.inside) c.args.self.now c.self.view_is c.args.node.now c.args.version c.in_ok-before.before c.in_ok-view.view
-      c.self.invariant c.requires.newer c.requires.made c.in_ok-before.ensures.exact c.in_ok-view.ensures.exact;
+  placed = placed_sight (world_of c.self.inside) c.args.self.now c.self.view_is c.args.version c.in_ok-before.before c.in_ok-view.view
+      c.self.invariant c.in_ok-before.ensures.exact c.in_ok-view.ensures.exact;
 }

@@ -30,8 +30,8 @@ returns-then-branch-clause-made c =
     let new = c.take_report.new.recoveries.entries in
     let piece = recovers_in node _ report.range c.self.view_is c.requires.recovers in
     let takes = subst (λ b. Takes node report new b) c.if-branch.true (takes_by node report new c.in_ok-take_report.field-0 c.in_ok-take_report.ensures.complete c.in_ok-take_report.ensures.taken) in
-    let settles = subst (λ (range : Range). (r : Recovery) → lookup (is_at (nat_cmp range.start)) new ≡ Some r → c.settle.new.self ≡ with_settled (record node { recoveries = new }) range r.gathered) c.range.ensures c.settle.ensures in
-    left_by_union node c.settle.new.self report new c.self.invariant piece takes settles
+    let settles = subst (λ (range : Range). (r : Recovery) → lookup (is_at (nat_cmp range.start)) new ≡ Some r → c.settle_recovered.new.self ≡ with_settled (record node { recoveries = new }) range r.gathered) c.range.ensures c.settle_recovered.ensures in
+    left_by_union node c.settle_recovered.new.self report new c.self.invariant piece takes settles
     ∙ ap (λ (n : Node). (counted n report).node) c.self.view_is
 
 pub returns-else-branch-clause-made : goal.returns-else-branch-clause-made

@@ -1,8 +1,63 @@
-use Rattle.std.proofs.Common.{rules}
+use Rattle.std.proofs.Common.{◌≡◌, ◌≤◌, ◌+◌, length, sym, ap, subst, ◌∙◌, [], true}
+use Rattle.directory_rules.specs.Host.{has_numbers, outstanding}
+use Rattle.directory_rules.specs.Node.{Node}
+use Rattle.directory_rules.specs.Piece.{Holding}
+use Rattle.directory_rules.specs.Sight.{pieces_after}
+use Rattle.grain_partition.specs.Holding.{ArePieces}
+use Rattle.host_activations.specs.Renewal.{renewal_of}
+use Rattle.directory_node.specs.Node.{IsNode}
+use Rattle.directory_node.specs.NodeModel.{node_of}
+use Rattle.directory_node.specs.Planning.{FitsSight, pieces_by, seen_by}
+use Rattle.directory_node.proofs.Numbers.{numbers_fit}
+use Rattle.directory_node.proofs.AfterSight.{behind, seen_keeps}
 use Rattle.directory_node.proofs.node.Node.see.Goals as goal
 
-pub returns-in-Ok : goal.returns-in-Ok
-returns-in-Ok c = search rules
+pub see_on_shelf-requires-clause-behind : goal.see_on_shelf-requires-clause-behind
+see_on_shelf-requires-clause-behind c =
+    behind (node_of c.self.inside) c.args.sight (subst (λ (n : Node). FitsSight c.args.sight n) (sym c.self.view_is) c.requires.fits) c.self.invariant c.sealed_comes_behind.ensures c.in_order.ensures
 
-pub returns-in-Err : goal.returns-in-Err
-returns-in-Err c = search rules
+pub renew-requires-clause-own : goal.renew-requires-clause-own
+renew-requires-clause-own c = c.requires.fits.renewal.own ∙ ap (λ (n : Node). renewal_of n.host) (sym c.self.view_is)
+
+pub renew-requires-clause-numbers : goal.renew-requires-clause-numbers
+renew-requires-clause-numbers c =
+    let inside = c.self.inside in
+    numbers_fit inside.settings inside.host (length (outstanding inside.host)) c.in_range.ensures
+    (ap (λ (n : Node). has_numbers n.settings n.host (length (outstanding n.host))) c.self.view_is ∙ c.requires.fits.renewal.numbers)
+
+pub invariant_of-self-2 : goal.invariant_of-self-2
+invariant_of-self-2 c =
+    let node = node_of c.self.inside in
+    let sight = c.args.sight in
+    let fits = subst (λ (n : Node). FitsSight sight n) (sym c.self.view_is) c.requires.fits in
+    let holding : c.sight.new.self ≡ (seen_by sight node).holding = c.in_ok-sight.ensures.seen
+    ∙ (λ i. record { seen = sight.view.version; served = []; pieces = pieces_after sight.next (c.hashing-hashing.ensures i) sight.view (c.silo-silo.ensures i) node.holding.pieces (c.deref-2.ensures.value i) }) in
+    subst (λ (n : Node). IsNode n) (λ i. record node {
+      view = sight.view;
+      ring = sight.ring;
+      holding = sym holding i;
+      shelf = sym c.see_on_shelf.ensures i;
+      gatherings = sight.gatherings.entries;
+      recoveries = sight.recoveries.entries;
+      host = sym c.renew.ensures i;
+      cache = sym c.see_in_cache.ensures i;
+    })
+    (seen_keeps node sight fits c.self.invariant (subst (λ (h : Holding). ArePieces h.pieces) holding c.whole.ensures))
+
+pub returns-clause-made : goal.returns-clause-made
+returns-clause-made c =
+    let node = node_of c.self.inside in
+    let sight = c.args.sight in
+    let holding : c.sight.new.self ≡ (seen_by sight node).holding = c.in_ok-sight.ensures.seen
+    ∙ (λ i. record { seen = sight.view.version; served = []; pieces = pieces_after sight.next (c.hashing-hashing.ensures i) sight.view (c.silo-silo.ensures i) node.holding.pieces (c.deref-2.ensures.value i) }) in
+    (λ i. record node {
+      view = sight.view;
+      ring = sight.ring;
+      holding = holding i;
+      shelf = c.see_on_shelf.ensures i;
+      gatherings = sight.gatherings.entries;
+      recoveries = sight.recoveries.entries;
+      host = c.renew.ensures i;
+      cache = c.see_in_cache.ensures i;
+    })
+    ∙ ap (λ (n : Node). seen_by sight n) c.self.view_is

@@ -1,14 +1,19 @@
-use Rattle.std.proofs.Common.{sym, subst, ap, ◌∙◌, ◌++◌}
-use Rattle.ring_range.specs.Range.{Range}
-use Rattle.directory_rules.specs.Sending.{query_letters}
-use Rattle.directory_node.proofs.Wants.{WantsLeft, wants_one_less}
+use Rattle.std.proofs.Common.{sym, ap, ◌∙◌, ◌++◌, append_assoc, append-nil}
+use Rattle.directory_rules.specs.Node.{Node}
+use Rattle.directory_rules.specs.Sending.{wants_by}
+use Rattle.directory_node.specs.Sender.{wants_of}
 use Rattle.directory_node.proofs.node.Node.send_wants.Goals as goal
 
 pub loop-piece-preserved : goal.loop-piece-preserved
 loop-piece-preserved c =
     let node = c.args.self.now in
-    let first = c.args.letters.now.items in
     let sent = c.loop-piece.letters.items in
-    let left = subst (λ l. WantsLeft node first l sent) c.in-Some.ensures.steps c.loop-piece.invariant in
-    subst (λ l. WantsLeft node first c.next.new.self l) (sym (c.in_ok-send_queries.ensures ∙ ap (λ (r : Range). sent ++ query_letters node r) c.range.ensures))
-    (wants_one_less node first (c.in-Some.field-0-0.now, c.in-Some.piece.now) c.next.new.self sent left)
+    let piece = c.in-Some.piece.now in
+    ap (λ l. l ++ wants_of node c.next.new.self) (c.in_ok-send_wanted.ensures ∙ ap (λ (n : Node). sent ++ wants_by piece.state n piece.range) c.sender-sender.ensures)
+    ∙ append_assoc sent (wants_by piece.state node piece.range) (wants_of node c.next.new.self)
+    ∙ ap (λ l. sent ++ wants_of node l) (sym c.in-Some.ensures.steps) ∙ c.loop-piece.invariant
+
+pub returns : goal.returns
+returns c =
+    let sent = c.loop-piece.letters.items in
+    sym (append-nil sent) ∙ ap (λ l. sent ++ wants_of c.args.self.now l) (sym c.in-None.ensures.steps.0) ∙ c.loop-piece.invariant

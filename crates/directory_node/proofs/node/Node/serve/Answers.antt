@@ -8,7 +8,10 @@ pub invariant_of-self-2 : goal.invariant_of-self-2
 invariant_of-self-2 c =
     let is = ap (λ (a : Answered). a.holding.pieces) c.in_ok-serve.ensures.served in
     record {
-      uncached = c.self.invariant.uncached;
+      cached = c.self.invariant.cached;
+      shelved = c.self.invariant.shelved;
+      rising = c.self.invariant.rising;
+      unshelved = c.self.invariant.unshelved;
       recovers = subst (λ pieces. HaveRecoveries pieces c.self.inside.recoveries.entries) is (answered_keeps c.self.inside.holding c.args.request.now c.self.inside.recoveries.entries c.self.invariant.recovers);
       unseen = λ none. sym is ∙ answered_none c.self.inside.holding c.args.request.now (c.self.invariant.unseen none);
       bare = c.self.invariant.bare;

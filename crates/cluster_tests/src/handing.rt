@@ -1,0 +1,350 @@
+//! A range is handed over between two nodes that exchange letters by hand.
+ghost use Rattle.directory_node.specs.InputModel.{input_of};
+ghost use Rattle.directory_node.specs.Placed.{IsPlaced};
+
+use directory_node::{Body, Input, Letter, Node};
+use directory_rules::{Effect, Settings};
+use hash_ring::{Hashing, Places};
+use membership_view::Views;
+use range_recovery::Report;
+use ring_range::RingRange;
+use seal_snapshot::Page;
+use silo_address::{ActivationId, Entry, GrainId, SiloAddress};
+use std::alloc::Global;
+use std::process::Abort;
+
+// The first silo has what comes after 10, the second one what comes after 2,000,000,000.
+fn first(rt: &impl Abort) -> SiloAddress {
+    SiloAddress::parse(b"10.0.0.1:1000@1").expect(rt, "a silo")
+}
+
+fn second(rt: &impl Abort) -> SiloAddress {
+    SiloAddress::parse(b"10.0.0.2:1000@1").expect(rt, "a silo")
+}
+
+// A grain of the range that the second silo takes over.
+fn moved(rt: &impl Abort) -> GrainId {
+    GrainId::parse(b"user/ann#3000000000").expect(rt, "a grain")
+}
+
+fn joined(rt: &impl Abort, alloc: Global, silo: SiloAddress) -> Node {
+    let settings = Settings::of_directory(Hashing::Stated, 30, 16).expect(rt, "settings");
+    Node::new(alloc, settings, silo).expect(rt, "memory")
+}
+
+// The first silo joins at version 1, the second one at version 2.
+fn views(rt: &impl Abort, alloc: Global) -> Views {
+    let mut views = Views::new(alloc, 2);
+    views.join(first(rt)).expect(rt, "the first join");
+    views.join(second(rt)).expect(rt, "the second join");
+    views
+}
+
+fn places(rt: &impl Abort, alloc: Global) -> Places {
+    let mut places = Places::new(alloc, Hashing::Stated, 30).expect(rt, "30 points");
+    places.add(first(rt), &[10]).expect(rt, "its place");
+    places
+        .add(second(rt), &[2_000_000_000])
+        .expect(rt, "its place");
+    places
+}
+
+// The node sees the version, as the next one; what it sends.
+fn sees(rt: &impl Abort, alloc: Global, node: &mut Node, version: u64) -> Vec<Letter> {
+    let views = views(rt, alloc);
+    let before = views.view(alloc, version - 1).expect(rt, "memory");
+    let before = before.expect(rt, "the version before");
+    let view = views.view(alloc, version).expect(rt, "memory");
+    let view = view.expect(rt, "the version");
+    let places = places(rt, alloc);
+    assert!(rt; places.has_active_of(&view) && places.has_active_of(&before));
+    let input = Input::Sees {
+        before: &before,
+        view: &view,
+        places: &places,
+    };
+    does(rt, alloc, node, &input, Effect::Next)
+}
+
+// The node's own step; what it sends.
+fn does(
+    rt: &impl Abort,
+    alloc: Global,
+    node: &mut Node,
+    input: &Input<'_>,
+    effect: Effect,
+) -> Vec<Letter>
+    requires { IsPlaced (input_of input.now) }
+{
+    let plan = node.plan(alloc, input).expect(rt, "a plan");
+    assert!(rt; plan.effect == effect);
+    node.carry_out(plan.change).expect(rt, "memory");
+    plan.letters
+}
+
+// The letter comes to the node; what it answers.
+fn takes(
+    rt: &impl Abort,
+    alloc: Global,
+    node: &mut Node,
+    letter: &Letter,
+    effect: Effect,
+) -> Vec<Letter> {
+    let plan = node
+        .plan(alloc, &Input::Receives(letter))
+        .expect(rt, "a plan");
+    assert!(rt; plan.effect == effect);
+    node.carry_out(plan.change).expect(rt, "memory");
+    plan.letters
+}
+
+// The one letter that was sent.
+fn only(rt: &impl Abort, letters: Vec<Letter>) -> Letter {
+    let mut letters = letters;
+    assert!(rt; letters.len() == 1);
+    letters.pop().expect(rt, "a letter")
+}
+
+// The first silo has the whole circle at version 1, and the moved grain is active on it.
+fn settled(rt: &impl Abort, alloc: Global) -> Node {
+    let mut node = joined(rt, alloc, first(rt));
+    let query = only(rt, sees(rt, alloc, &mut node, 1));
+    let report = only(rt, takes(rt, alloc, &mut node, &query, Effect::Report));
+    let letters = takes(rt, alloc, &mut node, &report, Effect::Complete);
+    assert!(rt; letters.is_empty());
+    start(rt, alloc, &mut node);
+    node
+}
+
+// The moved grain's activation starts on the node, and is entered there.
+fn start(rt: &impl Abort, alloc: Global, node: &mut Node) {
+    let grain = moved(rt);
+    let entry = Entry {
+        grain,
+        activation: ActivationId {
+            silo: first(rt),
+            count: 1,
+        },
+    };
+    let woken = does(
+        rt,
+        alloc,
+        node,
+        &Input::Wakes(&grain),
+        Effect::Started(entry),
+    );
+    let register = only(rt, woken);
+    let registered = only(rt, takes(rt, alloc, node, &register, Effect::Registered));
+    let letters = takes(rt, alloc, node, &registered, Effect::Firm);
+    assert!(rt; letters.is_empty());
+}
+
+// Both have seen version 2: the first silo has sealed what the second one, which asks for it, has now.
+fn handing(rt: &impl Abort, alloc: Global) -> (Node, Node, Letter) {
+    let mut old = settled(rt, alloc);
+    let letters = sees(rt, alloc, &mut old, 2);
+    assert!(rt; letters.is_empty());
+    assert!(rt; old.shelf().snapshots().len() == 1);
+    let mut new = joined(rt, alloc, second(rt));
+    let ask = only(rt, sees(rt, alloc, &mut new, 2));
+    (old, new, ask)
+}
+
+// The range that is handed over.
+fn range(rt: &impl Abort) -> RingRange {
+    RingRange::new(2_000_000_000, 2_294_967_306).expect(rt, "a range")
+}
+
+#[test]
+fn a_range_is_handed_over(rt: HostRuntime) {
+    let alloc = rt.alloc();
+    let (mut old, mut new, ask) = handing(&rt, alloc);
+    let page = only(&rt, takes(&rt, alloc, &mut old, &ask, Effect::Page));
+    let done = only(&rt, takes(&rt, alloc, &mut new, &page, Effect::Installed));
+    let letters = takes(&rt, alloc, &mut old, &done, Effect::Deleted);
+    assert!(rt; letters.is_empty() && old.shelf().snapshots().is_empty());
+    assert!(rt; new.holding().is_settled_throughout(&range(&rt)));
+    assert!(rt; new.gatherings().is_empty());
+    again(&rt, alloc, &mut old, &mut new, &ask, &page, &done);
+}
+
+// Each letter comes once more: nothing of it counts, and the snapshot is gone.
+fn again(
+    rt: &impl Abort,
+    alloc: Global,
+    old: &mut Node,
+    new: &mut Node,
+    ask: &Letter,
+    page: &Letter,
+    done: &Letter,
+) {
+    let ignored = takes(rt, alloc, new, page, Effect::Ignored);
+    assert!(rt; ignored.is_empty());
+    let ignored = takes(rt, alloc, old, done, Effect::Ignored);
+    assert!(rt; ignored.is_empty());
+    let missing = only(rt, takes(rt, alloc, old, ask, Effect::Missing));
+    let ignored = takes(rt, alloc, new, &missing, Effect::Ignored);
+    assert!(rt; ignored.is_empty());
+}
+
+// The page that the letter hands over.
+fn page_in(letter: &Letter) -> Option<&Page> {
+    match letter.body() {
+        Body::Page(page) => Some(page),
+        _ => None,
+    }
+}
+
+// The page's letter with one entry in place of its own, the first silo's activation of that count.
+fn changed(rt: &impl Abort, alloc: Global, letter: &Letter, grain: GrainId, count: u64) -> Letter {
+    let page = page_in(letter).expect(rt, "a page");
+    let mut entries = Vec::new(alloc);
+    let activation = ActivationId {
+        silo: first(rt),
+        count,
+    };
+    entries
+        .push(Entry { grain, activation })
+        .expect(rt, "memory");
+    let page = Page::new(
+        page.version(),
+        page.range(),
+        page.page(),
+        page.pages(),
+        page.digest(),
+        entries,
+    );
+    Letter::new(
+        letter.from(),
+        letter.to(),
+        letter.version(),
+        Body::Page(page),
+    )
+}
+
+#[test]
+fn a_page_with_another_count_is_refused(rt: HostRuntime) {
+    let alloc = rt.alloc();
+    let (mut old, mut new, ask) = handing(&rt, alloc);
+    let page = only(&rt, takes(&rt, alloc, &mut old, &ask, Effect::Page));
+    let wrong = changed(&rt, alloc, &page, moved(&rt), 2);
+    let refused = takes(&rt, alloc, &mut new, &wrong, Effect::Refused(701));
+    assert!(rt; refused.is_empty());
+    assert!(rt; !new.holding().is_settled_throughout(&range(&rt)));
+    let ask = only(
+        &rt,
+        does(&rt, alloc, &mut new, &Input::Nudges, Effect::Nudged),
+    );
+    let page = only(&rt, takes(&rt, alloc, &mut old, &ask, Effect::Page));
+    let done = takes(&rt, alloc, &mut new, &page, Effect::Installed);
+    assert!(rt; done.len() == 1);
+}
+
+#[test]
+fn a_page_with_an_entry_outside_the_range(rt: HostRuntime) {
+    let alloc = rt.alloc();
+    let (mut old, mut new, ask) = handing(&rt, alloc);
+    let page = only(&rt, takes(&rt, alloc, &mut old, &ask, Effect::Page));
+    let outside = GrainId::parse(b"user/ann#50").expect(&rt, "a grain");
+    let wrong = changed(&rt, alloc, &page, outside, 1);
+    let ignored = takes(&rt, alloc, &mut new, &wrong, Effect::Ignored);
+    assert!(rt; ignored.is_empty());
+}
+
+#[test]
+fn a_snapshot_that_is_missing_is_recovered(rt: HostRuntime) {
+    let alloc = rt.alloc();
+    let (mut old, mut new, ask) = handing(&rt, alloc);
+    let missing = Letter::new(ask.to(), ask.from(), 2, Body::Missing(range(&rt)));
+    let queries = takes(&rt, alloc, &mut new, &missing, Effect::Recovering);
+    assert!(rt; queries.len() == 2);
+    let query = &queries[0];
+    let report = only(&rt, takes(&rt, alloc, &mut old, query, Effect::Report));
+    foreign_reports(&rt, alloc, &mut new, &report);
+    let more = takes(&rt, alloc, &mut new, &report, Effect::More);
+    assert!(rt; more.is_empty());
+    let query = &queries[1];
+    let own = only(&rt, takes(&rt, alloc, &mut new, query, Effect::Report));
+    let complete = takes(&rt, alloc, &mut new, &own, Effect::Complete);
+    assert!(rt; complete.is_empty());
+    assert!(rt; new.holding().is_settled_throughout(&range(&rt)));
+}
+
+// A report that tells another silo's activations, and one that has an entry outside the range: neither counts.
+fn foreign_reports(rt: &impl Abort, alloc: Global, node: &mut Node, letter: &Letter) {
+    let outside = GrainId::parse(b"user/ann#50").expect(rt, "a grain");
+    let foreign = reported(rt, alloc, letter, moved(rt), second(rt));
+    let ignored = takes(rt, alloc, node, &foreign, Effect::Ignored);
+    assert!(rt; ignored.is_empty());
+    let stray = reported(rt, alloc, letter, outside, first(rt));
+    let ignored = takes(rt, alloc, node, &stray, Effect::Ignored);
+    assert!(rt; ignored.is_empty());
+}
+
+// The first silo's report with this entry alone.
+fn reported(
+    rt: &impl Abort,
+    alloc: Global,
+    letter: &Letter,
+    grain: GrainId,
+    silo: SiloAddress,
+) -> Letter {
+    let mut entries = Vec::new(alloc);
+    let activation = ActivationId { silo, count: 1 };
+    entries
+        .push(Entry { grain, activation })
+        .expect(rt, "memory");
+    let report = Report::new(2, range(rt), letter.from(), entries);
+    Letter::new(letter.from(), letter.to(), 2, Body::Report(report))
+}
+
+#[test]
+fn an_offer_of_a_later_version_is_ignored(rt: HostRuntime) {
+    let alloc = rt.alloc();
+    let mut node = settled(&rt, alloc);
+    let entry = Entry {
+        grain: GrainId::parse(b"user/bob#60").expect(&rt, "a grain"),
+        activation: ActivationId {
+            silo: second(&rt),
+            count: 1,
+        },
+    };
+    let offer = Letter::new(second(&rt), first(&rt), 2, Body::Offer(entry));
+    let ignored = takes(&rt, alloc, &mut node, &offer, Effect::Ignored);
+    assert!(rt; ignored.is_empty());
+}
+
+#[test]
+fn a_find_is_cached(rt: HostRuntime) {
+    let alloc = rt.alloc();
+    let mut node = settled(&rt, alloc);
+    let grain = moved(&rt);
+    let find = only(
+        &rt,
+        does(
+            &rt,
+            alloc,
+            &mut node,
+            &Input::Finds(&grain),
+            Effect::Finding(grain),
+        ),
+    );
+    let found = only(&rt, takes(&rt, alloc, &mut node, &find, Effect::Found));
+    let learnt = takes(&rt, alloc, &mut node, &found, Effect::Learnt);
+    assert!(rt; learnt.is_empty() && node.cache().is_some());
+    let activation = ActivationId {
+        silo: first(&rt),
+        count: 1,
+    };
+    let cached = Effect::Cached(Entry { grain, activation });
+    let sent = does(&rt, alloc, &mut node, &Input::Finds(&grain), cached);
+    assert!(rt; sent.is_empty());
+    let sent = does(
+        &rt,
+        alloc,
+        &mut node,
+        &Input::Forgets(&grain),
+        Effect::Forgot(grain),
+    );
+    assert!(rt; sent.is_empty());
+}

@@ -1,5 +1,0 @@
-use Rattle.std.proofs.Common.{rules}
-use Rattle.directory_node.proofs.node.Node.wants_and_requests.Goals as goal
-
-pub returns : goal.returns
-returns c = search rules

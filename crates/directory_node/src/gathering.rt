@@ -1,0 +1,132 @@
+//! The changes of transfers: snapshots go from the shelf, pages are gathered, and pieces settle or recover.
+ghost use Rattle.std.specs.BTreeMap.{insert_entry, is_at};
+ghost use Rattle.std.specs.Map.{lookup};
+ghost use Rattle.std.specs.Option.{unwrap_or};
+ghost use Rattle.std.specs.Ordering.{nat_cmp};
+ghost use Rattle.std.specs.Prelude.{◌≡◌, OnErr, OnOk, Ok};
+ghost use Rattle.directory_rules.specs.Gathering.{gathered, new_gathering, with_page};
+ghost use Rattle.directory_rules.specs.Sending.{gathering_of};
+ghost use Rattle.directory_rules.specs.Snapshot.{shelf_without};
+ghost use Rattle.directory_rules.specs.Transfer.{with_gathering, with_settled};
+ghost use Rattle.directory_node.specs.Planning.{GoesOn, recovering_by};
+ghost use Rattle.grain_partition.specs.Holding.{HasPiece};
+ghost use Rattle.seal_snapshot.specs.Progress.{progress_of};
+ghost use Rattle.seal_snapshot.specs.declared.progress.Progress.TheVariants.{More};
+
+use crate::Node;
+use grain_table::Table;
+use range_recovery::Recovery;
+use ring_range::RingRange;
+use seal_snapshot::{Gathering, GatheringError, Page};
+use silo_address::SiloAddress;
+use std::alloc::{AllocError, Global};
+use std::collections::BTreeMap;
+
+impl Node {
+    // The silo has its snapshot: it goes from the shelf.
+    pub(crate) fn discard(&mut self, version: u64, range: RingRange, to: &SiloAddress)
+        ensures { self.new ≡ record self.old { shelf = shelf_without self.old.shelf version range to.now } }
+    {
+        self.shelf.done(version, &range, to);
+    }
+
+    // A page, behind those gathered.
+    pub(crate) fn gather(&mut self, page: &Page) -> Result<(), AllocError>
+        requires goes_on { GoesOn self.old page.now }
+        ensures made { OnOk result (self.new ≡ with_gathering self.old (with_page (gathering_of self.old page.now.range) page.now)) }
+        ensures unchanged { OnErr result (self.new ≡ self.old) }
+    {
+        let version = self.view.version();
+        gather_among(self.alloc, &mut self.gatherings, version, page)?;
+        Ok(())
+    }
+
+    // Nothing is left of what was gathered for the range.
+    pub(crate) fn gather_anew(&mut self, range: RingRange) -> Result<(), AllocError>
+        ensures made { OnOk result (self.new ≡ with_gathering self.old (new_gathering (gathering_of self.old range).version range)) }
+        ensures unchanged { OnErr result (self.new ≡ self.old) }
+    {
+        let version = self.view.version();
+        gather_anew_among(self.alloc, &mut self.gatherings, version, range)?;
+        Ok(())
+    }
+
+    // The piece has its entries, and nothing is gathered or recovered for it any more.
+    pub(crate) fn settle(&mut self, range: RingRange, entries: Table)
+        requires there { HasPiece range self.old.holding.pieces }
+        ensures { self.new ≡ with_settled self.old range entries.entries }
+    {
+        self.gatherings.remove(&range.start());
+        self.recoveries.remove(&range.start());
+        self.holding.install(range, entries);
+    }
+
+    // The piece recovers from now on, and nothing is gathered for it.
+    pub(crate) fn recover(&mut self, recovery: Recovery) -> Result<(), AllocError>
+        requires there { HasPiece recovery.range self.old.holding.pieces }
+        ensures made { OnOk result (self.new ≡ recovering_by self.old recovery) }
+        ensures unchanged { OnErr result (self.new ≡ self.old) }
+    {
+        let range = recovery.range();
+        self.recoveries.insert(range.start(), recovery)?;
+        self.gatherings.remove(&range.start());
+        self.holding
+            .wait_for_reports(self.alloc, self.settings.hashing(), range);
+        Ok(())
+    }
+}
+
+// The page that is wanted, behind those gathered for its range; the version is that of a gathering that begins by it.
+fn gather_among(
+    alloc: Global,
+    gatherings: &mut BTreeMap<u32, Gathering>,
+    version: u64,
+    page: &Page,
+) -> Result<(), AllocError>
+    requires more { progress_of (gathered (unwrap_or (lookup (is_at (nat_cmp page.now.range.start)) gatherings.old.entries) (new_gathering version page.now.range)) page.now) ≡ Ok More }
+    ensures made { OnOk result (gatherings.new.entries ≡ insert_entry nat_cmp gatherings.old.entries page.now.range.start
+        (with_page (unwrap_or (lookup (is_at (nat_cmp page.now.range.start)) gatherings.old.entries) (new_gathering version page.now.range)) page.now)) }
+    ensures unchanged { OnErr result (gatherings.new.entries ≡ gatherings.old.entries) }
+{
+    let start = page.range().start();
+    if let Some(gathering) = gatherings.get_mut(&start) {
+        taken(gathering, page)?;
+        return Ok(());
+    }
+    let mut gathering = Gathering::new(alloc, version, page.range());
+    taken(&mut gathering, page)?;
+    gatherings.insert(start, gathering)?;
+    Ok(())
+}
+
+// Nothing is left of what was gathered for the range; where nothing was, the gathering is of this version.
+fn gather_anew_among(
+    alloc: Global,
+    gatherings: &mut BTreeMap<u32, Gathering>,
+    version: u64,
+    range: RingRange,
+) -> Result<(), AllocError>
+    ensures made { OnOk result (gatherings.new.entries ≡ insert_entry nat_cmp gatherings.old.entries range.start
+        (new_gathering (unwrap_or (lookup (is_at (nat_cmp range.start)) gatherings.old.entries) (new_gathering version range)).version range)) }
+    ensures unchanged { OnErr result (gatherings.new.entries ≡ gatherings.old.entries) }
+{
+    let version = match gatherings.get(&range.start()) {
+        Some(gathering) => gathering.version(),
+        None => version,
+    };
+    gatherings.insert(range.start(), Gathering::new(alloc, version, range))?;
+    Ok(())
+}
+
+// The page that is wanted, behind those gathered.
+fn taken(gathering: &mut Gathering, page: &Page) -> Result<(), AllocError>
+    requires more { progress_of (gathered gathering.old page.now) ≡ Ok More }
+    ensures made { OnOk result (gathering.new ≡ with_page gathering.old page.now) }
+    ensures unchanged { OnErr result (gathering.new ≡ gathering.old) }
+{
+    match gathering.take(page) {
+        Ok(_) => Ok(()),
+        Err(GatheringError::OutOfMemory) => Err(AllocError),
+        Err(_) => unreachable!(),
+    }
+}

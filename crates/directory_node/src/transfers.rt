@@ -1,0 +1,278 @@
+//! The letters of transfers: how the previous owner hands its snapshot out page by page, and what the new owner makes of each.
+ghost use Rattle.std.specs.Prelude.{◌≡◌, ◌++◌, IfOk, OnErr, OnOk, Ok, fold, map, length, true};
+ghost use Rattle.directory_rules.specs.Gathering.{gathered};
+ghost use Rattle.directory_rules.specs.Letter.{Query_letter};
+ghost use Rattle.directory_rules.specs.Sending.{gathering_of, letter_to};
+ghost use Rattle.directory_rules.specs.Table.{rise_by_grain, table_of, with_entry};
+ghost use Rattle.directory_rules.specs.Transfer.{asked, awaits, done, gathered_by, is_awaiting_from, is_page_awaited, missing, paged};
+ghost use Rattle.directory_node.specs.Planning.{Fits, answer_count, step_by};
+ghost use Rattle.directory_rules.specs.Letter.{Missing_letter};
+ghost use Rattle.seal_snapshot.specs.Progress.{progress_of};
+ghost use Rattle.seal_snapshot.specs.declared.progress.Progress.TheVariants.{Complete, More};
+ghost use Rattle.grain_partition.specs.Holding.{HasPiece};
+
+use crate::recoveries::{is_before_first, rise_by_grain};
+use crate::{Body, Change, Letter, Node, Plan};
+use directory_rules::{Effect, PieceState};
+use grain_table::Table;
+use hash_ring::Hashing;
+use range_recovery::Recovery;
+use ring_range::RingRange;
+use seal_snapshot::{Gathering, GatheringError, Page, Progress, ShelfAnswer};
+use silo_address::{Entry, SiloAddress};
+use std::alloc::{AllocError, Global};
+
+// The previous owner.
+impl Node {
+    // An ask comes. Nothing changes by it.
+    pub(crate) fn plan_ask(
+        &self,
+        alloc: Global,
+        letter: &Letter,
+        range: RingRange,
+        page: u64,
+    ) -> Result<Plan, AllocError>
+        ensures planned { IfOk result (λ plan. step_by self.now plan ≡ asked self.now letter.now range page) }
+        ensures fits { IfOk result (λ plan. Fits plan.change self.now) }
+        ensures one { length (asked self.now letter.now range page).letters ≡ 1 }
+    {
+        let asker = letter.from();
+        let (seen, version) = (self.view.version(), letter.version());
+        match self
+            .shelf
+            .answer(alloc, seen, version, &range, &asker, page)?
+        {
+            ShelfAnswer::Page(page) => self.answer(alloc, letter, Body::Page(page), Effect::Page),
+            ShelfAnswer::Missing => {
+                self.answer(alloc, letter, Body::Missing(range), Effect::Missing)
+            }
+            ShelfAnswer::Behind => self.answer(alloc, letter, Body::Behind(range), Effect::Behind),
+        }
+    }
+
+    // The new owner has its snapshot. That is answered by no letter.
+    pub(crate) fn plan_done(&self, alloc: Global, letter: &Letter, range: RingRange) -> Plan
+        ensures planned { step_by self.now result ≡ done self.now letter.now range }
+        ensures fits { Fits result.change self.now }
+    {
+        let (version, to) = (letter.version(), letter.from());
+        if !self.shelf.has(version, &range, &to) {
+            return Plan::idle(alloc, Effect::Ignored);
+        }
+        Plan::silent(
+            alloc,
+            Effect::Deleted,
+            Change::Discards { version, range, to },
+        )
+    }
+}
+
+// The new owner.
+impl Node {
+    // A page comes. Needs memory where it is put behind others, and where it is the last one: one letter is sent then.
+    pub(crate) fn plan_page(
+        &self,
+        alloc: Global,
+        letter: &Letter,
+        page: &Page,
+    ) -> Result<Plan, AllocError>
+        ensures planned { IfOk result (λ plan. step_by self.now plan ≡ paged self.now letter.now page.now) }
+        ensures fits { IfOk result (λ plan. Fits plan.change self.now) }
+        ensures one { OnErr result (length (paged self.now letter.now page.now).letters ≡ 1) }
+    {
+        match self.gatherings.get(&page.range().start()) {
+            Some(gathering) => self.plan_next_page(alloc, letter, page, gathering),
+            None => {
+                let bare = Gathering::new(alloc, self.view.version(), page.range());
+                self.plan_next_page(alloc, letter, page, &bare)
+            }
+        }
+    }
+
+    // A page comes, and this was gathered before it.
+    fn plan_next_page(
+        &self,
+        alloc: Global,
+        letter: &Letter,
+        page: &Page,
+        gathering: &Gathering,
+    ) -> Result<Plan, AllocError>
+        requires its { gathering.now ≡ gathering_of self.now page.now.range }
+        requires rises { rise_by_grain gathering.now.entries ≡ true }
+        ensures planned { IfOk result (λ plan. step_by self.now plan ≡ paged self.now letter.now page.now) }
+        ensures fits { IfOk result (λ plan. Fits plan.change self.now) }
+        ensures one { OnErr result (length (paged self.now letter.now page.now).letters ≡ 1) }
+    {
+        if !self.is_page_awaited(letter, page, gathering.entries()) {
+            return Ok(Plan::idle(alloc, Effect::Ignored));
+        }
+        match gathering.judge(page) {
+            Ok(Progress::More) => self.plan_more(alloc, letter, page),
+            Ok(Progress::Complete) => self.plan_install(alloc, letter, page, gathering),
+            Err(GatheringError::WrongDigest) => {
+                let anew = Change::GathersAnew(page.range());
+                Ok(Plan::silent(alloc, Effect::Refused(701), anew))
+            }
+            Err(_) => Ok(Plan::idle(alloc, Effect::Ignored)),
+        }
+    }
+
+    // A page comes, and more are wanted: the next one is asked for.
+    fn plan_more(&self, alloc: Global, letter: &Letter, page: &Page) -> Result<Plan, AllocError>
+        requires more { progress_of (gathered (gathering_of self.now page.now.range) page.now) ≡ Ok More }
+        requires rises { rise_by_grain ((gathering_of self.now page.now.range).entries ++ page.now.entries) ≡ true }
+        ensures planned { IfOk result (λ plan. step_by self.now plan ≡ gathered_by (gathered (gathering_of self.now page.now.range) page.now) letter.now page.now.range self.now) }
+        ensures fits { IfOk result (λ plan. Fits plan.change self.now) }
+        ensures one { length (gathered_by (gathered (gathering_of self.now page.now.range) page.now) letter.now page.now.range self.now).letters ≡ 1 }
+    {
+        // The next page's number is below this one, so that it is a number.
+        let _pages = page.pages();
+        let next = Body::Ask {
+            range: page.range(),
+            page: page.page() + 1,
+        };
+        let ask = self.letter_to(letter.from(), next);
+        Plan::of_one(alloc, ask, Effect::Gathering, Change::Gathers(page.copy()?))
+    }
+
+    // The last page comes: the piece has its entries.
+    #[tactic(auto, using(crate::proofs::Gatherings::installed))]
+    fn plan_install(
+        &self,
+        alloc: Global,
+        letter: &Letter,
+        page: &Page,
+        gathering: &Gathering,
+    ) -> Result<Plan, AllocError>
+        requires its { gathering.now ≡ gathering_of self.now page.now.range }
+        requires complete { progress_of (gathered gathering.now page.now) ≡ Ok Complete }
+        requires rises { rise_by_grain (gathering.now.entries ++ page.now.entries) ≡ true }
+        requires there { HasPiece page.now.range self.now.holding.pieces }
+        ensures planned { IfOk result (λ plan. step_by self.now plan ≡ gathered_by (gathered gathering.now page.now) letter.now page.now.range self.now) }
+        ensures fits { IfOk result (λ plan. Fits plan.change self.now) }
+        ensures one { length (gathered_by (gathered gathering.now page.now) letter.now page.now.range self.now).letters ≡ 1 }
+    {
+        let range = page.range();
+        let hashing = self.settings.hashing();
+        let entries = table_of(alloc, hashing, gathering.entries(), page.entries())?;
+        let done = self.answer_letter(letter, Body::Done(range));
+        Plan::of_one(
+            alloc,
+            done,
+            Effect::Installed,
+            Change::Installs { range, entries },
+        )
+    }
+
+    // Whether the page counts: it is of the letter's version, it is awaited from the sender, its entries are hashed into the range
+    // and go on in the order of the grains.
+    fn is_page_awaited(&self, letter: &Letter, page: &Page, gathered: &[Entry]) -> bool
+        requires its { gathered.now ≡ (gathering_of self.now page.now.range).entries }
+        requires rises { rise_by_grain gathered.now ≡ true }
+        ensures { result ≡ is_page_awaited self.now letter.now page.now }
+    {
+        page.version() == letter.version()
+            && self.awaits(letter.version(), page.range(), letter.from())
+            && go_on(gathered, page.entries())
+            && self.has_hashes_in(page.range(), page.entries())
+    }
+
+    // Whether the node has seen the version, and there awaits the snapshot of a piece of just that range from the silo.
+    fn awaits(&self, version: u64, range: RingRange, from: SiloAddress) -> bool
+        ensures { result ≡ awaits self.now version range from }
+    {
+        if version != self.view.version() {
+            return false;
+        }
+        match self.holding.piece_at(range.start()) {
+            Some(piece) => piece.range() == range && is_awaiting_from(from, piece.state()),
+            None => false,
+        }
+    }
+
+    // There is no snapshot: the piece recovers, and all silos are asked. Needs memory where it does.
+    pub(crate) fn plan_missing(
+        &self,
+        alloc: Global,
+        letter: &Letter,
+        range: RingRange,
+    ) -> Result<Plan, AllocError>
+        ensures planned { IfOk result (λ plan. step_by self.now plan ≡ missing self.now letter.now range) }
+        ensures fits { IfOk result (λ plan. Fits plan.change self.now) }
+        ensures members { OnErr result (length (missing self.now letter.now range).letters ≡ answer_count self.now (Missing_letter range)) }
+    {
+        if !self.awaits(letter.version(), range, letter.from()) {
+            return Ok(Plan::idle(alloc, Effect::Ignored));
+        }
+        let recovery = Recovery::new(alloc, self.settings.hashing(), &self.view, range)?;
+        let letters = self.queries(alloc, range, &recovery.awaiting(alloc)?)?;
+        Ok(Plan {
+            letters,
+            effect: Effect::Recovering,
+            change: Change::Recovers(recovery),
+        })
+    }
+
+    // A query for the range to each of these silos.
+    fn queries(
+        &self,
+        alloc: Global,
+        range: RingRange,
+        silos: &[SiloAddress],
+    ) -> Result<Vec<Letter>, AllocError>
+        ensures { IfOk result (λ letters. letters.items ≡ map (λ silo. letter_to silo self.now (Query_letter range)) silos.now) }
+    {
+        silos
+            .iter()
+            .map(|silo| self.letter_to(*silo, Body::Query(range)))
+            .collect(alloc)
+    }
+}
+
+// Whether the state awaits the silo's snapshot.
+fn is_awaiting_from(silo: SiloAddress, state: PieceState) -> bool
+    ensures { result ≡ is_awaiting_from silo state }
+{
+    match state {
+        PieceState::Awaiting(from) => from == silo,
+        PieceState::Settled | PieceState::Recovering => false,
+    }
+}
+
+// Whether entries go on in the order of their grains behind those gathered, which stand in it.
+fn go_on(gathered: &[Entry], entries: &[Entry]) -> bool
+    requires { rise_by_grain gathered.now ≡ true }
+    ensures { result ≡ rise_by_grain (gathered.now ++ entries.now) }
+{
+    if gathered.is_empty() {
+        return rise_by_grain(entries);
+    }
+    let last = &gathered[gathered.len() - 1];
+    is_before_first(last, entries) && rise_by_grain(entries)
+}
+
+// The table of entries gathered and of those of the last page, which stand in the order of their grains.
+fn table_of(
+    alloc: Global,
+    hashing: Hashing,
+    gathered: &[Entry],
+    entries: &[Entry],
+) -> Result<Table, AllocError>
+    requires { rise_by_grain (gathered.now ++ entries.now) ≡ true }
+    ensures { IfOk result (λ table. table.entries ≡ table_of (gathered.now ++ entries.now)) }
+{
+    let mut table = Table::new(alloc, hashing);
+    put_all(&mut table, gathered)?;
+    put_all(&mut table, entries)?;
+    Ok(table)
+}
+
+// The entries are put in, each in place of one of its grain.
+fn put_all(table: &mut Table, entries: &[Entry]) -> Result<(), AllocError>
+    ensures { OnOk result (table.new ≡ record table.old { entries = fold with_entry table.old.entries entries.now }) }
+{
+    for entry in entries {
+        table.insert(entry)?;
+    }
+    Ok(())
+}
