@@ -1,7 +1,8 @@
 ghost use Rattle.directory_node.specs.Placed.{IsPlaced};
 ghost use Rattle.directory_node.specs.InputModel.{input_of};
 
-use directory_node::{Body, Input, Letter, Node};
+use directory_letters::{Body, Letter};
+use directory_node::{Input, Node};
 use directory_rules::{Effect, Settings};
 use hash_ring::{Hashing, Places};
 use membership_view::{View, Views};

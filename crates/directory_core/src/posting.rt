@@ -8,7 +8,8 @@ ghost use Rattle.directory_rules.specs.Node.{Node as NodeValue};
 ghost use Rattle.directory_node.specs.Planning.{Fits, changed};
 ghost use Rattle.letter_mail.specs.Mail.{letter_in, with_posted, with_stale};
 
-use directory_node::{Change, Letter, Node};
+use directory_letters::Letter;
+use directory_node::{Change, Node};
 use letter_mail::Mail;
 use silo_address::SiloAddress;
 use std::alloc::AllocError;

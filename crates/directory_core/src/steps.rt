@@ -16,7 +16,8 @@ ghost use Rattle.directory_core.specs.Stepping.{IsOwn, after_step, letters_numbe
 use crate::posting::{carry_out_at, receive_at};
 use crate::{EventRefusal, World};
 use cluster_events::{Happening, Outcome, Span};
-use directory_node::{Change, Input, Letter, StepRefusal};
+use directory_letters::Letter;
+use directory_node::{Change, Input, StepRefusal};
 use silo_address::SiloAddress;
 use std::alloc::{AllocError, Global};
 

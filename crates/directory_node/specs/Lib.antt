@@ -1,5 +1,4 @@
 pub mod Numbers
-pub mod LetterModel
 pub mod InputModel
 pub mod Follows
 pub mod Planning

@@ -1,4 +1,4 @@
-use crate::Letter;
+use directory_letters::Letter;
 use hash_ring::Places;
 use membership_view::View;
 use silo_address::{GrainId, SiloAddress};

@@ -8,7 +8,6 @@ mod carrying;
 mod closing;
 mod gathering;
 mod input;
-mod letter;
 mod node;
 mod own_steps;
 mod plan;
@@ -23,7 +22,6 @@ mod step;
 mod transfers;
 
 pub use input::Input;
-pub use letter::{Body, Letter};
 pub use node::Node;
 pub use plan::{Change, Plan, Sight};
 pub use refusal::StepRefusal;

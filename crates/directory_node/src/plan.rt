@@ -2,7 +2,7 @@ ghost use Rattle.std.specs.Prelude.{◌≡◌, [], ◌∷◌, IfOk};
 ghost use Rattle.directory_rules.specs.Node.{Node as NodeValue};
 ghost use Rattle.directory_node.specs.Planning.{changed, step_by};
 
-use crate::Letter;
+use directory_letters::Letter;
 use directory_rules::{Effect, Request};
 use grain_table::Table;
 use hash_ring::Ring;

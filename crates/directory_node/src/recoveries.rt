@@ -10,10 +10,11 @@ ghost use Rattle.range_recovery.specs.Progress.{progress_of};
 ghost use Rattle.directory_rules.specs.Table.{is_before_first, lie_in, rise_by_grain};
 ghost use Rattle.directory_rules.specs.Sending.{recovery_of};
 ghost use Rattle.directory_rules.specs.Transfer.{answer_to, answering, has_range, is_recovering, is_report_awaited, piece_at, queried, recovered_by, recovers, report_of, reported, with_settled};
-ghost use Rattle.directory_node.specs.LetterModel.{body_of};
+ghost use Rattle.directory_letters.specs.LetterModel.{body_of};
 ghost use Rattle.directory_node.specs.Planning.{Fits, step_by};
 
-use crate::{Body, Change, Letter, Node, Plan};
+use directory_letters::{Body, Letter};
+use crate::{Change, Node, Plan};
 use directory_rules::{Effect, PieceState};
 use range_recovery::{Progress, Recovery, RecoveryError, Report};
 use ring_range::RingRange;

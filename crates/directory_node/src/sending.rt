@@ -1,11 +1,12 @@
 ghost use Rattle.std.specs.List.{cons_option};
 ghost use Rattle.std.specs.Prelude.{◌≡◌, ◌++◌, [], IfOk, OnErr, OnOk, flat_map, length};
 ghost use Rattle.directory_rules.specs.Sending.{ask_letters, gathering_of, grain_of, letter_to, owner_by, query_letters, recovery_of, request_letters, request_of, wants_by};
-ghost use Rattle.directory_node.specs.LetterModel.{body_of};
+ghost use Rattle.directory_letters.specs.LetterModel.{body_of};
 ghost use Rattle.directory_node.specs.Sender.{sending, wants_of};
 
 use crate::plan::list_of;
-use crate::{Body, Letter, Node};
+use directory_letters::{Body, Letter};
+use crate::Node;
 use directory_rules::{Act, PieceState, Request};
 use grain_partition::Piece;
 use hash_ring::Ring;

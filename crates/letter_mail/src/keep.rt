@@ -1,12 +1,12 @@
 ghost use Rattle.std.specs.Prelude.{◌≡◌, ◌<◌, ℕ, IfOk, IfSome, length};
-ghost use Rattle.directory_node.specs.LetterModel.{body_of};
+ghost use Rattle.directory_letters.specs.LetterModel.{body_of};
 ghost use Rattle.letter_mail.specs.Keeping.{Grows};
 ghost use Rattle.letter_mail.specs.Kept.{IsKept, IsNumbered, entry_by, grain_at, letter_by, letter_kept, said_by};
 ghost use Rattle.directory_rules.specs.Letter.{Reply_letter, Request_letter};
 ghost use Rattle.silo_address.specs.Silo.{Silo};
 
 use crate::kept::{Brief, Kept, Named, Says};
-use directory_node::{Body, Letter};
+use directory_letters::{Body, Letter};
 use directory_rules::{Act, Reply, Request};
 use indexmap::IndexSet;
 use silo_address::{Entry, GrainId, SiloAddress};

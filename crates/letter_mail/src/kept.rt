@@ -1,11 +1,11 @@
 ghost use Rattle.std.specs.Prelude.{◌≡◌, ◌<◌, length};
 ghost use Rattle.directory_rules.specs.Letter.{Reply_letter};
-ghost use Rattle.directory_node.specs.LetterModel.{body_of};
+ghost use Rattle.directory_letters.specs.LetterModel.{body_of};
 ghost use Rattle.letter_mail.specs.Kept.{IsKept, IsNumbered, entry_by, grain_at, letter_by, letter_kept, receiver_of, request_by, said_by};
 ghost use Rattle.letter_mail.specs.MailedModel.{letter_seen};
 
 use crate::MailedLetter;
-use directory_node::{Body, Letter};
+use directory_letters::{Body, Letter};
 use directory_rules::{Act, Reply, Request, Why};
 use indexmap::IndexSet;
 use ring_range::RingRange;

@@ -1,7 +1,7 @@
 ghost use Rattle.std.specs.Prelude.{◌≡◌};
 ghost use Rattle.letter_mail.specs.MailedModel.{letter_seen};
 
-use directory_node::Letter;
+use directory_letters::Letter;
 
 /// A letter of the mail: put together from what is kept of it, or lent as it is kept.
 #[derive(Drop)]

@@ -5,7 +5,7 @@ ghost use Rattle.letter_mail.specs.Kept.{AreKept, all_posted};
 
 use crate::keep::kept;
 use crate::slots::Slot;
-use directory_node::Letter;
+use directory_letters::Letter;
 use indexmap::IndexSet;
 use silo_address::GrainId;
 use std::alloc::{AllocError, Global};

@@ -1,6 +1,6 @@
 ghost use Rattle.std.specs.Prelude.{◌≡◌, ◌↔◌, IsTrue, IfOk};
 ghost use Rattle.directory_rules.specs.Letter.{act_kind, kind_of, reply_kind};
-ghost use Rattle.directory_node.specs.LetterModel.{body_of};
+ghost use Rattle.directory_letters.specs.LetterModel.{body_of};
 
 use directory_rules::{Act, LetterKind, Reply, Request};
 use range_recovery::Report;
@@ -111,7 +111,7 @@ impl Model for Letter {
 
     ghost Value = { Letter };
 
-    ghost use Rattle.directory_node.specs.LetterModel.{body_of};
+    ghost use Rattle.directory_letters.specs.LetterModel.{body_of};
 
     ghost view = { λ l. record { from = l.from; to = l.to; version = l.version; body = body_of l.body } };
 }

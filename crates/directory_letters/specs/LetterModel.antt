@@ -1,7 +1,7 @@
 -- How a letter's body of the code is one of the rule.
 use Rattle.directory_rules.specs.Letter as rule
-use Rattle.directory_node.specs.declared.letter.Body.{Body}
-use Rattle.directory_node.specs.declared.letter.Body.TheVariants.{Request, Reply, Ask, Page, Missing, Done, Query, Report, Behind, Ahead, Offer}
+use Rattle.directory_letters.specs.declared.letter.Body.{Body}
+use Rattle.directory_letters.specs.declared.letter.Body.TheVariants.{Request, Reply, Ask, Page, Missing, Done, Query, Report, Behind, Ahead, Offer}
 
 -- what the letter says, in the rule's words
 abbrev pub body_of : Body → rule.Body

@@ -1,0 +1,6 @@
+//! Letters between silos, of all eleven kinds. The rules are in `docs/RULES.md#letters`.
+#![tactic(auto)]
+
+mod letter;
+
+pub use letter::{Body, Letter};
