@@ -1,14 +1,14 @@
 -- Grains get numbers and keep them: what was kept before is the same letter after.
-use Rattle.std.proofs.Common.{◌≡◌, ℕ, zero, suc, ◌<◌, ◌≤◌, List, [], ◌∷◌, ◌++◌, length, get_or, set, take, true, Some, None, refl, sym, ◌∙◌, ap, arith}
+use Rattle.std.proofs.Common.{◌≡◌, ℕ, zero, suc, ◌+◌, ◌-◌, ◌<◌, ◌≤◌, List, [], ◌∷◌, ◌++◌, length, get_or, set, take, true, false, Option, Some, None, refl, sym, ◌∙◌, ap, arith}
 use Rattle.std.specs.Prelude.{slice_get}
-use Rattle.std.specs.List.{enumerate_from}
+use Rattle.std.specs.List.{cons_option}
+use Rattle.std.specs.Option.{option_map}
 use Rattle.std.proofs.Math.ListN.{get_or-append}
-use Rattle.std.proofs.lemmas.List.{append-nil, append_assoc, length-append, map_push, take_at}
+use Rattle.std.proofs.lemmas.List.{append-nil, append_assoc, length-append, take_at}
 use Rattle.std.proofs.lemmas.Option.{same_Some}
 use Rattle.silo_address.specs.Grain.{Grain}
 use Rattle.silo_address.specs.Silo.{Silo}
 use Rattle.directory_rules.specs.Letter.{Letter, Body, Reply_letter, Offer_letter}
-use Rattle.directory_rules.specs.Mail.{fresh_letter}
 use Rattle.directory_rules.specs.World.{Posted}
 use Rattle.directory_rules.specs.declared.Act.TheVariants as act
 use Rattle.directory_rules.specs.declared.Reply.TheVariants as reply
@@ -17,8 +17,10 @@ use Rattle.letter_mail.specs.declared.kept.Says.TheVariants.{Register, Deregiste
 use Rattle.letter_mail.specs.declared.kept.Kept.{Kept}
 use Rattle.letter_mail.specs.declared.kept.Kept.TheVariants.{Brief, Whole}
 use Rattle.letter_mail.specs.declared.slots.Slot.{Slot}
+use Rattle.letter_mail.specs.declared.slots.Slot.TheVariants.{Fresh, Stale, Lost}
+use Rattle.letter_mail.specs.Slots.{AreKept, IsSlot, posted_from, posted_in, stale_slot}
 use Rattle.letter_mail.specs.Keeping.{Grows}
-use Rattle.letter_mail.specs.Kept.{AreKept, IsKept, IsNumbered, all_posted, grain_at, letter_kept, posted_in, request_by, said_by}
+use Rattle.letter_mail.specs.Kept.{IsKept, IsNumbered, grain_at, letter_kept, request_by, said_by}
 use Rattle.letter_mail.specs.MailModel.{mail_in}
 
 -- ---- lists that grow
@@ -59,9 +61,14 @@ more_kept : (count most : ℕ) (kept : Kept) → count ≤ most → IsKept count
 more_kept count most (Brief brief) up is = more_says count most brief.says up is
 more_kept count most (Whole letter) up is = is
 
+more_slot : (count most : ℕ) (slot : Slot) → count ≤ most → IsSlot count slot → IsSlot most slot
+more_slot count most (Fresh kept) up is = more_kept count most kept up is
+more_slot count most (Stale kept) up is = more_kept count most kept up is
+more_slot count most (Lost to) up is = is
+
 pub are_more : (count most : ℕ) (slots : List Slot) → count ≤ most → AreKept count slots → AreKept most slots
 are_more count most [] up are = are
-are_more count most (s ∷ slots) up are = (more_kept count most s.kept up are.0, are_more count most slots up are.1)
+are_more count most (s ∷ slots) up are = (more_slot count most s up are.0, are_more count most slots up are.1)
 
 -- ---- and mean the same grains
 same_grain : (grains more : List Grain) (number : ℕ) → number < length grains → grain_at (grains ++ more) number ≡ grain_at grains number
@@ -97,14 +104,19 @@ same_kept grains more (Brief brief) is =
     ap (λ (b : Body). record { from = brief.from; to = brief.to; version = brief.version; body = b }) (same_said grains more brief.from brief.version brief.says is)
 same_kept grains more (Whole letter) is = refl
 
-same_posted : (grains more : List Grain) (slots : List Slot) → AreKept (length grains) slots → all_posted (grains ++ more) slots ≡ all_posted grains slots
-same_posted grains more [] are = refl
-same_posted grains more (s ∷ slots) are =
-    ap (λ (l : Letter). record { letter = l; fresh = s.fresh } ∷ all_posted (grains ++ more) slots) (same_kept grains more s.kept are.0)
-    ∙ ap (λ (l : List Posted). posted_in grains s ∷ l) (same_posted grains more slots are.1)
+same_in : (grains more : List Grain) (slot : Slot) → IsSlot (length grains) slot → posted_in (grains ++ more) slot ≡ posted_in grains slot
+same_in grains more (Fresh kept) is = ap (λ (l : Letter). Some (record { letter = l; fresh = true })) (same_kept grains more kept is)
+same_in grains more (Stale kept) is = ap (λ (l : Letter). Some (record { letter = l; fresh = false })) (same_kept grains more kept is)
+same_in grains more (Lost to) is = refl
 
-pub posted_again : (grains now : List Grain) (slots : List Slot) → Grows grains now → AreKept (length grains) slots → all_posted now slots ≡ all_posted grains slots
-posted_again grains now slots grows are = ap (λ (g : List Grain). all_posted g slots) grows.1 ∙ same_posted grains grows.0 slots are
+same_posted : (first : ℕ) (grains more : List Grain) (slots : List Slot) → AreKept (length grains) slots → posted_from first (grains ++ more) slots ≡ posted_from first grains slots
+same_posted first grains more [] are = refl
+same_posted first grains more (s ∷ slots) are =
+    ap (λ (o : Option Posted). cons_option (option_map (λ (p : Posted). (first, p)) o) (posted_from (first + 1) (grains ++ more) slots)) (same_in grains more s are.0)
+    ∙ ap (λ (l : List (ℕ × Posted)). cons_option (option_map (λ (p : Posted). (first, p)) (posted_in grains s)) l) (same_posted (first + 1) grains more slots are.1)
+
+pub posted_again : (grains now : List Grain) (slots : List Slot) → Grows grains now → AreKept (length grains) slots → posted_from 1 now slots ≡ posted_from 1 grains slots
+posted_again grains now slots grows are = ap (λ (g : List Grain). posted_from 1 g slots) grows.1 ∙ same_posted 1 grains grows.0 slots are
 
 -- ---- slots
 pub are_append : (count : ℕ) (slots more : List Slot) → AreKept count slots → AreKept count more → AreKept count (slots ++ more)
@@ -117,15 +129,20 @@ are_taken count (suc n) [] are = are
 are_taken count zero (s ∷ slots) are = cc
 are_taken count (suc n) (s ∷ slots) are = (are.0, are_taken count n slots are.1)
 
-pub is_at_index : (count : ℕ) (slots : List Slot) (index : ℕ) (d : Slot) → index < length slots → AreKept count slots → IsKept count (get_or slots index d).kept
+pub is_at_index : (count : ℕ) (slots : List Slot) (index : ℕ) (d : Slot) → index < length slots → AreKept count slots → IsSlot count (get_or slots index d)
 is_at_index count [] index d below are = absurd (omega arith)
 is_at_index count (s ∷ slots) zero d below are = are.0
 is_at_index count (s ∷ slots) (suc index) d below are = is_at_index count slots index d (omega arith) are.1
 
-pub are_set : (count : ℕ) (slots : List Slot) (index : ℕ) (slot : Slot) → IsKept count slot.kept → AreKept count slots → AreKept count (set slots index slot)
+pub are_set : (count : ℕ) (slots : List Slot) (index : ℕ) (slot : Slot) → IsSlot count slot → AreKept count slots → AreKept count (set slots index slot)
 are_set count [] index slot is are = are
 are_set count (s ∷ slots) zero slot is are = (is, are.1)
 are_set count (s ∷ slots) (suc index) slot is are = (are.0, are_set count slots index slot is are.1)
+
+pub still_slot : (count : ℕ) (slot : Slot) → IsSlot count slot → IsSlot count (stale_slot slot)
+still_slot count (Fresh kept) is = is
+still_slot count (Stale kept) is = is
+still_slot count (Lost to) is = is
 
 -- ---- a grain that got its number
 pub number_at : (grains : List Grain) (number : ℕ) (grain : Grain) → slice_get grains number ≡ Some grain → (number < length grains) × (grain_at grains number ≡ grain)
@@ -139,25 +156,17 @@ pub some_slot : (slots : List Slot) → 0 < length slots → Slot
 some_slot [] some = absurd (omega arith)
 some_slot (s ∷ slots) some = s
 
-pub are_put : (grains now : List Grain) (slots : List Slot) (slot : Slot) → Grows grains now → AreKept (length grains) slots → IsKept (length now) slot.kept
+pub are_put : (grains now : List Grain) (slots : List Slot) (slot : Slot) → Grows grains now → AreKept (length grains) slots → IsSlot (length now) slot
     → AreKept (length now) (slots ++ slot ∷ [])
 are_put grains now slots slot grown are is =
     are_append (length now) slots (slot ∷ []) (are_more (length grains) (length now) slots (longer grains now grown) are) (is, cc)
 
-pub put_posted : (grains now : List Grain) (slots after : List Slot) (kept : Kept) (letter : Letter) → Grows grains now → AreKept (length grains) slots
-    → after ≡ slots ++ record { kept = kept; fresh = true } ∷ [] → letter_kept now kept ≡ letter → all_posted now after ≡ all_posted grains slots ++ fresh_letter letter ∷ []
-put_posted grains now slots after kept letter grown are is exact =
-    ap (λ (l : List Slot). all_posted now l) is
-    ∙ map_push (posted_in now) slots (record { kept = kept; fresh = true })
-    ∙ ap (λ (l : List Posted). l ++ posted_in now (record { kept = kept; fresh = true }) ∷ []) (posted_again grains now slots grown are)
-    ∙ ap (λ (l : Letter). all_posted grains slots ++ fresh_letter l ∷ []) exact
-
 -- letters that were put behind the slots go again
-pub slots_undone : (slots after left : List Slot) (before : ℕ) → Grows slots after → before ≡ length slots → left ≡ take before after → left ≡ slots
-slots_undone slots after left before behind before_is is =
-    is ∙ ap (λ n. take n after) before_is ∙ ap (λ (l : List Slot). take (length slots) l) behind.1 ∙ take_at slots behind.0 (length slots) refl
-
-pub mail_undone : (grains now : List Grain) (slots left : List Slot) → Grows grains now → AreKept (length grains) slots → left ≡ slots → mail_in now left ≡ mail_in grains slots
-mail_undone grains now slots left grown are is =
-    ap (λ (l : List Slot). mail_in now l) is
-    ∙ ap (λ (l : List Posted). record { letters = enumerate_from 1 l; sent = length slots }) (posted_again grains now slots grown are)
+pub mail_undone : (grains now : List Grain) (slots after left : List Slot) (count : ℕ) → Grows grains now → AreKept (length grains) slots → Grows slots after
+    → count ≡ length after - length slots → left ≡ take (length after - count) after → mail_in now left ≡ mail_in grains slots
+mail_undone grains now slots after left count grown are behind count_is is =
+    let long : length slots ≤ length after = longer slots after behind in
+    let short : length after - count ≡ length slots = omega arith in
+    ap (λ (l : List Slot). mail_in now l)
+    (is ∙ ap (λ n. take n after) short ∙ ap (λ (l : List Slot). take (length slots) l) behind.1 ∙ take_at slots behind.0 (length slots) refl)
+    ∙ ap (λ (l : List (ℕ × Posted)). record { letters = l; sent = length slots }) (posted_again grains now slots grown are)

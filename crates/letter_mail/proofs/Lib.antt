@@ -1,3 +1,5 @@
 pub mod Growing
 pub mod Posted
-pub mod Marks
+pub mod Queued
+pub mod Least
+pub mod Sending

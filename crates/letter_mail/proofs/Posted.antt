@@ -1,31 +1,32 @@
 -- Letters under their numbers: letter n of the mail stands in the n-th slot.
-use Rattle.std.proofs.Common.{◌≡◌, ◌≢◌, ◌⊎◌, inl, inr, ℕ, zero, suc, ◌+◌, ◌-◌, ◌<◌, ◌≤◌, ◌&&◌, Bool, true, false, cond, List, [], ◌∷◌, ◌++◌, length, get_or, set, take, drop, map, find, Option, Some, None, IsSome, refl, sym, ◌∙◌, ap, subst, arith}
-use Rattle.std.specs.Prelude.{is_some}
+use Rattle.std.proofs.Common.{◌≡◌, ◌≢◌, ◌⊎◌, inl, inr, ℕ, zero, suc, ◌+◌, ◌-◌, ◌<◌, ◌≤◌, true, false, cond, List, [], ◌∷◌, ◌++◌, length, get_or, set, take, map, Option, Some, None, IsSome, refl, sym, ◌∙◌, ap, subst, arith}
+use Rattle.std.specs.Prelude.{nat_le}
 use Rattle.std.specs.Option.{option_map}
-use Rattle.std.specs.List.{enumerate_from, position, position_from}
+use Rattle.std.specs.List.{cons_option, enumerate_from, filter, filter_map}
 use Rattle.std.specs.Ordering.{is_eq, nat_cmp}
-use Rattle.std.specs.Map.{lookup, set_value}
+use Rattle.std.specs.Map.{lookup, remove_entry, set_value}
 use Rattle.std.specs.BTreeMap.{is_at}
+use Rattle.std.proofs.lemmas.Bool.{cases_eq, cases_lt, le-leb, lt-leb}
 use Rattle.std.proofs.lemmas.Cmp.{nat_cmp_total, tied_itself}
 use Rattle.std.proofs.lemmas.Map.Lookups.{exact_unsigned}
-use Rattle.std.proofs.lemmas.Iterator.Adapters.{position_from-zero}
-use Rattle.std.proofs.lemmas.Bool.{cases_lt}
-use Rattle.std.proofs.lemmas.List.{length-append, length-drop, length-map, length-set, length-take-le, take-map, take_all}
+use Rattle.std.proofs.lemmas.List.{append-nil, append_assoc, length-append, length-set, length-take-le}
+use Rattle.std.proofs.lemmas.List.Elements.{filter_map-append}
 use Rattle.std.proofs.lemmas.Option.{same_Some}
-use Rattle.silo_address.specs.Silo.{Silo, silo_cmp}
 use Rattle.silo_address.specs.Grain.{Grain}
 use Rattle.silo_address.proofs.Order.{apart_in_order}
 use Rattle.directory_rules.specs.Letter.{Letter}
-use Rattle.directory_rules.specs.Node.{Node}
 use Rattle.directory_rules.specs.World.{Posted}
 use Rattle.directory_rules.specs.Mail.{fresh_letter}
 use Rattle.letter_mail.specs.declared.slots.Slot.{Slot}
+use Rattle.letter_mail.specs.declared.slots.Slot.TheVariants.{Fresh, Stale, Lost}
 use Rattle.letter_mail.specs.declared.kept.Kept.{Kept}
 use Rattle.letter_mail.specs.declared.kept.Kept.TheVariants.{Brief, Whole}
-use Rattle.letter_mail.specs.Kept.{all_posted, letter_kept, posted_in, receiver_of}
-use Rattle.letter_mail.specs.Slots.{AreStaleBefore, is_fresh_slot_to, stale_slot}
-use Rattle.letter_mail.specs.Mail.{is_fresh_to, least_fresh, letter_in, with_posted, with_stale, without_last}
-use Rattle.letter_mail.specs.MailModel.{mail_in, posted_from}
+use Rattle.letter_mail.specs.Kept.{letter_kept, receiver_of}
+use Rattle.letter_mail.specs.Slots.{AreKept, lost_slot, posted_from, posted_in, slot_from, slot_to, stale_slot}
+use Rattle.letter_mail.specs.Mail.{MailValue, letter_in, with_lost, with_posted, with_stale, without_last}
+use Rattle.letter_mail.specs.MailModel.{mail_in}
+use Rattle.letter_mail.specs.Keeping.{Grows}
+use Rattle.letter_mail.proofs.Growing.{posted_again}
 
 -- ---- where a number stands
 here : (n m : ℕ) → n ≡ m → is_at (nat_cmp n) m ≡ true
@@ -34,24 +35,21 @@ here n m same = subst (λ q. is_at (nat_cmp n) q ≡ true) same (ap is_eq (tied_
 apart : (n m : ℕ) → n ≢ m → is_at (nat_cmp n) m ≡ false
 apart n m differ = apart_in_order nat_cmp exact_unsigned n m differ
 
-further : (first k : ℕ) → first + 1 + k ≡ first + suc k
+pub further : (first k : ℕ) → first + 1 + k ≡ first + suc k
 further first k = omega arith
 
-at_index : (first k : ℕ) (grains : List Grain) (slots : List Slot) (d : Slot) → k < length slots
-    → lookup (is_at (nat_cmp (first + k))) (posted_from first grains slots) ≡ Some (posted_in grains (get_or slots k d))
-at_index first k grains [] d below = absurd (omega arith)
-at_index first zero grains (s ∷ slots) d below =
-    ap (λ b. cond b (Some (posted_in grains s)) (lookup (is_at (nat_cmp (first + 0))) (posted_from (first + 1) grains slots))) (here (first + 0) first (omega arith))
-at_index first (suc k) grains (s ∷ slots) d below =
-    ap (λ b. cond b (Some (posted_in grains s)) (lookup (is_at (nat_cmp (first + suc k))) (posted_from (first + 1) grains slots))) (apart (first + suc k) first (λ same. omega arith))
-    ∙ subst (λ n. lookup (is_at (nat_cmp n)) (posted_from (first + 1) grains slots) ≡ Some (posted_in grains (get_or slots k d))) (further first k) (at_index (first + 1) k grains slots d (omega arith))
+pub slot_at : (first k : ℕ) (slots : List Slot) (d : Slot) → k < length slots → slot_from first slots (first + k) ≡ Some (get_or slots k d)
+slot_at first k [] d below = absurd (omega arith)
+slot_at first zero (s ∷ slots) d below =
+    ap (λ b. cond b (Some s) (slot_from (first + 1) slots (first + 0))) (here (first + 0) first (omega arith))
+slot_at first (suc k) (s ∷ slots) d below =
+    ap (λ b. cond b (Some s) (slot_from (first + 1) slots (first + suc k))) (apart (first + suc k) first (λ same. omega arith))
+    ∙ subst (λ n. slot_from (first + 1) slots n ≡ Some (get_or slots k d)) (further first k) (slot_at (first + 1) k slots d (omega arith))
 
-nowhere : (first number : ℕ) (grains : List Grain) (slots : List Slot) → (number < first) ⊎ (first + length slots ≤ number)
-    → lookup (is_at (nat_cmp number)) (posted_from first grains slots) ≡ None
-nowhere first number grains [] out = refl
-nowhere first number grains (s ∷ slots) out =
-    ap (λ b. cond b (Some (posted_in grains s)) (lookup (is_at (nat_cmp number)) (posted_from (first + 1) grains slots))) (apart number first (not_first out))
-    ∙ nowhere (first + 1) number grains slots (still out)
+pub slot_none : (first number : ℕ) (slots : List Slot) → (number < first) ⊎ (first + length slots ≤ number) → slot_from first slots number ≡ None
+slot_none first number [] out = refl
+slot_none first number (s ∷ slots) out =
+    ap (λ b. cond b (Some s) (slot_from (first + 1) slots number)) (apart number first (not_first out)) ∙ slot_none (first + 1) number slots (still out)
   where
     not_first : (number < first) ⊎ (first + suc (length slots) ≤ number) → number ≢ first
     not_first (inl before) same = omega arith
@@ -62,81 +60,46 @@ nowhere first number grains (s ∷ slots) out =
     still (inr behind) = inr (omega arith)
 
 -- ---- the letter of a number
-pub letter_none : (grains : List Grain) (slots : List Slot) (number : ℕ) → (number ≡ 0) ⊎ (length slots < number) → letter_in (mail_in grains slots) number ≡ None
-letter_none grains slots number (inl zero_is) = ap (λ o. option_map (λ (p : Posted). p.letter) o) (nowhere 1 number grains slots (inl (omega arith)))
-letter_none grains slots number (inr behind) = ap (λ o. option_map (λ (p : Posted). p.letter) o) (nowhere 1 number grains slots (inr (omega arith)))
+abbrev in_slot : List Grain → Option Slot → Option Posted
+in_slot grains None = None
+in_slot grains (Some slot) = posted_in grains slot
 
-pub letter_some : (grains : List Grain) (slots : List Slot) (number index : ℕ) (d : Slot) → index < length slots → number ≡ 1 + index
-    → letter_in (mail_in grains slots) number ≡ Some (letter_kept grains (get_or slots index d).kept)
-letter_some grains slots number index d below is =
-    subst (λ n. letter_in (mail_in grains slots) n ≡ Some (letter_kept grains (get_or slots index d).kept)) (sym is)
-    (ap (λ o. option_map (λ (p : Posted). p.letter) o) (at_index 1 index grains slots d below))
-
--- ---- letters sent
-enumerate-append : {A : Type 0} (first : ℕ) (xs ys : List A) → enumerate_from first (xs ++ ys) ≡ enumerate_from first xs ++ enumerate_from (first + length xs) ys
-enumerate-append first [] ys = ap (λ n. enumerate_from n ys) (omega arith)
-enumerate-append {A} first (x ∷ xs) ys =
-    ap (λ (l : List (ℕ × A)). (first, x) ∷ l)
-    (enumerate-append (first + 1) xs ys ∙ ap (λ n. enumerate_from (first + 1) xs ++ enumerate_from n ys) (further first (length xs)))
-
-posted_fresh : (first : ℕ) (letters : List Letter) → enumerate_from first (map fresh_letter letters) ≡ map (λ e. (e.0, fresh_letter e.1)) (enumerate_from first letters)
-posted_fresh first [] = refl
-posted_fresh first (letter ∷ letters) = ap (λ (l : List (ℕ × Posted)). (first, fresh_letter letter) ∷ l) (posted_fresh (first + 1) letters)
-
-pub posted_is : (grains now : List Grain) (slots after : List Slot) (letters : List Letter)
-    → all_posted now after ≡ all_posted grains slots ++ map fresh_letter letters → mail_in now after ≡ with_posted (mail_in grains slots) letters
-posted_is grains now slots after letters is =
-    ap (λ (l : List (ℕ × Posted)). record { letters = l; sent = length after })
-    (ap (λ (l : List Posted). enumerate_from 1 l) is
-    ∙ enumerate-append 1 (all_posted grains slots) (map fresh_letter letters)
-    ∙ ap (λ (l : List (ℕ × Posted)). posted_from 1 grains slots ++ l)
-    (ap (λ n. enumerate_from n (map fresh_letter letters)) (omega (arith, length-map slots (posted_in grains))) ∙ posted_fresh (length slots + 1) letters))
-    ∙ ap (λ n. record { letters = posted_from 1 grains slots ++ map (λ e. (e.0, fresh_letter e.1)) (enumerate_from (length slots + 1) letters); sent = n }) longer
+at_number : (first number : ℕ) (grains : List Grain) (slots : List Slot) → lookup (is_at (nat_cmp number)) (posted_from first grains slots) ≡ in_slot grains (slot_from first slots number)
+at_number first number grains [] = refl
+at_number first number grains (s ∷ slots) = elim (cases_eq number first) [
+  | inl same ↦
+      at_first (posted_in grains s) (subst (λ n. lookup (is_at (nat_cmp n)) (posted_from (first + 1) grains slots) ≡ None) (sym same)
+      (at_number (first + 1) first grains slots ∙ ap (in_slot grains) (slot_none (first + 1) first slots (inl (omega arith))))) (here number first same)
+      ∙ ap (λ b. in_slot grains (cond b (Some s) (slot_from (first + 1) slots number))) (sym (here number first same))
+  | inr differ ↦
+      passed (posted_in grains s) (apart number first differ) ∙ at_number (first + 1) number grains slots
+      ∙ ap (λ b. in_slot grains (cond b (Some s) (slot_from (first + 1) slots number))) (sym (apart number first differ))
+]
   where
-    longer : length after ≡ length slots + length letters
-    longer =
-        sym (length-map after (posted_in now)) ∙ ap (λ (l : List Posted). length l) is ∙ length-append (all_posted grains slots) (map fresh_letter letters)
-        ∙ ap (λ n. n + length (map fresh_letter letters)) (length-map slots (posted_in grains)) ∙ ap (λ n. length slots + n) (length-map letters fresh_letter)
+    at_first : (o : Option Posted) → lookup (is_at (nat_cmp number)) (posted_from (first + 1) grains slots) ≡ None → is_at (nat_cmp number) first ≡ true
+        → lookup (is_at (nat_cmp number)) (cons_option (option_map (λ (p : Posted). (first, p)) o) (posted_from (first + 1) grains slots)) ≡ o
+    at_first None none at = none
+    at_first (Some p) none at = ap (λ b. cond b (Some p) (lookup (is_at (nat_cmp number)) (posted_from (first + 1) grains slots))) at
 
--- ---- a delivery
-set_index : (first k : ℕ) (grains : List Grain) (slots : List Slot) (slot : Slot) → k < length slots
-    → set_value (is_at (nat_cmp (first + k))) (posted_from first grains slots) (posted_in grains slot) ≡ posted_from first grains (set slots k slot)
-set_index first k grains [] slot below = absurd (omega arith)
-set_index first zero grains (s ∷ slots) slot below =
-    ap (λ b. cond b ((first, posted_in grains slot) ∷ posted_from (first + 1) grains slots)
-    ((first, posted_in grains s) ∷ set_value (is_at (nat_cmp (first + 0))) (posted_from (first + 1) grains slots) (posted_in grains slot)))
-    (here (first + 0) first (omega arith))
-set_index first (suc k) grains (s ∷ slots) slot below =
-    ap (λ b. cond b ((first, posted_in grains slot) ∷ posted_from (first + 1) grains slots)
-    ((first, posted_in grains s) ∷ set_value (is_at (nat_cmp (first + suc k))) (posted_from (first + 1) grains slots) (posted_in grains slot)))
-    (apart (first + suc k) first (λ same. omega arith))
-    ∙ ap (λ (l : List (ℕ × Posted)). (first, posted_in grains s) ∷ l)
-    (subst (λ n. set_value (is_at (nat_cmp n)) (posted_from (first + 1) grains slots) (posted_in grains slot) ≡ posted_from (first + 1) grains (set slots k slot)) (further first k)
-    (set_index (first + 1) k grains slots slot (omega arith)))
+    passed : (o : Option Posted) → is_at (nat_cmp number) first ≡ false
+        → lookup (is_at (nat_cmp number)) (cons_option (option_map (λ (p : Posted). (first, p)) o) (posted_from (first + 1) grains slots))
+        ≡ lookup (is_at (nat_cmp number)) (posted_from (first + 1) grains slots)
+    passed None at = refl
+    passed (Some p) at = ap (λ b. cond b (Some p) (lookup (is_at (nat_cmp number)) (posted_from (first + 1) grains slots))) at
 
-pub letter_is : (grains : List Grain) (slots : List Slot) (number index : ℕ) (d : Slot) (letter : Letter) → index < length slots → number ≡ 1 + index
-    → letter_in (mail_in grains slots) number ≡ Some letter → letter_kept grains (get_or slots index d).kept ≡ letter
-letter_is grains slots number index d letter below is found =
-    same_Some (letter_kept grains (get_or slots index d).kept) letter (sym (letter_some grains slots number index d below is) ∙ found)
+abbrev letter_part : Option Posted → Option Letter
+letter_part o = option_map (λ (p : Posted). p.letter) o
 
-pub delivered_is : (grains : List Grain) (slots after : List Slot) (number : ℕ) (d : Slot) (letter : Letter) → 1 ≤ number → number ≤ length slots
-    → after ≡ set slots (number - 1) (stale_slot (get_or slots (number - 1) d))
-    → letter_in (mail_in grains slots) number ≡ Some letter → mail_in grains after ≡ with_stale (mail_in grains slots) number letter
-delivered_is grains slots after number d letter sent within is found =
-    let index = number - 1 in
-    let stale : Slot = stale_slot (get_or slots index d) in
-    let below : index < length slots = omega arith in
-    let number_is : number ≡ 1 + index = omega arith in
-    ap (λ (l : List Slot). mail_in grains l) is
-    ∙ ap (λ (l : List (ℕ × Posted)). record { letters = l; sent = length (set slots index stale) })
-    (sym (set_index 1 index grains slots stale below)
-    ∙ ap (λ n. set_value (is_at (nat_cmp n)) (posted_from 1 grains slots) (posted_in grains stale)) (sym number_is)
-    ∙ ap (λ (l : Letter). set_value (is_at (nat_cmp number)) (posted_from 1 grains slots) (record { letter = l; fresh = false }))
-    (letter_is grains slots number index d letter below number_is found))
-    ∙ ap (λ n. record { letters = set_value (is_at (nat_cmp number)) (posted_from 1 grains slots) (record { letter = letter; fresh = false }); sent = n })
-    (length-set slots index stale)
+pub letter_none : (grains : List Grain) (slots : List Slot) (number : ℕ) → (number ≡ 0) ⊎ (length slots < number) → letter_in (mail_in grains slots) number ≡ None
+letter_none grains slots number out =
+    ap letter_part (at_number 1 number grains slots ∙ ap (in_slot grains) (slot_none 1 number slots (elim out [ inl none ↦ inl (omega arith) | inr behind ↦ inr (omega arith) ])))
 
--- a letter that is in the mail has a number that was given
+pub letter_at : (grains : List Grain) (slots : List Slot) (number index : ℕ) (d : Slot) → index < length slots → number ≡ 1 + index
+    → letter_in (mail_in grains slots) number ≡ letter_part (posted_in grains (get_or slots index d))
+letter_at grains slots number index d below is =
+    ap letter_part (at_number 1 number grains slots ∙ ap (λ n. in_slot grains (slot_from 1 slots n)) is ∙ ap (in_slot grains) (slot_at 1 index slots d below))
+
+-- a letter that is in the mail has a number that was given, and stands in its slot
 pub was_sent : (grains : List Grain) (slots : List Slot) (number : ℕ) → IsSome (letter_in (mail_in grains slots) number) → (1 ≤ number) × (number ≤ length slots)
 was_sent grains slots number there = (first number there, last)
   where
@@ -154,89 +117,173 @@ was_sent grains slots number there = (first number there, last)
       | inr within ↦ within
     ]
 
--- ---- letters taken back
-enumerate-take : {A : Type 0} (first n : ℕ) (xs : List A) → enumerate_from first (take n xs) ≡ take n (enumerate_from first xs)
-enumerate-take first zero [] = refl
-enumerate-take first (suc n) [] = refl
-enumerate-take first zero (x ∷ xs) = refl
-enumerate-take {A} first (suc n) (x ∷ xs) = ap (λ (l : List (ℕ × A)). (first, x) ∷ l) (enumerate-take (first + 1) n xs)
-
-pub length-enumerate : {A : Type 0} (first : ℕ) (xs : List A) → length (enumerate_from first xs) ≡ length xs
-length-enumerate first [] = refl
-length-enumerate first (x ∷ xs) = ap suc (length-enumerate (first + 1) xs)
-
-pub taken_is : (grains : List Grain) (slots after : List Slot) (count left : ℕ) → left ≡ length slots - count → after ≡ take left slots
-    → mail_in grains after ≡ without_last (mail_in grains slots) count
-taken_is grains slots after count left left_is is =
-    ap (λ (l : List Slot). mail_in grains l) (is ∙ ap (λ n. take n slots) left_is)
-    ∙ ap (λ (l : List (ℕ × Posted)). record { letters = l; sent = length (take (length slots - count) slots) })
-    (ap (λ (l : List Posted). enumerate_from 1 l) (sym (take-map (posted_in grains) (length slots - count) slots))
-    ∙ enumerate-take 1 (length slots - count) (all_posted grains slots)
-    ∙ ap (λ n. take (n - count) (posted_from 1 grains slots)) (sym (length-enumerate 1 (all_posted grains slots) ∙ length-map slots (posted_in grains))))
-    ∙ ap (λ n. record { letters = take (length (posted_from 1 grains slots) - count) (posted_from 1 grains slots); sent = n })
-    (length-take-le (length slots - count) slots (omega arith))
-
--- ---- the least fresh letter
-receiver_is : (grains : List Grain) (kept : Kept) → (letter_kept grains kept).to ≡ receiver_of kept
+-- ---- letters sent
+pub receiver_is : (grains : List Grain) (kept : Kept) → (letter_kept grains kept).to ≡ receiver_of kept
 receiver_is grains (Brief brief) = refl
 receiver_is grains (Whole letter) = refl
 
-fresh_is : (nodes : List (Silo × Node)) (grains : List Grain) (slot : Slot) → is_fresh_to nodes (posted_in grains slot) ≡ is_fresh_slot_to nodes slot
-fresh_is nodes grains slot = ap (λ silo. slot.fresh && is_some (lookup (is_at (silo_cmp silo)) nodes)) (receiver_is grains slot.kept)
+pub enumerate-append : {A : Type 0} (first : ℕ) (xs ys : List A) → enumerate_from first (xs ++ ys) ≡ enumerate_from first xs ++ enumerate_from (first + length xs) ys
+enumerate-append first [] ys = ap (λ n. enumerate_from n ys) (omega arith)
+enumerate-append {A} first (x ∷ xs) ys =
+    ap (λ (l : List (ℕ × A)). (first, x) ∷ l)
+    (enumerate-append (first + 1) xs ys ∙ ap (λ n. enumerate_from (first + 1) xs ++ enumerate_from n ys) (further first (length xs)))
 
-found_from : (nodes : List (Silo × Node)) (grains : List Grain) (first i : ℕ) (slots : List Slot)
-    → option_map (λ e. e.0) (find (λ e. is_fresh_to nodes e.1) (posted_from (first + i) grains slots))
-    ≡ option_map (λ k. first + k) (position_from (is_fresh_slot_to nodes) i slots)
-found_from nodes grains first i [] = refl
-found_from nodes grains first i (s ∷ slots) =
-    ap (λ b. option_map (λ (e : ℕ × Posted). e.0) (cond b (Some (first + i, posted_in grains s)) (find (λ e. is_fresh_to nodes e.1) (posted_from (first + i + 1) grains slots))))
-    (fresh_is nodes grains s)
-    ∙ by (is_fresh_slot_to nodes s)
-    (ap (λ n. option_map (λ (e : ℕ × Posted). e.0) (find (λ e. is_fresh_to nodes e.1) (posted_from n grains slots))) (omega arith) ∙ found_from nodes grains first (i + 1) slots)
+abbrev posted_under : List Grain → ℕ × Slot → Option (ℕ × Posted)
+posted_under grains e = option_map (λ posted. (e.0, posted)) (posted_in grains e.1)
+
+posted-append : (grains : List Grain) (slots more : List Slot) → posted_from 1 grains (slots ++ more) ≡ posted_from 1 grains slots ++ posted_from (1 + length slots) grains more
+posted-append grains slots more =
+    ap (λ (l : List (ℕ × Slot)). filter_map (posted_under grains) l) (enumerate-append 1 slots more)
+    ∙ filter_map-append (posted_under grains) (enumerate_from 1 slots) (enumerate_from (1 + length slots) more)
+
+pub put_posted : (grains now : List Grain) (slots after : List Slot) (slot : Slot) (letter : Letter) → Grows grains now → AreKept (length grains) slots → after ≡ slots ++ slot ∷ []
+    → posted_in now slot ≡ Some (fresh_letter letter) → mail_in now after ≡ with_posted (mail_in grains slots) (letter ∷ [])
+put_posted grains now slots after slot letter grown are is exact =
+    ap (λ (l : List Slot). mail_in now l) is
+    ∙ ap (λ (l : List (ℕ × Posted)). record { letters = l; sent = length (slots ++ slot ∷ []) })
+    (posted-append now slots (slot ∷ [])
+    ∙ ap (λ (l : List (ℕ × Posted)). l ++ posted_from (1 + length slots) now (slot ∷ [])) (posted_again grains now slots grown are)
+    ∙ ap (λ (o : Option Posted). posted_from 1 grains slots ++ cons_option (option_map (λ (p : Posted). (1 + length slots, p)) o) []) exact
+    ∙ ap (λ n. posted_from 1 grains slots ++ (n, fresh_letter letter) ∷ []) (omega arith))
+    ∙ ap (λ n. record { letters = posted_from 1 grains slots ++ (length slots + 1, fresh_letter letter) ∷ []; sent = n }) (length-append slots (slot ∷ []))
+
+pub receiver_of_kept : (grains : List Grain) (kept : Kept) (letter : Letter) → letter_kept grains kept ≡ letter → receiver_of kept ≡ letter.to
+receiver_of_kept grains kept letter is = sym (receiver_is grains kept) ∙ ap (λ (l : Letter). l.to) is
+
+-- some, and then more
+pub posted_none : (mail : MailValue) → with_posted mail [] ≡ mail
+posted_none mail =
+    ap (λ (l : List (ℕ × Posted)). record { letters = l; sent = mail.sent + 0 }) (append-nil mail.letters) ∙ ap (λ n. record { letters = mail.letters; sent = n }) (omega arith)
+
+pub posted_next : (mail : MailValue) (letter : Letter) (letters : List Letter) → with_posted (with_posted mail (letter ∷ [])) letters ≡ with_posted mail (letter ∷ letters)
+posted_next mail letter letters =
+    ap (λ (l : List (ℕ × Posted)). record { letters = l; sent = mail.sent + 1 + length letters })
+    (append_assoc mail.letters ((mail.sent + 1, fresh_letter letter) ∷ []) (map (λ e. (e.0, fresh_letter e.1)) (enumerate_from (mail.sent + 1 + 1) letters)))
+    ∙ ap (λ n. record { letters = mail.letters ++ (mail.sent + 1, fresh_letter letter) ∷ map (λ e. (e.0, fresh_letter e.1)) (enumerate_from (mail.sent + 1 + 1) letters); sent = n })
+    (further mail.sent (length letters))
+
+-- ---- a delivery
+abbrev under : ℕ → Option Posted → List (ℕ × Posted) → List (ℕ × Posted)
+under first o rest = cons_option (option_map (λ (p : Posted). (first, p)) o) rest
+
+set_index : (first k : ℕ) (grains : List Grain) (slots : List Slot) (slot d : Slot) (posted : Posted) → k < length slots → IsSome (posted_in grains (get_or slots k d))
+    → posted_in grains slot ≡ Some posted → set_value (is_at (nat_cmp (first + k))) (posted_from first grains slots) posted ≡ posted_from first grains (set slots k slot)
+set_index first k grains [] slot d posted below there is = absurd (omega arith)
+set_index first zero grains (s ∷ slots) slot d posted below there is =
+    at_first (posted_in grains s) there ∙ ap (λ (o : Option Posted). under first o (posted_from (first + 1) grains slots)) (sym is)
   where
-    by : (b : Bool) → option_map (λ e. e.0) (find (λ e. is_fresh_to nodes e.1) (posted_from (first + i + 1) grains slots))
-        ≡ option_map (λ k. first + k) (position_from (is_fresh_slot_to nodes) (i + 1) slots)
-        → option_map (λ e. e.0) (cond b (Some (first + i, posted_in grains s)) (find (λ e. is_fresh_to nodes e.1) (posted_from (first + i + 1) grains slots)))
-        ≡ option_map (λ k. first + k) (cond b (Some i) (position_from (is_fresh_slot_to nodes) (i + 1) slots))
-    by true later = refl
-    by false later = later
+    at_first : (o : Option Posted) → IsSome o → set_value (is_at (nat_cmp (first + 0))) (under first o (posted_from (first + 1) grains slots)) posted ≡ (first, posted) ∷ posted_from (first + 1) grains slots
+    at_first None there = absurd (cc (there))
+    at_first (Some p) there =
+        ap (λ b. cond b ((first, posted) ∷ posted_from (first + 1) grains slots) ((first, p) ∷ set_value (is_at (nat_cmp (first + 0))) (posted_from (first + 1) grains slots) posted))
+        (here (first + 0) first (omega arith))
+set_index first (suc k) grains (s ∷ slots) slot d posted below there is =
+    passed (posted_in grains s)
+    ∙ ap (λ (l : List (ℕ × Posted)). under first (posted_in grains s) l)
+    (subst (λ n. set_value (is_at (nat_cmp n)) (posted_from (first + 1) grains slots) posted ≡ posted_from (first + 1) grains (set slots k slot)) (further first k)
+    (set_index (first + 1) k grains slots slot d posted (omega arith) there is))
+  where
+    passed : (o : Option Posted) → set_value (is_at (nat_cmp (first + suc k))) (under first o (posted_from (first + 1) grains slots)) posted
+        ≡ under first o (set_value (is_at (nat_cmp (first + suc k))) (posted_from (first + 1) grains slots) posted)
+    passed None = refl
+    passed (Some p) =
+        ap (λ b. cond b ((first, posted) ∷ posted_from (first + 1) grains slots) ((first, p) ∷ set_value (is_at (nat_cmp (first + suc k))) (posted_from (first + 1) grains slots) posted))
+        (apart (first + suc k) first (λ same. omega arith))
 
--- the slots before the mark are passed over
-passed_over : (p : Posted → Bool) (first mark : ℕ) (grains : List Grain) (slots : List Slot) → mark ≤ length slots
-    → ((index : ℕ) (d : Slot) → index < mark → p (posted_in grains (get_or slots index d)) ≡ false)
-    → find (λ e. p e.1) (posted_from first grains slots) ≡ find (λ e. p e.1) (posted_from (first + mark) grains (drop mark slots))
-passed_over p first zero grains slots within none = ap (λ n. find (λ e. p e.1) (posted_from n grains slots)) (omega arith)
-passed_over p first (suc mark) grains [] within none = absurd (omega arith)
-passed_over p first (suc mark) grains (s ∷ slots) within none =
-    ap (λ b. cond b (Some (first, posted_in grains s)) (find (λ e. p e.1) (posted_from (first + 1) grains slots))) (none 0 s (omega arith))
-    ∙ passed_over p (first + 1) mark grains slots (omega arith) (λ index d below. none (suc index) d (omega arith))
-    ∙ ap (λ n. find (λ e. p e.1) (posted_from n grains (drop mark slots))) (further first mark)
+-- what is in the slot of a letter
+there_in : (o : Option Posted) → IsSome (letter_part o) → IsSome o
+there_in None there = absurd (cc (there))
+there_in (Some posted) there = refl
 
-not_fresh : (nodes : List (Silo × Node)) (grains : List Grain) (slot : Slot) → slot.fresh ≡ false → is_fresh_to nodes (posted_in grains slot) ≡ false
-not_fresh nodes grains slot stale = ap (λ b. b && is_some (lookup (is_at (silo_cmp (letter_kept grains slot.kept).to)) nodes)) stale
+stale_in : (grains : List Grain) (slot : Slot) (letter : Letter) → letter_part (posted_in grains slot) ≡ Some letter → posted_in grains (stale_slot slot) ≡ Some (record { letter = letter; fresh = false })
+stale_in grains (Fresh kept) letter found = ap (λ (l : Letter). Some (record { letter = l; fresh = false })) (same_Some (letter_kept grains kept) letter found)
+stale_in grains (Stale kept) letter found = ap (λ (l : Letter). Some (record { letter = l; fresh = false })) (same_Some (letter_kept grains kept) letter found)
+stale_in grains (Lost to) letter found = absurd (cc (found))
 
-least_is : (nodes : List (Silo × Node)) (grains : List Grain) (slots : List Slot) (mark : ℕ) → AreStaleBefore slots mark
-    → least_fresh nodes (mail_in grains slots) ≡ option_map (λ k. 1 + mark + k) (position (is_fresh_slot_to nodes) (drop mark slots))
-least_is nodes grains slots mark are =
-    ap (λ o. option_map (λ (e : ℕ × Posted). e.0) o)
-    (passed_over (is_fresh_to nodes) 1 mark grains slots are.within (λ index d below. not_fresh nodes grains (get_or slots index d) (are.stale index d below)))
-    ∙ ap (λ n. option_map (λ (e : ℕ × Posted). e.0) (find (λ e. is_fresh_to nodes e.1) (posted_from n grains (drop mark slots)))) (omega arith)
-    ∙ found_from nodes grains (1 + mark) 0 (drop mark slots)
-    ∙ ap (λ o. option_map (λ k. 1 + mark + k) o) (sym (position_from-zero (is_fresh_slot_to nodes) (drop mark slots)))
+pub delivered_is : (grains : List Grain) (slots after : List Slot) (number : ℕ) (d : Slot) (letter : Letter) → 1 ≤ number → number ≤ length slots
+    → after ≡ set slots (number - 1) (stale_slot (get_or slots (number - 1) d))
+    → letter_in (mail_in grains slots) number ≡ Some letter → mail_in grains after ≡ with_stale (mail_in grains slots) number letter
+delivered_is grains slots after number d letter sent within is found =
+    let index = number - 1 in
+    let slot : Slot = get_or slots index d in
+    let below : index < length slots = omega arith in
+    let number_is : number ≡ 1 + index = omega arith in
+    let kept : letter_part (posted_in grains slot) ≡ Some letter = sym (letter_at grains slots number index d below number_is) ∙ found in
+    ap (λ (l : List Slot). mail_in grains l) is
+    ∙ ap (λ (l : List (ℕ × Posted)). record { letters = l; sent = length (set slots index (stale_slot slot)) })
+    (sym (set_index 1 index grains slots (stale_slot slot) d (record { letter = letter; fresh = false }) below
+    (there_in (posted_in grains slot) (subst (λ (o : Option Letter). IsSome o) (sym kept) refl)) (stale_in grains slot letter kept))
+    ∙ ap (λ n. set_value (is_at (nat_cmp n)) (posted_from 1 grains slots) (record { letter = letter; fresh = false })) (sym number_is))
+    ∙ ap (λ n. record { letters = set_value (is_at (nat_cmp number)) (posted_from 1 grains slots) (record { letter = letter; fresh = false }); sent = n })
+    (length-set slots index (stale_slot slot))
 
-after_mark : (mark : ℕ) (ahead : Option ℕ) → option_map (λ k. 1 + mark + k) ahead ≡ option_map (λ k. mark + k + 1) ahead
-after_mark mark None = refl
-after_mark mark (Some k) = ap (λ n. Some n) (omega arith)
+-- ---- a loss
+remove_index : (first k : ℕ) (grains : List Grain) (slots : List Slot) (d : Slot) (to : _) → k < length slots → IsSome (posted_in grains (get_or slots k d))
+    → remove_entry (is_at (nat_cmp (first + k))) (posted_from first grains slots) ≡ posted_from first grains (set slots k (Lost to))
+remove_index first k grains [] d to below there = absurd (omega arith)
+remove_index first zero grains (s ∷ slots) d to below there = at_first (posted_in grains s) there
+  where
+    at_first : (o : Option Posted) → IsSome o → remove_entry (is_at (nat_cmp (first + 0))) (under first o (posted_from (first + 1) grains slots)) ≡ posted_from (first + 1) grains slots
+    at_first None there = absurd (cc (there))
+    at_first (Some p) there =
+        ap (λ b. cond b (posted_from (first + 1) grains slots) ((first, p) ∷ remove_entry (is_at (nat_cmp (first + 0))) (posted_from (first + 1) grains slots)))
+        (here (first + 0) first (omega arith))
+remove_index first (suc k) grains (s ∷ slots) d to below there =
+    passed (posted_in grains s)
+    ∙ ap (λ (l : List (ℕ × Posted)). under first (posted_in grains s) l)
+    (subst (λ n. remove_entry (is_at (nat_cmp n)) (posted_from (first + 1) grains slots) ≡ posted_from (first + 1) grains (set slots k (Lost to))) (further first k)
+    (remove_index (first + 1) k grains slots d to (omega arith) there))
+  where
+    passed : (o : Option Posted) → remove_entry (is_at (nat_cmp (first + suc k))) (under first o (posted_from (first + 1) grains slots))
+        ≡ under first o (remove_entry (is_at (nat_cmp (first + suc k))) (posted_from (first + 1) grains slots))
+    passed None = refl
+    passed (Some p) =
+        ap (λ b. cond b (posted_from (first + 1) grains slots) ((first, p) ∷ remove_entry (is_at (nat_cmp (first + suc k))) (posted_from (first + 1) grains slots)))
+        (apart (first + suc k) first (λ same. omega arith))
 
--- the slots from an index on, as a slice is read
-pub rest_of : (slots : List Slot) (from : ℕ) → take (length slots - from) (drop from slots) ≡ drop from slots
-rest_of slots from = take_all (length slots - from) (drop from slots) (omega (arith, length-drop from slots))
+pub lost_is : (grains : List Grain) (slots after : List Slot) (number : ℕ) (d : Slot) → 1 ≤ number → number ≤ length slots
+    → after ≡ set slots (number - 1) (lost_slot (get_or slots (number - 1) d))
+    → IsSome (letter_in (mail_in grains slots) number) → mail_in grains after ≡ with_lost (mail_in grains slots) number
+lost_is grains slots after number d sent within is there =
+    let index = number - 1 in
+    let slot : Slot = get_or slots index d in
+    let below : index < length slots = omega arith in
+    let number_is : number ≡ 1 + index = omega arith in
+    ap (λ (l : List Slot). mail_in grains l) is
+    ∙ ap (λ (l : List (ℕ × Posted)). record { letters = l; sent = length (set slots index (lost_slot slot)) })
+    (sym (remove_index 1 index grains slots d (slot_to slot) below
+    (there_in (posted_in grains slot) (subst (λ (o : Option Letter). IsSome o) (letter_at grains slots number index d below number_is) there)))
+    ∙ ap (λ n. remove_entry (is_at (nat_cmp n)) (posted_from 1 grains slots)) (sym number_is))
+    ∙ ap (λ n. record { letters = remove_entry (is_at (nat_cmp number)) (posted_from 1 grains slots); sent = n }) (length-set slots index (lost_slot slot))
 
-pub least_at : (nodes : List (Silo × Node)) (grains : List Grain) (slots lent : List Slot) (mark : ℕ) → AreStaleBefore slots mark → lent ≡ slots → (ahead : Option ℕ)
-    → ahead ≡ position (is_fresh_slot_to nodes) (take (length lent - mark) (drop mark lent)) → least_fresh nodes (mail_in grains slots) ≡ option_map (λ k. mark + k + 1) ahead
-least_at nodes grains slots lent mark are same ahead found =
-    least_is nodes grains slots mark are
-    ∙ ap (λ o. option_map (λ k. 1 + mark + k) o)
-    (ap (λ (l : List Slot). position (is_fresh_slot_to nodes) (drop mark l)) (sym same)
-    ∙ ap (λ (l : List Slot). position (is_fresh_slot_to nodes) l) (sym (rest_of lent mark)) ∙ sym found)
-    ∙ after_mark mark ahead
+-- ---- letters taken back
+none_kept : (first bound : ℕ) (grains : List Grain) (slots : List Slot) → bound < first → filter (λ e. nat_le e.0 bound) (posted_from first grains slots) ≡ []
+none_kept first bound grains [] above = refl
+none_kept first bound grains (s ∷ slots) above = by (posted_in grains s) (none_kept (first + 1) bound grains slots (omega arith))
+  where
+    by : (o : Option Posted) → filter (λ e. nat_le e.0 bound) (posted_from (first + 1) grains slots) ≡ [] → filter (λ e. nat_le e.0 bound) (under first o (posted_from (first + 1) grains slots)) ≡ []
+    by None later = later
+    by (Some p) later =
+        ap (λ b. cond b ((first, p) ∷ filter (λ e. nat_le e.0 bound) (posted_from (first + 1) grains slots)) (filter (λ e. nat_le e.0 bound) (posted_from (first + 1) grains slots)))
+        (lt-leb first bound above) ∙ later
+
+first_kept : (first bound n : ℕ) (grains : List Grain) (slots : List Slot) → bound + 1 ≡ first + n → filter (λ e. nat_le e.0 bound) (posted_from first grains slots) ≡ posted_from first grains (take n slots)
+first_kept first bound zero grains [] is = refl
+first_kept first bound (suc n) grains [] is = refl
+first_kept first bound zero grains (s ∷ slots) is = none_kept first bound grains (s ∷ slots) (omega arith)
+first_kept first bound (suc n) grains (s ∷ slots) is =
+    by (posted_in grains s) ∙ ap (λ (l : List (ℕ × Posted)). under first (posted_in grains s) l) (first_kept (first + 1) bound n grains slots (omega arith))
+  where
+    by : (o : Option Posted) → filter (λ e. nat_le e.0 bound) (under first o (posted_from (first + 1) grains slots)) ≡ under first o (filter (λ e. nat_le e.0 bound) (posted_from (first + 1) grains slots))
+    by None = refl
+    by (Some p) =
+        ap (λ b. cond b ((first, p) ∷ filter (λ e. nat_le e.0 bound) (posted_from (first + 1) grains slots)) (filter (λ e. nat_le e.0 bound) (posted_from (first + 1) grains slots)))
+        (le-leb first bound (omega arith))
+
+pub taken_is : (grains : List Grain) (slots after : List Slot) (count : ℕ) → count ≤ length slots → after ≡ take (length slots - count) slots
+    → mail_in grains after ≡ without_last (mail_in grains slots) count
+taken_is grains slots after count within is =
+    let left = length slots - count in
+    ap (λ (l : List Slot). mail_in grains l) is
+    ∙ ap (λ (l : List (ℕ × Posted)). record { letters = l; sent = length (take left slots) }) (sym (first_kept 1 left left grains slots (omega arith)))
+    ∙ ap (λ n. record { letters = filter (λ e. nat_le e.0 left) (posted_from 1 grains slots); sent = n }) (length-take-le left slots (omega arith))

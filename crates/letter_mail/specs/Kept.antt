@@ -1,6 +1,5 @@
 -- How what is kept of a letter is the rule's letter: a grain is kept by its number among all grains that letters named.
-use Rattle.std.specs.Prelude.{ℕ, ◌<◌, List, [], None, slice_index_or, map}
-use Rattle.std.specs.List.{AllByRecursion}
+use Rattle.std.specs.Prelude.{ℕ, ◌<◌, List, [], None, slice_index_or}
 use Rattle.silo_address.specs.Grain.{Grain}
 use Rattle.silo_address.specs.Silo.{Silo}
 use Rattle.silo_address.specs.declared.Entry.{Entry}
@@ -8,14 +7,12 @@ use Rattle.directory_rules.specs.declared.Act.{Act}
 use Rattle.directory_rules.specs.declared.Act.TheVariants as act
 use Rattle.directory_rules.specs.declared.Reply.TheVariants as reply
 use Rattle.directory_rules.specs.Letter.{Letter, Body, Request_letter, Reply_letter, Ask_letter, Missing_letter, Done_letter, Query_letter, Behind_letter, Ahead_letter, Offer_letter}
-use Rattle.directory_rules.specs.World.{Posted}
 use Rattle.letter_mail.specs.declared.kept.Named.{Named}
 use Rattle.letter_mail.specs.declared.kept.Says.{Says}
 use Rattle.letter_mail.specs.declared.kept.Says.TheVariants as says
 use Rattle.letter_mail.specs.declared.kept.Brief.{Brief}
 use Rattle.letter_mail.specs.declared.kept.Kept.{Kept}
 use Rattle.letter_mail.specs.declared.kept.Kept.TheVariants as kept
-use Rattle.letter_mail.specs.declared.slots.Slot.{Slot}
 
 -- the grain of a number
 abbrev pub grain_at : List Grain → ℕ → Grain
@@ -63,14 +60,6 @@ abbrev pub receiver_of : Kept → Silo
 receiver_of (kept.Brief brief) = brief.to
 receiver_of (kept.Whole letter) = letter.value.to
 
--- the letter in a slot, as it was posted
-abbrev pub posted_in : List Grain → Slot → Posted
-posted_in grains slot = record { letter = letter_kept grains slot.kept; fresh = slot.fresh }
-
--- the letters of slots
-abbrev pub all_posted : List Grain → List Slot → List Posted
-all_posted grains slots = map (posted_in grains) slots
-
 -- where so many grains have numbers, this has the number of one
 abbrev pub IsNumbered : ℕ → Says → Type 0
 IsNumbered count (says.Register number hash entry) = entry.grain < count
@@ -95,7 +84,3 @@ IsNumbered count (says.Offer entry) = entry.grain < count
 abbrev pub IsKept : ℕ → Kept → Type 0
 IsKept count (kept.Brief brief) = IsNumbered count brief.says
 IsKept count (kept.Whole letter) = Unit {0}
-
--- and so have all slots
-abbrev pub AreKept : ℕ → List Slot → Type 0
-AreKept count slots = AllByRecursion (λ slot. IsKept count slot.kept) slots

@@ -1,21 +1,63 @@
--- The slots of the mail: a letter in each, in the order in which they were sent.
-use Rattle.std.specs.Prelude.{◌≡◌, ℕ, ◌<◌, ◌≤◌, ◌&&◌, Bool, false, is_some, List, length, slice_index_or}
+-- The slots of the mail: one for each letter that was ever sent, in the order in which they were sent.
+use Rattle.std.specs.Prelude.{ℕ, Bool, true, false, if◌then◌else◌, List, Option, Some, None}
+use Rattle.std.specs.Option.{option_map}
+use Rattle.std.specs.List.{AllByRecursion, enumerate_from, filter_map}
+use Rattle.std.specs.Ordering.{nat_cmp}
 use Rattle.std.specs.Map.{lookup}
 use Rattle.std.specs.BTreeMap.{is_at}
+use Rattle.silo_address.specs.Grain.{Grain}
 use Rattle.silo_address.specs.Silo.{Silo, silo_cmp}
-use Rattle.directory_rules.specs.Node.{Node}
+use Rattle.directory_rules.specs.World.{Posted}
 use Rattle.letter_mail.specs.declared.slots.Slot.{Slot}
-use Rattle.letter_mail.specs.Kept.{receiver_of}
+use Rattle.letter_mail.specs.declared.slots.Slot.TheVariants.{Fresh, Stale, Lost}
+use Rattle.letter_mail.specs.Kept.{IsKept, letter_kept, receiver_of}
 
--- no slot before the mark has a fresh letter
-pub record AreStaleBefore (slots : List Slot) (mark : ℕ) : Type 0 where
-  pub within : mark ≤ length slots
-  pub stale : (index : ℕ) (d : Slot) → index < mark → (slice_index_or slots index d).fresh ≡ false
+-- whom the letter is for, or was for
+abbrev pub slot_to : Slot → Silo
+slot_to (Fresh kept) = receiver_of kept
+slot_to (Stale kept) = receiver_of kept
+slot_to (Lost to) = to
 
--- the letter of a slot was delivered
+-- whether the letter was never delivered, and isn't lost
+abbrev pub is_fresh : Slot → Bool
+is_fresh (Fresh kept) = true
+is_fresh (Stale kept) = false
+is_fresh (Lost to) = false
+
+-- the letter as it is in the mail, if it isn't lost
+abbrev pub posted_in : List Grain → Slot → Option Posted
+posted_in grains (Fresh kept) = Some (record { letter = letter_kept grains kept; fresh = true })
+posted_in grains (Stale kept) = Some (record { letter = letter_kept grains kept; fresh = false })
+posted_in grains (Lost to) = None
+
+-- the slot once its letter was delivered
 abbrev pub stale_slot : Slot → Slot
-stale_slot slot = record slot { fresh = false }
+stale_slot (Fresh kept) = Stale kept
+stale_slot (Stale kept) = Stale kept
+stale_slot (Lost to) = Lost to
 
--- whether the letter of a slot is fresh and its receiver has a node
-abbrev pub is_fresh_slot_to : List (Silo × Node) → Slot → Bool
-is_fresh_slot_to nodes slot = slot.fresh && is_some (lookup (is_at (silo_cmp (receiver_of slot.kept))) nodes)
+-- the slot once its letter is lost
+abbrev pub lost_slot : Slot → Slot
+lost_slot slot = Lost (slot_to slot)
+
+-- where so many grains have numbers, what is kept has numbers of these
+abbrev pub IsSlot : ℕ → Slot → Type 0
+IsSlot count (Fresh kept) = IsKept count kept
+IsSlot count (Stale kept) = IsKept count kept
+IsSlot count (Lost to) = Unit {0}
+
+-- and so in all slots
+abbrev pub AreKept : ℕ → List Slot → Type 0
+AreKept count slots = AllByRecursion (IsSlot count) slots
+
+-- the slot of a number, where the first slot has this one
+abbrev pub slot_from : (first : ℕ) → List Slot → (number : ℕ) → Option Slot
+slot_from first slots number = lookup (is_at (nat_cmp number)) (enumerate_from first slots)
+
+-- the letters in slots under their numbers, where the first slot has this one
+abbrev pub posted_from : (first : ℕ) → List Grain → List Slot → List (ℕ × Posted)
+posted_from first grains slots = filter_map (λ e. option_map (λ posted. (e.0, posted)) (posted_in grains e.1)) (enumerate_from first slots)
+
+-- the numbers of all letters that were ever sent to a silo, with whether each is fresh
+abbrev pub sent_from : (first : ℕ) → Silo → List Slot → List (ℕ × Bool)
+sent_from first silo slots = filter_map (λ e. if is_at (silo_cmp silo) (slot_to e.1) then Some (e.0, is_fresh e.1) else None) (enumerate_from first slots)

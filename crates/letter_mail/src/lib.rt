@@ -1,11 +1,15 @@
-//! The mail: all letters that were ever sent, each of them kept short (`docs/RULES.md#letters`).
+//! The mail: the letters that were sent and aren't lost, each of them kept short, and the least fresh one to a silo
+//! (`docs/RULES.md#letters`).
 #![tactic(auto)]
 
 mod keep;
 mod kept;
 mod mail;
 mod mailed;
+mod passing;
 mod putting;
+mod queue;
+mod queues;
 mod slots;
 
 pub use mail::Mail;

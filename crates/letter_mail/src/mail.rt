@@ -1,30 +1,33 @@
 ghost use Rattle.std.specs.Prelude.{◌≡◌, ◌≤◌, Some, [], IsSome, OnOk, OnErr};
 ghost use Rattle.std.specs.Option.{option_map};
 ghost use Rattle.directory_rules.specs.Letter.{Letter as LetterValue};
-ghost use Rattle.letter_mail.specs.Mail.{least_fresh, letter_in, with_posted, with_stale, without_last};
+ghost use Rattle.letter_mail.specs.Mail.{HasRisingNumbers, least_fresh, least_fresh_to, lesser, letter_in, with_lost, with_posted, with_stale, without_last};
 ghost use Rattle.letter_mail.specs.MailedModel.{letter_seen};
 
 use crate::MailedLetter;
-use crate::putting::put_all;
-use crate::slots::{Slot, deliver_in, first_fresh_to, index_of};
+use crate::passing::{deliver_in, lose_in};
+use crate::putting::{put_all, take_last};
+use crate::queue::Queue;
+use crate::queues::first_at;
+use crate::slots::{Slot, index_of};
 use directory_letters::Letter;
-use directory_node::Node;
 use indexmap::IndexSet;
 use silo_address::{GrainId, SiloAddress};
 use std::alloc::{AllocError, Global};
 use std::collections::BTreeMap;
 use std::marker::Model;
 
-/// All letters that were ever sent, by number from 1: none can be lost yet. Each is kept short, its grain by number, since all
-/// of them are kept. The least fresh one is found at once, since `next_fresh`, below which no letter is fresh, only moves
-/// forward, but for letters that are taken back.
+/// The letters that were sent and aren't lost, by number from 1. Each is kept short, its grain by number, since a letter stays
+/// until it is lost. The least fresh one to a silo is found at once, however many others are fresh: each silo has a queue of the
+/// letters that were ever sent to it, whose mark, before which none is fresh, only moves forward, but for letters that are taken
+/// back.
 #[derive(Drop)]
 pub struct Mail {
     alloc: Global,
     // The grains that letters named, under their numbers.
     grains: IndexSet<GrainId>,
     slots: Vec<Slot>,
-    next_fresh: usize,
+    queues: BTreeMap<SiloAddress, Queue>,
 }
 
 impl Model for Mail {
@@ -48,7 +51,7 @@ impl Mail {
             alloc,
             grains: IndexSet::new(alloc),
             slots: Vec::new(alloc),
-            next_fresh: 0,
+            queues: BTreeMap::new(alloc),
         }
     }
 
@@ -65,19 +68,28 @@ impl Mail {
     {
         let slots: &[Slot] = &self.slots;
         match index_of(slots, number) {
-            Some(index) => Some(slots[index].kept.letter(&self.grains)),
+            Some(index) => slots[index].letter(&self.grains),
             None => None,
         }
     }
 
-    /// The least fresh letter to a silo with a node, if there is one.
-    pub fn least_fresh_to(&self, nodes: &BTreeMap<SiloAddress, Node>) -> Option<u64>
-        ensures { result ≡ least_fresh nodes.now.entries self.now }
+    /// The least fresh letter to the silo, if there is one.
+    pub fn least_fresh_to(&self, silo: &SiloAddress) -> Option<u64>
+        ensures { result ≡ least_fresh_to silo.now self.now }
     {
-        match first_fresh_to(&self.slots[self.next_fresh..], nodes) {
-            Some(ahead) => Some((self.next_fresh + ahead) as u64 + 1),
-            None => None,
+        first_at(&self.queues, silo)
+    }
+
+    /// The least fresh letter to any of these silos, if there is one: one look for each of them.
+    pub fn least_fresh<V>(&self, silos: &BTreeMap<SiloAddress, V>) -> Option<u64>
+        ensures { result ≡ least_fresh silos.now.entries self.now }
+    {
+        self.numbered();
+        let mut least = None;
+        for silo in silos.keys() {
+            least = lesser(least, self.least_fresh_to(silo));
         }
+        least
     }
 
     /// Letters are sent, under the next numbers. Fails only when memory runs out.
@@ -86,10 +98,17 @@ impl Mail {
         ensures unchanged { OnErr result (self.new ≡ self.old) }
     {
         let before = self.slots.len();
-        match put_all(self.alloc, &mut self.grains, &mut self.slots, letters) {
+        match put_all(
+            self.alloc,
+            &mut self.grains,
+            &mut self.slots,
+            &mut self.queues,
+            letters,
+        ) {
             Ok(()) => Ok(()),
             Err(error) => {
-                self.slots.truncate(before);
+                let count = self.slots.len() - before;
+                take_last(&mut self.slots, &mut self.queues, count);
                 Err(error)
             }
         }
@@ -100,9 +119,7 @@ impl Mail {
         requires { count ≤ self.old.sent }
         ensures { self.new ≡ without_last self.old count }
     {
-        let left = self.slots.len() - count;
-        self.slots.truncate(left);
-        self.next_fresh = self.next_fresh.min(left);
+        take_last(&mut self.slots, &mut self.queues, count);
     }
 
     /// The letter of a number was delivered, and is fresh no more.
@@ -110,6 +127,33 @@ impl Mail {
         requires there { IsSome (letter_in self.old number) }
         ensures { (letter : LetterValue) → letter_in self.old number ≡ Some letter → self.new ≡ with_stale self.old number letter }
     {
-        self.next_fresh = deliver_in(&mut self.slots, self.next_fresh, number);
+        deliver_in(&mut self.slots, &mut self.queues, number);
+    }
+
+    /// The letter of a number is lost: it is in the mail no more, and its number is never given again. What memory it had outside
+    /// its slot is freed.
+    pub fn lose(&mut self, number: u64)
+        requires there { IsSome (letter_in self.old number) }
+        ensures { self.new ≡ with_lost self.old number }
+    {
+        lose_in(&mut self.slots, &mut self.queues, number);
+    }
+
+    /// A law: the letters' numbers rise, from 1 at least to the number of letters ever sent.
+    pub fn numbered(&self)
+        ensures { HasRisingNumbers self.now }
+    {
+        let _sent = self.slots.len();
+    }
+}
+
+// The lesser number, where there are two.
+fn lesser(number: Option<u64>, other: Option<u64>) -> Option<u64>
+    ensures { result ≡ lesser number other }
+{
+    match (number, other) {
+        (Some(number), Some(other)) => Some(number.min(other)),
+        (Some(number), None) => Some(number),
+        (None, other) => other,
     }
 }

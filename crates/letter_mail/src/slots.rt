@@ -1,17 +1,78 @@
-ghost use Rattle.std.specs.Prelude.{◌≡◌, ◌⊎◌, ◌+◌, ◌-◌, ◌<◌, ◌≤◌, ℕ, false, IfSome, MatchOption, length, position, set, slice_index_or};
-ghost use Rattle.letter_mail.specs.Slots.{AreStaleBefore, is_fresh_slot_to, stale_slot};
+ghost use Rattle.std.specs.Prelude.{◌≡◌, ◌⊎◌, ◌+◌, ◌<◌, ◌≤◌, MatchOption, length, slice_index_or, set};
+ghost use Rattle.std.specs.Option.{option_map};
+ghost use Rattle.directory_rules.specs.World.{Posted};
+ghost use Rattle.letter_mail.specs.Slots.{IsSlot, is_fresh, lost_slot, posted_in, slot_to, stale_slot};
+ghost use Rattle.letter_mail.specs.Queues.{fresh_at};
+ghost use Rattle.letter_mail.specs.MailedModel.{letter_seen};
 ghost use Rattle.letter_mail.specs.declared.slots.Slot.{Slot as SlotSeen};
 
+use crate::MailedLetter;
 use crate::kept::Kept;
-use directory_node::Node;
-use silo_address::SiloAddress;
-use std::collections::BTreeMap;
+use indexmap::IndexSet;
+use silo_address::{GrainId, SiloAddress};
+use std::mem;
 
-// A letter that was sent; it is fresh until it was delivered.
+// A letter that was sent; it is fresh until it was delivered. Of a lost one nothing is kept but whom it was for.
 #[derive(Drop)]
-pub(crate) struct Slot {
-    pub(crate) kept: Kept,
-    pub(crate) fresh: bool,
+pub(crate) enum Slot {
+    Fresh(Kept),
+    Stale(Kept),
+    Lost(SiloAddress),
+}
+
+impl Slot {
+    // Whom the letter is for, or was for.
+    pub(crate) fn to(&self) -> SiloAddress
+        ensures { result ≡ slot_to self.now }
+    {
+        match self {
+            Slot::Fresh(kept) => kept.to(),
+            Slot::Stale(kept) => kept.to(),
+            Slot::Lost(to) => *to,
+        }
+    }
+
+    // Whether the letter was never delivered, and isn't lost.
+    pub(crate) fn is_fresh(&self) -> bool
+        ensures { result ≡ is_fresh self.now }
+    {
+        match self {
+            Slot::Fresh(_) => true,
+            Slot::Stale(_) => false,
+            Slot::Lost(_) => false,
+        }
+    }
+
+    // The letter, if it isn't lost.
+    pub(crate) fn letter(&self, grains: &IndexSet<GrainId>) -> Option<MailedLetter<'_>>
+        requires kept { IsSlot (length grains.now.keys) self.now }
+        ensures { option_map letter_seen result ≡ option_map (λ (posted : Posted). posted.letter) (posted_in grains.now.keys self.now) }
+    {
+        match self {
+            Slot::Fresh(kept) => Some(kept.letter(grains)),
+            Slot::Stale(kept) => Some(kept.letter(grains)),
+            Slot::Lost(_) => None,
+        }
+    }
+
+    // The letter was delivered.
+    pub(crate) fn deliver(&mut self)
+        ensures { self.new ≡ stale_slot self.old }
+    {
+        let lost = Slot::Lost(self.to());
+        *self = match mem::replace(self, lost) {
+            Slot::Fresh(kept) => Slot::Stale(kept),
+            Slot::Stale(kept) => Slot::Stale(kept),
+            Slot::Lost(to) => Slot::Lost(to),
+        };
+    }
+
+    // The letter is lost.
+    pub(crate) fn lose(&mut self)
+        ensures { self.new ≡ lost_slot self.old }
+    {
+        *self = Slot::Lost(self.to());
+    }
 }
 
 // Where the letter of that number stands.
@@ -28,59 +89,12 @@ pub(crate) fn index_of(slots: &[Slot], number: u64) -> Option<usize>
     Some(index)
 }
 
-// How many slots stand before the first fresh letter to a silo with a node.
-pub(crate) fn first_fresh_to(slots: &[Slot], nodes: &BTreeMap<SiloAddress, Node>) -> Option<usize>
-    ensures found { result ≡ position (is_fresh_slot_to nodes.now.entries) slots.now }
-    ensures within { IfSome result (λ index. index < length slots.now) }
+// Whether the letter of that number is there, and fresh.
+pub(crate) fn is_fresh_at(slots: &[Slot], number: u64) -> bool
+    ensures { result ≡ fresh_at slots.now number }
 {
-    slots
-        .iter()
-        .position(|slot| slot.fresh && nodes.contains_key(&slot.kept.to()))
-}
-
-// The letter of that number is fresh no more; answers the mark after it.
-pub(crate) fn deliver_in(slots: &mut Vec<Slot>, mark: usize, number: u64) -> usize
-    requires sent { 1 ≤ number }
-    requires within { number ≤ length slots.old.items }
-    requires marked { AreStaleBefore slots.old.items mark }
-    ensures delivered { (d : SlotSeen) → slots.new.items ≡ set slots.old.items (number - 1) (stale_slot (slice_index_or slots.old.items (number - 1) d)) }
-    ensures marked { AreStaleBefore slots.new.items result }
-{
-    let index = (number - 1) as usize;
-    slots[index].fresh = false;
-    moved(slots, mark, index)
-}
-
-// The mark, moved forward where the letter that stood there was the one delivered.
-fn moved(slots: &[Slot], mark: usize, delivered: usize) -> usize
-    requires { mark ≤ length slots.now }
-    ensures from { mark ≤ result }
-    ensures within { result ≤ length slots.now }
-    ensures stale { (index : ℕ) (d : SlotSeen) → mark ≤ index → index < result → (slice_index_or slots.now index d).fresh ≡ false }
-{
-    if delivered != mark {
-        return mark;
+    match index_of(slots, number) {
+        Some(index) => slots[index].is_fresh(),
+        None => false,
     }
-    next_fresh(slots, mark)
-}
-
-// Where the first fresh letter stands from an index on; behind the last one where there is none.
-fn next_fresh(slots: &[Slot], from: usize) -> usize
-    requires { from ≤ length slots.now }
-    ensures from { from ≤ result }
-    ensures within { result ≤ length slots.now }
-    ensures stale { (index : ℕ) (d : SlotSeen) → from ≤ index → index < result → (slice_index_or slots.now index d).fresh ≡ false }
-{
-    match first_fresh(&slots[from..]) {
-        Some(ahead) => from + ahead,
-        None => slots.len(),
-    }
-}
-
-// How many slots stand before the first fresh letter.
-fn first_fresh(slots: &[Slot]) -> Option<usize>
-    ensures found { result ≡ position (λ slot. slot.fresh) slots.now }
-    ensures within { IfSome result (λ index. index < length slots.now) }
-{
-    slots.iter().position(|slot| slot.fresh)
 }

@@ -1,0 +1,181 @@
+-- The least fresh letter: the one at the mark of its silo's queue, and the least of several silos' ones.
+use Rattle.std.proofs.Common.{◌≡◌, ℕ, zero, suc, ◌+◌, ◌-◌, ◌<◌, ◌≤◌, ◌&&◌, ◌||◌, Bool, true, false, cond, List, [], ◌∷◌, length, map, find, Option, Some, None, refl, sym, ◌∙◌, ap, subst, arith}
+use Rattle.std.specs.Prelude.{is_some, slice_get}
+use Rattle.std.specs.Option.{option_map}
+use Rattle.std.specs.List.{cons_option}
+use Rattle.std.specs.Map.{lookup}
+use Rattle.std.specs.BTreeMap.{is_at}
+use Rattle.silo_address.specs.Grain.{Grain}
+use Rattle.silo_address.specs.Silo.{Silo, silo_cmp}
+use Rattle.directory_rules.specs.World.{Posted}
+use Rattle.directory_rules.specs.Laws.{RiseBetween}
+use Rattle.letter_mail.specs.declared.slots.Slot.{Slot}
+use Rattle.letter_mail.specs.declared.slots.Slot.TheVariants.{Fresh, Stale, Lost}
+use Rattle.letter_mail.specs.Kept.{letter_kept, receiver_of}
+use Rattle.letter_mail.specs.Slots.{is_fresh, posted_from, posted_in, sent_from, slot_to}
+use Rattle.letter_mail.specs.Queues.{AreQueued, IsMarked, IsQueue, QueueValue, first_of, queue_of}
+use Rattle.letter_mail.specs.Mail.{HasRisingNumbers, MailValue, is_fresh_to, least_fresh, least_fresh_to, lesser}
+use Rattle.letter_mail.specs.MailModel.{mail_in}
+use Rattle.letter_mail.proofs.Posted.{receiver_is}
+use Rattle.letter_mail.proofs.Queued.{turned}
+
+-- ---- to one silo
+abbrev first_part : {A : Type 0} → Option (ℕ × A) → Option ℕ
+first_part o = option_map (λ e. e.0) o
+
+abbrev is_for : Silo → ℕ × Posted → Bool
+is_for silo e = e.1.fresh && is_at (silo_cmp e.1.letter.to) silo
+
+first_sent : (first : ℕ) (silo : Silo) (grains : List Grain) (slots : List Slot) → first_part (find (is_for silo) (posted_from first grains slots)) ≡ first_part (find (λ e. e.1) (sent_from first silo slots))
+first_sent first silo grains [] = refl
+first_sent first silo grains (s ∷ slots) = by s (first_sent (first + 1) silo grains slots)
+  where
+    rest : List (ℕ × Posted)
+    rest = posted_from (first + 1) grains slots
+
+    by : (slot : Slot) → first_part (find (is_for silo) (posted_from (first + 1) grains slots)) ≡ first_part (find (λ e. e.1) (sent_from (first + 1) silo slots))
+        → first_part (find (is_for silo) (cons_option (option_map (λ posted. (first, posted)) (posted_in grains slot)) (posted_from (first + 1) grains slots)))
+        ≡ first_part (find (λ e. e.1) (cons_option (cond (is_at (silo_cmp silo) (slot_to slot)) (Some (first, is_fresh slot)) None) (sent_from (first + 1) silo slots)))
+    by (Fresh kept) later =
+        ap (λ b. first_part (cond b (Some (first, record { letter = letter_kept grains kept; fresh = true })) (find (is_for silo) (posted_from (first + 1) grains slots))))
+        (ap (λ to. is_at (silo_cmp to) silo) (receiver_is grains kept) ∙ turned (receiver_of kept) silo)
+        ∙ fresh (is_at (silo_cmp silo) (receiver_of kept)) (record { letter = letter_kept grains kept; fresh = true }) later
+      where
+        fresh : (b : Bool) (posted : Posted) → first_part (find (is_for silo) (posted_from (first + 1) grains slots)) ≡ first_part (find (λ e. e.1) (sent_from (first + 1) silo slots))
+            → first_part (cond b (Some (first, posted)) (find (is_for silo) (posted_from (first + 1) grains slots)))
+            ≡ first_part (find (λ e. e.1) (cons_option (cond b (Some (first, true)) None) (sent_from (first + 1) silo slots)))
+        fresh true posted later = refl
+        fresh false posted later = later
+    by (Stale kept) later = later ∙ stale (is_at (silo_cmp silo) (receiver_of kept))
+      where
+        stale : (b : Bool) → first_part (find (λ e. e.1) (sent_from (first + 1) silo slots)) ≡ first_part (find (λ e. e.1) (cons_option (cond b (Some (first, false)) None) (sent_from (first + 1) silo slots)))
+        stale true = refl
+        stale false = refl
+    by (Lost to) later = later ∙ lost (is_at (silo_cmp silo) to)
+      where
+        lost : (b : Bool) → first_part (find (λ e. e.1) (sent_from (first + 1) silo slots)) ≡ first_part (find (λ e. e.1) (cons_option (cond b (Some (first, false)) None) (sent_from (first + 1) silo slots)))
+        lost true = refl
+        lost false = refl
+
+at_mark : (mark : ℕ) (sent : List (ℕ × Bool)) → IsMarked mark sent → slice_get (map (λ e. e.0) sent) mark ≡ first_part (find (λ e. e.1) sent)
+at_mark zero [] is = refl
+at_mark zero (e ∷ es) is = ap (λ b. first_part (cond b (Some e) (find (λ x. x.1) es))) (sym is)
+at_mark (suc mark) [] is = absurd is
+at_mark (suc mark) (e ∷ es) is = at_mark mark es is.1 ∙ ap (λ b. first_part (cond b (Some e) (find (λ x. x.1) es))) (sym is.0)
+
+first_is : (sent : List (ℕ × Bool)) (queue : Option QueueValue) → IsQueue sent queue → first_of queue ≡ first_part (find (λ e. e.1) sent)
+first_is sent None is = ap (λ (l : List (ℕ × Bool)). first_part (find (λ e. e.1) l)) (sym is)
+first_is sent (Some queue) is = ap (λ (l : List ℕ). slice_get l queue.mark) is.0 ∙ at_mark queue.mark sent is.1
+
+pub least_to : (silo : Silo) (grains : List Grain) (slots : List Slot) (queues : List (Silo × QueueValue)) → AreQueued slots queues → first_of (queue_of queues silo) ≡ least_fresh_to silo (mail_in grains slots)
+least_to silo grains slots queues are = first_is (sent_from 1 silo slots) (queue_of queues silo) (are silo) ∙ sym (first_sent 1 silo grains slots)
+
+-- ---- the numbers rise
+rising_from : (low first : ℕ) (grains : List Grain) (slots : List Slot) → low < first → RiseBetween low (first + length slots - 1) (posted_from first grains slots)
+rising_from low first grains [] below = omega arith
+rising_from low first grains (s ∷ slots) below =
+    by (posted_in grains s) (subst (λ n. RiseBetween first n (posted_from (first + 1) grains slots)) high (rising_from first (first + 1) grains slots (omega arith)))
+    (subst (λ n. RiseBetween low n (posted_from (first + 1) grains slots)) high (rising_from low (first + 1) grains slots (omega arith)))
+  where
+    high : first + 1 + length slots - 1 ≡ first + suc (length slots) - 1
+    high = omega arith
+
+    by : (o : Option Posted) → RiseBetween first (first + suc (length slots) - 1) (posted_from (first + 1) grains slots) → RiseBetween low (first + suc (length slots) - 1) (posted_from (first + 1) grains slots)
+        → RiseBetween low (first + suc (length slots) - 1) (cons_option (option_map (λ posted. (first, posted)) o) (posted_from (first + 1) grains slots))
+    by None above later = later
+    by (Some posted) above later = (below, above)
+
+no_more : (first : ℕ) (grains : List Grain) (slots : List Slot) → length (posted_from first grains slots) ≤ length slots
+no_more first grains [] = omega arith
+no_more first grains (s ∷ slots) = by (posted_in grains s) (no_more (first + 1) grains slots)
+  where
+    by : (o : Option Posted) → length (posted_from (first + 1) grains slots) ≤ length slots
+        → length (cons_option (option_map (λ posted. (first, posted)) o) (posted_from (first + 1) grains slots)) ≤ suc (length slots)
+    by None later = omega arith
+    by (Some posted) later = omega arith
+
+pub numbers_rise : (grains : List Grain) (slots : List Slot) → HasRisingNumbers (mail_in grains slots)
+numbers_rise grains slots = record {
+  rising = subst (λ n. RiseBetween 0 n (posted_from 1 grains slots)) (last (length slots)) (rising_from 0 1 grains slots (omega arith));
+  many = no_more 1 grains slots;
+}
+  where
+    last : (n : ℕ) → 1 + n - 1 ≡ n
+    last n = omega arith
+
+-- ---- to one of several silos
+abbrev IsAbove : ℕ → Option ℕ → Type 0
+IsAbove low None = Unit {0}
+IsAbove low (Some number) = low < number
+
+found_above : (p : ℕ × Posted → Bool) (low high : ℕ) (letters : List (ℕ × Posted)) → RiseBetween low high letters → IsAbove low (first_part (find p letters))
+found_above p low high [] rise = tt
+found_above p low high (e ∷ es) rise = by (p e) (lower (first_part (find p es)) (found_above p e.0 high es rise.1))
+  where
+    lower : (o : Option ℕ) → IsAbove e.0 o → IsAbove low o
+    lower None above = tt
+    lower (Some number) above = let below = rise.0 in omega arith
+
+    by : (b : Bool) → IsAbove low (first_part (find p es)) → IsAbove low (first_part (cond b (Some e) (find p es)))
+    by true later = rise.0
+    by false later = later
+
+lesser_first : (number : ℕ) (o : Option ℕ) → IsAbove number o → Some number ≡ lesser (Some number) o
+lesser_first number None above = refl
+lesser_first number (Some other) above = ap (λ n. Some n) (omega arith)
+
+lesser_second : (number : ℕ) (o : Option ℕ) → IsAbove number o → Some number ≡ lesser o (Some number)
+lesser_second number None above = refl
+lesser_second number (Some other) above = ap (λ n. Some n) (omega arith)
+
+found_by_either : (p q r : ℕ × Posted → Bool) → ((e : ℕ × Posted) → r e ≡ (p e || q e)) → (low high : ℕ) (letters : List (ℕ × Posted)) → RiseBetween low high letters
+    → first_part (find r letters) ≡ lesser (first_part (find p letters)) (first_part (find q letters))
+found_by_either p q r either low high [] rise = refl
+found_by_either p q r either low high (e ∷ es) rise =
+    ap (λ b. first_part (cond b (Some e) (find r es))) (either e)
+    ∙ by (p e) (q e) (found_above p e.0 high es rise.1) (found_above q e.0 high es rise.1) (found_by_either p q r either e.0 high es rise.1)
+  where
+    by : (a b : Bool) → IsAbove e.0 (first_part (find p es)) → IsAbove e.0 (first_part (find q es)) → first_part (find r es) ≡ lesser (first_part (find p es)) (first_part (find q es))
+        → first_part (cond (a || b) (Some e) (find r es)) ≡ lesser (first_part (cond a (Some e) (find p es))) (first_part (cond b (Some e) (find q es)))
+    by true true above_p above_q later = ap (λ n. Some n) (omega arith)
+    by true false above_p above_q later = lesser_first e.0 (first_part (find q es)) above_q
+    by false true above_p above_q later = lesser_second e.0 (first_part (find p es)) above_p
+    by false false above_p above_q later = later
+
+-- the least of each of these silos' least
+abbrev pub least_among : List Silo → MailValue → Option ℕ
+least_among [] mail = None
+least_among (silo ∷ silos) mail = lesser (least_fresh_to silo mail) (least_among silos mail)
+
+none_found : (p : ℕ × Posted → Bool) (letters : List (ℕ × Posted)) → ((e : ℕ × Posted) → p e ≡ false) → first_part (find p letters) ≡ None
+none_found p [] none = refl
+none_found p (e ∷ es) none = ap (λ b. first_part (cond b (Some e) (find p es))) (none e) ∙ none_found p es none
+
+pub least_is : {X : Type 0} (silos : List (Silo × X)) (mail : MailValue) → HasRisingNumbers mail → least_among (map (λ e. e.0) silos) mail ≡ least_fresh silos mail
+least_is {X} [] mail rise = sym (none_found (λ e. is_fresh_to {X = X} [] e.1) mail.letters (λ e. never e.1.fresh))
+  where
+    never : (b : Bool) → (b && false) ≡ false
+    never true = refl
+    never false = refl
+least_is {X} (s ∷ silos) mail rise =
+    ap (λ o. lesser (least_fresh_to s.0 mail) o) (least_is silos mail rise)
+    ∙ sym (found_by_either (is_for s.0) (λ e. is_fresh_to silos e.1) (λ e. is_fresh_to (s ∷ silos) e.1) either 0 mail.sent mail.letters rise.rising)
+  where
+    spread : (fresh at : Bool) (later : Option X) → (fresh && is_some (cond at (Some s.1) later)) ≡ ((fresh && at) || (fresh && is_some later))
+    spread true true later = refl
+    spread true false later = refl
+    spread false at later = refl
+
+    either : (e : ℕ × Posted) → is_fresh_to (s ∷ silos) e.1 ≡ (is_for s.0 e || is_fresh_to silos e.1)
+    either e = spread e.1.fresh (is_at (silo_cmp e.1.letter.to) s.0) (lookup (is_at (silo_cmp e.1.letter.to)) silos)
+
+-- the lesser of three, whichever two are first
+pub lesser_of : (a b c : Option ℕ) → lesser (lesser a b) c ≡ lesser a (lesser b c)
+lesser_of None b c = refl
+lesser_of (Some a) None c = refl
+lesser_of (Some a) (Some b) None = refl
+lesser_of (Some a) (Some b) (Some c) = ap (λ n. Some n) (omega arith)
+
+pub lesser_none : (a : Option ℕ) → lesser a None ≡ a
+lesser_none None = refl
+lesser_none (Some a) = refl
