@@ -11,6 +11,7 @@ pub mod Same
 pub mod Within
 pub mod HashesBelow
 pub mod Lying
+pub mod Ends
 pub mod OnSilos
 pub mod Sorting
 pub mod Listed

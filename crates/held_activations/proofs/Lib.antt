@@ -7,4 +7,6 @@ pub mod Counted
 pub mod Indexed
 pub mod Same
 pub mod Tables
+pub mod FirmCounts
+pub mod ByGrain
 pub mod Listed

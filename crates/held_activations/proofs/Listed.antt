@@ -1,42 +1,41 @@
--- The table made of those that are listed under the hashes of a range has the rule's firm entries.
-use Rattle.std.proofs.Common.{◌≡◌, refl, sym, ap, subst, ◌∙◌, ℕ, suc, ◌+◌, ◌<◌, ◌≤◌, List, [], ◌∷◌, ◌++◌, slice_get, cond, Bool, true, false, ◌&&◌, ◌||◌, not, filter, fold, Option, Some, None, is_some, arith}
+-- What is listed under the hashes of a range are the firm activations of it, each once.
+use Rattle.std.proofs.Common.{◌≡◌, inl, inr, refl, sym, ap, subst, ◌∙◌, ℕ, suc, ◌+◌, ◌<◌, ◌≤◌, List, [], ◌∷◌, ◌++◌, slice_get, cond, Bool, true, false, ◌&&◌, ◌||◌, not, filter, Option, Some, None, is_some, arith}
 use Rattle.std.specs.Prelude.{nat_le, nat_lt}
 use Rattle.std.specs.BTreeMap.{is_at}
 use Rattle.std.specs.BTreeMap.Range.{entries_between, is_past_end, range_contains}
+use Rattle.std.specs.Cmp.{nat_cmp_is}
 use Rattle.std.specs.List.{AllByRecursion, IsDistinct, cons_option}
 use Rattle.std.specs.List.Sorted.{IsStrictlySortedBy}
 use Rattle.std.specs.Map.{lookup, keys_of}
-use Rattle.std.specs.Option.{option_map}
+use Rattle.std.specs.Option.{option_and_then, option_map}
 use Rattle.std.specs.Ordering.{is_gt, is_le, nat_cmp, ordering_then}
 use Rattle.std.specs.declared.cmp.Ordering.{Ordering}
 use Rattle.std.specs.declared.cmp.Ordering.TheVariants.{Less, Equal, Greater}
 use Rattle.std.specs.declared.ops.Bound.TheVariants.{Included, Excluded, Unbounded}
 use Rattle.std.proofs.lemmas.Bool.Decides.{nat_tests}
 use Rattle.std.proofs.lemmas.Cmp.{eq_by_cmp_equiv, ranked}
-use Rattle.std.proofs.lemmas.List.Sums.{fold-append}
+use Rattle.std.proofs.lemmas.List.Elements.{filter_map-append}
 use Rattle.std.proofs.lemmas.Map.Entries.{lookup_from_place, place_from_lookup}
 use Rattle.std.proofs.lemmas.Map.Keys.{IsDistinct-from_sorted}
 use Rattle.std.proofs.lemmas.Option.{same_Some}
-use Rattle.silo_address.specs.Silo.{Silo}
 use Rattle.silo_address.specs.Grain.{Grain, grain_cmp, grain_eq}
-use Rattle.silo_address.specs.declared.Entry.{Entry}
 use Rattle.silo_address.proofs.Order.{grain_cmp_exact}
-use Rattle.membership_view.proofs.Entries.{Equal-from, sorted-nil}
+use Rattle.membership_view.proofs.Entries.{Equal-from}
 use Rattle.ring_range.specs.Range.{Range, IsRange, circle, holds}
 use Rattle.hash_ring.specs.declared.Hashing.{Hashing}
 use Rattle.hash_ring.specs.Hash.{hash_grain}
+use Rattle.hash_ring.proofs.Members.{In, In-from_filter}
+use Rattle.hash_ring.proofs.Rising.{Rising, Rising-append, Rising-filter, Rising-from_sorted}
 use Rattle.directory_rules.specs.declared.Held.{Held}
-use Rattle.directory_rules.specs.Host.{entry_on, is_firm}
-use Rattle.directory_rules.specs.Table.{Table, entry_at}
+use Rattle.directory_rules.specs.Host.{is_firm}
 use Rattle.held_activations.specs.Begun.{AreApart}
 use Rattle.held_activations.specs.ByHash.{AreByHash, IsUnder, hashed_count_cmp, key_of}
-use Rattle.held_activations.specs.Firm.{firm_table, with_firm_of}
-use Rattle.held_activations.specs.InOrder.{in_order}
+use Rattle.held_activations.specs.Firm.{AreFirm, firm_count, firm_counts}
 use Rattle.held_activations.specs.Stretch.{end_at, first_at, standing_at}
 use Rattle.held_activations.specs.declared.by_hash.HashedCount.{HashedCount}
-use Rattle.held_activations.proofs.Grains.{IsFoundIn, at_itself, either, lookup_append, on_grain}
-use Rattle.held_activations.proofs.Indexed.{found_at, hashed_count_cmp_total, on_key}
-use Rattle.held_activations.proofs.Tables.{firm_in_order, firm_onto, lookup_with, table_sorted, tell, told, with_firm}
+use Rattle.held_activations.proofs.FirmCounts.{counts_append, counts_found, counts_once}
+use Rattle.held_activations.proofs.Grains.{IsFoundIn, at_itself, either, lookup_append, not_at, on_grain, same_test}
+use Rattle.held_activations.proofs.Indexed.{found_at, hashed_count_cmp_total, is_itself, on_key}
 
 -- ---- A stretch of hashes stands between its bounds.
 -- whether the hash is at the first or after it, and before the end, where that is no more than a hash
@@ -163,86 +162,123 @@ module _ (hashing : Hashing) (es : List (Grain × Held)) where
       let stands : slice_get es at.0 ≡ Some (q, h) = at.2 ∙ ap (λ (g : Grain). Some (g, h)) (sym same) in
       is_listed (λ x. is_between first end x.0.hash) q h at.0 (key_of hashing (q, h)) stands passes hashed ((are (key_of hashing (q, h)) at.0).1 (ap (option_map (key_of hashing)) stands))
 
--- ---- So each grain is told as the rule tells it.
-module _ (silo : Silo) (hashing : Hashing) (range : Range) (es : List (Grain × Held)) (q : Grain) where
-  abbrev its : Option Entry
-  its = told silo hashing range q (lookup (is_at (grain_cmp q)) es)
+-- ---- So they are those of the range, each once.
+-- pairs whose keys stand in order stand in order
+abbrev pair_cmp : HashedCount × ℕ → HashedCount × ℕ → Ordering
+pair_cmp x y = hashed_count_cmp x.0 y.0
 
-  abbrev onto : Table → List (Grain × Held) → Table
-  onto table listed = fold (with_firm silo hashing range) table listed
+from_keys : (xs : List (HashedCount × ℕ)) → Rising hashed_count_cmp (keys_of xs) → Rising pair_cmp xs
+from_keys [] rising = tt
+from_keys (x ∷ xs) rising = (λ y there. rising.0 y.0 (key_in y xs there), from_keys xs rising.1)
+  where
+    key_in : (y : HashedCount × ℕ) (ys : List (HashedCount × ℕ)) → In y ys → In y.0 (keys_of ys)
+    key_in y [] there = absurd there
+    key_in y (z ∷ ys) (inl here) = inl (ap (λ (w : HashedCount × ℕ). w.0) here)
+    key_in y (z ∷ ys) (inr later) = inr (key_in y ys later)
 
-  stays_told : (e : Grain × Held) → q ≡ e.0 → IsFoundIn es e → (table : Table) → entry_at q table ≡ None → tell silo hashing range e true (entry_at q table) ≡ its
-  stays_told e same found table none =
-      ap (λ o. tell silo hashing range e true o) none
-      ∙ ap (λ (g : Grain). tell silo hashing range (g, e.1) true None) (sym same)
-      ∙ ap (told silo hashing range q) (sym (ap (λ (g : Grain). lookup (is_at (grain_cmp g)) es) same ∙ found))
+-- so none of them stands under the key of one before it
+abbrev AreOnce : List (HashedCount × ℕ) → Type 0
+AreOnce [] = Unit {0}
+AreOnce (x ∷ xs) = AllByRecursion (λ y. x.0 ≡ y.0 → ⊥) xs × AreOnce xs
 
-  is_told : (e : Grain × Held) → q ≡ e.0 → IsFoundIn es e → (table : Table) → entry_at q table ≡ its → tell silo hashing range e true (entry_at q table) ≡ its
-  is_told e same found table there = ap (λ o. tell silo hashing range e true o) (there ∙ its_is) ∙ ap (λ (g : Grain). tell silo hashing range (g, e.1) true (told silo hashing range q (Some e.1))) (sym same)
-      ∙ twice (is_firm e.1.phase && holds range (hash_grain hashing q)) ∙ sym its_is
+once_from_rising : (xs : List (HashedCount × ℕ)) → Rising pair_cmp xs → AreOnce xs
+once_from_rising [] rising = tt
+once_from_rising (x ∷ xs) rising = (all_of xs (λ y there same. apart y (rising.0 y there) same), once_from_rising xs rising.1)
+  where
+    apart : (y : HashedCount × ℕ) → hashed_count_cmp x.0 y.0 ≡ Less → x.0 ≡ y.0 → ⊥
+    apart y less same = let no : Less ≡ Equal = sym less ∙ ap (hashed_count_cmp x.0) (sym same) ∙ Equal-from (hashed_count_cmp x.0 x.0) (is_itself x.0) in cc
+
+    all_of : (ys : List (HashedCount × ℕ)) → ((y : HashedCount × ℕ) → In y ys → x.0 ≡ y.0 → ⊥) → AllByRecursion (λ y. x.0 ≡ y.0 → ⊥) ys
+    all_of [] each = tt
+    all_of (y ∷ ys) each = (each y (inl refl), all_of ys (λ z there. each z (inr there)))
+
+stretch_rises : (first end : ℕ) (hashed : List (HashedCount × ℕ)) → IsStrictlySortedBy hashed_count_cmp (keys_of hashed) → Rising pair_cmp (stretch first end hashed)
+stretch_rises first end hashed sorted =
+    Rising-filter pair_cmp (λ x. is_between first end x.0.hash) hashed (from_keys hashed (Rising-from_sorted hashed_count_cmp (keys_of hashed) sorted))
+
+by_hash_less : (x y : HashedCount) → x.hash < y.hash → hashed_count_cmp x y ≡ Less
+by_hash_less x y less = ap (λ o. ordering_then o (nat_cmp x.count y.count)) (sym (nat_cmp_is x.hash y.hash Less less))
+
+both_rise : (low start : ℕ) (hashed : List (HashedCount × ℕ)) → IsStrictlySortedBy hashed_count_cmp (keys_of hashed) → low ≤ start → low < circle
+    → Rising pair_cmp (stretch 0 low hashed ++ stretch start circle hashed)
+both_rise low start hashed sorted le below =
+    Rising-append pair_cmp (stretch 0 low hashed) (stretch start circle hashed) (stretch_rises 0 low hashed sorted) (stretch_rises start circle hashed sorted)
+    (λ x y one two. by_hash_less x.0 y.0
+    (before x.0.hash y.0.hash (In-from_filter (λ x. is_between 0 low x.0.hash) x hashed one).1 (In-from_filter (λ x. is_between start circle x.0.hash) y hashed two).1))
+  where
+    before : (a b : ℕ) → is_between 0 low a ≡ true → is_between start circle b ≡ true → a < b
+    before a b one two = grind (arith, nat_tests)
+
+module _ (hashing : Hashing) (range : Range) (es : List (Grain × Held)) (are : AreApart es) where
+  other_grains : (e : Grain × Held) → IsFoundIn es e → (listed : List (HashedCount × ℕ)) → AllByRecursion (IsUnder hashing es) listed → AllByRecursion (λ y. key_of hashing e ≡ y.0 → ⊥) listed
+      → AllByRecursion (λ g. grain_eq e.0 g ≡ false) (keys_of (standing_at es listed))
+  other_grains e found [] under apart = tt
+  other_grains e found (y ∷ listed) under apart = by (slice_get es y.1) refl under.0 (other_grains e found listed under.1 apart.1)
     where
-      its_is : its ≡ told silo hashing range q (Some e.1)
-      its_is = ap (told silo hashing range q) (ap (λ (g : Grain). lookup (is_at (grain_cmp g)) es) same ∙ found)
+      never : (f : Grain × Held) → IsFoundIn es f → key_of hashing f ≡ y.0 → e.0 ≡ f.0 → ⊥
+      never f also key same =
+          let held : e.1 ≡ f.1 = same_Some e.1 f.1 (sym found ∙ ap (λ (g : Grain). lookup (is_at (grain_cmp g)) es) same ∙ also) in
+          apart.0 ((λ i. key_of hashing (same i, held i)) ∙ key)
 
-      twice : (b : Bool) → cond b (Some (entry_on silo q e.1)) (cond b (Some (entry_on silo q e.1)) None) ≡ cond b (Some (entry_on silo q e.1)) None
-      twice true = refl
-      twice false = refl
+      by : (o : Option (Grain × Held)) → slice_get es y.1 ≡ o → option_map (key_of hashing) o ≡ Some y.0 → AllByRecursion (λ g. grain_eq e.0 g ≡ false) (keys_of (standing_at es listed))
+          → AllByRecursion (λ g. grain_eq e.0 g ≡ false) (keys_of (cons_option o (standing_at es listed)))
+      by None at key rest = rest
+      by (Some f) at key rest =
+          (same_test e.0 f.0 ∙ not_at e.0 f.0 (never f (found_at es are.grains y.1 f at) (same_Some (key_of hashing f) y.0 key)), rest)
 
-  -- what is told stays
-  kept_on : (table : Table) (listed : List (Grain × Held)) → AllByRecursion (IsFoundIn es) listed → entry_at q table ≡ its → entry_at q (onto table listed) ≡ its
-  kept_on table [] all there = there
-  kept_on table (e ∷ listed) all there =
-      kept_on (with_firm silo hashing range table e) listed all.1
-      (lookup_with silo hashing range q table e
-      ∙ on_grain (λ b. tell silo hashing range e b (entry_at q table) ≡ its) q e.0 (λ same. is_told e same all.0 table there) (λ other. there))
-
-  -- and one that is listed is told
-  put_on : (table : Table) (listed : List (Grain × Held)) → AllByRecursion (IsFoundIn es) listed → entry_at q table ≡ None → is_some (lookup (is_at (grain_cmp q)) listed) ≡ true
-      → entry_at q (onto table listed) ≡ its
-  put_on table [] all none there = cc
-  put_on table (e ∷ listed) all none there =
-      on_grain (λ b. (b ≡ is_at (grain_cmp q) e.0) → is_some (cond b (Some e.1) (lookup (is_at (grain_cmp q)) listed)) ≡ true → entry_at q (onto (with_firm silo hashing range table e) listed) ≡ its) q e.0
-      (λ same at found. kept_on (with_firm silo hashing range table e) listed all.1
-      (lookup_with silo hashing range q table e ∙ ap (λ b. tell silo hashing range e b (entry_at q table)) (sym at) ∙ stays_told e same all.0 table none))
-      (λ other at found. put_on (with_firm silo hashing range table e) listed all.1
-      (lookup_with silo hashing range q table e ∙ ap (λ b. tell silo hashing range e b (entry_at q table)) (sym at) ∙ none) found)
-      refl there
-
-  -- all that are to be told are listed
-  pub all_told : (listed : List (Grain × Held)) → AllByRecursion (IsFoundIn es) listed
-      → ((h : Held) → lookup (is_at (grain_cmp q)) es ≡ Some h → holds range (hash_grain hashing q) ≡ true → is_some (lookup (is_at (grain_cmp q)) listed) ≡ true) → entry_at q (onto [] listed) ≡ its
-  all_told listed all are_listed = by (lookup (is_at (grain_cmp q)) es) refl
+  stand_once : (listed : List (HashedCount × ℕ)) → AllByRecursion (IsUnder hashing es) listed → AreOnce listed → IsDistinct grain_eq (keys_of (standing_at es listed))
+  unfolding IsDistinct
+  stand_once [] under once = tt
+  stand_once (x ∷ listed) under once = by (slice_get es x.1) refl under.0 (stand_once listed under.1 once.1)
     where
-      nothing : (h : Held) (b c : Bool) → c ≡ false → cond (b && c) (Some (entry_on silo q h)) None ≡ None
-      nothing h true c none = ap (λ x. cond x (Some (entry_on silo q h)) None) none
-      nothing h false c none = refl
+      by : (o : Option (Grain × Held)) → slice_get es x.1 ≡ o → option_map (key_of hashing) o ≡ Some x.0 → IsDistinct grain_eq (keys_of (standing_at es listed))
+          → IsDistinct grain_eq (keys_of (cons_option o (standing_at es listed)))
+      by None at key rest = rest
+      by (Some e) at key rest =
+          (other_grains e (found_at es are.grains x.1 e at) listed under.1 (subst (λ k. AllByRecursion (λ y. k ≡ y.0 → ⊥) listed) (sym (same_Some (key_of hashing e) x.0 key)) once.0), rest)
 
-      by : (o : Option Held) → lookup (is_at (grain_cmp q)) es ≡ o → entry_at q (onto [] listed) ≡ its
-      by None there = kept_on [] listed all (sym (ap (told silo hashing range q) there))
-      by (Some h) there = within (holds range (hash_grain hashing q)) refl
-        where
-          within : (b : Bool) → holds range (hash_grain hashing q) ≡ b → entry_at q (onto [] listed) ≡ its
-          within true has = put_on [] listed all refl (are_listed h there has)
-          within false has =
-              kept_on [] listed all (sym (ap (told silo hashing range q) there ∙ nothing h (is_firm h.phase) (holds range (hash_grain hashing q)) has))
+  there : (listed : List (Grain × Held)) → AllByRecursion (IsFoundIn es) listed → (q : Grain) (h : Held) → lookup (is_at (grain_cmp q)) listed ≡ Some h → lookup (is_at (grain_cmp q)) es ≡ Some h
+  there [] all q h is = cc
+  there (e ∷ listed) all q h is =
+      on_grain (λ b. cond b (Some e.1) (lookup (is_at (grain_cmp q)) listed) ≡ Some h → lookup (is_at (grain_cmp q)) es ≡ Some h) q e.0
+      (λ same at. ap (λ (g : Grain). lookup (is_at (grain_cmp g)) es) same ∙ all.0 ∙ at) (λ other at. there listed all.1 q h at) is
 
-module _ (silo : Silo) (hashing : Hashing) (range : Range) (is_range : IsRange range) (es : List (Grain × Held)) (are : AreApart es) (hashed : List (HashedCount × ℕ)) (by_hash : AreByHash hashing es hashed) where
-  whole : (listed : List (Grain × Held)) → AllByRecursion (IsFoundIn es) listed
-      → ((q : Grain) (h : Held) → lookup (is_at (grain_cmp q)) es ≡ Some h → holds range (hash_grain hashing q) ≡ true → is_some (lookup (is_at (grain_cmp q)) listed) ≡ true)
-      → fold (with_firm silo hashing range) [] listed ≡ firm_table silo hashing range (in_order es)
-  whole listed all are_listed =
-      firm_in_order silo hashing range es are (fold (with_firm silo hashing range) [] listed) (table_sorted silo hashing range [] listed (sorted-nil grain_cmp))
-      (λ q. all_told silo hashing range es q listed all (are_listed q))
+  -- all that are told are listed
+  pub are_firm : (listed : List (HashedCount × ℕ)) → AllByRecursion (IsUnder hashing es) listed → AreOnce listed
+      → ((q : Grain) (h : Held) → lookup (is_at (grain_cmp q)) es ≡ Some h → holds range (hash_grain hashing q) ≡ true → is_some (lookup (is_at (grain_cmp q)) (standing_at es listed)) ≡ true)
+      → AreFirm hashing range es (firm_counts hashing range (standing_at es listed))
+  are_firm listed under once whole = record {
+    once = counts_once hashing range (standing_at es listed) distinct;
+    counts = λ q. counts_found hashing range q (standing_at es listed) distinct ∙ by q (lookup (is_at (grain_cmp q)) (standing_at es listed)) refl;
+  } where
+    distinct : IsDistinct grain_eq (keys_of (standing_at es listed))
+    distinct = stand_once listed under once
 
-  pub by_one_stretch : (start end : ℕ) → start ≡ range.start → end ≡ range.start + range.size → end ≤ circle
-      → with_firm_of silo hashing range [] (in_stretch es hashed start end) ≡ firm_table silo hashing range (in_order es)
+    untold : (q : Grain) (h : Held) (b c : Bool) → c ≡ false → None ≡ cond (b && c) (Some h.count) None
+    untold q h true c fails = ap (λ x. cond x (Some h.count) None) (sym fails)
+    untold q h false c fails = refl
+
+    none : (q : Grain) → lookup (is_at (grain_cmp q)) (standing_at es listed) ≡ None → (o : Option Held) → lookup (is_at (grain_cmp q)) es ≡ o → None ≡ option_and_then (firm_count hashing range q) o
+    none q absent None at = refl
+    none q absent (Some h) at = within (holds range (hash_grain hashing q)) refl
+      where
+        within : (b : Bool) → holds range (hash_grain hashing q) ≡ b → None ≡ firm_count hashing range q h
+        within true has = let no : false ≡ true = ap is_some (sym absent) ∙ whole q h at has in cc
+        within false has = untold q h (is_firm h.phase) (holds range (hash_grain hashing q)) has
+
+    by : (q : Grain) (o : Option Held) → lookup (is_at (grain_cmp q)) (standing_at es listed) ≡ o → option_and_then (firm_count hashing range q) o ≡ option_and_then (firm_count hashing range q) (lookup (is_at (grain_cmp q)) es)
+    by q None at = none q at (lookup (is_at (grain_cmp q)) es) refl
+    by q (Some h) at = ap (option_and_then (firm_count hashing range q)) (sym (there (standing_at es listed) (all_found hashing es are.grains listed) q h at))
+
+module _ (hashing : Hashing) (range : Range) (is_range : IsRange range) (es : List (Grain × Held)) (are : AreApart es) (hashed : List (HashedCount × ℕ)) (by_hash : AreByHash hashing es hashed) (sorted : IsStrictlySortedBy hashed_count_cmp (keys_of hashed)) where
+  pub by_one_stretch : (start end : ℕ) → start ≡ range.start → end ≡ range.start + range.size → end ≤ circle → AreFirm hashing range es (firm_counts hashing range (in_stretch es hashed start end))
   by_one_stretch start end starts ends fits =
-      sym (firm_onto silo hashing range [] (in_stretch es hashed start end))
-      ∙ whole (in_stretch es hashed start end) (all_found hashing es are.grains (stretch start end hashed))
-      (λ q h there has. listed_between hashing es start end hashed by_hash q h there
+      are_firm hashing range es are (stretch start end hashed) (all_under hashing es (λ x. is_between start end x.0.hash) hashed by_hash sorted)
+      (once_from_rising (stretch start end hashed) (stretch_rises start end hashed sorted))
+      (λ q h at has. listed_between hashing es start end hashed by_hash q h at
       ((λ i. is_between (starts i) (ends i) (hash_grain hashing q)) ∙ in_one range (hash_grain hashing q) is_range (subst (λ n. n ≤ circle) ends fits) has))
 
-  all_both : (xs ys : List (Grain × Held)) → AllByRecursion (IsFoundIn es) xs → AllByRecursion (IsFoundIn es) ys → AllByRecursion (IsFoundIn es) (xs ++ ys)
+  all_both : (xs ys : List (HashedCount × ℕ)) → AllByRecursion (IsUnder hashing es) xs → AllByRecursion (IsUnder hashing es) ys → AllByRecursion (IsUnder hashing es) (xs ++ ys)
   all_both [] ys all also = also
   all_both (x ∷ xs) ys all also = (all.0, all_both xs ys all.1 also)
 
@@ -252,15 +288,19 @@ module _ (silo : Silo) (hashing : Hashing) (range : Range) (is_range : IsRange r
   one_of None p false b some first second = second some
 
   pub by_two_stretches : (start low : ℕ) → start ≡ range.start → range.start + range.size ≡ low + circle
-      → with_firm_of silo hashing range (with_firm_of silo hashing range [] (in_stretch es hashed 0 low)) (in_stretch es hashed start circle) ≡ firm_table silo hashing range (in_order es)
+      → AreFirm hashing range es (firm_counts hashing range (in_stretch es hashed 0 low) ++ firm_counts hashing range (in_stretch es hashed start circle))
   by_two_stretches start low starts ends =
-      sym (ap (λ t. with_firm_of silo hashing range t (in_stretch es hashed start circle)) (firm_onto silo hashing range [] (in_stretch es hashed 0 low)))
-      ∙ sym (firm_onto silo hashing range (fold (with_firm silo hashing range) [] (in_stretch es hashed 0 low)) (in_stretch es hashed start circle))
-      ∙ sym (fold-append (with_firm silo hashing range) [] (in_stretch es hashed 0 low) (in_stretch es hashed start circle))
-      ∙ whole (in_stretch es hashed 0 low ++ in_stretch es hashed start circle)
-      (all_both (in_stretch es hashed 0 low) (in_stretch es hashed start circle) (all_found hashing es are.grains (stretch 0 low hashed)) (all_found hashing es are.grains (stretch start circle hashed)))
-      (λ q h there has. ap is_some (lookup_append (is_at (grain_cmp q)) (in_stretch es hashed 0 low) (in_stretch es hashed start circle))
+      subst (λ l. AreFirm hashing range es l) (ap (firm_counts hashing range) apart ∙ counts_append hashing range (in_stretch es hashed 0 low) (in_stretch es hashed start circle))
+      (are_firm hashing range es are (stretch 0 low hashed ++ stretch start circle hashed)
+      (all_both (stretch 0 low hashed) (stretch start circle hashed) (all_under hashing es (λ x. is_between 0 low x.0.hash) hashed by_hash sorted) (all_under hashing es (λ x. is_between start circle x.0.hash) hashed by_hash sorted))
+      (once_from_rising (stretch 0 low hashed ++ stretch start circle hashed)
+      (both_rise low start hashed sorted (let size = is_range.size_within in omega (arith, size, starts, ends)) (let size = is_range.size_within in let first = is_range.start_below in omega (arith, size, first, ends))))
+      (λ q h at has. ap (λ l. is_some (lookup (is_at (grain_cmp q)) l)) apart
+      ∙ ap is_some (lookup_append (is_at (grain_cmp q)) (in_stretch es hashed 0 low) (in_stretch es hashed start circle))
       ∙ one_of (lookup (is_at (grain_cmp q)) (in_stretch es hashed 0 low)) (lookup (is_at (grain_cmp q)) (in_stretch es hashed start circle))
       (is_between 0 low (hash_grain hashing q)) (is_between start circle (hash_grain hashing q))
       (ap (λ s. is_between 0 low (hash_grain hashing q) || is_between s circle (hash_grain hashing q)) starts ∙ in_two range low (hash_grain hashing q) is_range ends has)
-      (listed_between hashing es 0 low hashed by_hash q h there) (listed_between hashing es start circle hashed by_hash q h there))
+      (listed_between hashing es 0 low hashed by_hash q h at) (listed_between hashing es start circle hashed by_hash q h at)))
+    where
+      apart : standing_at es (stretch 0 low hashed ++ stretch start circle hashed) ≡ in_stretch es hashed 0 low ++ in_stretch es hashed start circle
+      apart = filter_map-append (λ x. slice_get es x.1) (stretch 0 low hashed) (stretch start circle hashed)

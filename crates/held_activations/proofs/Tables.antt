@@ -19,7 +19,7 @@ use Rattle.directory_rules.specs.declared.Held.{Held}
 use Rattle.directory_rules.specs.Host.{entry_on, is_firm}
 use Rattle.directory_rules.specs.Table.{Table, entry_at, with_entry}
 use Rattle.held_activations.specs.Begun.{AreApart}
-use Rattle.held_activations.specs.Firm.{firm_table, with_firm_of}
+use Rattle.held_activations.specs.Firm.{firm_table}
 use Rattle.held_activations.specs.InOrder.{in_order}
 use Rattle.held_activations.proofs.Grains.{either, either_none, on_grain, same_test}
 use Rattle.held_activations.proofs.Ordered.{lookup_in_order, row_in_order}
@@ -39,9 +39,6 @@ fold_kept test entry table (e ∷ es) = by (test e) (λ t. fold_kept test entry 
 -- the table with the activation's entry, if it is firm and hashed into the range
 abbrev pub with_firm : Silo → Hashing → Range → Table → Grain × Held → Table
 with_firm silo hashing range table e = cond (is_firm e.1.phase && holds range (hash_grain hashing e.0)) (with_entry table (entry_on silo e.0 e.1)) table
-
-pub firm_onto : (silo : Silo) (hashing : Hashing) (range : Range) (table : Table) (held : List (Grain × Held)) → fold (with_firm silo hashing range) table held ≡ with_firm_of silo hashing range table held
-firm_onto silo hashing range table held = fold_kept (λ e. is_firm e.1.phase && holds range (hash_grain hashing e.0)) (λ e. entry_on silo e.0 e.1) table held
 
 pub firm_kept : (silo : Silo) (hashing : Hashing) (range : Range) (held : List (Grain × Held))
     → fold (with_firm silo hashing range) [] held ≡ fold with_entry [] (map (λ e. entry_on silo e.0 e.1) (filter (λ e. is_firm e.1.phase && holds range (hash_grain hashing e.0)) held))
@@ -119,6 +116,3 @@ firm_in_order silo hashing range es are table sorted found =
   where
     distinct : IsDistinct grain_eq (keys_of (in_order es))
     distinct = row_distinct (in_order es) (row_in_order es are)
-
-pub firm_scanned : (silo : Silo) (hashing : Hashing) (range : Range) (es : List (Grain × Held)) → AreApart es → firm_table silo hashing range es ≡ firm_table silo hashing range (in_order es)
-firm_scanned silo hashing range es are = firm_in_order silo hashing range es are (firm_table silo hashing range es) (firm_sorted silo hashing range es are.grains) (firm_found silo hashing range es are.grains)

@@ -49,7 +49,7 @@ impl Model for Activations {
 
 impl Activations {
     /// No activations; the first one will have the count 1. Those of a range of hashes are found fast where their grains are hashed
-    /// in this way.
+    /// in this way; no answer depends on it.
     pub fn new(alloc: Global, hashing: Hashing) -> Activations
         ensures { result ≡ record { next_count = 1; entries = [] } }
     {

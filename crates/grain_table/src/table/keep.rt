@@ -1,9 +1,14 @@
 //! Entries of a table that lie in a range stay, and the others go.
-ghost use Rattle.std.specs.Prelude.{◌≡◌, filter};
+ghost use Rattle.std.specs.Bool.{OnFalse, OnTrue};
+ghost use Rattle.std.specs.Prelude.{◌≡◌, ◌<◌, ◌++◌, [], ◌∷◌, false, filter, length, nat_lt};
+ghost use Rattle.silo_address.specs.declared.ActivationId.{ActivationId};
 ghost use Rattle.hash_ring.specs.Hash.{hash_grain};
 ghost use Rattle.ring_range.specs.Range.{holds};
+ghost use Rattle.grain_table.specs.declared.hashed_grain.HashedGrain.{HashedGrain as Key};
+ghost use Rattle.grain_table.specs.Hashed.{Hashed};
 
 use super::Table;
+use crate::hashed_grain::HashedMap;
 use hash_ring::Hashing;
 use ring_range::RingRange;
 
@@ -24,8 +29,28 @@ impl Table {
         self.keep_hashed_into(hashing, range);
     }
 
-    // The same, under the hashes that the table has.
+    // The same, under the hashes that the table has: first what stands behind the range, then what else is outside, if anything.
     fn keep_under_hashes(&mut self, range: &RingRange)
+        ensures { self.new ≡ record self.old { entries = filter (λ e. holds range.now (hash_grain self.old.hashing e.0)) self.old.entries } }
+    {
+        let _hashing = self.hashing;
+        range.in_range();
+        self.keep_before(u64::from(range.start()) + range.size());
+        if self.lies_under_hashes(range) {
+            return;
+        }
+        self.keep_those_under(range);
+    }
+
+    // Takes out the entries whose grains are hashed to the end or behind it.
+    fn keep_before(&mut self, end: u64)
+        ensures { self.new ≡ record self.old { entries = filter (λ e. nat_lt (hash_grain self.old.hashing e.0) end) self.old.entries } }
+    {
+        drop_behind(&mut self.map, end);
+    }
+
+    // Takes out what stands under hashes outside the range, wherever it stands.
+    fn keep_those_under(&mut self, range: &RingRange)
         ensures { self.new ≡ record self.old { entries = filter (λ e. holds range.now (hash_grain self.old.hashing e.0)) self.old.entries } }
     {
         self.map.retain(|key, _| range.contains(key.hash));
@@ -37,5 +62,26 @@ impl Table {
     {
         self.map
             .retain(|key, _| range.contains(hashing.hash_grain(&key.grain)));
+    }
+}
+
+// Takes out what stands under the end or higher hashes, one after another from the last: so nothing has to move.
+fn drop_behind(map: &mut HashedMap, end: u64)
+    ensures { map.new.entries ≡ filter (λ e. nat_lt e.0.hash end) map.old.entries }
+{
+    'behind: while ends_behind(map, end) {
+        map.pop_last();
+    }
+}
+
+// Whether the last one stands under the end or a higher hash.
+fn ends_behind(map: &HashedMap, end: u64) -> bool
+    ensures some { OnTrue result (0 < length map.now.entries) }
+    ensures last { OnTrue result ((before : Hashed) (last : Key × ActivationId) → map.now.entries ≡ before ++ last ∷ [] → nat_lt last.0.hash end ≡ false) }
+    ensures none { OnFalse result (filter (λ e. nat_lt e.0.hash end) map.now.entries ≡ map.now.entries) }
+{
+    match map.last_key_value() {
+        Some((key, _)) => u64::from(key.hash) >= end,
+        None => false,
     }
 }

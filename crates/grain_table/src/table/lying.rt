@@ -1,5 +1,6 @@
 //! Whether the entries of a table lie in a range.
-ghost use Rattle.std.specs.Prelude.{◌≡◌, ◌≤◌, not};
+ghost use Rattle.std.specs.Bool.{OnTrue};
+ghost use Rattle.std.specs.Prelude.{◌≡◌, ◌≤◌, [], filter, not};
 ghost use Rattle.std.specs.List.{list_all};
 ghost use Rattle.directory_rules.specs.Table.{entries_of, lie_in};
 ghost use Rattle.hash_ring.specs.Hash.{hash_grain};
@@ -26,7 +27,7 @@ impl Table {
     }
 
     // The same, under the hashes that the table has.
-    fn lies_under_hashes(&self, range: &RingRange) -> bool
+    pub(super) fn lies_under_hashes(&self, range: &RingRange) -> bool
         ensures { result ≡ lie_in self.now.hashing range.now (entries_of self.now.entries) }
     {
         range.in_range();
@@ -49,6 +50,9 @@ impl Table {
         if first >= end {
             return true;
         }
+        if stands_apart(&self.map, first, end) {
+            return true;
+        }
         let mut between = self
             .map
             .range((Bound::Included(first_at(first as u32)), end_at(end)));
@@ -56,6 +60,22 @@ impl Table {
             Some(_) => false,
             None => true,
         }
+    }
+}
+
+// Whether the first one stands at the end or behind it, or the last one before the first hash: then none is between.
+fn stands_apart(map: &HashedMap, first: u64, end: u64) -> bool
+    ensures { OnTrue result (filter (λ e. is_between first end e.0.hash) map.now.entries ≡ []) }
+{
+    let Some((lowest, _)) = map.first_key_value() else {
+        return false;
+    };
+    if u64::from(lowest.hash) >= end {
+        return true;
+    }
+    match map.last_key_value() {
+        Some((highest, _)) => u64::from(highest.hash) < first,
+        None => false,
     }
 }
 

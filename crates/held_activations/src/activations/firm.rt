@@ -1,12 +1,10 @@
 //! The firm activations, as entries.
-ghost use Rattle.std.specs.Prelude.{◌≡◌, ◌&&◌, if◌then◌else◌, IfOk, OnOk};
 ghost use Rattle.std.specs.List.{AllByRecursion};
+ghost use Rattle.std.specs.Prelude.{◌≡◌, ◌&&◌, ◌++◌, ◌∷◌, [], if◌then◌else◌, IfOk, OnOk, map};
 ghost use Rattle.directory_rules.specs.Host.{entry_on, is_firm};
-ghost use Rattle.directory_rules.specs.Table.{entries_of, with_entry};
 ghost use Rattle.held_activations.specs.Begun.{AreApart};
 ghost use Rattle.held_activations.specs.ByHash.{AreByHash, IsUnder};
-ghost use Rattle.held_activations.specs.Firm.{firm_among, firm_table, with_firm_of};
-ghost use Rattle.held_activations.specs.InOrder.{in_order};
+ghost use Rattle.held_activations.specs.Firm.{AreByGrain, AreFirm, counted, entry_counted, firm_among, firm_counts};
 ghost use Rattle.held_activations.specs.Stretch.{standing_at};
 ghost use Rattle.ring_range.specs.Range.{circle, holds};
 
@@ -18,9 +16,11 @@ use indexmap::IndexMap;
 use ring_range::RingRange;
 use silo_address::{ActivationId, Entry, GrainId, SiloAddress};
 use std::alloc::{AllocError, Global};
-use std::collections::BTreeMap;
 use std::collections::btree_map::Range;
 use std::ops::Bound;
+
+/// A firm activation: its grain and its count. In the order of these, grains are compared and never moved.
+type Counted<'a> = (&'a GrainId, u64);
 
 impl Activations {
     /// The entries of those activations on the silo that are firm and hashed into the range, in the order of their grains. Looks
@@ -36,11 +36,11 @@ impl Activations {
         ensures { IfOk result (λ entries. entries.items ≡ firm_among silo hashing range.now self.now.entries) }
     {
         if self.hashing.same(&hashing) {
-            let table = firm_by_hash(alloc, silo, &self.map, &self.by_hash, hashing, range)?;
-            return entries_of(alloc, &table);
+            let firm = firm_by_hash(alloc, &self.map, &self.by_hash, hashing, range)?;
+            return by_grain(alloc, silo, firm);
         }
-        let table = firm_table(alloc, silo, &self.map, hashing, range)?;
-        entries_of(alloc, &table)
+        let firm = firm_among_all(alloc, &self.map, hashing, range)?;
+        by_grain(alloc, silo, firm)
     }
 }
 
@@ -48,99 +48,117 @@ impl Activations {
 pub fn entry_on(silo: SiloAddress, grain: GrainId, held: &Held) -> Entry
     ensures { result ≡ entry_on silo grain held.now }
 {
-    let activation = ActivationId {
-        silo,
-        count: held.count,
-    };
+    entry_counted(silo, grain, held.count)
+}
+
+// The entry of the activation of that count.
+fn entry_counted(silo: SiloAddress, grain: GrainId, count: u64) -> Entry
+    ensures { result ≡ entry_counted silo (grain, count) }
+{
+    let activation = ActivationId { silo, count };
     Entry { grain, activation }
 }
 
-// The entries, in the order of their grains.
-fn entries_of(alloc: Global, table: &BTreeMap<GrainId, Entry>) -> Result<Vec<Entry>, AllocError>
-    ensures { IfOk result (λ entries. entries.items ≡ entries_of table.now.entries) }
-{
-    table.values().copied().collect(alloc)
-}
-
-// The entries of the firm activations that are hashed into the range, under their grains: each activation is looked at.
-fn firm_table(
+// The entries of activations of different grains, in the order of the grains.
+fn by_grain(
     alloc: Global,
     silo: SiloAddress,
-    held: &IndexMap<GrainId, Held>,
+    mut firm: Vec<Counted<'_>>,
+) -> Result<Vec<Entry>, AllocError>
+    ensures { IfOk result (λ entries. AreByGrain silo (map counted firm.entry.items) entries.items) }
+{
+    firm.sort_unstable();
+    entries_of(alloc, silo, &firm)
+}
+
+// Their entries, as they stand.
+fn entries_of(
+    alloc: Global,
+    silo: SiloAddress,
+    firm: &[Counted<'_>],
+) -> Result<Vec<Entry>, AllocError>
+    ensures { IfOk result (λ entries. entries.items ≡ map (λ x. entry_counted silo (counted x)) firm.now) }
+{
+    firm.iter()
+        .map(|(grain, count)| entry_counted(silo, **grain, *count))
+        .collect(alloc)
+}
+
+// The firm activations that are hashed into the range: each activation is looked at.
+fn firm_among_all<'a>(
+    alloc: Global,
+    held: &'a IndexMap<GrainId, Held>,
     hashing: Hashing,
     range: &RingRange,
-) -> Result<BTreeMap<GrainId, Entry>, AllocError>
-    ensures { IfOk result (λ table. table.entries ≡ firm_table silo hashing range.now held.now.entries) }
+) -> Result<Vec<Counted<'a>>, AllocError>
+    ensures { IfOk result (λ firm. map counted firm.items ≡ firm_counts hashing range.now held.now.entries) }
 {
-    let mut table = BTreeMap::new(alloc);
+    let mut firm = Vec::new(alloc);
     for (grain, held) in held {
         let hash = hashing.hash_grain(grain);
-        put_firm(&mut table, silo, range, hash, *grain, held)?;
+        list_firm(&mut firm, range, hash, grain, held)?;
     }
-    Ok(table)
+    Ok(firm)
 }
 
 // The same, by the order of their hashes: they stand in at most two stretches of it.
-fn firm_by_hash(
+fn firm_by_hash<'a>(
     alloc: Global,
-    silo: SiloAddress,
-    held: &IndexMap<GrainId, Held>,
+    held: &'a IndexMap<GrainId, Held>,
     by_hash: &ByHash,
     hashing: Hashing,
     range: &RingRange,
-) -> Result<BTreeMap<GrainId, Entry>, AllocError>
+) -> Result<Vec<Counted<'a>>, AllocError>
     requires apart { AreApart held.now.entries }
     requires by_hash { AreByHash hashing held.now.entries by_hash.now.entries }
-    ensures { IfOk result (λ table. table.entries ≡ firm_table silo hashing range.now (in_order held.now.entries)) }
+    ensures { IfOk result (λ firm. AreFirm hashing range.now held.now.entries (map counted firm.items)) }
 {
     range.in_range();
-    let table = BTreeMap::new(alloc);
+    let firm = Vec::new(alloc);
     let start = range.start();
     let end = u64::from(start) + range.size();
     if end <= CIRCLE {
         let only = by_hash.range((Bound::Included(first_at(start)), end_at(end)));
-        return put_listed(table, silo, held, only, hashing, range);
+        return list_stretch(firm, held, only, hashing, range);
     }
     let first = by_hash.range((Bound::Included(first_at(0)), end_at(end - CIRCLE)));
-    let table = put_listed(table, silo, held, first, hashing, range)?;
+    let firm = list_stretch(firm, held, first, hashing, range)?;
     let second = by_hash.range((Bound::Included(first_at(start)), end_at(CIRCLE)));
-    put_listed(table, silo, held, second, hashing, range)
+    list_stretch(firm, held, second, hashing, range)
 }
 
-// The entries of those listed that are firm and hashed into the range are put in.
-fn put_listed(
-    mut table: BTreeMap<GrainId, Entry>,
-    silo: SiloAddress,
-    held: &IndexMap<GrainId, Held>,
-    listed: Range<'_, HashedCount, usize>,
+// The list with those of a stretch that are firm and hashed into the range.
+fn list_stretch<'a>(
+    mut firm: Vec<Counted<'a>>,
+    held: &'a IndexMap<GrainId, Held>,
+    stretch: Range<'_, HashedCount, usize>,
     hashing: Hashing,
     range: &RingRange,
-) -> Result<BTreeMap<GrainId, Entry>, AllocError>
-    requires { AllByRecursion (IsUnder hashing held.now.entries) listed }
-    ensures { IfOk result (λ new. new.entries ≡ with_firm_of silo hashing range.now table.entries (standing_at held.now.entries listed.entry)) }
+) -> Result<Vec<Counted<'a>>, AllocError>
+    requires { AllByRecursion (IsUnder hashing held.now.entries) stretch }
+    ensures { IfOk result (λ new. map counted new.items ≡ map counted firm.entry.items ++ firm_counts hashing range.now (standing_at held.now.entries stretch.entry)) }
 {
-    'listed: for (key, index) in listed {
+    'stretch: for (key, index) in stretch {
         if let Some((grain, held)) = held.get_index(*index) {
-            put_firm(&mut table, silo, range, key.hash, *grain, held)?;
+            list_firm(&mut firm, range, key.hash, grain, held)?;
         }
     }
-    Ok(table)
+    Ok(firm)
 }
 
-// The entry of an activation is put in, if it is firm and hashed into the range.
-fn put_firm(
-    table: &mut BTreeMap<GrainId, Entry>,
-    silo: SiloAddress,
+// The list with the activation, if it is firm and hashed into the range.
+fn list_firm<'a>(
+    firm: &mut Vec<Counted<'a>>,
     range: &RingRange,
     hash: u32,
-    grain: GrainId,
+    grain: &'a GrainId,
     held: &Held,
 ) -> Result<(), AllocError>
-    ensures { OnOk result (table.new.entries
-        ≡ (if is_firm held.now.phase && holds range.now hash then with_entry table.old.entries (entry_on silo grain held.now) else table.old.entries)) }
+    ensures { OnOk result (map counted firm.new.items
+        ≡ map counted firm.old.items ++ (if is_firm held.now.phase && holds range.now hash then (grain.now, held.now.count) ∷ [] else [])) }
 {
     if is_firm(&held.phase) && range.contains(hash) {
-        table.insert(grain, entry_on(silo, grain, held))?;
+        firm.push((grain, held.count))?;
     }
     Ok(())
 }

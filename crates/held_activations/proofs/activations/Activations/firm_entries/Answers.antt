@@ -1,14 +1,23 @@
-use Rattle.std.proofs.Common.{ap, subst, ◌≡◌, ◌∙◌}
-use Rattle.std.specs.Prelude.{IfOk}
-use Rattle.directory_rules.specs.Table.{entries_of}
+use Rattle.std.proofs.Common.{ap, subst, sym, ◌∙◌, map}
+use Rattle.std.proofs.lemmas.Result.{IfOk-weaker}
 use Rattle.held_activations.specs.Activations.{ActivationsValue}
-use Rattle.held_activations.specs.Firm.{firm_among}
-use Rattle.held_activations.proofs.Tables.{firm_scanned}
+use Rattle.held_activations.specs.Firm.{AreFirm, counted, firm_among}
+use Rattle.held_activations.proofs.ByGrain.{told_by_grain}
+use Rattle.held_activations.proofs.FirmCounts.{all_are_firm}
 use Rattle.held_activations.proofs.activations.Activations.firm_entries.Goals as goal
+
+pub returns-then-same : goal.returns-then-same
+returns-then-same c =
+    IfOk-weaker c.by_grain.result _ _
+    (λ entries sorted. told_by_grain c.args.silo c.args.hashing c.args.range.now c.self.inside.map.entries c.self.invariant.begun.apart (map counted c.in_ok-firm.firm.items) c.in_ok-firm.ensures entries.items sorted
+    ∙ ap (λ (v : ActivationsValue). firm_among c.args.silo c.args.hashing c.args.range.now v.entries) c.self.view_is)
+    c.by_grain.ensures
 
 pub returns : goal.returns
 returns c =
-    subst (λ l. IfOk c.entries_of-2.result (λ entries. entries.items ≡ l))
-    (ap entries_of (c.in_ok-table-2.ensures ∙ firm_scanned c.args.silo c.args.hashing c.args.range.now c.self.inside.map.entries c.self.invariant.begun.apart)
+    IfOk-weaker c.by_grain-2.result _ _
+    (λ entries sorted. told_by_grain c.args.silo c.args.hashing c.args.range.now c.self.inside.map.entries c.self.invariant.begun.apart (map counted c.in_ok-firm-2.firm.items)
+    (subst (λ l. AreFirm c.args.hashing c.args.range.now c.self.inside.map.entries l) (sym c.in_ok-firm-2.ensures) (all_are_firm c.args.hashing c.args.range.now c.self.inside.map.entries c.self.invariant.begun.apart))
+    entries.items sorted
     ∙ ap (λ (v : ActivationsValue). firm_among c.args.silo c.args.hashing c.args.range.now v.entries) c.self.view_is)
-    c.entries_of-2.ensures
+    c.by_grain-2.ensures
