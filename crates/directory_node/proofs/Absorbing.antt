@@ -45,10 +45,7 @@ kept_by_taking node report complete new is piece takes =
       cached = is.cached;
       shelved = is.shelved;
       rising = is.rising;
-      unshelved = is.unshelved;
       recovers = still_serve node report had.recovery (recovered had.recovery report) new complete had.there is.recovers (takes had.recovery had.there);
-      unseen = is.unseen;
-      bare = is.bare;
     }
 
 -- what comes of a report, in the rule's words

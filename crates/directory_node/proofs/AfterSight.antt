@@ -76,9 +76,6 @@ module _ (node : Node) (sight : Sight) (fits : FitsSight sight node) where
       rising = subst (λ l. All (λ e. rise_by_grain e.1.entries ≡ true) l) (sym fits.gatherings) (new_rise sight.view (pieces_by sight node));
       shelved = shelved_after sight.next sight.view node.shelf sight.sealed.items
           (All-weaker (λ (s : Snapshot). s.version ≤ node.view.version) (λ (s : Snapshot). s.version ≤ sight.view.version) (λ s low. let newer = fits.newer in omega (low, newer, arith)) node.shelf is.shelved) new_seals;
-      unseen = λ zero. absurd (let newer = fits.newer in omega (newer, zero, arith));
-      unshelved = λ zero. absurd (let newer = fits.newer in omega (newer, zero, arith));
-      bare = λ zero. absurd (let newer = fits.newer in omega (newer, zero, arith));
     }
 
   -- the rule's node

@@ -86,19 +86,6 @@ answer_keeps (Err why) holding request recoveries settled have = have
 pub answered_keeps : (holding : Holding) (request : Request) (recoveries : List (ℕ × Recovery)) → HaveRecoveries holding.pieces recoveries → HaveRecoveries (answered holding request).holding.pieces recoveries
 answered_keeps holding request recoveries have = answer_keeps (serving_piece holding request) holding request recoveries (serving_settled holding request) have
 
-served_none : (act : Act) (piece : Piece) (holding : Holding) (request : Request) → holding.pieces ≡ [] → (served_by act piece holding request).holding.pieces ≡ []
-served_none (Register entry previous) piece holding request none = ap (with_piece _) none
-served_none (Deregister entry) piece holding request none = ap (with_piece _) none
-served_none (Find grain) piece holding request none = none
-
-answer_none : (serving : Result Piece Why) (holding : Holding) (request : Request) → holding.pieces ≡ [] → (answered_from serving holding request).holding.pieces ≡ []
-answer_none (Ok piece) holding request none = served_none request.act piece holding request none
-answer_none (Err why) holding request none = none
-
--- and where there is no piece none comes
-pub answered_none : (holding : Holding) (request : Request) → holding.pieces ≡ [] → (answered holding request).holding.pieces ≡ []
-answered_none holding request none = answer_none (serving_piece holding request) holding request none
-
 -- what was written is found there
 pub written_is_found : {X : Type 0} (at : ℕ → Bool) (es : List (ℕ × X)) (w x : X) → lookup at es ≡ Some x → lookup at (set_value at es w) ≡ Some w
 written_is_found at [] w x = λ found. absurd (cc (found))

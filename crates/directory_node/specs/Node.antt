@@ -1,5 +1,5 @@
 -- What every node of the code keeps.
-use Rattle.std.specs.Prelude.{◌≡◌, ◌≤◌, ℕ, true, List, [], Some, All}
+use Rattle.std.specs.Prelude.{◌≡◌, ◌≤◌, ℕ, true, List, Some, All}
 use Rattle.std.specs.Ordering.{nat_cmp}
 use Rattle.std.specs.Map.{lookup}
 use Rattle.std.specs.BTreeMap.{is_at}
@@ -21,13 +21,9 @@ HaveRecoveries pieces recoveries =
     (start : ℕ) (piece : Piece) → lookup (is_at (nat_cmp start)) pieces ≡ Some piece → piece.state ≡ Recovering → HasRecovery recoveries start piece
 
 -- what a node keeps: its cache is as large as the settings say, each piece that recovers has its recovery, what is gathered
--- stands in the order of the grains, and each snapshot on the shelf was sealed at a version that the silo has seen; before the
--- first view there is no piece and no snapshot, and the ring has no point
+-- stands in the order of the grains, and each snapshot on the shelf was sealed at a version that the silo has seen
 pub record IsNode (node : Node) : Type 0 where
   pub cached : node.cache.capacity ≡ node.settings.cache
   pub recovers : HaveRecoveries node.holding.pieces node.recoveries
   pub rising : All (λ e. rise_by_grain e.1.entries ≡ true) node.gatherings
   pub shelved : All (λ s. s.version ≤ node.view.version) node.shelf
-  pub unseen : node.view.version ≡ 0 → node.holding.pieces ≡ []
-  pub unshelved : node.view.version ≡ 0 → node.shelf ≡ []
-  pub bare : node.view.version ≡ 0 → node.ring.points ≡ []

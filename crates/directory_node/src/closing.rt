@@ -8,8 +8,8 @@ ghost use Rattle.directory_node.specs.Follows.{Follows};
 ghost use Rattle.directory_node.specs.Numbers.{step_refusal_number};
 ghost use Rattle.directory_node.specs.Planning.{Fits, Sends, step_by};
 
-use directory_letters::{Body, Letter};
 use crate::{Change, Node, Plan, StepRefusal};
+use directory_letters::{Body, Letter};
 use directory_rules::{Act, Effect, Held, Phase};
 use silo_address::{Entry, GrainId, SiloAddress};
 use std::alloc::{AllocError, Global};

@@ -144,14 +144,10 @@ impl Node {
     pub fn copy(&self) -> Result<Node, AllocError>
         ensures { IfOk result (λ node. node ≡ self.now) }
     {
-        let view = self.view.copy()?;
-        let ring = self.ring.copy()?;
-        let holding = self.holding.copy()?;
-        let shelf = self.shelf.copy()?;
-        let gatherings = self.gatherings.clone()?;
-        let recoveries = copied(&self.recoveries)?;
-        let host = self.host.copy()?;
-        let cache = copy_of_cache(&self.cache)?;
+        let (view, ring) = copied_sight(&self.view, &self.ring)?;
+        let (holding, shelf) = copied_tables(&self.holding, &self.shelf)?;
+        let (gatherings, recoveries) = copied_waits(&self.gatherings, &self.recoveries)?;
+        let (host, cache) = copied_own(&self.host, &self.cache)?;
         Ok(Node {
             alloc: self.alloc,
             settings: self.settings,
@@ -237,11 +233,47 @@ fn same_gatherings(one: &BTreeMap<u32, Gathering>, other: &BTreeMap<u32, Gatheri
     others.next().is_none()
 }
 
-// Equal recoveries under the same starts.
-fn copied(recoveries: &BTreeMap<u32, Recovery>) -> Result<BTreeMap<u32, Recovery>, AllocError>
-    ensures { IfOk result (λ copied. copied.entries ≡ recoveries.now.entries) }
+// An equal view and an equal ring.
+fn copied_sight(view: &View, ring: &Ring) -> Result<(View, Ring), AllocError>
+    ensures view { IfOk result (λ copied. copied.0 ≡ view.now) }
+    ensures ring { IfOk result (λ copied. copied.1 ≡ ring.now) }
 {
-    recoveries.clone()
+    let view = view.copy()?;
+    let ring = ring.copy()?;
+    Ok((view, ring))
+}
+
+// What is kept for others, once more.
+fn copied_tables(holding: &Holding, shelf: &Shelf) -> Result<(Holding, Shelf), AllocError>
+    ensures holding { IfOk result (λ copied. copied.0 ≡ holding.now) }
+    ensures shelf { IfOk result (λ copied. copied.1 ≡ shelf.now) }
+{
+    let holding = holding.copy()?;
+    let shelf = shelf.copy()?;
+    Ok((holding, shelf))
+}
+
+// Equal gatherings and recoveries under the same starts.
+fn copied_waits(
+    gatherings: &BTreeMap<u32, Gathering>,
+    recoveries: &BTreeMap<u32, Recovery>,
+) -> Result<(BTreeMap<u32, Gathering>, BTreeMap<u32, Recovery>), AllocError>
+    ensures gatherings { IfOk result (λ copied. copied.0.entries ≡ gatherings.now.entries) }
+    ensures recoveries { IfOk result (λ copied. copied.1.entries ≡ recoveries.now.entries) }
+{
+    let gatherings = gatherings.clone()?;
+    let recoveries = recoveries.clone()?;
+    Ok((gatherings, recoveries))
+}
+
+// An equal host and an equal cache.
+fn copied_own(host: &Host, cache: &Option<Cache>) -> Result<(Host, Option<Cache>), AllocError>
+    ensures host { IfOk result (λ copied. copied.0 ≡ host.now) }
+    ensures cache { IfOk result (λ copied. copied.1 ≡ cache.now) }
+{
+    let host = host.copy()?;
+    let cache = copy_of_cache(cache)?;
+    Ok((host, cache))
 }
 
 // Whether both have equal recoveries under the same starts.

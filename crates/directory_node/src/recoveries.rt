@@ -13,8 +13,8 @@ ghost use Rattle.directory_rules.specs.Transfer.{answer_to, answering, has_range
 ghost use Rattle.directory_letters.specs.LetterModel.{body_of};
 ghost use Rattle.directory_node.specs.Planning.{Fits, step_by};
 
-use directory_letters::{Body, Letter};
 use crate::{Change, Node, Plan};
+use directory_letters::{Body, Letter};
 use directory_rules::{Effect, PieceState};
 use range_recovery::{Progress, Recovery, RecoveryError, Report};
 use ring_range::RingRange;

@@ -4,8 +4,8 @@ ghost use Rattle.directory_rules.specs.Answer.{answered};
 ghost use Rattle.directory_rules.specs.Receive.{reply_effect, requested};
 ghost use Rattle.directory_node.specs.Planning.{Fits, changed, step_by};
 
-use directory_letters::{Body, Letter};
 use crate::{Change, Node, Plan};
+use directory_letters::{Body, Letter};
 use directory_rules::{Act, Effect, Reply, Request};
 use std::alloc::{AllocError, Global};
 

@@ -26,19 +26,25 @@ impl Node {
         self.settings.in_range();
         let (silo, hashing) = (self.host.silo(), self.settings.hashing());
         let room = self.shelf.room(self.alloc, &sight.sealed)?;
+        self.holding.sight(
+            self.alloc,
+            sight.next,
+            hashing,
+            &sight.view,
+            &silo,
+            &sight.arcs,
+        )?;
+        self.holding.whole();
         let Sight {
             next,
             view,
             ring,
-            arcs,
+            arcs: _arcs,
             sealed,
             gatherings,
             recoveries,
             renewal,
         } = sight;
-        self.holding
-            .sight(self.alloc, next, hashing, &view, &silo, &arcs)?;
-        self.holding.whole();
         see_on_shelf(&mut self.shelf, next, room, &view, sealed);
         self.host.renew(renewal);
         see_in_cache(&mut self.cache, &view);

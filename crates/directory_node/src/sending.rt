@@ -4,9 +4,9 @@ ghost use Rattle.directory_rules.specs.Sending.{ask_letters, gathering_of, grain
 ghost use Rattle.directory_letters.specs.LetterModel.{body_of};
 ghost use Rattle.directory_node.specs.Sender.{sending, wants_of};
 
+use crate::Node;
 use crate::plan::list_of;
 use directory_letters::{Body, Letter};
-use crate::Node;
 use directory_rules::{Act, PieceState, Request};
 use grain_partition::Piece;
 use hash_ring::Ring;

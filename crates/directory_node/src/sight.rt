@@ -20,8 +20,8 @@ ghost use Rattle.directory_node.specs.Sender.{ahead, wants_of};
 
 use crate::beginning::{new_gatherings, new_recoveries};
 use crate::sending::Sender;
-use directory_letters::Letter;
 use crate::{Change, Node, Plan, Sight, StepRefusal};
+use directory_letters::Letter;
 use directory_rules::{Act, Effect};
 use grain_partition::Piece;
 use hash_ring::{Places, Ring, RingError};

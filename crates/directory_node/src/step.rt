@@ -8,8 +8,8 @@ ghost use Rattle.directory_node.specs.Follows.{Follows};
 ghost use Rattle.directory_node.specs.Numbers.{step_refusal_number};
 ghost use Rattle.directory_node.specs.Planning.{Excuses, Fits, answer_count, step_by, stepped_of};
 
-use directory_letters::{Body, Letter};
 use crate::{Input, Node, Plan, StepRefusal};
+use directory_letters::{Body, Letter};
 use directory_rules::Effect;
 use membership_view::{Status, View};
 use silo_address::SiloAddress;

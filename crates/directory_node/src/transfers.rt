@@ -12,8 +12,8 @@ ghost use Rattle.seal_snapshot.specs.declared.progress.Progress.TheVariants.{Com
 ghost use Rattle.grain_partition.specs.Holding.{HasPiece};
 
 use crate::recoveries::{is_before_first, rise_by_grain};
-use directory_letters::{Body, Letter};
 use crate::{Change, Node, Plan};
+use directory_letters::{Body, Letter};
 use directory_rules::{Effect, PieceState};
 use grain_table::Table;
 use hash_ring::Hashing;

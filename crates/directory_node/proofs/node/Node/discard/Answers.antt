@@ -1,6 +1,6 @@
-use Rattle.std.proofs.Common.{◌≤◌, sym, subst, ap, ◌∙◌, List}
+use Rattle.std.proofs.Common.{◌≤◌, sym, subst, List}
 use Rattle.std.specs.Prelude.{All, not}
-use Rattle.directory_rules.specs.Snapshot.{Snapshot, is_snapshot, shelf_without}
+use Rattle.directory_rules.specs.Snapshot.{Snapshot, is_snapshot}
 use Rattle.directory_node.proofs.Kept.{all_kept}
 use Rattle.directory_node.proofs.node.Node.discard.Goals as goal
 
@@ -11,7 +11,4 @@ invariant_of-self c = record {
   rising = c.self.invariant.rising;
   shelved = subst (λ (l : List Snapshot). All (λ s. s.version ≤ c.self.inside.view.version) l) (sym c.done.ensures.deleted)
       (all_kept (λ (s : Snapshot). s.version ≤ c.self.inside.view.version) (λ s. not (is_snapshot c.args.version c.args.range c.args.to.now s)) c.self.inside.shelf c.self.invariant.shelved);
-  unseen = c.self.invariant.unseen;
-  unshelved = λ none. c.done.ensures.deleted ∙ ap (λ l. shelf_without l c.args.version c.args.range c.args.to.now) (c.self.invariant.unshelved none);
-  bare = c.self.invariant.bare;
 }

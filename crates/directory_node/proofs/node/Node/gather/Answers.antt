@@ -36,7 +36,4 @@ invariant_of-self-2 c =
       rising = subst (λ l. All (λ e. rise_by_grain e.1.entries ≡ true) l) (sym put)
           (all_put (λ (g : Gathering). rise_by_grain g.entries ≡ true) page.range.start _ old goes.rises c.self.invariant.rising);
       shelved = c.self.invariant.shelved;
-      unseen = c.self.invariant.unseen;
-      unshelved = c.self.invariant.unshelved;
-      bare = c.self.invariant.bare;
     }

@@ -1,7 +1,7 @@
-use Rattle.std.proofs.Common.{sym, subst, ap, ◌∙◌}
+use Rattle.std.proofs.Common.{subst, ap}
 use Rattle.directory_rules.specs.Answer.{Answered}
 use Rattle.directory_node.specs.Node.{HaveRecoveries}
-use Rattle.directory_node.proofs.Kept.{answered_keeps, answered_none}
+use Rattle.directory_node.proofs.Kept.{answered_keeps}
 use Rattle.directory_node.proofs.node.Node.serve.Goals as goal
 
 pub invariant_of-self-2 : goal.invariant_of-self-2
@@ -11,8 +11,5 @@ invariant_of-self-2 c =
       cached = c.self.invariant.cached;
       shelved = c.self.invariant.shelved;
       rising = c.self.invariant.rising;
-      unshelved = c.self.invariant.unshelved;
       recovers = subst (λ pieces. HaveRecoveries pieces c.self.inside.recoveries.entries) is (answered_keeps c.self.inside.holding c.args.request.now c.self.inside.recoveries.entries c.self.invariant.recovers);
-      unseen = λ none. sym is ∙ answered_none c.self.inside.holding c.args.request.now (c.self.invariant.unseen none);
-      bare = c.self.invariant.bare;
     }

@@ -25,9 +25,6 @@ invariant_of-self c =
       cached = c.self.invariant.cached;
       shelved = c.self.invariant.shelved;
       rising = subst (λ l. All (λ e. rise_by_grain e.1.entries ≡ true) l) (sym c.remove-in-Some.ensures.entries) (all_but_one (λ (e : ℕ × Gathering). rise_by_grain e.1.entries ≡ true) (is_at (nat_cmp c.start-in-Some.result)) inside.gatherings.entries c.self.invariant.rising);
-      unshelved = c.self.invariant.unshelved;
       recovers = subst (λ l. HaveRecoveries l c.remove.new.self.entries) (sym is)
           (subst (λ l. HaveRecoveries pieces l) (ap (λ (s : ℕ). remove_entry (is_at (nat_cmp s)) inside.recoveries.entries) (sym c.start.ensures) ∙ sym c.remove.ensures.entries) kept);
-      unseen = λ none. is ∙ ap (λ l. with_piece piece l) (c.self.invariant.unseen none);
-      bare = c.self.invariant.bare;
     }
