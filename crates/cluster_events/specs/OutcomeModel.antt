@@ -4,14 +4,17 @@ use Rattle.directory_rules.specs.Event as rule
 use Rattle.cluster_events.specs.declared.outcome.Span.{Span}
 use Rattle.cluster_events.specs.declared.outcome.Outcome.{Outcome}
 use Rattle.cluster_events.specs.declared.outcome.Happening.{Happening}
-use Rattle.cluster_events.specs.declared.outcome.Happening.TheVariants.{Joined, Saw, Did, Delivered}
+use Rattle.cluster_events.specs.declared.outcome.Happening.TheVariants.{Joined, Left, Died, Saw, Did, Delivered, Lost}
 
 -- the rule's happening
 abbrev pub happening_of : Happening → rule.Happening
 happening_of (Joined version silo replaced) = rule.Joined version silo replaced
+happening_of (Left version silo) = rule.Left version silo
+happening_of (Died version silo) = rule.Died version silo
 happening_of (Saw silo version effect) = rule.Saw silo version effect
 happening_of (Did silo effect) = rule.Did silo effect
 happening_of (Delivered number kind effect) = rule.Delivered number kind effect
+happening_of (Lost number) = rule.Lost number
 
 -- the rule's span
 abbrev pub span_of : Span → rule.Span

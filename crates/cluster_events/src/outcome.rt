@@ -10,6 +10,16 @@ pub enum Happening {
         silo: SiloAddress,
         replaced: Option<SiloAddress>,
     },
+    /// A silo began to leave; this made the version.
+    Left {
+        version: u64,
+        silo: SiloAddress,
+    },
+    /// A silo died; this made the version.
+    Died {
+        version: u64,
+        silo: SiloAddress,
+    },
     /// A silo saw the version.
     Saw {
         silo: SiloAddress,
@@ -26,6 +36,10 @@ pub enum Happening {
         number: u64,
         kind: LetterKind,
         effect: Effect,
+    },
+    /// The letter of that number was lost.
+    Lost {
+        number: u64,
     },
 }
 

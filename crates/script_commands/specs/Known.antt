@@ -1,16 +1,43 @@
 -- The commands that the program knows, each as it stands among those of the rule.
-use Rattle.std.specs.Prelude.{ℕ, List, [], ◌∷◌, codes}
+use Rattle.std.specs.Prelude.{ℕ, List, [], ◌∷◌, ◌++◌, codes}
 use Rattle.directory_rules.specs.Event as event
-use Rattle.script_rules.specs.Script.{Grammar, Settle, Owner, Show, a_hash, a_silo_and_grain, a_silo_and_places, a_silo_and_version, no_word}
+use Rattle.script_rules.specs.Script.{Grammar, Settle, Owner, Show, a_hash, a_letter, a_silo, a_silo_a_grain_and_a_silo, a_silo_and_grain, a_silo_and_places, a_silo_and_version, no_word}
+
+-- what happens to a silo that has joined
+abbrev pub silo_commands : List (List ℕ × Grammar)
+silo_commands =
+    (codes "leave", a_silo event.Leave)
+    ∷ (codes "kill", a_silo event.Kill)
+    ∷ (codes "nudge", a_silo event.Nudge)
+    ∷ (codes "see", a_silo_and_version event.See)
+    ∷ []
+
+-- what a silo does about a grain
+abbrev pub grain_commands : List (List ℕ × Grammar)
+grain_commands =
+    (codes "wake", a_silo_and_grain event.Wake)
+    ∷ (codes "close", a_silo_and_grain event.Close)
+    ∷ (codes "find", a_silo_and_grain event.Find)
+    ∷ (codes "forget", a_silo_and_grain event.Forget)
+    ∷ (codes "offer", a_silo_a_grain_and_a_silo event.Offer)
+    ∷ []
+
+-- what becomes of letters
+abbrev pub letter_commands : List (List ℕ × Grammar)
+letter_commands =
+    (codes "deliver", a_letter event.Deliver)
+    ∷ (codes "lose", a_letter event.Lose)
+    ∷ (codes "settle", no_word Settle)
+    ∷ []
+
+-- what is asked about a cluster, and changes nothing
+abbrev pub question_commands : List (List ℕ × Grammar)
+question_commands =
+    (codes "owner", a_hash Owner)
+    ∷ (codes "show", no_word Show)
+    ∷ []
 
 -- each known command under its name, with what stands behind the name
 abbrev pub known_commands : List (List ℕ × Grammar)
 known_commands =
-    (codes "join", a_silo_and_places event.Join)
-    ∷ (codes "see", a_silo_and_version event.See)
-    ∷ (codes "wake", a_silo_and_grain event.Wake)
-    ∷ (codes "find", a_silo_and_grain event.Find)
-    ∷ (codes "settle", no_word Settle)
-    ∷ (codes "owner", a_hash Owner)
-    ∷ (codes "show", no_word Show)
-    ∷ []
+    (codes "join", a_silo_and_places event.Join) ∷ (silo_commands ++ (grain_commands ++ (letter_commands ++ question_commands)))

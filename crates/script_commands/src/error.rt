@@ -7,7 +7,7 @@ use thiserror::Error;
 
 /// What each command is written as.
 const COMMANDS: &str =
-    "join SILO PLACE.., see SILO VERSION, wake SILO GRAIN, find SILO GRAIN, settle, owner HASH or show";
+    "join SILO PLACE.., leave SILO, kill SILO, nudge SILO, see SILO VERSION, wake SILO GRAIN, close SILO GRAIN, find SILO GRAIN, forget SILO GRAIN, offer SILO GRAIN SILO, deliver LETTER, lose LETTER, settle, owner HASH or show";
 
 /// The fault of a line: the first that it has, in the order of `docs/RULES.md#scripts`.
 #[derive(Clone, Copy, Debug, PartialEq, Eq, Error)]
@@ -31,7 +31,7 @@ pub enum ScriptFault {
     #[error("{0}")]
     Grain(GrainError),
     /// A word should be a number of its range.
-    #[error("a version is a number up to 18446744073709551615, a place or a hash one up to 4294967295, each in decimal digits without a leading zero")]
+    #[error("a version or the number of a letter is a number up to 18446744073709551615, a place or a hash one up to 4294967295, each in decimal digits without a leading zero")]
     NotANumber,
 }
 

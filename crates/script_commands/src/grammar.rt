@@ -9,7 +9,7 @@ ghost use Rattle.script_rules.specs.Script as script;
 ghost use Rattle.script_commands.specs.Reading.{Reads, told};
 
 use crate::places::places_in;
-use crate::words::{only_two_words, only_word, split_word};
+use crate::words::{only_three_words, only_two_words, only_word, split_word};
 use crate::{ReadError, ScriptFault};
 use silo_address::{GrainId, SiloAddress};
 use std::alloc::Global;
@@ -38,7 +38,7 @@ pub(crate) fn grain_word(word: &[u8]) -> Result<GrainId, ScriptFault>
     }
 }
 
-/// Reads a version.
+/// Reads a version or the number of a letter.
 pub(crate) fn number_word(word: &[u8]) -> Result<u64, ScriptFault>
     ensures { told (λ number. number) result ≡ script.number_word word.now }
 {
@@ -78,6 +78,26 @@ pub(crate) fn a_hash(words: &[u8]) -> Result<u32, ScriptFault>
     }
 }
 
+/// The number of a letter.
+pub(crate) fn a_letter(words: &[u8]) -> Result<u64, ScriptFault>
+    ensures { (of : ℕ → rule.Event) → told (λ number. script.Happen (of number)) result ≡ script.a_letter of (words_in words.now) }
+{
+    match only_word(words) {
+        Some(number) => number_word(number),
+        None => Err(ScriptFault::WordCount),
+    }
+}
+
+/// A silo.
+pub(crate) fn a_silo(words: &[u8]) -> Result<SiloAddress, ScriptFault>
+    ensures { (of : Silo → rule.Event) → told (λ silo. script.Happen (of silo)) result ≡ script.a_silo of (words_in words.now) }
+{
+    match only_word(words) {
+        Some(silo) => silo_word(silo),
+        None => Err(ScriptFault::WordCount),
+    }
+}
+
 /// A silo and a version.
 pub(crate) fn a_silo_and_version(words: &[u8]) -> Result<(SiloAddress, u64), ScriptFault>
     ensures { (of : Silo → ℕ → rule.Event) → told (λ parts. script.Happen (of parts.0 parts.1)) result ≡ script.a_silo_and_version of (words_in words.now) }
@@ -100,6 +120,21 @@ pub(crate) fn a_silo_and_grain(words: &[u8]) -> Result<(SiloAddress, GrainId), S
     let silo = silo_word(silo)?;
     let grain = grain_word(grain)?;
     Ok((silo, grain))
+}
+
+/// A silo, a grain and another silo.
+pub(crate) fn a_silo_a_grain_and_a_silo(
+    words: &[u8],
+) -> Result<(SiloAddress, GrainId, SiloAddress), ScriptFault>
+    ensures { (of : Silo → Grain → Silo → rule.Event) → told (λ parts. script.Happen (of parts.0 parts.1 parts.2)) result ≡ script.a_silo_a_grain_and_a_silo of (words_in words.now) }
+{
+    let Some((silo, grain, other)) = only_three_words(words) else {
+        return Err(ScriptFault::WordCount);
+    };
+    let silo = silo_word(silo)?;
+    let grain = grain_word(grain)?;
+    let other = silo_word(other)?;
+    Ok((silo, grain, other))
 }
 
 /// A silo, and any number of places.

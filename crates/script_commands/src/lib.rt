@@ -3,12 +3,16 @@
 
 mod command;
 mod error;
+mod grains;
 mod grammar;
 mod known;
 pub mod laws;
+mod letters;
 mod lines;
 mod places;
+mod questions;
 mod reading;
+mod silos;
 mod words;
 
 pub use command::Command;

@@ -3,7 +3,7 @@
 ghost use Rattle.std.specs.Option.{option_copied};
 ghost use Rattle.std.specs.Prelude.{◌≡◌, ◌≢◌, ◌<◌, ◌≤◌, ℕ, [], ◌∷◌, IfSome, MatchOption, length, option_map, slice_index};
 ghost use Rattle.texts.specs.Words.{space, words_in};
-ghost use Rattle.script_commands.specs.WordCounts.{only_two_words, only_word, two_copied};
+ghost use Rattle.script_commands.specs.WordCounts.{only_three_words, only_two_words, only_word, three_copied, two_copied};
 
 use texts::first_position;
 
@@ -53,4 +53,13 @@ pub(crate) fn only_two_words(line: &[u8]) -> Option<(&[u8], &[u8])>
     let (first, rest) = split_word(line)?;
     let second = only_word(rest)?;
     Some((first, second))
+}
+
+/// The words of a line that has three.
+pub(crate) fn only_three_words(line: &[u8]) -> Option<(&[u8], &[u8], &[u8])>
+    ensures { three_copied result ≡ only_three_words (words_in line.now) }
+{
+    let (first, rest) = split_word(line)?;
+    let (second, third) = only_two_words(rest)?;
+    Some((first, second, third))
 }

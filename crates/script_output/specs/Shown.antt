@@ -1,16 +1,19 @@
--- Lines of `show` and `owner`, by what they tell.
+-- Lines of `show`, `mail`, `owner` and `place`, by what they tell.
 use Rattle.std.specs.Prelude.{ℕ, List, [], ◌∷◌, codes, Option, Some, None, length, if◌then◌else◌}
 use Rattle.std.specs.Fmt.{decimal}
 use Rattle.silo_address.specs.Silo.{Silo}
 use Rattle.silo_address.specs.SiloText.{silo_text}
+use Rattle.silo_address.specs.Grain.{Grain, grain_text}
 use Rattle.membership_view.specs.declared.status.Status.{Status}
 use Rattle.ring_range.specs.Range.{Range}
 use Rattle.ring_range.specs.Text.{range_text}
 use Rattle.hash_ring.specs.declared.point.Point.{Point}
+use Rattle.directory_rules.specs.declared.letter_kind.LetterKind.{LetterKind}
 use Rattle.directory_rules.specs.Node.{Node}
 use Rattle.directory_rules.specs.World.{World}
 use Rattle.texts.specs.Words.{sentence}
-use Rattle.script_rules.specs.Show.{status_word, owner_words, is_served}
+use Rattle.script_rules.specs.Lines.{kind_word}
+use Rattle.script_rules.specs.Show.{status_word, owner_words, place_words, is_served}
 use Rattle.directory_rules.specs.Sight.{entries_within}
 
 -- the line of the current version
@@ -48,3 +51,11 @@ line_of_range range owner entries = sentence (codes "range" ∷ range_text range
 -- the line that tells the owner of a hash
 abbrev pub line_of_owner : (hash : ℕ) → Option Point → List ℕ
 line_of_owner hash owner = sentence (codes "owner" ∷ decimal hash ∷ owner_words owner)
+
+-- the line of a letter in the mail
+abbrev pub line_of_letter : (number : ℕ) → LetterKind → (from to : Silo) → (version : ℕ) → List ℕ
+line_of_letter number kind from to version = sentence (decimal number ∷ kind_word kind ∷ silo_text from ∷ silo_text to ∷ decimal version ∷ [])
+
+-- the line that tells on which silo an activation of the grain would begin
+abbrev pub line_of_place : Grain → (chosen : Option Silo) → List ℕ
+line_of_place grain chosen = sentence (codes "place" ∷ grain_text grain ∷ place_words chosen)

@@ -98,6 +98,8 @@ fn push_happening(out: &mut Vec<u8>, happening: &Happening) -> Result<(), AllocE
             silo,
             replaced,
         } => push_joined(out, *version, silo, *replaced),
+        Happening::Left { version, silo } => push_change(out, *version, b"leaving", silo),
+        Happening::Died { version, silo } => push_change(out, *version, b"dead", silo),
         Happening::Saw {
             silo,
             version,
@@ -109,6 +111,7 @@ fn push_happening(out: &mut Vec<u8>, happening: &Happening) -> Result<(), AllocE
             kind,
             effect,
         } => push_delivered(out, *number, *kind, effect),
+        Happening::Lost { number } => push_named(out, b"lost", *number),
     }
 }
 

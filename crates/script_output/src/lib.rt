@@ -8,11 +8,11 @@ mod event_lines;
 pub mod laws;
 mod line;
 mod marked;
+mod question_lines;
 mod show_lines;
 mod tables;
 mod words;
 
 pub use event_lines::{write_fault, write_outcome, write_refusal};
-pub use show_lines::{
-    write_held, write_no_owner, write_owner, write_range, write_silo, write_version,
-};
+pub use question_lines::{write_letter, write_owner, write_place};
+pub use show_lines::{write_held, write_no_owner, write_range, write_silo, write_version};

@@ -1,4 +1,4 @@
-//! The lines of `show` and `owner`.
+//! The lines of `show`.
 
 #![tactic(auto, using(crate::proofs::Writing::word_by_word))]
 
@@ -8,18 +8,15 @@ ghost use Rattle.silo_address.specs.SiloText.{silo_text};
 ghost use Rattle.silo_address.specs.Grain.{grain_text};
 ghost use Rattle.silo_address.specs.ActivationText.{activation_text};
 ghost use Rattle.ring_range.specs.Text.{range_text};
-ghost use Rattle.script_rules.specs.Show.{held_line, owner_words, phase_word, status_word};
+ghost use Rattle.script_rules.specs.Show.{held_line, phase_word, status_word};
 ghost use Rattle.script_output.specs.Printed.{printed};
-ghost use Rattle.script_output.specs.Shown.{line_of_owner, line_of_range, line_of_silo, line_of_version, words_of_figures, words_of_state};
+ghost use Rattle.script_output.specs.Shown.{line_of_range, line_of_silo, line_of_version, words_of_figures, words_of_state};
 ghost use Rattle.script_output.specs.Spaced.{spaced, BeginsWith};
 
 use crate::line::end_line;
 use crate::tables::{phase_word, status_word};
-use crate::words::{
-    push_activation, push_grain, push_named, push_number, push_range, push_silo, push_word,
-};
+use crate::words::{push_activation, push_grain, push_named, push_range, push_silo, push_word};
 use directory_rules::Held;
-use hash_ring::Point;
 use membership_view::Status;
 use ring_range::RingRange;
 use silo_address::{ActivationId, GrainId, SiloAddress};
@@ -165,36 +162,4 @@ pub fn write_no_owner(out: &mut Vec<u8>) -> Result<(), AllocError>
     ensures unchanged { OnErr result (out.new.items ≡ out.old.items) }
 {
     out.extend_from_slice(b"no owner\n")
-}
-
-/// Writes the line that tells the owner of a hash: its silo and the index of its point, or that there is none. Fails only when
-/// memory runs out.
-pub fn write_owner(out: &mut Vec<u8>, hash: u32, owner: Option<Point>) -> Result<(), AllocError>
-    ensures written { OnOk result (out.new.items ≡ out.old.items ++ printed (line_of_owner hash owner)) }
-    ensures unchanged { OnErr result (out.new.items ≡ out.old.items) }
-{
-    let start = out.len();
-    let written = push_owner_words(out, hash, owner);
-    end_line(out, start, written)
-}
-
-fn push_owner_words(out: &mut Vec<u8>, hash: u32, owner: Option<Point>) -> Result<(), AllocError>
-    ensures written { OnOk result (out.new.items ≡ out.old.items ++ spaced (codes "owner" ∷ decimal hash ∷ owner_words owner)) }
-    ensures kept { BeginsWith out.old.items out.new.items }
-{
-    push_named(out, b"owner", u64::from(hash))?;
-    push_point(out, owner)?;
-    Ok(())
-}
-
-fn push_point(out: &mut Vec<u8>, owner: Option<Point>) -> Result<(), AllocError>
-    ensures written { OnOk result (out.new.items ≡ out.old.items ++ spaced (owner_words owner)) }
-    ensures kept { BeginsWith out.old.items out.new.items }
-{
-    let Some(point) = owner else {
-        return push_word(out, b"none");
-    };
-    push_silo(out, &point.silo)?;
-    push_number(out, point.index as u64)?;
-    Ok(())
 }

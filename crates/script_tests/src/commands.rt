@@ -12,23 +12,80 @@ fn fault_of(alloc: Global, line: &[u8]) -> Option<u16> {
     }
 }
 
-// What the line says, in one of its words: the number of a join's places, a version, a hash, or nothing.
+// What the line says, in one of its words: the number of a join's places, a version, that of a letter, a hash, or nothing.
 fn number_in(rt: &impl Abort, alloc: Global, line: &str) -> Option<u64> {
     match read_command(alloc, line.as_bytes()).expect(rt, "no fault") {
         Some(Command::Happen(Event::Join { places, .. })) => Some(places.len() as u64),
         Some(Command::Happen(Event::See { version, .. })) => Some(version),
+        Some(Command::Happen(Event::Deliver { number } | Event::Lose { number })) => Some(number),
         Some(Command::Owner { hash }) => Some(u64::from(hash)),
         _ => None,
     }
 }
 
+// The name of what the line asks for.
+fn name_in(rt: &impl Abort, alloc: Global, line: &str) -> &'static str {
+    match read_command(alloc, line.as_bytes()).expect(rt, "no fault") {
+        Some(Command::Happen(event)) => event_name(&event),
+        Some(Command::Settle) => "settle",
+        Some(Command::Owner { .. }) => "owner",
+        Some(Command::Show) => "show",
+        None => "",
+    }
+}
+
+fn event_name(event: &Event) -> &'static str {
+    match event {
+        Event::Join { .. } => "join",
+        Event::Leave { .. } => "leave",
+        Event::Kill { .. } => "kill",
+        Event::Nudge { .. } => "nudge",
+        Event::See { .. } => "see",
+        Event::Wake { .. } => "wake",
+        Event::Close { .. } => "close",
+        Event::Find { .. } => "find",
+        Event::Forget { .. } => "forget",
+        Event::Offer { .. } => "offer",
+        Event::Deliver { .. } => "deliver",
+        Event::Lose { .. } => "lose",
+    }
+}
+
+// A line of each command.
+#[test]
+fn names(rt: HostRuntime) {
+    let table: [(&str, &str); 16] = [
+        ("join 10.0.0.1:1000@1", "join"),
+        ("leave 10.0.0.1:1000@1", "leave"),
+        ("kill 10.0.0.1:1000@1", "kill"),
+        ("nudge 10.0.0.1:1000@1", "nudge"),
+        ("see 10.0.0.1:1000@1 1", "see"),
+        ("wake 10.0.0.1:1000@1 user/ann", "wake"),
+        ("close 10.0.0.1:1000@1 user/ann", "close"),
+        ("find 10.0.0.1:1000@1 user/ann", "find"),
+        ("forget 10.0.0.1:1000@1 user/ann", "forget"),
+        ("offer 10.0.0.1:1000@1 user/ann 10.0.0.2:1000@1", "offer"),
+        ("deliver 7", "deliver"),
+        ("lose 7", "lose"),
+        ("settle", "settle"),
+        ("owner 7", "owner"),
+        ("show", "show"),
+        ("; show", ""),
+    ];
+    for (line, name) in table {
+        assert!(rt; name_in(&rt, rt.alloc(), line) == name, "{line}");
+    }
+}
+
 #[test]
 fn commands(rt: HostRuntime) {
-    let table: [(&str, Option<u64>); 9] = [
+    let table: [(&str, Option<u64>); 11] = [
         ("join 10.0.0.1:1000@1", Some(0)),
         ("  join   10.0.0.1:1000@1  5   6 ", Some(2)),
         ("see 10.0.0.1:1000@1 18446744073709551615", Some(u64::MAX)),
         ("owner 4294967295", Some(4_294_967_295)),
+        ("deliver 18446744073709551615", Some(u64::MAX)),
+        (" lose  0 ", Some(0)),
         ("find 10.0.0.1:1000@1 ;/;", None),
         ("   settle", None),
         ("", None),
@@ -43,11 +100,20 @@ fn commands(rt: HostRuntime) {
 // Of two faults the first: the name before the number of words, that before a word, and words from the left.
 #[test]
 fn faults(rt: HostRuntime) {
-    let table: [(&str, u16); 11] = [
+    let table: [(&str, u16); 21] = [
         ("SHOW", 921),
         ("show; now", 921),
-        ("nudge x y z", 921),
+        ("sync x y z", 921),
         ("show ;", 922),
+        ("nudge x y", 922),
+        ("kill", 922),
+        ("lose x 7", 922),
+        ("offer x ann", 922),
+        ("offer x ann y z", 922),
+        ("leave x", 101),
+        ("offer 10.0.0.1:1000@0 ann x", 103),
+        ("offer 10.0.0.1:1000@1 ann x", 111),
+        ("offer 10.0.0.1:1000@1 user/ann x", 101),
         ("see x", 922),
         ("find 10.0.0.1:1000@1 user/ann ; a remark", 922),
         ("wake x ann", 101),
@@ -55,6 +121,7 @@ fn faults(rt: HostRuntime) {
         ("find 10.0.0.1:0@1 ann", 103),
         ("wake 10.0.0.1:1000@1 ann", 111),
         ("join 10.0.0.1:1000@1 1 2 x 3", 923),
+        ("deliver 18446744073709551616", 923),
     ];
     for (line, number) in table {
         assert!(rt;
@@ -143,11 +210,11 @@ fn words_of_faults(rt: HostRuntime) {
         ),
         (
             ScriptFault::UnknownCommand,
-            "a command is join SILO PLACE.., see SILO VERSION, wake SILO GRAIN, find SILO GRAIN, settle, owner HASH or show",
+            "a command is join SILO PLACE.., leave SILO, kill SILO, nudge SILO, see SILO VERSION, wake SILO GRAIN, close SILO GRAIN, find SILO GRAIN, forget SILO GRAIN, offer SILO GRAIN SILO, deliver LETTER, lose LETTER, settle, owner HASH or show",
         ),
         (
             ScriptFault::WordCount,
-            "too few words or too many: a command is join SILO PLACE.., see SILO VERSION, wake SILO GRAIN, find SILO GRAIN, settle, owner HASH or show",
+            "too few words or too many: a command is join SILO PLACE.., leave SILO, kill SILO, nudge SILO, see SILO VERSION, wake SILO GRAIN, close SILO GRAIN, find SILO GRAIN, forget SILO GRAIN, offer SILO GRAIN SILO, deliver LETTER, lose LETTER, settle, owner HASH or show",
         ),
         (
             ScriptFault::Silo(SiloError::Shape),
@@ -159,7 +226,7 @@ fn words_of_faults(rt: HostRuntime) {
         ),
         (
             ScriptFault::NotANumber,
-            "a version is a number up to 18446744073709551615, a place or a hash one up to 4294967295, each in decimal digits without a leading zero",
+            "a version or the number of a letter is a number up to 18446744073709551615, a place or a hash one up to 4294967295, each in decimal digits without a leading zero",
         ),
     ];
     for (fault, words) in table {

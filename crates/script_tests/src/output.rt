@@ -5,8 +5,8 @@ use hash_ring::Point;
 use membership_view::Status;
 use ring_range::RingRange;
 use script_output::{
-    laws, write_fault, write_held, write_no_owner, write_outcome, write_owner, write_range,
-    write_refusal, write_silo, write_version,
+    laws, write_fault, write_held, write_letter, write_no_owner, write_outcome, write_owner,
+    write_place, write_range, write_refusal, write_silo, write_version,
 };
 use silo_address::{ActivationId, Entry, GrainId, SiloAddress};
 use std::alloc::Global;
@@ -54,7 +54,7 @@ fn prints(rt: &impl Abort, alloc: Global, outcome: &Outcome, line: &str) {
 fn lines_of_versions(rt: HostRuntime) {
     let (a, b) = (silo(&rt, A), silo(&rt, B));
     let other = silo(&rt, "255.0.10.9:65535@2147483647");
-    let table: [(&str, Happening, Option<Span>); 5] = [
+    let table: [(&str, Happening, Option<Span>); 7] = [
         (
             "view 1 joined 10.0.0.2:1000@1",
             Happening::Joined {
@@ -70,6 +70,22 @@ fn lines_of_versions(rt: HostRuntime) {
                 version: u64::MAX,
                 silo: other,
                 replaced: Some(a),
+            },
+            None,
+        ),
+        (
+            "view 3 leaving 10.0.0.2:1000@1",
+            Happening::Left {
+                version: 3,
+                silo: b,
+            },
+            None,
+        ),
+        (
+            "view 4 dead 10.0.0.2:1000@1",
+            Happening::Died {
+                version: 4,
+                silo: b,
             },
             None,
         ),
@@ -228,6 +244,13 @@ fn lines_of_letters(rt: HostRuntime) {
     }
 }
 
+#[test]
+fn line_of_a_lost_letter(rt: HostRuntime) {
+    let happening = Happening::Lost { number: 6 };
+    let sent = None;
+    prints(&rt, rt.alloc(), &Outcome { happening, sent }, "lost 6");
+}
+
 // The silo's activation of that count, in the phase.
 fn write_phase(rt: &impl Abort, out: &mut Vec<u8>, silo: &SiloAddress, count: u64, phase: Phase) {
     let held = Held {
@@ -298,7 +321,27 @@ fn lines_of_the_world(rt: HostRuntime) {
     assert!(rt; out.as_slice() == SHOWN.as_bytes());
 }
 
+const ANSWERED: &str = "1 query 10.0.0.1:1000@1 10.0.0.1:1000@1 1
+4 page 10.0.0.1:1000@1 10.0.0.2:1000@1 2
+place user/t#3000000000 10.0.0.2:1000@1
+place user/t#3000000000 none
+";
+
+// The lines of `mail` and `place`.
+#[test]
+fn lines_of_questions(rt: HostRuntime) {
+    let (a, b) = (silo(&rt, A), silo(&rt, B));
+    let grain = grain(&rt);
+    let mut out = Vec::new(rt.alloc());
+    write_letter(&mut out, 1, LetterKind::Query, &a, &a, 1).expect(&rt, "memory");
+    write_letter(&mut out, 4, LetterKind::Page, &a, &b, 2).expect(&rt, "memory");
+    write_place(&mut out, &grain, Some(b)).expect(&rt, "memory");
+    write_place(&mut out, &grain, None).expect(&rt, "memory");
+    assert!(rt; out.as_slice() == ANSWERED.as_bytes());
+}
+
 #[test]
 fn laws_are_calls() {
     laws::lines_are_of_the_world();
+    laws::lines_of_letters_and_places();
 }

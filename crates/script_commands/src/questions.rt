@@ -1,0 +1,38 @@
+//! Commands that ask, and change nothing.
+
+ghost use Rattle.std.specs.Prelude.{◌≡◌, option_map};
+ghost use Rattle.texts.specs.Words.{words_in};
+ghost use Rattle.script_rules.specs.Script as script;
+ghost use Rattle.script_commands.specs.CommandModel.{command_of};
+ghost use Rattle.script_commands.specs.Known.{question_commands};
+ghost use Rattle.script_commands.specs.Reading.{asked_of, told};
+
+use crate::grammar::{a_hash, no_word};
+use crate::{Command, ScriptFault};
+
+/// The question of that name, with the words behind it.
+pub(crate) fn question(name: &[u8], words: &[u8]) -> Option<Result<Command, ScriptFault>>
+    ensures { option_map (told command_of) result ≡ asked_of question_commands name.now (words_in words.now) }
+{
+    if name == b"owner".as_slice() {
+        return Some(owner(words));
+    }
+    if name == b"show".as_slice() {
+        return Some(show(words));
+    }
+    None
+}
+
+fn owner(words: &[u8]) -> Result<Command, ScriptFault>
+    ensures { told command_of result ≡ script.a_hash script.Owner (words_in words.now) }
+{
+    let hash = a_hash(words)?;
+    Ok(Command::Owner { hash })
+}
+
+fn show(words: &[u8]) -> Result<Command, ScriptFault>
+    ensures { told command_of result ≡ script.no_word script.Show (words_in words.now) }
+{
+    no_word(words)?;
+    Ok(Command::Show)
+}
