@@ -5,6 +5,8 @@
 #[cfg(test)]
 mod handing;
 #[cfg(test)]
+mod mails;
+#[cfg(test)]
 mod nodes;
 #[cfg(test)]
 mod worlds;

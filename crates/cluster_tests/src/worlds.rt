@@ -2,6 +2,7 @@ use cluster_events::{Event, Happening, Outcome, Span};
 use directory_core::{EventRefusal, World};
 use directory_rules::{Effect, LetterKind, Settings};
 use hash_ring::Hashing;
+use membership_view::ViewsError;
 use silo_address::{ActivationId, Entry, GrainId, SiloAddress};
 use std::alloc::Global;
 use std::process::Abort;
@@ -24,7 +25,7 @@ fn first(rt: &impl Abort, alloc: Global, letters: u64) -> World {
     let settings = Settings::of_directory(Hashing::Stated, 30, 0).expect(rt, "30 points");
     let settings = settings.with_silos(1).expect(rt, "one silo");
     let settings = settings.with_letters(letters).expect(rt, "so many letters");
-    World::new(alloc, settings).expect(rt, "one silo and no cache")
+    World::new(alloc, settings)
 }
 
 // A join with that place so often.
@@ -229,4 +230,102 @@ fn no_room_for_a_second_letter(rt: HostRuntime) {
     is_refused(&rt, &mut world, &deliver, EventRefusal::MailFull, 909);
     assert!(rt; world.least_deliverable() == Some(1));
     assert!(rt; world.accepted() == 2);
+}
+
+// A second silo, and a grain of the range that it takes over.
+const B: &str = "10.0.0.2:1000@1";
+
+const BOB: &str = "user/bob#3000000000";
+
+fn second(rt: &impl Abort) -> SiloAddress {
+    SiloAddress::parse(B.as_bytes()).expect(rt, B)
+}
+
+fn moved(rt: &impl Abort) -> GrainId {
+    GrainId::parse(BOB.as_bytes()).expect(rt, BOB)
+}
+
+// The events are accepted, one after the other.
+fn all_happen(rt: &impl Abort, world: &mut World, events: &[Event]) {
+    for event in events {
+        assert!(rt; world.apply(event).is_ok());
+    }
+}
+
+// The letters of these numbers come.
+fn all_come(rt: &impl Abort, world: &mut World, first: u64, last: u64) {
+    for number in first..=last {
+        assert!(rt; world.apply(&Event::Deliver { number }).is_ok());
+    }
+}
+
+// The first silo has settled the whole circle, and hands half of it to the second one, which asks for it.
+fn two_silos(rt: &impl Abort, alloc: Global) -> World {
+    let settings = Settings::of_directory(Hashing::Stated, 30, 16).expect(rt, "30 points");
+    let mut world = World::new(alloc, settings);
+    all_happen(rt, &mut world, &[join_with(rt, alloc, 1), see(rt, 1)]);
+    all_come(rt, &mut world, 1, 2);
+    let places = vec![in alloc; 2_147_483_655; 1].expect(rt, "memory");
+    let silo = second(rt);
+    let joins = Event::Join { silo, places };
+    let sees = Event::See { silo, version: 2 };
+    all_happen(rt, &mut world, &[joins, see(rt, 2), sees]);
+    world
+}
+
+// A range is handed over; then the second silo leaves, and dies.
+#[test]
+fn a_silo_comes_and_goes(rt: HostRuntime) {
+    let mut world = two_silos(&rt, rt.alloc());
+    all_come(&rt, &mut world, 3, 5);
+    let silo = second(&rt);
+    all_happen(&rt, &mut world, &[Event::Leave { silo }]);
+    let leaves = Event::Leave { silo };
+    let refusal = EventRefusal::Views(ViewsError::NotActive);
+    is_refused(&rt, &mut world, &leaves, refusal, 203);
+    all_happen(&rt, &mut world, &[Event::Kill { silo }]);
+    assert!(rt; world.node(&silo).is_none() && world.current() == 4);
+    let kill = Event::Kill { silo };
+    is_refused(&rt, &mut world, &kill, EventRefusal::DeadSilo, 902);
+    is_refused(&rt, &mut world, &leaves, EventRefusal::DeadSilo, 902);
+    let ring = world.current_ring(rt.alloc()).expect(&rt, "memory");
+    assert!(rt; ring.points().len() == 1);
+}
+
+// An ask is lost, and a nudge sends it again. What is lost can't come.
+#[test]
+fn a_lost_letter(rt: HostRuntime) {
+    let mut world = two_silos(&rt, rt.alloc());
+    assert!(rt; world.least_deliverable() == Some(3));
+    all_happen(&rt, &mut world, &[Event::Lose { number: 3 }]);
+    assert!(rt; world.least_deliverable().is_none() && world.letter(3).is_none());
+    let deliver = Event::Deliver { number: 3 };
+    is_refused(&rt, &mut world, &deliver, EventRefusal::NoSuchLetter, 905);
+    let silo = second(&rt);
+    all_happen(&rt, &mut world, &[Event::Nudge { silo }]);
+    all_come(&rt, &mut world, 4, 6);
+    assert!(rt; world.sent() == 6);
+}
+
+// An activation on the first silo is offered to the second one, closes, and is forgotten where it was cached.
+#[test]
+fn an_activation_moves(rt: HostRuntime) {
+    let mut world = two_silos(&rt, rt.alloc());
+    all_come(&rt, &mut world, 3, 5);
+    let (from, to) = (silo(&rt), second(&rt));
+    let grain = moved(&rt);
+    all_happen(&rt, &mut world, &[Event::Wake { silo: from, grain }]);
+    all_come(&rt, &mut world, 6, 7);
+    let offer = Event::Offer {
+        silo: from,
+        grain,
+        to,
+    };
+    all_happen(&rt, &mut world, &[offer]);
+    all_come(&rt, &mut world, 8, 10);
+    let held = world.node(&to).expect(&rt, "a node").host();
+    assert!(rt; held.held(&grain).is_some());
+    let closes = Event::Close { silo: to, grain };
+    let forgets = Event::Forget { silo: from, grain };
+    all_happen(&rt, &mut world, &[closes, forgets]);
 }

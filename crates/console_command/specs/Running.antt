@@ -8,7 +8,7 @@ use Rattle.directory_rules.specs.Settings.{directory_settings}
 use Rattle.directory_rules.specs.World.{first_world}
 use Rattle.script_loop.specs.Endings.{Ends}
 use Rattle.script_loop.specs.declared.ended.Ended.{Ended}
-use Rattle.console_play.specs.Playing.{lines_played}
+use Rattle.console_play.specs.Playing.{lines_played, usual_cache}
 use Rattle.command_line.specs.Line.{AskFor, HaveFault}
 use Rattle.command_line.specs.declared.line.Line.{Line}
 use Rattle.command_line.specs.declared.line.Line.TheVariants.{Play}
@@ -20,10 +20,10 @@ pub record Streams : Type 0 where
   pub rest : Option (List ℕ)
   pub output : Option (List ℕ)
 
--- the source's script is played to one silo, with the hashing and the points of the line
+-- the source's script is played to a new cluster, with the hashing and the points of the line
 abbrev pub Plays : Line → (old new : Streams) → Ended → Type 0
 Plays (Play hashing points) old new ended = IfSome old.rest (λ script.
-    Ends script (lines_played (first_world (record (directory_settings hashing points 0) { silos = 1 })) 1)
+    Ends script (lines_played (first_world (directory_settings hashing points usual_cache)) 1)
     new.rest old.output new.output ended)
 
 -- nothing is read, and something is written to the output

@@ -13,7 +13,7 @@ ghost use Rattle.console_command.specs.Telling.{IsTold, Tells, Writes, told_with
 use crate::Exit;
 use crate::telling::{tell, tell_end, tell_no_memory};
 use command_line::{Line, LineError, read_line};
-use console_play::play_to_one_silo;
+use console_play::play_to_new_cluster;
 use script_loop::{Ended, Sink, Source, send};
 use std::alloc::Global;
 use std::convert::AsStr;
@@ -52,7 +52,7 @@ fn play<R: Source, W: Sink>(alloc: Global, line: Line, source: &mut R, output: &
     ensures cause { play.IsBrokenBy (ReadFailed R.reads source.new) (WriteFailed W.writes output.new) result }
 {
     let Line::Play { hashing, points } = line;
-    match play_to_one_silo(alloc, hashing, points, source, output) {
+    match play_to_new_cluster(alloc, hashing, points, source, output) {
         Some(ended) => ended,
         None => unreachable!(),
     }

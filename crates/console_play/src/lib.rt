@@ -6,4 +6,4 @@ mod performing;
 mod playing;
 mod showing;
 
-pub use playing::{play, play_to_one_silo};
+pub use playing::{play, play_to_new_cluster};

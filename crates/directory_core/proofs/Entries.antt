@@ -1,5 +1,5 @@
 -- Entries in the order of their keys: one that is put in at a key that is there, and one that is put in and taken out again.
-use Rattle.std.proofs.Common.{◌≡◌, List, [], ◌∷◌, cond, Option, Some, None, IsSome, refl, sym, ◌∙◌, ap, subst}
+use Rattle.std.proofs.Common.{◌≡◌, List, [], ◌∷◌, cond, Bool, true, false, Option, Some, None, IsSome, refl, sym, ◌∙◌, ap, subst}
 use Rattle.std.specs.Cmp.{IsTotalOrder}
 use Rattle.std.specs.List.{AllByRecursion}
 use Rattle.std.specs.List.Sorted.{IsStrictlySortedBy}
@@ -58,3 +58,38 @@ taken_back {K} {X} R o k v (e ∷ es) none = by (R k e.0) refl (λ later. taken_
     by Equal h later none = cc
     by Greater h later none =
         ap (λ q. cond (is_eq q) (insert_entry R es k v) (e ∷ remove_entry (is_at (R k)) (insert_entry R es k v))) h ∙ ap (λ (l : List (K × X)). e ∷ l) (later none)
+
+-- an entry put in before all others
+put_first : {K X : Type 0} (R : K → K → Ordering) (o : IsTotalOrder R) (k first : K) (v : X) (es : List (K × X)) → R k first ≡ Less → AllByRecursion (λ y. R first y ≡ Less) (keys_of es)
+    → insert_entry R es k v ≡ (k, v) ∷ es
+put_first R o k first v [] less above = refl
+put_first R o k first v (e ∷ es) less above = ap (λ r. match_ordering r ((k, v) ∷ e ∷ es) ((e.0, v) ∷ es) (e ∷ insert_entry R es k v)) (o.trans k first e.0 less above.0)
+
+-- whether another is taken out before an entry is put in, or after, is the same
+pub taken_before : {K X : Type 0} (R : K → K → Ordering) (o : IsTotalOrder R) (exact : (a b : K) → R a b ≡ Equal → a ≡ b) (k old : K) (v : X) (es : List (K × X)) → IsStrictlySortedBy R (keys_of es)
+    → is_at (R old) k ≡ false → remove_entry (is_at (R old)) (insert_entry R es k v) ≡ insert_entry R (remove_entry (is_at (R old)) es) k v
+taken_before R o exact k old v [] sorted other = ap (λ b. cond b [] ((k, v) ∷ [])) other
+taken_before {K} {X} R o exact k old v (e ∷ es) sorted other = by (R k e.0) refl (taken_before R o exact k old v es (sorted_tail R e.0 (keys_of es) sorted) other)
+  where
+    out : List (K × X)
+    out = remove_entry (is_at (R old)) es
+
+    first : (b : Bool) → R k e.0 ≡ Less → (k, v) ∷ cond b es (e ∷ out) ≡ insert_entry R (cond b es (e ∷ out)) k v
+    first true less = sym (put_first R o k e.0 v es less (sorted_head R e.0 (keys_of es) sorted))
+    first false less = sym (ap (λ r. match_ordering r ((k, v) ∷ e ∷ out) ((e.0, v) ∷ out) (e ∷ insert_entry R out k v)) less)
+
+    behind : (b : Bool) → R k e.0 ≡ Greater → remove_entry (is_at (R old)) (insert_entry R es k v) ≡ insert_entry R out k v
+        → cond b (insert_entry R es k v) (e ∷ remove_entry (is_at (R old)) (insert_entry R es k v)) ≡ insert_entry R (cond b es (e ∷ out)) k v
+    behind true greater later = refl
+    behind false greater later =
+        ap (λ (l : List (K × X)). e ∷ l) later ∙ sym (ap (λ r. match_ordering r ((k, v) ∷ e ∷ out) ((e.0, v) ∷ out) (e ∷ insert_entry R out k v)) greater)
+
+    by : (r : Ordering) → R k e.0 ≡ r → remove_entry (is_at (R old)) (insert_entry R es k v) ≡ insert_entry R out k v
+        → remove_entry (is_at (R old)) (match_ordering r ((k, v) ∷ e ∷ es) ((e.0, v) ∷ es) (e ∷ insert_entry R es k v)) ≡ insert_entry R (cond (is_at (R old) e.0) es (e ∷ out)) k v
+    by Less h later = ap (λ b. cond b (e ∷ es) ((k, v) ∷ cond (is_at (R old) e.0) es (e ∷ out))) other ∙ first (is_at (R old) e.0) h
+    by Equal h later =
+        let apart : is_at (R old) e.0 ≡ false = subst (λ q. is_at (R old) q ≡ false) (exact k e.0 h) other in
+        ap (λ b. cond b es ((e.0, v) ∷ out)) apart
+        ∙ sym (ap (λ r. match_ordering r ((k, v) ∷ e ∷ out) ((e.0, v) ∷ out) (e ∷ insert_entry R out k v)) h)
+        ∙ sym (ap (λ b. insert_entry R (cond b es (e ∷ out)) k v) apart)
+    by Greater h later = behind (is_at (R old) e.0) h later

@@ -5,20 +5,21 @@ use Rattle.std.proofs.lemmas.Bool.Decides.{nat_tests}
 use Rattle.std.specs.Option.{option_or}
 use Rattle.std.proofs.lemmas.Bool.{le-ltb, lt-ltb}
 use Rattle.silo_address.specs.Silo.{Silo}
-use Rattle.directory_rules.specs.Event.{Event, Happening, Delivered, Span}
+use Rattle.directory_rules.specs.Event.{Event, Happening, Delivered, Did, Saw, Span}
 use Rattle.directory_rules.specs.Letter.{Letter, kind_of}
 use Rattle.directory_rules.specs.Node.{Node}
 use Rattle.directory_rules.specs.Step.{Stepped}
 use Rattle.directory_rules.specs.World.{World, Accepted}
 use Rattle.directory_rules.specs.Mail.{has_room_for, letter_of, span_of, with_delivered}
 use Rattle.directory_rules.specs.Input.{Input, Receives, step}
-use Rattle.directory_rules.specs.Happens.{attempted, deliver, delivers, delivers_to, does, does_at, done_by, happens, node_of, taken}
+use Rattle.directory_rules.specs.Happens.{attempted, deliver, delivers, delivers_to, does, does_at, done_by, happens, is_seeable, node_of, seen_by, sees, sees_at, sight_of, taken}
 use Rattle.directory_rules.specs.Receive.{received}
 use Rattle.directory_rules.specs.declared.Effect.{Effect}
 use Rattle.directory_node.specs.Follows.{RefusesBy}
 use Rattle.directory_node.specs.declared.plan.Plan.{Plan}
 use Rattle.directory_node.specs.Planning.{Excuses, Sends, answer_count, changed, step_by}
 use Rattle.directory_core.specs.Stepping.{IsOwn, after_step, letters_number}
+use Rattle.directory_core.specs.Whole.{IsWorld, LeavesWorld}
 
 pub full : (world : World) (event : Event) → world.settings.events ≤ world.accepted → happens world event ≡ Err 908
 unfolding happens
@@ -27,6 +28,31 @@ full world event most = ap (λ b. cond b (attempted world event) (Err 908)) (le-
 pub has_room : (world : World) (event : Event) → world.accepted < world.settings.events → happens world event ≡ attempted world event
 unfolding happens
 has_room world event room = ap (λ b. cond b (attempted world event) (Err 908)) (lt-ltb world.accepted world.settings.events room)
+
+-- ---- a step that is taken
+pub taken_told : (world : World) (silo : Silo) (happening : Happening) (stepped : Stepped) → has_room_for world stepped.letters ≡ true
+    → taken world silo happening stepped ≡ Ok (record { outcome = record { happening = happening; sent = span_of world stepped.letters }; world = after_step world silo stepped.node stepped.letters })
+taken_told world silo happening stepped room =
+    ap (λ b. cond (not b) (Err 909) (Ok (record { outcome = record { happening = happening; sent = span_of world stepped.letters }; world = after_step world silo stepped.node stepped.letters }))) room
+
+-- ---- a silo's step is taken, as its node takes it
+pub does_so : (world : World) (silo : Silo) (input : Input) (node : Node) (stepped : Stepped) → node_of world silo ≡ Some node → step node input ≡ Ok stepped
+    → does world silo input ≡ taken world silo (Did silo stepped.effect) stepped
+does_so world silo input node stepped there is = ap (λ n. does_at n world silo input) there ∙ ap (λ o. done_by o world silo) is
+
+pub sees_so : (world : World) (silo : Silo) (version : ℕ) (node : Node) (stepped : Stepped) → node_of world silo ≡ Some node → node.view.version < version → is_seeable world silo version ≡ true
+    → step node (sight_of world version) ≡ Ok stepped → sees world silo version ≡ taken world silo (Saw silo version stepped.effect) stepped
+sees_so world silo version node stepped there newer seeable is =
+    let sight = seen_by (step node (sight_of world version)) world silo version in
+    ap (λ n. sees_at n world silo version) there
+    ∙ ap (λ b. cond (not b) (Err 903) (cond (not (is_seeable world silo version)) (Err 904) sight)) (lt-ltb node.view.version version newer)
+    ∙ ap (λ b. cond (not b) (Err 904) sight) seeable
+    ∙ ap (λ o. seen_by o world silo version) is
+
+-- what is taken leaves the world that it makes
+pub leaves_taken : (world : World) (silo : Silo) (happening : Happening) (stepped : Stepped) → has_room_for world stepped.letters ≡ true → LeavesWorld (taken world silo happening stepped)
+    → IsWorld (after_step world silo stepped.node stepped.letters)
+leaves_taken world silo happening stepped room leaves = subst LeavesWorld (taken_told world silo happening stepped room) leaves
 
 -- ---- an event that sends a known number of letters, where memory runs out
 sending_decided : (world : World) (letters : List Letter) (accepted : Accepted) (count : ℕ) → length letters ≡ count
@@ -65,12 +91,7 @@ delivery_refused world number letter node count is there sends =
     (subst (λ n. RefusesBy IsOk (letters_number world count) (delivers_to n world number letter)) (sym there)
     (sending_decided (with_delivered world number letter) (received node letter).letters _ count sends))
 
--- ---- a step that is taken
-taken_told : (world : World) (silo : Silo) (happening : Happening) (stepped : Stepped) → has_room_for world stepped.letters ≡ true
-    → taken world silo happening stepped ≡ Ok (record { outcome = record { happening = happening; sent = span_of world stepped.letters }; world = after_step world silo stepped.node stepped.letters })
-taken_told world silo happening stepped room =
-    ap (λ b. cond (not b) (Err 909) (Ok (record { outcome = record { happening = happening; sent = span_of world stepped.letters }; world = after_step world silo stepped.node stepped.letters }))) room
-
+-- ---- a delivery
 room_delivered : (world : World) (number : ℕ) (letter : Letter) (letters : List Letter) → has_room_for (with_delivered world number letter) letters ≡ has_room_for world letters
 room_delivered world number letter [] = refl
 room_delivered world number letter (l ∷ letters) = refl
@@ -107,3 +128,10 @@ delivered_told world number letter node after letters effect sent is there plann
     ∙ ap (λ (s : Stepped). taken (with_delivered world number letter) letter.to (Delivered number (kind_of letter.body) s.effect) s) planned
     ∙ taken_told (with_delivered world number letter) letter.to (Delivered number (kind_of letter.body) effect) stepped (room_delivered world number letter letters ∙ room)
     ∙ ap (λ (o : Option Span). told world number letter after letters effect o) (span_delivered world number letter letters ∙ sym sent_is)
+
+-- what a delivery leaves
+pub leaves_delivered : (world : World) (number : ℕ) (letter : Letter) (node after : Node) (letters : List Letter) (effect : Effect)
+    → letter_of world number ≡ Some letter → node_of world letter.to ≡ Some node → received node letter ≡ record { node = after; letters = letters; effect = effect }
+    → has_room_for world letters ≡ true → LeavesWorld (deliver world number) → IsWorld (after_step (with_delivered world number letter) letter.to after letters)
+leaves_delivered world number letter node after letters effect is there planned room leaves =
+    subst LeavesWorld (delivered_told world number letter node after letters effect (span_of world letters) is there planned room refl) leaves

@@ -1,82 +1,119 @@
--- What every world of the code keeps: after a step of a silo, and after a silo has joined.
-use Rattle.std.proofs.Common.{◌≡◌, ℕ, ◌+◌, ◌<◌, ◌≤◌, List, [], ◌∷◌, length, cond, not, Bool, true, false, Option, Some, None, Result, Ok, Err, IsSome, is_some, refl, sym, ◌∙◌, ap, subst, arith}
-use Rattle.std.specs.Prelude.{nat_le}
+-- The world that the code leaves, field by field, is the one that the rule leaves.
+use Rattle.std.proofs.Common.{◌≡◌, ℕ, ◌+◌, ◌<◌, List, length, Bool, true, false, cond, not, Option, Some, None, Result, Ok, Err, IsSome, is_some, refl, sym, ◌∙◌, ap, subst, arith}
 use Rattle.std.specs.Map.{lookup, remove_entry}
 use Rattle.std.specs.BTreeMap.{is_at, insert_entry}
-use Rattle.std.proofs.lemmas.Bool.{leb-true}
-use Rattle.silo_address.specs.Silo.{Silo, silo_cmp}
-use Rattle.silo_address.proofs.Order.{silo_cmp_total}
-use Rattle.membership_view.specs.declared.Row.{Row}
-use Rattle.membership_view.specs.Views.{ViewsValue, rows_in, row_of}
-use Rattle.membership_view.specs.Changes.{after_join, joined_rows, occupant, with_join}
-use Rattle.membership_view.proofs.Entries.{lookup-insert_entry}
+use Rattle.silo_address.specs.Silo.{Silo, IsSameEndpoint, silo_cmp}
+use Rattle.silo_address.proofs.Order.{silo_cmp_total, silo_cmp_exact, apart_in_order}
+use Rattle.membership_view.specs.Views.{ViewsValue, status_at, view_at}
+use Rattle.membership_view.specs.Changes.{Join, after_join, occupant, with_death, with_join}
+use Rattle.membership_view.specs.Step.{Joins}
+use Rattle.membership_view.specs.declared.Status.{Status}
+use Rattle.membership_view.proofs.Looking.{occupant_law}
+use Rattle.membership_view.proofs.Stepping.{changes_are_steps}
 use Rattle.hash_ring.specs.Places.{PlacesValue, after_add, has_points, is_added, is_point_count, places_for, with_silo}
 use Rattle.directory_rules.specs.Laws.{ArePeopled, is_live}
 use Rattle.directory_rules.specs.Letter.{Letter}
 use Rattle.directory_rules.specs.Node.{Node, new_node}
-use Rattle.directory_rules.specs.World.{World}
-use Rattle.directory_rules.specs.Mail.{has_room_for}
-use Rattle.directory_rules.specs.Happens.{after_joining, counted, node_of}
-use Rattle.directory_rules.proofs.People.{peopled_join, peopled_put, without}
+use Rattle.directory_rules.specs.Event.{Died}
+use Rattle.directory_rules.specs.World.{World, Accepted}
+use Rattle.directory_rules.specs.Mail.{with_delivered, with_lost}
+use Rattle.directory_rules.specs.Happens.{after_joining, counted, died}
+use Rattle.letter_mail.specs.Mail.{MailValue, with_posted, with_stale}
+use Rattle.letter_mail.specs.Mail.{with_lost as lost_mail}
+use Rattle.directory_core.specs.Joining.{nodes_without, with_admitted}
+use Rattle.directory_core.specs.Stepping.{after_step}
 use Rattle.directory_core.specs.Whole.{IsWorld}
-use Rattle.letter_mail.specs.Mail.{MailValue}
-use Rattle.directory_core.specs.Joining.{with_admitted}
-use Rattle.directory_core.proofs.Entries.{taken_back}
-
--- ---- a step
-pub room_bound : (world : World) (letters : List Letter) → has_room_for world letters ≡ true → world.sent ≤ world.settings.letters → world.sent + length letters ≤ world.settings.letters
-room_bound world [] room limited = omega arith
-room_bound world (letter ∷ letters) room limited = leb-true (world.sent + length (letter ∷ letters)) world.settings.letters room
-
--- an equal world with that node, those letters sent and one event more
-pub kept_changed : (world now : World) → world ≡ now → (silo : Silo) (old node : Node) (nodes : List (Silo × Node)) (mail : MailValue) (letters : List Letter)
-    → IsWorld world → node_of now silo ≡ Some old → now.accepted < now.settings.events → has_room_for now letters ≡ true
-    → nodes ≡ insert_entry silo_cmp world.nodes silo node → mail.sent ≡ world.sent + length letters
-    → IsWorld (record world { accepted = world.accepted + 1; nodes = nodes; mail = mail.letters; sent = mail.sent })
-kept_changed world now same silo old node nodes mail letters is there room fits nodes_are sent_is =
-    let there_first : node_of world silo ≡ Some old = subst (λ (w : World). node_of w silo ≡ Some old) (sym same) there in
-    let room_first : world.accepted < world.settings.events = subst (λ (w : World). w.accepted < w.settings.events) (sym same) room in
-    let fits_first : has_room_for world letters ≡ true = subst (λ (w : World). has_room_for w letters ≡ true) (sym same) fits in
-    let bound = room_bound world letters fits_first is.mail in
-    record {
-      one_silo = is.one_silo;
-      uncached = is.uncached;
-      limit = is.limit;
-      versions = is.versions;
-      peopled = subst (λ (n : List (Silo × Node)). ArePeopled world.views n) (sym nodes_are) (peopled_put world.views world.nodes silo old node is.peopled there_first);
-      placed = is.placed;
-      journal = omega arith;
-      mail = omega arith;
-    }
+use Rattle.directory_core.proofs.Entries.{taken_back, taken_before}
 
 -- what is there
 pub found_of : {X : Type 0} (found : Option X) → IsSome found → (x : X) × (found ≡ Some x)
 found_of None there = absurd (cc (there))
 found_of (Some x) there = (x, refl)
 
--- ---- a join: nobody was there
-pub nobody : (world : World) → IsWorld world → length world.views.rows < world.views.limit → world.views.rows ≡ []
-nobody world is first = by world.views.rows (let one = is.one_silo in let limit = is.limit in omega arith)
-  where
-    by : (rows : List (Silo × Row)) → length rows < 1 → rows ≡ []
-    by [] few = refl
-    by (e ∷ rows) few = absurd (omega arith)
+-- ---- a step: an equal world with that node, those letters sent and one event more
+pub kept_step : (world now : World) → world ≡ now → (silo : Silo) (node : Node) (nodes : List (Silo × Node)) (mail : MailValue) (letters : List Letter)
+    → IsWorld (after_step now silo node letters) → nodes ≡ insert_entry silo_cmp world.nodes silo node → mail ≡ with_posted (record { letters = world.mail; sent = world.sent }) letters
+    → IsWorld (record world { accepted = world.accepted + 1; nodes = nodes; mail = mail.letters; sent = mail.sent })
+kept_step world now same silo node nodes mail letters is nodes_are mail_is =
+    let is_first : IsWorld (after_step world silo node letters) = subst (λ (w : World). IsWorld (after_step w silo node letters)) (sym same) is in
+    subst (λ (n : List (Silo × Node)). IsWorld (record world { accepted = world.accepted + 1; nodes = n; mail = mail.letters; sent = mail.sent })) (sym nodes_are)
+    (subst (λ (m : MailValue). IsWorld (record world { accepted = world.accepted + 1; nodes = insert_entry silo_cmp world.nodes silo node; mail = m.letters; sent = m.sent })) (sym mail_is) is_first)
 
+-- so it is where a letter was received
+pub kept_receipt : (world now : World) → world ≡ now → (silo : Silo) (node : Node) (nodes : List (Silo × Node)) (mail : MailValue) (letters : List Letter) (number : ℕ) (letter : Letter)
+    → IsWorld (after_step (with_delivered now number letter) silo node letters) → nodes ≡ insert_entry silo_cmp world.nodes silo node
+    → mail ≡ with_posted (with_stale (record { letters = world.mail; sent = world.sent }) number letter) letters
+    → IsWorld (record world { accepted = world.accepted + 1; nodes = nodes; mail = mail.letters; sent = mail.sent })
+kept_receipt world now same silo node nodes mail letters number letter is nodes_are mail_is =
+    let is_first : IsWorld (after_step (with_delivered world number letter) silo node letters) =
+    subst (λ (w : World). IsWorld (after_step (with_delivered w number letter) silo node letters)) (sym same) is in
+    subst (λ (n : List (Silo × Node)). IsWorld (record world { accepted = world.accepted + 1; nodes = n; mail = mail.letters; sent = mail.sent })) (sym nodes_are)
+    (subst (λ (m : MailValue). IsWorld (record world { accepted = world.accepted + 1; nodes = insert_entry silo_cmp world.nodes silo node; mail = m.letters; sent = m.sent })) (sym mail_is) is_first)
+
+-- and where a letter was lost
+pub kept_loss : (world now : World) → world ≡ now → (number : ℕ) (mail : MailValue) → IsWorld (counted (with_lost now number)) → mail ≡ lost_mail (record { letters = world.mail; sent = world.sent }) number
+    → IsWorld (record world { accepted = world.accepted + 1; mail = mail.letters; sent = mail.sent })
+kept_loss world now same number mail is mail_is =
+    subst (λ (m : MailValue). IsWorld (record world { accepted = world.accepted + 1; mail = m.letters; sent = m.sent })) (sym mail_is)
+    (subst (λ (w : World). IsWorld (counted (with_lost w number))) (sym same) is)
+
+-- ---- a death
+pub kept_death : (world now : World) → world ≡ now → (silo : Silo) (views : ViewsValue) (nodes : List (Silo × Node)) → IsWorld (died now silo).world → views ≡ with_death world.views silo
+    → nodes ≡ remove_entry (is_at (silo_cmp silo)) world.nodes → IsWorld (record world { accepted = world.accepted + 1; views = views; nodes = nodes })
+kept_death world now same silo views nodes is views_are nodes_are =
+    subst (λ (v : ViewsValue). IsWorld (record world { accepted = world.accepted + 1; views = v; nodes = nodes })) (sym views_are)
+    (subst (λ (n : List (Silo × Node)). IsWorld (record world { accepted = world.accepted + 1; views = with_death world.views silo; nodes = n })) (sym nodes_are)
+    (subst (λ (w : World). IsWorld (died w silo).world) (sym same) is))
+
+pub death_told : (world now : World) → world ≡ now → (silo : Silo) (version : ℕ) (views : ViewsValue) (nodes : List (Silo × Node)) → version ≡ world.views.version + 1
+    → views ≡ with_death world.views silo → nodes ≡ remove_entry (is_at (silo_cmp silo)) world.nodes
+    → record { outcome = record { happening = Died version silo; sent = None }; world = record world { accepted = world.accepted + 1; views = views; nodes = nodes } } ≡ died now silo
+death_told world now same silo version views nodes version_is views_are nodes_are =
+    ap (λ (v : ℕ). accepted_by v views nodes) version_is
+    ∙ ap (λ (v : ViewsValue). accepted_by (world.views.version + 1) v nodes) views_are
+    ∙ ap (λ (n : List (Silo × Node)). accepted_by (world.views.version + 1) (with_death world.views silo) n) nodes_are
+    ∙ ap (λ (w : World). died w silo) same
+  where
+    accepted_by : ℕ → ViewsValue → List (Silo × Node) → Accepted
+    accepted_by v vs ns = record { outcome = record { happening = Died v silo; sent = None }; world = record world { accepted = world.accepted + 1; views = vs; nodes = ns } }
+
+-- ---- a join
 none_of : {X : Type 0} (found : Option X) → is_some found ≡ false → found ≡ None
 none_of None none = refl
 none_of (Some x) none = cc
 
-no_status : (b : Bool) (silo : Silo) (version : ℕ) → is_live (lookup (is_at (silo_cmp silo)) (cond b (rows_in version []) [])) ≡ false
-no_status true silo version = refl
-no_status false silo version = refl
+-- who may join has no status, so no node
+no_status : (silo : Silo) (status : Option Status) → (IsSome status → silo.generation < silo.generation) → is_live status ≡ false
+no_status silo None newest = refl
+no_status silo (Some status) newest = absurd (omega (arith, newest refl))
 
--- so nobody has a node
-pub no_node : (world : World) (silo : Silo) → IsWorld world → length world.views.rows < world.views.limit → node_of world silo ≡ None
-no_node world silo is first =
-    none_of (node_of world silo)
-    (is.peopled.live silo
-    ∙ ap (λ rows. is_live (lookup (is_at (silo_cmp silo)) (cond (nat_le world.views.version world.views.version) (rows_in world.views.version rows) []))) (nobody world is first)
-    ∙ no_status (nat_le world.views.version world.views.version) silo world.views.version)
+same_endpoint : (silo : Silo) → IsSameEndpoint silo silo
+same_endpoint silo = search
+
+joins : (views : ViewsValue) (nodes : List (Silo × Node)) (silo : Silo) → ArePeopled views nodes → after_join views silo ≡ Ok (with_join views silo)
+    → Joins silo (view_at views views.version) (view_at (with_join views silo) (with_join views silo).version)
+joins views nodes silo are may = changes_are_steps views (Join silo) (with_join views silo) (record { whole = are.whole; is = may })
+
+pub no_node : (views : ViewsValue) (nodes : List (Silo × Node)) (silo : Silo) → ArePeopled views nodes → after_join views silo ≡ Ok (with_join views silo) → lookup (is_at (silo_cmp silo)) nodes ≡ None
+no_node views nodes silo are may =
+    none_of (lookup (is_at (silo_cmp silo)) nodes) (are.live silo ∙ no_status silo (status_at views views.version silo) ((joins views nodes silo are may).newest silo (same_endpoint silo)))
+
+-- whom it replaces is another silo, so its node may go before or after
+pub nodes_put : (views : ViewsValue) (nodes : List (Silo × Node)) (silo : Silo) (node : Node) → ArePeopled views nodes → after_join views silo ≡ Ok (with_join views silo)
+    → nodes_without (occupant silo views.rows) (insert_entry silo_cmp nodes silo node) ≡ insert_entry silo_cmp (nodes_without (occupant silo views.rows) nodes) silo node
+nodes_put views nodes silo node are may = by (occupant silo views.rows) refl
+  where
+    not_itself : occupant silo views.rows ≡ Some silo → ⊥
+    not_itself is =
+        let law = (occupant_law views are.whole silo silo).0 is in
+        let newer : silo.generation < silo.generation = (joins views nodes silo are may).newest silo law.0 law.1.0 in
+        omega (arith, newer)
+
+    by : (old : Option Silo) → occupant silo views.rows ≡ old → nodes_without old (insert_entry silo_cmp nodes silo node) ≡ insert_entry silo_cmp (nodes_without old nodes) silo node
+    by None is = refl
+    by (Some old) is =
+        taken_before silo_cmp silo_cmp_total silo_cmp_exact silo old node nodes are.by_address
+        (apart_in_order silo_cmp silo_cmp_exact old silo (λ same. not_itself (is ∙ ap Some same)))
 
 -- places that were accepted are those with the silo
 abbrev refused_or : (a b c : Bool) (k l m : ℕ) (made : PlacesValue) → Result PlacesValue ℕ
@@ -93,78 +130,24 @@ pub places_are : (places next : PlacesValue) (silo : Silo) (given : List ℕ) �
 places_are places next silo given is =
     accepted_is (is_point_count places.hashing (length given)) (has_points places.hashing (length given)) (is_added places silo) 402 403 404 (with_silo places silo given) next is
 
--- the only silo has its places
-only_placed : (b : Bool) (row : Row) (list : List ℕ) (others : Option (List ℕ)) → IsSome (cond b (Some row) None) → is_some (cond b (Some list) others) ≡ true
-only_placed true row list others there = refl
-only_placed false row list others there = absurd (cc (there))
-
-kept_joining : (old : Option Silo) (world : World) (silo : Silo) (views : ViewsValue) (places : PlacesValue) → IsWorld world → world.accepted < world.settings.events
-    → views.limit ≡ world.views.limit → views.version ≡ length views.rows → ArePeopled views (insert_entry silo_cmp (without old world.nodes) silo (new_node world.settings silo))
-    → ((q : Silo) → IsSome (row_of views q) → is_added places q ≡ true) → IsWorld (counted (after_joining world silo old views places))
-kept_joining None world silo views places is room limit versions peopled placed = record {
-  one_silo = is.one_silo;
-  uncached = is.uncached;
-  limit = limit ∙ is.limit;
-  versions = versions;
-  peopled = peopled;
-  placed = placed;
-  journal = omega arith;
-  mail = is.mail;
-}
-kept_joining (Some old) world silo views places is room limit versions peopled placed = record {
-  one_silo = is.one_silo;
-  uncached = is.uncached;
-  limit = limit ∙ is.limit;
-  versions = versions;
-  peopled = peopled;
-  placed = placed;
-  journal = omega arith;
-  mail = is.mail;
-}
-
-pub kept_join : (world : World) (silo : Silo) (given : List ℕ) (places : PlacesValue) → IsWorld world → after_join world.views silo ≡ Ok (with_join world.views silo)
-    → length world.views.rows < world.views.limit → after_add world.places silo given ≡ Ok places → world.accepted < world.settings.events → IsWorld (with_admitted world silo places)
-kept_join world silo given places is may first added room =
-    kept_joining (occupant silo world.views.rows) world silo (with_join world.views silo) places is room refl versions
-    (peopled_join world.views (with_join world.views silo) world.nodes silo (new_node world.settings silo) is.peopled may) placed
-  where
-    none : world.views.rows ≡ []
-    none = nobody world is first
-
-    one_row : (v : ℕ) (rows : List (Silo × Row)) → rows ≡ [] → length (joined_rows silo v rows) ≡ 1
-    one_row v rows empty = subst (λ (r : List (Silo × Row)). length (joined_rows silo v r) ≡ 1) (sym empty) refl
-
-    versions : world.views.version + 1 ≡ length (joined_rows silo (world.views.version + 1) world.views.rows)
-    versions =
-        let zero_is : world.views.version ≡ 0 = is.versions ∙ ap (λ (r : List (Silo × Row)). length r) none in
-        let one : length (joined_rows silo (world.views.version + 1) world.views.rows) ≡ 1 = one_row (world.views.version + 1) world.views.rows none in
-        omega arith
-
-    list : List ℕ
-    list = places_for world.places.hashing world.places.points silo given
-
-    placed : (q : Silo) → IsSome (row_of (with_join world.views silo) q) → is_added places q ≡ true
-    placed q there =
-        let there_first : IsSome (lookup (is_at (silo_cmp q)) (joined_rows silo (world.views.version + 1) [])) =
-        subst (λ (r : List (Silo × Row)). IsSome (lookup (is_at (silo_cmp q)) (joined_rows silo (world.views.version + 1) r))) none there in
-        subst (λ p. is_added p q ≡ true) (places_are world.places places silo given added).0
-        (ap is_some (lookup-insert_entry silo_cmp_total silo list q world.places.entries)
-        ∙ only_placed (is_at (silo_cmp q) silo) _ list (lookup (is_at (silo_cmp q)) world.places.entries) there_first)
-
 -- an equal world that the silo joined
-pub kept_admitted : (world now : World) → world ≡ now → (silo : Silo) (given : List ℕ) (views : ViewsValue) (places : PlacesValue) (nodes : List (Silo × Node)) → IsWorld world
-    → after_join now.views silo ≡ Ok (with_join now.views silo) → length now.views.rows < now.views.limit → now.accepted < now.settings.events
-    → views ≡ with_join world.views silo → after_add world.places silo given ≡ Ok places → nodes ≡ insert_entry silo_cmp world.nodes silo (new_node world.settings silo)
+nodes_admitted : (old : Option Silo) (world : World) (silo : Silo) (views : ViewsValue) (places : PlacesValue) (nodes : List (Silo × Node))
+    → IsWorld (counted (after_joining world silo old views places)) → nodes ≡ insert_entry silo_cmp (nodes_without old world.nodes) silo (new_node world.settings silo)
     → IsWorld (record world { accepted = world.accepted + 1; views = views; places = places; nodes = nodes })
-kept_admitted world now same silo given views places nodes is may first room views_are added nodes_are =
-    let may_first : after_join world.views silo ≡ Ok (with_join world.views silo) = subst (λ (w : World). after_join w.views silo ≡ Ok (with_join w.views silo)) (sym same) may in
-    let first_first : length world.views.rows < world.views.limit = subst (λ (w : World). length w.views.rows < w.views.limit) (sym same) first in
-    let room_first : world.accepted < world.settings.events = subst (λ (w : World). w.accepted < w.settings.events) (sym same) room in
-    let none : occupant silo world.views.rows ≡ None = ap (λ (r : List (Silo × Row)). occupant silo r) (nobody world is first_first) in
-    let kept : IsWorld (counted (after_joining world silo None (with_join world.views silo) places)) =
-    subst (λ o. IsWorld (counted (after_joining world silo o (with_join world.views silo) places))) none (kept_join world silo given places is may_first first_first added room_first) in
+nodes_admitted None world silo views places nodes is nodes_are =
+    subst (λ (n : List (Silo × Node)). IsWorld (record world { accepted = world.accepted + 1; views = views; places = places; nodes = n })) (sym nodes_are) is
+nodes_admitted (Some old) world silo views places nodes is nodes_are =
+    subst (λ (n : List (Silo × Node)). IsWorld (record world { accepted = world.accepted + 1; views = views; places = places; nodes = n })) (sym nodes_are) is
+
+pub kept_admitted : (world now : World) → world ≡ now → (silo : Silo) (given : List ℕ) (views : ViewsValue) (places : PlacesValue) (nodes : List (Silo × Node))
+    → ((p : PlacesValue) → after_add now.places silo given ≡ Ok p → IsWorld (with_admitted now silo p)) → views ≡ with_join world.views silo → after_add world.places silo given ≡ Ok places
+    → nodes ≡ insert_entry silo_cmp (nodes_without (occupant silo world.views.rows) world.nodes) silo (new_node world.settings silo)
+    → IsWorld (record world { accepted = world.accepted + 1; views = views; places = places; nodes = nodes })
+kept_admitted world now same silo given views places nodes is views_are added nodes_are =
+    let is_first : IsWorld (with_admitted world silo places) =
+    subst (λ (w : World). IsWorld (with_admitted w silo places)) (sym same) (is places (ap (λ (w : World). after_add w.places silo given) (sym same) ∙ added)) in
     subst (λ (v : ViewsValue). IsWorld (record world { accepted = world.accepted + 1; views = v; places = places; nodes = nodes })) (sym views_are)
-    (subst (λ (n : List (Silo × Node)). IsWorld (record world { accepted = world.accepted + 1; views = with_join world.views silo; places = places; nodes = n })) (sym nodes_are) kept)
+    (nodes_admitted (occupant silo world.views.rows) world silo (with_join world.views silo) places nodes is_first nodes_are)
 
 -- places to which a silo was added and from which it was taken out again
 pub places_back : (old mid new : PlacesValue) (silo : Silo) (given : List ℕ) → after_add old silo given ≡ Ok mid

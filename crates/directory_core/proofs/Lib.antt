@@ -1,6 +1,5 @@
-pub mod Sending
 pub mod Entries
 pub mod Kept
-pub mod PlacedSight
+pub mod Made
 pub mod Happening
 pub mod Running

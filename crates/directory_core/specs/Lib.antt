@@ -1,7 +1,9 @@
 pub mod Numbers
 pub mod Stepping
 pub mod Joining
+pub mod Leaving
 pub mod Whole
 pub mod WorldModel
 pub mod Applying
+pub mod Moving
 pub mod ToldModel

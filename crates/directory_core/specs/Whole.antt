@@ -1,21 +1,18 @@
--- What every world of the code keeps, as long as one silo joins and nobody leaves or dies.
-use Rattle.std.specs.Prelude.{◌≡◌, ◌≤◌, true, IsSome, length}
-use Rattle.silo_address.specs.Silo.{Silo}
-use Rattle.membership_view.specs.Views.{row_of}
-use Rattle.hash_ring.specs.Places.{is_added}
-use Rattle.directory_rules.specs.World.{World}
-use Rattle.directory_rules.specs.Laws.{ArePeopled}
+-- What every world of the code is: one that events have made.
+use Rattle.std.specs.Prelude.{◌≡◌, ℕ, List, All, Result, Ok, Err}
+use Rattle.directory_rules.specs.Settings.{AreSettings}
+use Rattle.directory_rules.specs.Event.{Event, IsEvent}
+use Rattle.directory_rules.specs.World.{World, Accepted}
+use Rattle.directory_rules.specs.Run.{run_from_start}
 
--- what the code keeps of a world
+-- events, the values of which are in range, have made the world from the first one of its settings
 pub record IsWorld (world : World) : Type 0 where
-  pub one_silo : world.settings.silos ≡ 1
-  pub uncached : world.settings.cache ≡ 0
-  pub limit : world.views.limit ≡ world.settings.silos
-  -- each version was made by a silo that joined
-  pub versions : world.views.version ≡ length world.views.rows
-  -- a silo has a node just where it is in the current view and isn't Dead there
-  pub peopled : ArePeopled world.views world.nodes
-  -- and whoever joined has its places
-  pub placed : (silo : Silo) → IsSome (row_of world.views silo) → is_added world.places silo ≡ true
-  pub journal : world.accepted ≤ world.settings.events
-  pub mail : world.sent ≤ world.settings.letters
+  pub in_range : AreSettings world.settings
+  pub events : List Event
+  pub named : All IsEvent events
+  pub made : world ≡ (run_from_start world.settings events).world
+
+-- what is accepted leaves such a world
+abbrev pub LeavesWorld : Result Accepted ℕ → Type 0
+LeavesWorld (Ok accepted) = IsWorld accepted.world
+LeavesWorld (Err number) = Unit {0}

@@ -1,9 +1,11 @@
-ghost use Rattle.std.specs.Prelude.{◌≡◌, ◌<◌, OnErr};
+ghost use Rattle.std.specs.Prelude.{◌≡◌, ◌<◌, IfOk, OnErr};
 ghost use Rattle.cluster_events.specs.EventModel.{event_of};
 ghost use Rattle.directory_rules.specs.Happens.{attempted, happens};
+ghost use Rattle.directory_rules.specs.Headline.{Headline};
 ghost use Rattle.directory_node.specs.Follows.{Follows};
-ghost use Rattle.directory_core.specs.Applying.{accepted_as, excused};
+ghost use Rattle.directory_core.specs.Applying.{IsPlainlyTold, accepted_as, excused};
 ghost use Rattle.directory_core.specs.Numbers.{event_refusal_number};
+ghost use Rattle.directory_core.specs.Whole.{LeavesWorld};
 
 use crate::{EventRefusal, World};
 use cluster_events::{Event, Outcome};
@@ -12,8 +14,26 @@ use directory_node::Input;
 impl World {
     /// An event happens. It is accepted, with what it tells, or refused by a refusal with its number, and then nothing changes
     /// (`docs/RULES.md#the-world`). Out of memory changes nothing either, and comes only where no number refuses the event; but
-    /// at a sight, whose letters are known only when they are made, it may come before 909.
+    /// at a sight and a nudge, whose letters are known only when they are made, it may come before 909.
+    ///
+    /// The headline holds of the world that is left, and what is accepted is the step of the plain machine that it tells
+    /// (`docs/RULES.md#what-is-to-hold-of-the-world`).
     pub fn apply(&mut self, event: &Event) -> Result<Outcome, EventRefusal>
+        ensures told { Follows (accepted_as self.new) event_refusal_number (excused event.now) (happens self.old (event_of event.now)) result }
+        ensures unchanged { OnErr result (self.new ≡ self.old) }
+        ensures headline { Headline self.new }
+        ensures plain { IfOk result (λ outcome. IsPlainlyTold self.old outcome self.new) }
+    {
+        event.in_range();
+        self.whole();
+        let told = self.follow(event);
+        self.headline();
+        told
+    }
+
+    // An event happens, as the rule says.
+    fn follow(&mut self, event: &Event) -> Result<Outcome, EventRefusal>
+        requires leaves { LeavesWorld (happens self.old (event_of event.now)) }
         ensures told { Follows (accepted_as self.new) event_refusal_number (excused event.now) (happens self.old (event_of event.now)) result }
         ensures unchanged { OnErr result (self.new ≡ self.old) }
     {
@@ -26,15 +46,23 @@ impl World {
     // An event happens while there is room for one more.
     fn attempt(&mut self, event: &Event) -> Result<Outcome, EventRefusal>
         requires room { self.old.accepted < self.old.settings.events }
+        requires leaves { LeavesWorld (attempted self.old (event_of event.now)) }
         ensures told { Follows (accepted_as self.new) event_refusal_number (excused event.now) (attempted self.old (event_of event.now)) result }
         ensures unchanged { OnErr result (self.new ≡ self.old) }
     {
         match event {
             Event::Join { silo, places } => self.join(*silo, places),
+            Event::Leave { silo } => self.leave(silo),
+            Event::Kill { silo } => self.kill(silo),
             Event::See { silo, version } => self.sees(silo, *version),
             Event::Wake { silo, grain } => self.does(silo, &Input::Wakes(grain)),
+            Event::Close { silo, grain } => self.does(silo, &Input::Closes(grain)),
             Event::Find { silo, grain } => self.does(silo, &Input::Finds(grain)),
+            Event::Forget { silo, grain } => self.does(silo, &Input::Forgets(grain)),
             Event::Deliver { number } => self.deliver(*number),
+            Event::Lose { number } => self.lose(*number),
+            Event::Nudge { silo } => self.nudges(silo),
+            Event::Offer { silo, grain, to } => self.does(silo, &Input::Offers { grain, to }),
         }
     }
 }

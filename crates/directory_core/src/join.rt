@@ -1,15 +1,16 @@
-ghost use Rattle.std.specs.Prelude.{◌≡◌, ◌<◌, IfOk, IsOk, None, Ok, OnErr, OnOk, length};
-ghost use Rattle.std.specs.Map.{lookup};
-ghost use Rattle.std.specs.BTreeMap.{is_at, insert_entry};
+ghost use Rattle.std.specs.Prelude.{◌≡◌, ◌<◌, IfOk, IsOk, Ok, OnErr, OnOk};
+ghost use Rattle.std.specs.BTreeMap.{insert_entry};
 ghost use Rattle.silo_address.specs.Silo.{silo_cmp};
 ghost use Rattle.membership_view.specs.Changes.{after_join, occupant, with_join};
-ghost use Rattle.hash_ring.specs.Places.{after_add};
+ghost use Rattle.hash_ring.specs.Places.{PlacesValue, after_add};
 ghost use Rattle.directory_rules.specs.Happens.{join};
+ghost use Rattle.directory_rules.specs.Laws.{ArePeopled};
 ghost use Rattle.directory_rules.specs.Node.{new_node};
 ghost use Rattle.directory_node.specs.Follows.{Follows};
 ghost use Rattle.directory_core.specs.Applying.{accepted_as};
-ghost use Rattle.directory_core.specs.Joining.{with_admitted};
+ghost use Rattle.directory_core.specs.Joining.{nodes_without, with_admitted};
 ghost use Rattle.directory_core.specs.Numbers.{event_refusal_number};
+ghost use Rattle.directory_core.specs.Whole.{IsWorld, LeavesWorld};
 
 use crate::{EventRefusal, World};
 use cluster_events::{Happening, Outcome};
@@ -25,6 +26,7 @@ impl World {
     // A silo joins: 201, 205, then 402, 403.
     pub(crate) fn join(&mut self, silo: SiloAddress, given: &[u32]) -> Result<Outcome, EventRefusal>
         requires room { self.old.accepted < self.old.settings.events }
+        requires leaves { LeavesWorld (join self.old silo given.now) }
         ensures told { Follows (accepted_as self.new) event_refusal_number IsOk (join self.old silo given.now) result }
         ensures unchanged { OnErr result (self.new ≡ self.old) }
     {
@@ -48,8 +50,8 @@ impl World {
     // A silo that the views don't refuse joins.
     fn admit(&mut self, silo: SiloAddress, given: &[u32]) -> Result<Joined, EventRefusal>
         requires may { after_join self.old.views silo ≡ Ok (with_join self.old.views silo) }
-        requires first { length self.old.views.rows < self.old.views.limit }
         requires room { self.old.accepted < self.old.settings.events }
+        requires leaves { (places : PlacesValue) → after_add self.old.places silo given.now ≡ Ok places → IsWorld (with_admitted self.old silo places) }
         ensures places { Follows (λ _. self.new.places) event_refusal_number IsOk (after_add self.old.places silo given.now) result }
         ensures made { OnOk result (self.new ≡ with_admitted self.old silo self.new.places) }
         ensures version { IfOk result (λ joined. joined.version ≡ self.new.views.version) }
@@ -81,10 +83,10 @@ fn put_in(
     given: &[u32],
 ) -> Result<Joined, EventRefusal>
     requires may { after_join views.old silo ≡ Ok (with_join views.old silo) }
-    requires absent { lookup (is_at (silo_cmp silo)) nodes.old.entries ≡ None }
+    requires peopled { ArePeopled views.old nodes.old.entries }
     ensures views { OnOk result (views.new ≡ with_join views.old silo) }
     ensures places { Follows (λ _. places.new) event_refusal_number IsOk (after_add places.old silo given.now) result }
-    ensures nodes { OnOk result (nodes.new.entries ≡ insert_entry silo_cmp nodes.old.entries silo (new_node settings silo)) }
+    ensures nodes { OnOk result (nodes.new.entries ≡ insert_entry silo_cmp (nodes_without (occupant silo views.old.rows) nodes.old.entries) silo (new_node settings silo)) }
     ensures version { IfOk result (λ joined. joined.version ≡ views.new.version) }
     ensures replaced { IfOk result (λ joined. joined.replaced ≡ occupant silo views.old.rows) }
     ensures views_unchanged { OnErr result (views.new ≡ views.old) }
@@ -113,9 +115,9 @@ fn put_beside(
     silo: SiloAddress,
 ) -> Result<Joined, AllocError>
     requires may { after_join views.old silo ≡ Ok (with_join views.old silo) }
-    requires absent { lookup (is_at (silo_cmp silo)) nodes.old.entries ≡ None }
+    requires peopled { ArePeopled views.old nodes.old.entries }
     ensures views { OnOk result (views.new ≡ with_join views.old silo) }
-    ensures nodes { OnOk result (nodes.new.entries ≡ insert_entry silo_cmp nodes.old.entries silo (new_node settings silo)) }
+    ensures nodes { OnOk result (nodes.new.entries ≡ insert_entry silo_cmp (nodes_without (occupant silo views.old.rows) nodes.old.entries) silo (new_node settings silo)) }
     ensures version { IfOk result (λ joined. joined.version ≡ views.new.version) }
     ensures replaced { IfOk result (λ joined. joined.replaced ≡ occupant silo views.old.rows) }
     ensures views_unchanged { OnErr result (views.new ≡ views.old) }
@@ -123,10 +125,22 @@ fn put_beside(
 {
     nodes.insert(silo, Node::new(alloc, settings, silo)?)?;
     match views.join(silo) {
-        Ok(joined) => Ok(joined),
+        Ok(joined) => {
+            remove_replaced(nodes, joined.replaced);
+            Ok(joined)
+        }
         Err(_) => {
             let _node = nodes.remove(&silo);
             Err(AllocError)
         }
+    }
+}
+
+// The silo that is replaced, if there is one, has no node any more.
+fn remove_replaced(nodes: &mut BTreeMap<SiloAddress, Node>, replaced: Option<SiloAddress>)
+    ensures { nodes.new.entries ≡ nodes_without replaced nodes.old.entries }
+{
+    if let Some(old) = replaced {
+        let _node = nodes.remove(&old);
     }
 }

@@ -3,6 +3,7 @@
 
 mod apply;
 mod join;
+mod leaving;
 mod posting;
 mod refusal;
 mod run;

@@ -74,6 +74,7 @@ fn carry_out_and_post(
     ensures node_unchanged { OnErr result (node.new ≡ node.old) }
 {
     let count = letters.len();
+    mail.numbered();
     mail.post(letters)?;
     match node.carry_out(change) {
         Ok(()) => Ok(()),

@@ -2,7 +2,9 @@ ghost use Rattle.std.specs.Prelude.{◌≡◌, ◌⊎◌, ◌++◌, ◌∷◌, [
 ghost use Rattle.cluster_events.specs.EventModel.{event_of};
 ghost use Rattle.directory_rules.specs.Happens.{happens};
 ghost use Rattle.directory_core.specs.Applying.{excused};
+ghost use Rattle.directory_rules.specs.Headline.{Headline};
 ghost use Rattle.directory_rules.specs.Run.{run, told_of, world_after};
+ghost use Rattle.directory_core.specs.Moving.{AllMovePlainly, MovesBy};
 
 use crate::{Told, World};
 use cluster_events::Event;
@@ -11,15 +13,21 @@ use std::alloc::{AllocError, Global};
 impl World {
     /// Events happen, one after the other; a refused one changes nothing, and the run goes on behind it. Answers what each event
     /// told, or why it was refused (`docs/RULES.md#the-world`). Out of memory ends the run, and what was applied stands.
+    ///
+    /// The headline holds of the world that is left, and each accepted event is the step of the plain machine that it tells
+    /// (`docs/RULES.md#what-is-to-hold-of-the-world`).
     pub fn run(&mut self, alloc: Global, events: &[Event]) -> Result<Vec<Told>, AllocError>
         ensures told { IfOk result (λ told. told.items ≡ (run self.old (map event_of events.now)).told) }
         ensures world { OnOk result (self.new ≡ (run self.old (map event_of events.now)).world) }
-        ensures stopped { OnErr result ((count : ℕ) × (self.new ≡ (run self.old (map event_of (take count events.now))).world)) }
+        ensures plain { OnOk result (AllMovePlainly self.old (map event_of events.now)) }
+        ensures stopped { OnErr result ((count : ℕ) × (self.new ≡ (run self.old (map event_of (take count events.now))).world) × AllMovePlainly self.old (map event_of (take count events.now))) }
+        ensures headline { Headline self.new }
     {
         let mut told = Vec::new(alloc);
         for event in events {
             self.tell_next(event, &mut told)?;
         }
+        self.headline();
         Ok(told)
     }
 
@@ -28,7 +36,11 @@ impl World {
         ensures told { OnOk result (told.new.items ≡ told.old.items ++ told_of (happens self.old (event_of event.now)) ∷ []) }
         ensures world { OnOk result (self.new ≡ world_after (happens self.old (event_of event.now)) self.old) }
         ensures stopped { OnErr result ((self.new ≡ self.old) ⊎ (self.new ≡ world_after (happens self.old (event_of event.now)) self.old)) }
+        ensures plain { MovesBy self.old (event_of event.now) }
+        ensures headline { Headline self.new }
     {
+        event.in_range();
+        self.headline();
         let this = self.apply_next(event)?;
         told.push(this)?;
         Ok(())
@@ -40,6 +52,7 @@ impl World {
         ensures world { OnOk result (self.new ≡ world_after (happens self.old (event_of event.now)) self.old) }
         ensures unchanged { OnErr result (self.new ≡ self.old) }
         ensures memory { OnErr result (excused event.now (happens self.old (event_of event.now))) }
+        ensures headline { Headline self.new }
     {
         match self.apply(event) {
             Ok(outcome) => Ok(Told::new(Ok(outcome))),

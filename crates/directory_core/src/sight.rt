@@ -6,6 +6,7 @@ ghost use Rattle.directory_node.specs.Follows.{Follows};
 ghost use Rattle.directory_node.specs.Planning.{Fits, step_by};
 ghost use Rattle.directory_core.specs.Applying.{IsOkOrFull, accepted_as};
 ghost use Rattle.directory_core.specs.Numbers.{event_refusal_number};
+ghost use Rattle.directory_core.specs.Whole.{LeavesWorld};
 
 use crate::{EventRefusal, World};
 use cluster_events::{Happening, Outcome};
@@ -17,6 +18,7 @@ impl World {
     // A silo sees a version: 901, 902, 903, 904, 805, then 909.
     pub(crate) fn sees(&mut self, silo: &SiloAddress, version: u64) -> Result<Outcome, EventRefusal>
         requires room { self.old.accepted < self.old.settings.events }
+        requires leaves { LeavesWorld (sees self.old silo.now version) }
         ensures told { Follows (accepted_as self.new) event_refusal_number IsOkOrFull (sees self.old silo.now version) result }
         ensures unchanged { OnErr result (self.new ≡ self.old) }
     {
@@ -30,21 +32,12 @@ impl World {
             return Err(EventRefusal::NoSuchVersion);
         }
         let plan = self.sight(node, version)?;
-        if !self.has_room_for(&plan.letters) {
-            return Err(EventRefusal::MailFull);
-        }
-        let outcome = Outcome {
-            happening: Happening::Saw {
-                silo: *silo,
-                version,
-                effect: plan.effect,
-            },
-            sent: self.span_of(&plan.letters),
+        let happening = Happening::Saw {
+            silo: *silo,
+            version,
+            effect: plan.effect,
         };
-        match self.carry_out(silo, plan.letters, plan.change) {
-            Ok(()) => Ok(outcome),
-            Err(_) => Err(EventRefusal::OutOfMemory),
-        }
+        self.take(silo, happening, plan)
     }
 
     // Whether there is that view, and the silo is in it.

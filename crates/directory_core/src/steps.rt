@@ -1,29 +1,31 @@
 ghost use Rattle.std.specs.Prelude.{◌≡◌, ◌<◌, ◌+◌, nat_le, true, IsOk, IsSome, OnOk, OnErr, Some};
-ghost use Rattle.directory_rules.specs.Happens.{absent_number, deliver, does, node_of};
+ghost use Rattle.directory_rules.specs.Happens.{absent_number, counted, deliver, does, lose, node_of, taken};
+ghost use Rattle.directory_rules.specs.Input.{Nudges};
 ghost use Rattle.directory_rules.specs.Letter.{Letter as LetterValue};
-ghost use Rattle.directory_rules.specs.Mail.{has_room_for, letter_of, span_of, with_delivered};
+ghost use Rattle.directory_rules.specs.Mail.{has_room_for, letter_of, span_of, with_delivered, with_lost};
 ghost use Rattle.directory_rules.specs.Node.{Node as NodeValue};
 ghost use Rattle.directory_node.specs.Follows.{Follows};
 ghost use Rattle.directory_node.specs.InputModel.{input_of};
 ghost use Rattle.directory_node.specs.Numbers.{step_refusal_number};
-ghost use Rattle.directory_node.specs.Planning.{Fits, changed};
-ghost use Rattle.cluster_events.specs.OutcomeModel.{span_of as code_span};
+ghost use Rattle.directory_node.specs.Planning.{Fits, changed, step_by};
+ghost use Rattle.cluster_events.specs.OutcomeModel.{happening_of, span_of as code_span};
 ghost use Rattle.std.specs.Option.{option_map, option_or};
-ghost use Rattle.directory_core.specs.Applying.{accepted_as};
+ghost use Rattle.directory_core.specs.Applying.{IsNever, IsOkOrFull, accepted_as};
 ghost use Rattle.directory_core.specs.Numbers.{event_refusal_number};
 ghost use Rattle.directory_core.specs.Stepping.{IsOwn, after_step, letters_number};
+ghost use Rattle.directory_core.specs.Whole.{IsWorld, LeavesWorld};
 
 use crate::posting::{carry_out_at, receive_at};
 use crate::{EventRefusal, World};
 use cluster_events::{Happening, Outcome, Span};
 use directory_letters::Letter;
-use directory_node::{Change, Input, StepRefusal};
+use directory_node::{Change, Input, Plan, StepRefusal};
 use silo_address::SiloAddress;
 use std::alloc::{AllocError, Global};
 
 // Steps of silos in the world: a step is planned, which changes nothing yet, then its letters are sent and it is carried out.
 impl World {
-    // A silo takes a step of its own, which is no sight: 901, 902, then as the step refuses, then 909.
+    // A silo takes a step of its own, which is no sight and no nudge: 901, 902, then as the step refuses, then 909.
     pub(crate) fn does(
         &mut self,
         silo: &SiloAddress,
@@ -31,6 +33,7 @@ impl World {
     ) -> Result<Outcome, EventRefusal>
         requires room { self.old.accepted < self.old.settings.events }
         requires own { IsOwn (input_of input.now) }
+        requires leaves { LeavesWorld (does self.old silo.now (input_of input.now)) }
         ensures told { Follows (accepted_as self.new) event_refusal_number IsOk (does self.old silo.now (input_of input.now)) result }
         ensures unchanged { OnErr result (self.new ≡ self.old) }
     {
@@ -41,18 +44,54 @@ impl World {
             Ok(plan) => plan,
             Err(refusal) => return Err(self.refused(refusal)),
         };
+        let happening = Happening::Did {
+            silo: *silo,
+            effect: plan.effect,
+        };
+        self.take(silo, happening, plan)
+    }
+
+    // A silo sends again what it has outstanding: 901, 902, then as the step refuses, then 909.
+    pub(crate) fn nudges(&mut self, silo: &SiloAddress) -> Result<Outcome, EventRefusal>
+        requires room { self.old.accepted < self.old.settings.events }
+        requires leaves { LeavesWorld (does self.old silo.now Nudges) }
+        ensures told { Follows (accepted_as self.new) event_refusal_number IsOkOrFull (does self.old silo.now Nudges) result }
+        ensures unchanged { OnErr result (self.new ≡ self.old) }
+    {
+        let Some(node) = self.node(silo) else {
+            return Err(self.absent(silo));
+        };
+        let plan = match node.plan(self.alloc, &Input::Nudges) {
+            Ok(plan) => plan,
+            Err(refusal) => return Err(EventRefusal::of_node(refusal)),
+        };
+        let happening = Happening::Did {
+            silo: *silo,
+            effect: plan.effect,
+        };
+        self.take(silo, happening, plan)
+    }
+
+    // A silo's step is taken as planned, where there is room for its letters: 909.
+    pub(crate) fn take(
+        &mut self,
+        silo: &SiloAddress,
+        happening: Happening,
+        plan: Plan,
+    ) -> Result<Outcome, EventRefusal>
+        requires room { self.old.accepted < self.old.settings.events }
+        requires there { IsSome (node_of self.old silo.now) }
+        requires fits { (node : NodeValue) → node_of self.old silo.now ≡ Some node → Fits plan.change node }
+        requires leaves { (node : NodeValue) → node_of self.old silo.now ≡ Some node → LeavesWorld (taken self.old silo.now (happening_of happening) (step_by node plan)) }
+        ensures told { (node : NodeValue) → node_of self.old silo.now ≡ Some node → Follows (accepted_as self.new) event_refusal_number IsOk (taken self.old silo.now (happening_of happening) (step_by node plan)) result }
+        ensures unchanged { OnErr result (self.new ≡ self.old) }
+    {
         if !self.has_room_for(&plan.letters) {
             return Err(EventRefusal::MailFull);
         }
-        let outcome = Outcome {
-            happening: Happening::Did {
-                silo: *silo,
-                effect: plan.effect,
-            },
-            sent: self.span_of(&plan.letters),
-        };
+        let sent = self.span_of(&plan.letters);
         match self.carry_out(silo, plan.letters, plan.change) {
-            Ok(()) => Ok(outcome),
+            Ok(()) => Ok(Outcome { happening, sent }),
             Err(_) => Err(EventRefusal::OutOfMemory),
         }
     }
@@ -94,7 +133,7 @@ impl World {
     }
 
     // Whether these letters may still be sent; no letter always may.
-    pub(crate) fn has_room_for(&self, letters: &[Letter]) -> bool
+    fn has_room_for(&self, letters: &[Letter]) -> bool
         ensures { result ≡ has_room_for self.now letters.now }
     {
         match letters {
@@ -111,7 +150,7 @@ impl World {
     }
 
     // The first and the last number of letters that are sent now.
-    pub(crate) fn span_of(&self, letters: &[Letter]) -> Option<Span>
+    fn span_of(&self, letters: &[Letter]) -> Option<Span>
         requires { has_room_for self.now letters.now ≡ true }
         ensures { option_map code_span result ≡ span_of self.now letters.now }
     {
@@ -128,6 +167,7 @@ impl World {
     // A letter comes to its receiver: 905, 902, then 909.
     pub(crate) fn deliver(&mut self, number: u64) -> Result<Outcome, EventRefusal>
         requires room { self.old.accepted < self.old.settings.events }
+        requires leaves { LeavesWorld (deliver self.old number) }
         ensures told { Follows (accepted_as self.new) event_refusal_number IsOk (deliver self.old number) result }
         ensures unchanged { OnErr result (self.new ≡ self.old) }
     {
@@ -161,6 +201,34 @@ impl World {
         }
     }
 
+    // A letter is lost for good: 905.
+    pub(crate) fn lose(&mut self, number: u64) -> Result<Outcome, EventRefusal>
+        requires room { self.old.accepted < self.old.settings.events }
+        requires leaves { LeavesWorld (lose self.old number) }
+        ensures told { Follows (accepted_as self.new) event_refusal_number IsNever (lose self.old number) result }
+        ensures unchanged { OnErr result (self.new ≡ self.old) }
+    {
+        if self.letter(number).is_none() {
+            return Err(EventRefusal::NoSuchLetter);
+        }
+        self.take_out(number);
+        Ok(Outcome {
+            happening: Happening::Lost { number },
+            sent: None,
+        })
+    }
+
+    // A letter that is there goes out of the mail.
+    fn take_out(&mut self, number: u64)
+        requires there { IsSome (letter_of self.old number) }
+        requires room { self.old.accepted < self.old.settings.events }
+        requires leaves { IsWorld (counted (with_lost self.old number)) }
+        ensures { self.new ≡ counted (with_lost self.old number) }
+    {
+        self.mail.lose(number);
+        self.accepted += 1;
+    }
+
     // The receiver of a letter carries its step out, and what is answered is sent.
     fn receive(
         &mut self,
@@ -173,7 +241,7 @@ impl World {
         requires there { IsSome (node_of self.old to.now) }
         requires fits { (node : NodeValue) → node_of self.old to.now ≡ Some node → Fits change node }
         requires room { self.old.accepted < self.old.settings.events }
-        requires mail_room { has_room_for self.old letters.items ≡ true }
+        requires leaves { (letter : LetterValue) (node : NodeValue) → letter_of self.old number ≡ Some letter → node_of self.old to.now ≡ Some node → IsWorld (after_step (with_delivered self.old number letter) to.now (changed change node) letters.items) }
         ensures made { OnOk result ((letter : LetterValue) (node : NodeValue) → letter_of self.old number ≡ Some letter → node_of self.old to.now ≡ Some node → self.new ≡ after_step (with_delivered self.old number letter) to.now (changed change node) letters.items) }
         ensures unchanged { OnErr result (self.new ≡ self.old) }
     {
@@ -183,7 +251,7 @@ impl World {
     }
 
     // A silo carries its step out, and its letters are sent.
-    pub(crate) fn carry_out(
+    fn carry_out(
         &mut self,
         silo: &SiloAddress,
         letters: Vec<Letter>,
@@ -192,7 +260,7 @@ impl World {
         requires there { IsSome (node_of self.old silo.now) }
         requires fits { (node : NodeValue) → node_of self.old silo.now ≡ Some node → Fits change node }
         requires room { self.old.accepted < self.old.settings.events }
-        requires mail_room { has_room_for self.old letters.items ≡ true }
+        requires leaves { (node : NodeValue) → node_of self.old silo.now ≡ Some node → IsWorld (after_step self.old silo.now (changed change node) letters.items) }
         ensures made { OnOk result ((node : NodeValue) → node_of self.old silo.now ≡ Some node → self.new ≡ after_step self.old silo.now (changed change node) letters.items) }
         ensures unchanged { OnErr result (self.new ≡ self.old) }
     {

@@ -1,8 +1,8 @@
-ghost use Rattle.std.specs.Prelude.{◌≡◌, ◌↔◌, ◌≤◌, IsSome, IfSome, IfOk};
+ghost use Rattle.std.specs.Prelude.{◌≡◌, IfOk};
 ghost use Rattle.std.specs.Option.{option_copied, option_map};
 ghost use Rattle.hash_ring.specs.Owner.{owner_of};
-ghost use Rattle.directory_rules.specs.Settings.{directory_settings};
 ghost use Rattle.directory_rules.specs.World.{first_world};
+ghost use Rattle.directory_rules.specs.Headline.{Headline, MovesPlainly};
 ghost use Rattle.directory_rules.specs.Happens.{node_of};
 ghost use Rattle.directory_rules.specs.Mail.{letter_of};
 ghost use Rattle.directory_rules.specs.World.{current_ring};
@@ -12,7 +12,7 @@ ghost use Rattle.directory_core.specs.Whole.{IsWorld};
 
 use directory_node::Node;
 use directory_rules::Settings;
-use hash_ring::{Hashing, Places, Point, Ring};
+use hash_ring::{Places, Point, Ring};
 use letter_mail::{Mail, MailedLetter};
 use membership_view::Views;
 use silo_address::SiloAddress;
@@ -47,20 +47,15 @@ impl Model for World {
 }
 
 impl World {
-    /// The world before the first event, as it is set up. `None` where more than one silo may join, or a cache is kept: neither
-    /// can be yet.
-    pub fn new(alloc: Global, settings: Settings) -> Option<World>
-        ensures made { IfSome result (λ world. world ≡ first_world settings) }
-        ensures in_range { IsSome result ↔ ((settings.silos ≡ 1) × (settings.cache ≡ 0)) }
+    /// The world before the first event, as it is set up.
+    pub fn new(alloc: Global, settings: Settings) -> World
+        ensures { result ≡ first_world settings }
     {
-        if settings.silos() != 1 || settings.cache() != 0 {
-            return None;
-        }
         settings.in_range();
         let Ok(places) = Places::new(alloc, settings.hashing(), settings.points()) else {
             unreachable!()
         };
-        Some(World {
+        World {
             alloc,
             settings,
             accepted: 0,
@@ -68,17 +63,7 @@ impl World {
             places,
             nodes: BTreeMap::new(alloc),
             mail: Mail::new(alloc),
-        })
-    }
-
-    /// The world before the first event, for one silo that keeps no cache: how it hashes, and how many points the silo has
-    /// where they are hashed, 1 to 128. `None` where that number is out of its range.
-    pub fn for_one_silo(alloc: Global, hashing: Hashing, points: usize) -> Option<World>
-        ensures made { IfSome result (λ world. world ≡ first_world (record (directory_settings hashing points 0) { silos = 1 })) }
-        ensures in_range { IsSome result ↔ ((1 ≤ points) × (points ≤ 128)) }
-    {
-        let settings = Settings::of_directory(hashing, points, 0)?;
-        World::new(alloc, settings.with_silos(1)?)
+        }
     }
 
     /// What the directory was set up with.
@@ -135,7 +120,7 @@ impl World {
     pub fn least_deliverable(&self) -> Option<u64>
         ensures { result ≡ least_deliverable self.now }
     {
-        self.mail.least_fresh_to(&self.nodes)
+        self.mail.least_fresh(&self.nodes)
     }
 
     /// The ring of the current view. Fails only when memory runs out.
@@ -159,10 +144,19 @@ impl World {
         Ok(ring.owner(hash))
     }
 
-    /// A law: what all worlds of the code keep.
+    /// A law: events have made the world.
     pub fn whole(&self)
         ensures { IsWorld self.now }
     {
         let _accepted = self.accepted;
+    }
+
+    /// A law: the headline holds of every world, and each event that a world accepts is one step of the plain machine
+    /// (`docs/RULES.md#what-is-to-hold-of-the-world`).
+    pub fn headline(&self)
+        ensures headline { Headline self.now }
+        ensures plain { MovesPlainly self.now }
+    {
+        self.whole();
     }
 }

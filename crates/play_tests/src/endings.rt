@@ -1,7 +1,7 @@
 //! How plays begin and end: the number of points, and faults.
 
 use crate::plays::{check_play, check_prints};
-use console_play::play_to_one_silo;
+use console_play::play_to_new_cluster;
 use hash_ring::Hashing;
 use std::alloc::Global;
 use std::process::Abort;
@@ -10,7 +10,7 @@ use std::process::Abort;
 fn check_points(rt: &impl Abort, alloc: Global, points: usize) {
     let mut reader: &[u8] = b"show\n";
     let mut written = Vec::new(alloc);
-    let ended = play_to_one_silo(alloc, Hashing::Stated, points, &mut reader, &mut written);
+    let ended = play_to_new_cluster(alloc, Hashing::Stated, points, &mut reader, &mut written);
     assert!(rt; ended.is_none() && reader.len() == 5 && written.is_empty());
 }
 

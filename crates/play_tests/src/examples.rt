@@ -19,9 +19,9 @@ join 10.0.0.1:1000@2 1000
 ; The number behind the @ is the silo's generation. Neither the same one joins again nor an older one: 201.
 join 10.0.0.1:1000@2 2000
 join 10.0.0.1:1000@1 2000
-; A newer generation might, and another silo too, but today a cluster has room for one silo: 205.
-join 10.0.0.1:1000@3 2000
-join 10.0.0.2:1000@1 2000
+; Nobody leaves who never joined: 202. No letter was sent yet, so none can come: 905.
+leave 10.0.0.2:1000@1
+deliver 1
 
 ; The silo has joined, but it has seen no view. In what it has seen it is not active, so it may not wake a grain: 804.
 wake 10.0.0.1:1000@2 user/ann#7
@@ -66,8 +66,8 @@ refused 403
 view 1 joined 10.0.0.1:1000@2
 refused 201
 refused 201
-refused 205
-refused 205
+refused 202
+refused 905
 refused 804
 version 1
 silo 10.0.0.1:1000@2 active seen 0 held 0

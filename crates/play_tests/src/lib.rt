@@ -16,3 +16,5 @@ mod limits;
 mod plays;
 #[cfg(test)]
 mod rows;
+#[cfg(test)]
+mod several_silos;

@@ -11,7 +11,7 @@ fn small_world(rt: &impl Abort, alloc: Global) -> World {
     let settings = Settings::of_directory(Hashing::Stated, 30, 0).expect(rt, "30 points");
     let settings = settings.with_silos(1).expect(rt, "one silo");
     let settings = settings.with_letters(1).expect(rt, "one letter");
-    World::new(alloc, settings).expect(rt, "one silo and no cache")
+    World::new(alloc, settings)
 }
 
 // Plays a script to that world: this must be printed, and the script is played to its end.

@@ -1,11 +1,11 @@
 //! Plays of whole scripts from one slice to one buffer.
 
-use console_play::play_to_one_silo;
+use console_play::play_to_new_cluster;
 use hash_ring::Hashing;
 use std::alloc::Global;
 use std::process::Abort;
 
-// Plays a script to one silo, with so many points where they are hashed: this must be printed, and it must end with that status.
+// Plays a script to a new cluster, with so many points where they are hashed: this must be printed, and it must end with that status.
 pub(crate) fn check_play(
     rt: &impl Abort,
     alloc: Global,
@@ -15,7 +15,7 @@ pub(crate) fn check_play(
 ) {
     let mut reader = script;
     let mut written = Vec::new(alloc);
-    let ended = play_to_one_silo(alloc, hashing, points, &mut reader, &mut written);
+    let ended = play_to_new_cluster(alloc, hashing, points, &mut reader, &mut written);
     assert!(rt; written.as_slice() == text);
     assert!(rt; ended.expect(rt, "1 to 128 points").status() == status);
 }

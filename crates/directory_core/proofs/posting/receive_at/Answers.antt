@@ -1,5 +1,5 @@
 use Rattle.std.proofs.Common.{IsSome, sym, ◌∙◌, subst}
-use Rattle.directory_core.proofs.Sending.{letter_still, stale_first}
+use Rattle.letter_mail.proofs.Sending.{letter_still, stale_first}
 use Rattle.directory_core.proofs.posting.receive_at.Goals as goal
 
 pub deliver-requires : goal.deliver-requires

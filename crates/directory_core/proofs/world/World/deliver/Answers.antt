@@ -1,19 +1,22 @@
 use Rattle.std.proofs.Common.{◌≡◌, true, List, Ok, Some, refl, sym, ◌∙◌, ap, subst, arith}
 use Rattle.std.specs.Prelude.{IsOk, is_ok}
 use Rattle.std.specs.Option.{option_map}
+use Rattle.std.proofs.lemmas.Option.{same_Some}
 use Rattle.silo_address.specs.Silo.{Silo}
 use Rattle.directory_rules.specs.declared.LetterKind.{LetterKind}
 use Rattle.directory_rules.specs.Event.{Delivered}
 use Rattle.directory_rules.specs.Letter.{Letter}
+use Rattle.directory_rules.specs.Node.{Node}
 use Rattle.directory_rules.specs.World.{World}
-use Rattle.directory_rules.specs.Mail.{has_room_for, span_of, with_delivered}
+use Rattle.directory_rules.specs.Mail.{has_room_for, letter_of, span_of, with_delivered}
 use Rattle.directory_rules.specs.Happens.{deliver, node_of}
 use Rattle.cluster_events.specs.OutcomeModel.{span_of as code_span}
 use Rattle.directory_node.specs.Follows.{RefusesBy}
 use Rattle.directory_node.specs.Numbers.{step_refusal_number}
 use Rattle.directory_node.specs.Planning.{changed}
 use Rattle.directory_core.specs.Stepping.{after_step}
-use Rattle.directory_core.proofs.Happening.{delivered_told, delivery_refused, planned_as, unplanned}
+use Rattle.directory_core.specs.Whole.{IsWorld}
+use Rattle.directory_core.proofs.Happening.{delivered_told, delivery_refused, leaves_delivered, planned_as, unplanned}
 use Rattle.directory_core.proofs.world.World.deliver.Goals as goal
 
 pub returns-in_default-plan-clause-told : goal.returns-in_default-plan-clause-told
@@ -57,3 +60,19 @@ returns-in-Ok-receive-clause-told c =
       world = w;
     })) (ap (λ (s : Silo). after_step (with_delivered c.args.self.now c.args.number letter) s after letters) (sym c.to-to.ensures)
     ∙ sym (c.in-Ok-receive.ensures.made letter node (sym c.in-Some.ensures ∙ ap (λ (l : Letter). Some l) (sym c.letter-letter.ensures)) (sym c.in-Some-node.ensures)))
+
+pub receive-requires-clause-leaves : goal.receive-requires-clause-leaves
+receive-requires-clause-leaves c = λ l n l_is n_is.
+    let world = c.args.self.now in
+    let letter = c.letter-letter.result.now in
+    let node = c.in-Some-node.node.now in
+    let letters = c.in-Ok.plan.letters.items in
+    let room : has_room_for world c.deref.result.now ≡ true = grind arith in
+    let found : letter_of world c.args.number ≡ Some letter = sym c.in-Some.ensures ∙ ap (λ (x : Letter). Some x) (sym c.letter-letter.ensures) in
+    let there : node_of world c.to-to.result ≡ Some node = sym c.in-Some-node.ensures in
+    subst (λ (x : Node). IsWorld (after_step (with_delivered world c.args.number l) c.to-to.result (changed c.in-Ok.plan.change x) letters)) (same_Some node n (sym there ∙ n_is))
+    (subst (λ (x : Letter). IsWorld (after_step (with_delivered world c.args.number x) c.to-to.result (changed c.in-Ok.plan.change node) letters)) (same_Some letter l (sym found ∙ l_is))
+    (subst (λ (s : Silo). IsWorld (after_step (with_delivered world c.args.number letter) s (changed c.in-Ok.plan.change node) letters)) (sym c.to-to.ensures)
+    (leaves_delivered world c.args.number letter node (changed c.in-Ok.plan.change node) letters c.in-Ok.plan.effect found
+    (ap (λ (s : Silo). node_of world s) (sym c.to-to.ensures) ∙ there) (planned_as node letter c.in-Ok.plan c.in-Ok.ensures.planned)
+    (ap (λ (x : List Letter). has_room_for world x) (sym c.deref.ensures.value) ∙ room) c.requires.leaves)))

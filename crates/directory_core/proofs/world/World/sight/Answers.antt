@@ -1,5 +1,5 @@
 use Rattle.directory_core.specs.WorldModel.{world_of}
-use Rattle.directory_core.proofs.PlacedSight.{placed_sight}
+use Rattle.directory_core.proofs.Made.{placed_sight}
 use Rattle.directory_core.proofs.world.World.sight.Goals as goal
 
 pub plan-requires : goal.plan-requires

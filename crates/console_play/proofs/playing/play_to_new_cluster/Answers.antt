@@ -1,5 +1,5 @@
 use Rattle.std.proofs.Common.{rules}
-use Rattle.console_play.proofs.playing.play_to_one_silo.Goals as goal
+use Rattle.console_play.proofs.playing.play_to_new_cluster.Goals as goal
 
 pub returns-clause-ends : goal.returns-clause-ends
 returns-clause-ends g c = search rules
