@@ -1,4 +1,5 @@
 //! A range is handed over between two nodes that exchange letters by hand.
+ghost use Rattle.std.specs.Prelude.{◌≤◌};
 ghost use Rattle.directory_node.specs.InputModel.{input_of};
 ghost use Rattle.directory_node.specs.Placed.{IsPlaced};
 
@@ -51,7 +52,9 @@ fn places(rt: &impl Abort, alloc: Global) -> Places {
 }
 
 // The node sees the version, as the next one; what it sends.
-fn sees(rt: &impl Abort, alloc: Global, node: &mut Node, version: u64) -> Vec<Letter> {
+fn sees(rt: &impl Abort, alloc: Global, node: &mut Node, version: u64) -> Vec<Letter>
+    requires { 1 ≤ version }
+{
     let views = views(rt, alloc);
     let before = views.view(alloc, version - 1).expect(rt, "memory");
     let before = before.expect(rt, "the version before");

@@ -115,8 +115,8 @@ impl World {
         self.mail.letter(number)
     }
 
-    /// The least letter that was never delivered and whose receiver has a node, if there is one. Over a run this costs what the
-    /// deliveries do, since it begins where it stopped before.
+    /// The least letter that was never delivered and whose receiver has a node, if there is one: one look for each such silo,
+    /// however many letters to others stand before it.
     pub fn least_deliverable(&self) -> Option<u64>
         ensures { result ≡ least_deliverable self.now }
     {

@@ -1,4 +1,4 @@
-use Rattle.std.proofs.Common.{rules, ◌≡◌, []}
+use Rattle.std.proofs.Common.{rules, ◌≡◌}
 use Rattle.membership_view.specs.Views.{first_views}
 use Rattle.directory_core.proofs.Made.{first_kept}
 use Rattle.directory_core.proofs.world.World.new.Goals as goal
