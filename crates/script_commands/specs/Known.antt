@@ -1,7 +1,7 @@
 -- The commands that the program knows, each as it stands among those of the rule.
 use Rattle.std.specs.Prelude.{ℕ, List, [], ◌∷◌, ◌++◌, codes}
 use Rattle.directory_rules.specs.Event as event
-use Rattle.script_rules.specs.Script.{Grammar, Settle, Owner, Show, a_hash, a_letter, a_silo, a_silo_a_grain_and_a_silo, a_silo_and_grain, a_silo_and_places, a_silo_and_version, no_word}
+use Rattle.script_rules.specs.Script.{Grammar, Settle, Owner, Place, Show, Mail, a_hash, a_letter, a_silo, a_silo_a_grain_and_a_silo, a_silo_a_policy_and_a_grain, a_silo_and_grain, a_silo_and_places, a_silo_and_version, no_word}
 
 -- what happens to a silo that has joined
 abbrev pub silo_commands : List (List ℕ × Grammar)
@@ -34,7 +34,9 @@ letter_commands =
 abbrev pub question_commands : List (List ℕ × Grammar)
 question_commands =
     (codes "owner", a_hash Owner)
+    ∷ (codes "place", a_silo_a_policy_and_a_grain Place)
     ∷ (codes "show", no_word Show)
+    ∷ (codes "mail", no_word Mail)
     ∷ []
 
 -- each known command under its name, with what stands behind the name

@@ -2,7 +2,7 @@
 use Rattle.std.specs.Prelude.{ℕ}
 use Rattle.silo_address.specs.Numbers.{silo_error_number, grain_error_number}
 use Rattle.script_commands.specs.declared.error.ScriptFault.{ScriptFault}
-use Rattle.script_commands.specs.declared.error.ScriptFault.TheVariants.{LineTooLong, NotText, UnknownCommand, WordCount, Silo, Grain, NotANumber}
+use Rattle.script_commands.specs.declared.error.ScriptFault.TheVariants.{LineTooLong, NotText, UnknownCommand, WordCount, Silo, Grain, NotANumber, UnknownPolicy}
 
 -- the stated number of a fault
 abbrev pub script_fault_number : ScriptFault → ℕ
@@ -13,3 +13,4 @@ script_fault_number WordCount = 922
 script_fault_number (Silo fault) = silo_error_number fault
 script_fault_number (Grain fault) = grain_error_number fault
 script_fault_number NotANumber = 923
+script_fault_number UnknownPolicy = 926

@@ -1,4 +1,6 @@
 use cluster_events::Event;
+use directory_rules::Policy;
+use silo_address::{GrainId, SiloAddress};
 
 /// What a line of a script asks for (`docs/RULES.md#scripts`).
 #[derive(Debug, Drop)]
@@ -8,7 +10,17 @@ pub enum Command {
     /// Fresh letters are delivered until there is none.
     Settle,
     /// The owner of a hash in the current view is printed.
-    Owner { hash: u32 },
+    Owner {
+        hash: u32,
+    },
+    /// Where the silo would place the grain is printed.
+    Place {
+        silo: SiloAddress,
+        policy: Policy,
+        grain: GrainId,
+    },
     /// The directory is printed.
     Show,
+    /// The mail is printed.
+    Mail,
 }

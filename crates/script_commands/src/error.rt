@@ -7,7 +7,7 @@ use thiserror::Error;
 
 /// What each command is written as.
 const COMMANDS: &str =
-    "join SILO PLACE.., leave SILO, kill SILO, nudge SILO, see SILO VERSION, wake SILO GRAIN, close SILO GRAIN, find SILO GRAIN, forget SILO GRAIN, offer SILO GRAIN SILO, deliver LETTER, lose LETTER, settle, owner HASH or show";
+    "join SILO PLACE.., leave SILO, kill SILO, nudge SILO, see SILO VERSION, wake SILO GRAIN, close SILO GRAIN, find SILO GRAIN, forget SILO GRAIN, offer SILO GRAIN SILO, deliver LETTER, lose LETTER, settle, owner HASH, place SILO POLICY GRAIN, show or mail";
 
 /// The fault of a line: the first that it has, in the order of `docs/RULES.md#scripts`.
 #[derive(Clone, Copy, Debug, PartialEq, Eq, Error)]
@@ -33,10 +33,13 @@ pub enum ScriptFault {
     /// A word should be a number of its range.
     #[error("a version or the number of a letter is a number up to 18446744073709551615, a place or a hash one up to 4294967295, each in decimal digits without a leading zero")]
     NotANumber,
+    /// A word should name a policy.
+    #[error("a policy is prefer_local, hash_based or least_held")]
+    UnknownPolicy,
 }
 
 impl ScriptFault {
-    /// The number by which users know the fault: 921 to 925, 101 to 103 of a silo, 111 to 113 of a grain.
+    /// The number by which users know the fault: 921 to 926, 101 to 103 of a silo, 111 to 113 of a grain.
     pub fn number(self) -> u16
         ensures { result ≡ script_fault_number self }
     {
@@ -48,6 +51,7 @@ impl ScriptFault {
             ScriptFault::Silo(fault) => fault.number(),
             ScriptFault::Grain(fault) => fault.number(),
             ScriptFault::NotANumber => 923,
+            ScriptFault::UnknownPolicy => 926,
         }
     }
 }

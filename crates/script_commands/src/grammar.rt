@@ -3,6 +3,7 @@
 ghost use Rattle.std.specs.Prelude.{◌≡◌, ℕ, List};
 ghost use Rattle.silo_address.specs.Silo.{Silo};
 ghost use Rattle.silo_address.specs.Grain.{Grain};
+ghost use Rattle.directory_rules.specs.declared.policy.Policy.{Policy};
 ghost use Rattle.directory_rules.specs.Event as rule;
 ghost use Rattle.texts.specs.Words.{words_in};
 ghost use Rattle.script_rules.specs.Script as script;
@@ -11,6 +12,7 @@ ghost use Rattle.script_commands.specs.Reading.{Reads, told};
 use crate::places::places_in;
 use crate::words::{only_three_words, only_two_words, only_word, split_word};
 use crate::{ReadError, ScriptFault};
+use directory_rules::Policy;
 use silo_address::{GrainId, SiloAddress};
 use std::alloc::Global;
 use texts::number_up_to;
@@ -56,6 +58,22 @@ pub(crate) fn hash_word(word: &[u8]) -> Result<u32, ScriptFault>
         Ok(hash) => Ok(hash as u32),
         Err(_) => Err(ScriptFault::NotANumber),
     }
+}
+
+/// Reads the name of a policy.
+pub(crate) fn policy_word(word: &[u8]) -> Result<Policy, ScriptFault>
+    ensures { told (λ policy. policy) result ≡ script.policy_word word.now }
+{
+    if word == b"prefer_local".as_slice() {
+        return Ok(Policy::PreferLocal);
+    }
+    if word == b"hash_based".as_slice() {
+        return Ok(Policy::HashBased);
+    }
+    if word == b"least_held".as_slice() {
+        return Ok(Policy::LeastHeld);
+    }
+    Err(ScriptFault::UnknownPolicy)
 }
 
 /// No word.
@@ -135,6 +153,21 @@ pub(crate) fn a_silo_a_grain_and_a_silo(
     let grain = grain_word(grain)?;
     let other = silo_word(other)?;
     Ok((silo, grain, other))
+}
+
+/// A silo, a policy and a grain.
+pub(crate) fn a_silo_a_policy_and_a_grain(
+    words: &[u8],
+) -> Result<(SiloAddress, Policy, GrainId), ScriptFault>
+    ensures { (of : Silo → Policy → Grain → script.Command) → told (λ parts. of parts.0 parts.1 parts.2) result ≡ script.a_silo_a_policy_and_a_grain of (words_in words.now) }
+{
+    let Some((silo, policy, grain)) = only_three_words(words) else {
+        return Err(ScriptFault::WordCount);
+    };
+    let silo = silo_word(silo)?;
+    let policy = policy_word(policy)?;
+    let grain = grain_word(grain)?;
+    Ok((silo, policy, grain))
 }
 
 /// A silo, and any number of places.

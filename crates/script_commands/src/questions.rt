@@ -7,7 +7,7 @@ ghost use Rattle.script_commands.specs.CommandModel.{command_of};
 ghost use Rattle.script_commands.specs.Known.{question_commands};
 ghost use Rattle.script_commands.specs.Reading.{asked_of, told};
 
-use crate::grammar::{a_hash, no_word};
+use crate::grammar::{a_hash, a_silo_a_policy_and_a_grain, no_word};
 use crate::{Command, ScriptFault};
 
 /// The question of that name, with the words behind it.
@@ -17,8 +17,14 @@ pub(crate) fn question(name: &[u8], words: &[u8]) -> Option<Result<Command, Scri
     if name == b"owner".as_slice() {
         return Some(owner(words));
     }
+    if name == b"place".as_slice() {
+        return Some(place(words));
+    }
     if name == b"show".as_slice() {
         return Some(show(words));
+    }
+    if name == b"mail".as_slice() {
+        return Some(mail(words));
     }
     None
 }
@@ -30,9 +36,27 @@ fn owner(words: &[u8]) -> Result<Command, ScriptFault>
     Ok(Command::Owner { hash })
 }
 
+fn place(words: &[u8]) -> Result<Command, ScriptFault>
+    ensures { told command_of result ≡ script.a_silo_a_policy_and_a_grain script.Place (words_in words.now) }
+{
+    let (silo, policy, grain) = a_silo_a_policy_and_a_grain(words)?;
+    Ok(Command::Place {
+        silo,
+        policy,
+        grain,
+    })
+}
+
 fn show(words: &[u8]) -> Result<Command, ScriptFault>
     ensures { told command_of result ≡ script.no_word script.Show (words_in words.now) }
 {
     no_word(words)?;
     Ok(Command::Show)
+}
+
+fn mail(words: &[u8]) -> Result<Command, ScriptFault>
+    ensures { told command_of result ≡ script.no_word script.Mail (words_in words.now) }
+{
+    no_word(words)?;
+    Ok(Command::Mail)
 }

@@ -29,7 +29,9 @@ fn name_in(rt: &impl Abort, alloc: Global, line: &str) -> &'static str {
         Some(Command::Happen(event)) => event_name(&event),
         Some(Command::Settle) => "settle",
         Some(Command::Owner { .. }) => "owner",
+        Some(Command::Place { .. }) => "place",
         Some(Command::Show) => "show",
+        Some(Command::Mail) => "mail",
         None => "",
     }
 }
@@ -54,7 +56,7 @@ fn event_name(event: &Event) -> &'static str {
 // A line of each command.
 #[test]
 fn names(rt: HostRuntime) {
-    let table: [(&str, &str); 16] = [
+    let table: [(&str, &str); 18] = [
         ("join 10.0.0.1:1000@1", "join"),
         ("leave 10.0.0.1:1000@1", "leave"),
         ("kill 10.0.0.1:1000@1", "kill"),
@@ -69,7 +71,9 @@ fn names(rt: HostRuntime) {
         ("lose 7", "lose"),
         ("settle", "settle"),
         ("owner 7", "owner"),
+        ("place 10.0.0.1:1000@1 least_held user/ann", "place"),
         ("show", "show"),
+        ("mail", "mail"),
         ("; show", ""),
     ];
     for (line, name) in table {
@@ -100,7 +104,7 @@ fn commands(rt: HostRuntime) {
 // Of two faults the first: the name before the number of words, that before a word, and words from the left.
 #[test]
 fn faults(rt: HostRuntime) {
-    let table: [(&str, u16); 21] = [
+    let table: [(&str, u16); 25] = [
         ("SHOW", 921),
         ("show; now", 921),
         ("sync x y z", 921),
@@ -110,7 +114,11 @@ fn faults(rt: HostRuntime) {
         ("lose x 7", 922),
         ("offer x ann", 922),
         ("offer x ann y z", 922),
+        ("place x y", 922),
         ("leave x", 101),
+        ("place 10.0.0.1:1000@0 least ann", 103),
+        ("place 10.0.0.1:1000@1 Prefer_local ann", 926),
+        ("place 10.0.0.1:1000@1 hash_based ann", 111),
         ("offer 10.0.0.1:1000@0 ann x", 103),
         ("offer 10.0.0.1:1000@1 ann x", 111),
         ("offer 10.0.0.1:1000@1 user/ann x", 101),
@@ -202,7 +210,7 @@ fn is_told(rt: &impl Abort, alloc: Global, fault: ScriptFault, words: &str) {
 
 #[test]
 fn words_of_faults(rt: HostRuntime) {
-    let table: [(ScriptFault, &str); 7] = [
+    let table: [(ScriptFault, &str); 8] = [
         (ScriptFault::LineTooLong, "a line has at most 8192 bytes"),
         (
             ScriptFault::NotText,
@@ -210,11 +218,11 @@ fn words_of_faults(rt: HostRuntime) {
         ),
         (
             ScriptFault::UnknownCommand,
-            "a command is join SILO PLACE.., leave SILO, kill SILO, nudge SILO, see SILO VERSION, wake SILO GRAIN, close SILO GRAIN, find SILO GRAIN, forget SILO GRAIN, offer SILO GRAIN SILO, deliver LETTER, lose LETTER, settle, owner HASH or show",
+            "a command is join SILO PLACE.., leave SILO, kill SILO, nudge SILO, see SILO VERSION, wake SILO GRAIN, close SILO GRAIN, find SILO GRAIN, forget SILO GRAIN, offer SILO GRAIN SILO, deliver LETTER, lose LETTER, settle, owner HASH, place SILO POLICY GRAIN, show or mail",
         ),
         (
             ScriptFault::WordCount,
-            "too few words or too many: a command is join SILO PLACE.., leave SILO, kill SILO, nudge SILO, see SILO VERSION, wake SILO GRAIN, close SILO GRAIN, find SILO GRAIN, forget SILO GRAIN, offer SILO GRAIN SILO, deliver LETTER, lose LETTER, settle, owner HASH or show",
+            "too few words or too many: a command is join SILO PLACE.., leave SILO, kill SILO, nudge SILO, see SILO VERSION, wake SILO GRAIN, close SILO GRAIN, find SILO GRAIN, forget SILO GRAIN, offer SILO GRAIN SILO, deliver LETTER, lose LETTER, settle, owner HASH, place SILO POLICY GRAIN, show or mail",
         ),
         (
             ScriptFault::Silo(SiloError::Shape),
@@ -227,6 +235,10 @@ fn words_of_faults(rt: HostRuntime) {
         (
             ScriptFault::NotANumber,
             "a version or the number of a letter is a number up to 18446744073709551615, a place or a hash one up to 4294967295, each in decimal digits without a leading zero",
+        ),
+        (
+            ScriptFault::UnknownPolicy,
+            "a policy is prefer_local, hash_based or least_held",
         ),
     ];
     for (fault, words) in table {
