@@ -1,2 +1,3 @@
 pub mod Performing
 pub mod Playing
+pub mod Telling

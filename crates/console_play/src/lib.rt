@@ -2,7 +2,9 @@
 #![tactic(auto)]
 
 mod cluster;
+mod letters;
 mod performing;
+mod placing;
 mod playing;
 mod showing;
 

@@ -9,6 +9,8 @@ ghost use Rattle.script_commands.specs.CommandModel.{command_of};
 ghost use Rattle.script_output.specs.Spaced.{BeginsWith};
 ghost use Rattle.console_play.specs.Performing.{Performs, TakesTurn, delivery_turn, event_turn, in_session};
 
+use crate::letters::tell_mail;
+use crate::placing::tell_place;
 use crate::showing::{show, tell_owner};
 use cluster_events::Event;
 use directory_core::World;
@@ -63,7 +65,13 @@ fn carry_out(
         Command::Happen(event) => happen(world, event, out),
         Command::Settle => settle(world, out),
         Command::Owner { hash } => tell_owner(alloc, world, *hash, out),
+        Command::Place {
+            silo,
+            policy,
+            grain,
+        } => tell_place(alloc, world, silo, *policy, grain, out),
         Command::Show => show(alloc, world, out),
+        Command::Mail => tell_mail(world, out),
     }
 }
 

@@ -530,6 +530,73 @@ range 2147483648+2147483648 10.0.0.2:1000@1 settled entries 1
     status: 0,
 };
 
+const LOST_LETTER: Row = Row {
+    script: "join 10.0.0.1:1000@1 0
+see 10.0.0.1:1000@1 1
+settle
+join 10.0.0.2:1000@1 2147483648
+see 10.0.0.1:1000@1 2
+see 10.0.0.2:1000@1 2
+settle
+wake 10.0.0.1:1000@1 user/n#3000000000
+lose 6
+mail
+nudge 10.0.0.1:1000@1
+settle
+deliver 6
+",
+    out: "view 1 joined 10.0.0.1:1000@1
+10.0.0.1:1000@1 sees 1 next sent 1..1
+delivered 1 query report sent 2..2
+delivered 2 report complete
+view 2 joined 10.0.0.2:1000@1
+10.0.0.1:1000@1 sees 2 next
+10.0.0.2:1000@1 sees 2 next sent 3..3
+delivered 3 ask page sent 4..4
+delivered 4 page installed sent 5..5
+delivered 5 done deleted
+started 10.0.0.1:1000@1!1 user/n#3000000000 sent 6..6
+lost 6
+1 query 10.0.0.1:1000@1 10.0.0.1:1000@1 1
+2 report 10.0.0.1:1000@1 10.0.0.1:1000@1 1
+3 ask 10.0.0.2:1000@1 10.0.0.1:1000@1 2
+4 page 10.0.0.1:1000@1 10.0.0.2:1000@1 2
+5 done 10.0.0.2:1000@1 10.0.0.1:1000@1 2
+nudged 10.0.0.1:1000@1 sent 7..7
+delivered 7 register registered sent 8..8
+delivered 8 registered firm
+refused 905
+",
+    status: 0,
+};
+
+const PLACE: Row = Row {
+    script: "join 10.0.0.1:1000@1 0
+see 10.0.0.1:1000@1 1
+settle
+join 10.0.0.2:1000@1 2147483648
+see 10.0.0.1:1000@1 2
+see 10.0.0.2:1000@1 2
+settle
+place 10.0.0.1:1000@1 hash_based user/q#5
+place 10.0.0.1:1000@1 prefer_local user/q#5
+",
+    out: "view 1 joined 10.0.0.1:1000@1
+10.0.0.1:1000@1 sees 1 next sent 1..1
+delivered 1 query report sent 2..2
+delivered 2 report complete
+view 2 joined 10.0.0.2:1000@1
+10.0.0.1:1000@1 sees 2 next
+10.0.0.2:1000@1 sees 2 next sent 3..3
+delivered 3 ask page sent 4..4
+delivered 4 page installed sent 5..5
+delivered 5 done deleted
+place user/q#5 10.0.0.2:1000@1
+place user/q#5 10.0.0.1:1000@1
+",
+    status: 0,
+};
+
 #[test]
 fn rows_of_several_silos(rt: HostRuntime) {
     for row in [
@@ -546,6 +613,8 @@ fn rows_of_several_silos(rt: HostRuntime) {
         OFFER_HELD,
         OFFER_AFTER_DEREGISTER,
         NO_REPORT_OF_A_SKIPPED_VERSION,
+        LOST_LETTER,
+        PLACE,
     ] {
         check_row(&rt, rt.alloc(), row);
     }
