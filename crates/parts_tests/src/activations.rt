@@ -1,7 +1,6 @@
-//! A silo as the host of activations, in a form that any one refusal of an allocation leaves true: what a refused call left is as
-//! it was, and the call made again gives its result. `rt try --test --fail-alloc N` refuses each test its Nth allocation.
-use crate::samples::{copy_of, grain, silo};
-use directory_rules::{Act, Held, Phase, Settings};
+//! A silo as the host of activations.
+use crate::samples::{grain, silo};
+use directory_rules::{Act, Phase, Settings};
 use hash_ring::Hashing;
 use host_activations::Host;
 use ring_range::RingRange;
@@ -23,14 +22,11 @@ fn new_host(rt: &impl Abort, alloc: Global) -> Host {
 }
 
 fn start(rt: &impl Abort, host: &mut Host, text: &str, previous: Option<ActivationId>) {
-    let (grain, before) = (grain(rt, text), copy_of(rt, host));
+    let grain = grain(rt, text);
     assert!(rt; host.held(&grain).is_none());
     assert!(rt; host.next_number() <= LAST);
     assert!(rt; host.next_count() <= LAST);
-    if host.start(grain, previous).is_err() {
-        assert!(rt; host.same(&before));
-        host.start(grain, previous).expect(rt, "memory");
-    }
+    host.start(grain, previous).expect(rt, "memory");
 }
 
 fn close(rt: &impl Abort, host: &mut Host, text: &str) {
@@ -38,56 +34,19 @@ fn close(rt: &impl Abort, host: &mut Host, text: &str) {
     let held = host.held(&grain).expect(rt, "an activation");
     assert!(rt; held.phase == Phase::Firm);
     assert!(rt; host.next_number() <= LAST);
-    let before = copy_of(rt, host);
-    if host.begin_to_close(&grain).is_err() {
-        assert!(rt; host.same(&before));
-        host.begin_to_close(&grain).expect(rt, "memory");
-    }
+    host.begin_to_close(&grain).expect(rt, "memory");
 }
 
 fn ask(rt: &impl Abort, host: &mut Host, text: &str) {
     assert!(rt; host.next_number() <= LAST);
-    let (grain, before) = (grain(rt, text), copy_of(rt, host));
-    if host.ask(grain).is_err() {
-        assert!(rt; host.same(&before));
-        host.ask(grain).expect(rt, "memory");
-    }
+    host.ask(grain(rt, text)).expect(rt, "memory");
 }
 
 fn renew(rt: &impl Abort, alloc: Global, host: &mut Host) {
     assert!(rt; host.next_number() <= 1_000);
     assert!(rt; host.outstanding_count() <= 1_000);
-    if let Ok(renewal) = host.renewal(alloc) {
-        host.renew(renewal);
-        return;
-    }
     let renewal = host.renewal(alloc).expect(rt, "memory");
     host.renew(renewal);
-}
-
-// What is outstanding, told again where memory was refused.
-fn requests_of(rt: &impl Abort, alloc: Global, host: &Host) -> Vec<(u64, Act)> {
-    match host.requests(alloc) {
-        Ok(requests) => requests,
-        Err(_) => host.requests(alloc).expect(rt, "memory"),
-    }
-}
-
-fn activations_of(rt: &impl Abort, alloc: Global, host: &Host) -> Vec<(GrainId, Held)> {
-    match host.activations(alloc) {
-        Ok(activations) => activations,
-        Err(_) => host.activations(alloc).expect(rt, "memory"),
-    }
-}
-
-fn firm_of(rt: &impl Abort, alloc: Global, host: &Host, range: &RingRange) -> Vec<Entry> {
-    match host.firm_entries(alloc, Hashing::Sha256, range) {
-        Ok(firm) => firm,
-        Err(_) => {
-            let firm = host.firm_entries(alloc, Hashing::Sha256, range);
-            firm.expect(rt, "memory")
-        }
-    }
 }
 
 // A host whose activation of ANN asks under 1, that of BOB, in the place of another, under 2, and whose find of CID has 3.
@@ -154,7 +113,7 @@ fn entry(grain: GrainId, silo: SiloAddress, count: u64) -> Entry {
 #[test]
 fn requests_are_told_by_number(rt: HostRuntime) {
     let host = three_requests(&rt, rt.alloc());
-    let requests = requests_of(&rt, rt.alloc(), &host);
+    let requests = host.requests(rt.alloc()).expect(&rt, "memory");
     let wanted = three_acts(&rt);
     let mut number = 0u64;
     for ((its, act), want) in requests.iter().zip(wanted.iter()) {
@@ -186,7 +145,7 @@ fn renewal_keeps_the_order(rt: HostRuntime) {
     let mut host = three_requests(&rt, rt.alloc());
     host.confirm(1);
     close(&rt, &mut host, ANN);
-    let before = copy_of(&rt, &host);
+    let before = host.copy().expect(&rt, "memory");
     renew(&rt, rt.alloc(), &mut host);
     assert!(rt; !host.same(&before));
     assert!(rt; host.next_number() == 8 && host.outstanding_count() == 3);
@@ -214,7 +173,7 @@ fn activations_are_told_as_they_began(rt: HostRuntime) {
 
 // Whether the host has just the activations of these grains, which began in this order.
 fn begin_in_order(rt: &impl Abort, alloc: Global, host: &Host, grains: &[&str]) -> bool {
-    let activations = activations_of(rt, alloc, host);
+    let activations = host.activations(alloc).expect(rt, "memory");
     if activations.len() != grains.len() {
         return false;
     }
@@ -242,7 +201,8 @@ fn one_that_ends_leaves_the_order_of_the_others(rt: HostRuntime) {
 fn firm_activations_are_told_by_grain(rt: HostRuntime) {
     let host = two_firm(&rt, rt.alloc());
     let circle = RingRange::new(0, 4_294_967_296).expect(&rt, "the circle");
-    let firm = firm_of(&rt, rt.alloc(), &host, &circle);
+    let firm = host.firm_entries(rt.alloc(), Hashing::Sha256, &circle);
+    let firm = firm.expect(&rt, "memory");
     let silo = silo(&rt, "10.0.0.1:1000@1");
     let wanted = [
         entry(grain(&rt, ANN), silo, 2),

@@ -1,5 +1,4 @@
-//! A cache of hints, in a form that any one refusal of an allocation leaves true: what a refused call left is as it was, and the
-//! call made again gives its result. `rt try --test --fail-alloc N` refuses each test its Nth allocation.
+//! A cache of hints.
 use crate::samples::{A, B, entry, grain, joined, silo, view};
 use lookup_cache::{Cache, CacheError};
 use std::alloc::Global;

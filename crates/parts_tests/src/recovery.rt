@@ -1,6 +1,4 @@
-//! A recovery of a range, and the reports that it takes, in a form that any one refusal of an allocation leaves true: what a
-//! refused call left is as it was, and the call made again gives its result. `rt try --test --fail-alloc N` refuses each test its
-//! Nth allocation.
+//! A recovery of a range, and the reports that it takes.
 use crate::samples::{A, B, C, DEAD, entry, joined, range, silo, view};
 use grain_table::Table;
 use hash_ring::Hashing;
@@ -20,22 +18,10 @@ const VERSION: u64 = 5;
 // Of three silos, beside one that is Dead in the view.
 fn recovery(rt: &impl Abort, alloc: Global) -> Recovery {
     let mut views = joined(rt, alloc, &[C, DEAD, A, B]);
-    if views.declare_dead(&silo(rt, DEAD)).is_err() {
-        views.declare_dead(&silo(rt, DEAD)).expect(rt, "a death");
-    }
-    let (seen, range) = (view(rt, alloc, &views, VERSION), range(rt, UPPER_HALF));
-    match Recovery::new(alloc, Hashing::Sha256, &seen, range) {
-        Ok(made) => made,
-        Err(_) => Recovery::new(alloc, Hashing::Sha256, &seen, range).expect(rt, "memory"),
-    }
-}
-
-// A copy, made again if memory runs out at the first.
-fn copy_of(rt: &impl Abort, recovery: &Recovery) -> Recovery {
-    match recovery.copy() {
-        Ok(copy) => copy,
-        Err(_) => recovery.copy().expect(rt, "memory"),
-    }
+    views.declare_dead(&silo(rt, DEAD)).expect(rt, "a death");
+    let seen = view(rt, alloc, &views, VERSION);
+    let made = Recovery::new(alloc, Hashing::Sha256, &seen, range(rt, UPPER_HALF));
+    made.expect(rt, "memory")
 }
 
 // A silo's report of entries: of these grains, on its own activations of these counts.
@@ -43,9 +29,7 @@ fn report(rt: &impl Abort, alloc: Global, text: &str, grains: &[(&str, u64)]) ->
     let mut entries: Vec<Entry> = Vec::new(alloc);
     for (grain, count) in grains {
         let entry = entry(rt, (grain, text, *count));
-        if entries.push(entry).is_err() {
-            entries.push(entry).expect(rt, "memory");
-        }
+        entries.push(entry).expect(rt, "memory");
     }
     Report::new(VERSION, range(rt, UPPER_HALF), silo(rt, text), entries)
 }
@@ -60,21 +44,12 @@ fn check_taken(
 ) {
     let report = report(rt, alloc, text, grains);
     assert!(rt; recovery.judge(&report) == want, "{text} judged");
-    let before = copy_of(rt, recovery);
-    let mut taken = recovery.take(&report);
-    if taken == Err(RecoveryError::OutOfMemory) {
-        assert!(rt; recovery.same(&before), "{text} refused");
-        taken = recovery.take(&report);
-    }
-    assert!(rt; taken == want, "{text} taken");
+    assert!(rt; recovery.take(&report) == want, "{text} taken");
 }
 
 // The counts of the activations that were gathered, by grain.
 fn check_counts(rt: &impl Abort, alloc: Global, gathered: &Table, want: &[u64]) {
-    let entries = match gathered.in_order(alloc) {
-        Ok(entries) => entries,
-        Err(_) => gathered.in_order(alloc).expect(rt, "memory"),
-    };
+    let entries = gathered.in_order(alloc).expect(rt, "memory");
     assert!(rt; entries.len() == want.len());
     for (entry, count) in entries.iter().zip(want) {
         assert!(rt; entry.activation.count == *count);
@@ -88,12 +63,9 @@ fn a_new_recovery(rt: HostRuntime) {
     assert!(rt; recovery.version() == VERSION);
     assert!(rt; recovery.range().same(&range(&rt, UPPER_HALF)));
     assert!(rt; recovery.gathered().len() == 0);
-    let awaiting = match recovery.awaiting(rt.alloc()) {
-        Ok(awaiting) => awaiting,
-        Err(_) => recovery.awaiting(rt.alloc()).expect(&rt, "memory"),
-    };
+    let awaiting = recovery.awaiting(rt.alloc()).expect(&rt, "memory");
     assert!(rt; awaiting.as_slice() == &[silo(&rt, A), silo(&rt, B), silo(&rt, C)][..]);
-    let copy = copy_of(&rt, &recovery);
+    let copy = recovery.copy().expect(&rt, "memory");
     assert!(rt; copy.same(&recovery));
 }
 
@@ -125,10 +97,7 @@ fn a_report(rt: HostRuntime) {
     assert!(rt; report.range().same(&range(&rt, UPPER_HALF)));
     assert!(rt; report.silo() == silo(&rt, A));
     assert!(rt; report.entries().len() == 2);
-    let copy = match report.copy() {
-        Ok(copy) => copy,
-        Err(_) => report.copy().expect(&rt, "memory"),
-    };
+    let copy = report.copy().expect(&rt, "memory");
     assert!(rt; copy.same(&report));
 }
 

@@ -1,6 +1,6 @@
 //! What a host reports of a range, in a form that any one refusal of an allocation leaves true: a call that is refused is made
 //! again. `rt try --test --fail-alloc N` refuses each test its Nth allocation.
-use crate::samples::{copy_of, grain, silo};
+use crate::samples::{grain, silo};
 use hash_ring::Hashing;
 use host_activations::Host;
 use ring_range::RingRange;
@@ -19,6 +19,13 @@ const HIGH: &str = "user/high#4294967290";
 
 fn new_host(rt: &impl Abort, alloc: Global) -> Host {
     Host::new(alloc, silo(rt, "10.0.0.1:1000@1"), Hashing::Stated)
+}
+
+fn copy_of(rt: &impl Abort, host: &Host) -> Host {
+    match host.copy() {
+        Ok(copy) => copy,
+        Err(_) => host.copy().expect(rt, "memory"),
+    }
 }
 
 fn entries_of(rt: &impl Abort, alloc: Global, host: &Host, range: &RingRange) -> Vec<Entry> {

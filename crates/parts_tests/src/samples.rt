@@ -1,5 +1,4 @@
-//! Values by their texts, and copies, for the tests.
-use host_activations::Host;
+//! Values by their texts, for the tests.
 use membership_view::{View, Views};
 use ring_range::RingRange;
 use silo_address::{ActivationId, Entry, GrainId, SiloAddress};
@@ -34,30 +33,17 @@ pub(crate) fn entry(rt: &impl Abort, (of, on, count): (&str, &str, u64)) -> Entr
     Entry { grain, activation }
 }
 
-// The views in which these silos join one after another, again where memory was refused.
+// The views in which these silos join one after another.
 pub(crate) fn joined(rt: &impl Abort, alloc: Global, texts: &[&str]) -> Views {
     let mut views = Views::new(alloc, 256);
     for text in texts {
-        if views.join(silo(rt, text)).is_err() {
-            views.join(silo(rt, text)).expect(rt, "a join");
-        }
+        views.join(silo(rt, text)).expect(rt, "a join");
     }
     views
 }
 
 // The view of a version that was made.
 pub(crate) fn view(rt: &impl Abort, alloc: Global, views: &Views, version: u64) -> View {
-    let made = match views.view(alloc, version) {
-        Ok(made) => made,
-        Err(_) => views.view(alloc, version).expect(rt, "memory"),
-    };
+    let made = views.view(alloc, version).expect(rt, "memory");
     made.expect(rt, "this version was made")
-}
-
-// A copy of the host, made again if memory runs out at the first.
-pub(crate) fn copy_of(rt: &impl Abort, host: &Host) -> Host {
-    match host.copy() {
-        Ok(copy) => copy,
-        Err(_) => host.copy().expect(rt, "memory"),
-    }
 }
