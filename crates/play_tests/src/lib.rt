@@ -13,8 +13,14 @@ mod fakes;
 #[cfg(test)]
 mod limits;
 #[cfg(test)]
+mod offers;
+#[cfg(test)]
+mod owners;
+#[cfg(test)]
 mod plays;
 #[cfg(test)]
-mod rows;
+mod ranges;
 #[cfg(test)]
-mod several_silos;
+mod requests;
+#[cfg(test)]
+mod rows;
