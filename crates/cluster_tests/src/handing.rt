@@ -1,13 +1,17 @@
-//! A range is handed over between two nodes that exchange letters by hand.
+//! A range is handed over between two nodes that exchange letters by hand, in a form that any one refusal of an allocation leaves
+//! true: a call that is refused leaves the node as it was, and is made again. `rt try --test --fail-alloc N` refuses each test its
+//! Nth allocation.
 ghost use Rattle.std.specs.Prelude.{◌≤◌};
 ghost use Rattle.directory_node.specs.InputModel.{input_of};
 ghost use Rattle.directory_node.specs.Placed.{IsPlaced};
+ghost use Rattle.directory_node.specs.Planning.{Fits};
 
+use crate::nodes::check_placed;
 use directory_letters::{Body, Letter};
-use directory_node::{Input, Node};
+use directory_node::{Input, Node, Plan};
 use directory_rules::{Effect, Settings};
 use hash_ring::{Hashing, Places};
-use membership_view::Views;
+use membership_view::{View, Views};
 use range_recovery::Report;
 use ring_range::RingRange;
 use seal_snapshot::Page;
@@ -16,103 +20,150 @@ use std::alloc::Global;
 use std::process::Abort;
 
 // The first silo has what comes after 10, the second one what comes after 2,000,000,000.
-fn first(rt: &impl Abort) -> SiloAddress {
+pub(crate) fn first(rt: &impl Abort) -> SiloAddress {
     SiloAddress::parse(b"10.0.0.1:1000@1").expect(rt, "a silo")
 }
 
-fn second(rt: &impl Abort) -> SiloAddress {
+pub(crate) fn second(rt: &impl Abort) -> SiloAddress {
     SiloAddress::parse(b"10.0.0.2:1000@1").expect(rt, "a silo")
 }
 
 // A grain of the range that the second silo takes over.
-fn moved(rt: &impl Abort) -> GrainId {
+pub(crate) fn moved(rt: &impl Abort) -> GrainId {
     GrainId::parse(b"user/ann#3000000000").expect(rt, "a grain")
 }
 
-fn joined(rt: &impl Abort, alloc: Global, silo: SiloAddress) -> Node {
+// The node of a silo that has joined.
+pub(crate) fn joined(rt: &impl Abort, alloc: Global, silo: SiloAddress) -> Node {
     let settings = Settings::of_directory(Hashing::Stated, 30, 16).expect(rt, "settings");
-    Node::new(alloc, settings, silo).expect(rt, "memory")
+    match Node::new(alloc, settings, silo) {
+        Ok(node) => node,
+        Err(_) => Node::new(alloc, settings, silo).expect(rt, "memory"),
+    }
 }
 
-// The first silo joins at version 1, the second one at version 2.
-fn views(rt: &impl Abort, alloc: Global) -> Views {
+// The first silo joins at version 1, the second one at version 2; nothing where memory was refused.
+fn views_if(rt: &impl Abort, alloc: Global) -> Option<Views> {
     let mut views = Views::new(alloc, 2);
-    views.join(first(rt)).expect(rt, "the first join");
-    views.join(second(rt)).expect(rt, "the second join");
-    views
+    views.join(first(rt)).ok()?;
+    views.join(second(rt)).ok()?;
+    Some(views)
+}
+
+fn views(rt: &impl Abort, alloc: Global) -> Views {
+    match views_if(rt, alloc) {
+        Some(views) => views,
+        None => views_if(rt, alloc).expect(rt, "two joins"),
+    }
+}
+
+fn view(rt: &impl Abort, alloc: Global, views: &Views, version: u64) -> View {
+    let view = match views.view(alloc, version) {
+        Ok(view) => view,
+        Err(_) => views.view(alloc, version).expect(rt, "memory"),
+    };
+    view.expect(rt, "the version")
+}
+
+// Each silo's place; nothing where memory was refused.
+fn places_if(rt: &impl Abort, alloc: Global) -> Option<Places> {
+    let mut places = Places::new(alloc, Hashing::Stated, 30).ok()?;
+    places.add(first(rt), &[10]).ok()?;
+    places.add(second(rt), &[2_000_000_000]).ok()?;
+    Some(places)
 }
 
 fn places(rt: &impl Abort, alloc: Global) -> Places {
-    let mut places = Places::new(alloc, Hashing::Stated, 30).expect(rt, "30 points");
-    places.add(first(rt), &[10]).expect(rt, "its place");
-    places
-        .add(second(rt), &[2_000_000_000])
-        .expect(rt, "its place");
-    places
+    match places_if(rt, alloc) {
+        Some(places) => places,
+        None => places_if(rt, alloc).expect(rt, "two places"),
+    }
 }
 
-// The node sees the version, as the next one; what it sends.
-fn sees(rt: &impl Abort, alloc: Global, node: &mut Node, version: u64) -> Vec<Letter>
+// The node sees the version; what it sends.
+pub(crate) fn sees(
+    rt: &impl Abort,
+    alloc: Global,
+    node: &mut Node,
+    version: u64,
+    effect: Effect,
+) -> Vec<Letter>
     requires { 1 ≤ version }
 {
     let views = views(rt, alloc);
-    let before = views.view(alloc, version - 1).expect(rt, "memory");
-    let before = before.expect(rt, "the version before");
-    let view = views.view(alloc, version).expect(rt, "memory");
-    let view = view.expect(rt, "the version");
+    let before = view(rt, alloc, &views, version - 1);
+    let view = view(rt, alloc, &views, version);
     let places = places(rt, alloc);
-    assert!(rt; places.has_active_of(&view) && places.has_active_of(&before));
+    check_placed(rt, alloc, node, &before, &view, &places);
     let input = Input::Sees {
         before: &before,
         view: &view,
         places: &places,
     };
-    does(rt, alloc, node, &input, Effect::Next)
+    does(rt, alloc, node, &input, effect)
 }
 
-// The node's own step; what it sends.
-fn does(
+// The plan of the node's step, made again where memory was refused.
+fn plan(rt: &impl Abort, alloc: Global, node: &Node, input: &Input<'_>) -> Plan
+    requires { IsPlaced node.now (input_of input.now) }
+    ensures { Fits result.change node.now }
+{
+    match node.plan(alloc, input) {
+        Ok(plan) => plan,
+        Err(_) => node.plan(alloc, input).expect(rt, "a plan"),
+    }
+}
+
+fn copy_of(rt: &impl Abort, node: &Node) -> Node {
+    match node.copy() {
+        Ok(copy) => copy,
+        Err(_) => node.copy().expect(rt, "memory"),
+    }
+}
+
+// The node takes a step; what it sends. Where memory is refused to it, it is as it was, and the step is made again.
+pub(crate) fn does(
     rt: &impl Abort,
     alloc: Global,
     node: &mut Node,
     input: &Input<'_>,
     effect: Effect,
 ) -> Vec<Letter>
-    requires { IsPlaced (input_of input.now) }
+    requires { IsPlaced node.old (input_of input.now) }
 {
-    let plan = node.plan(alloc, input).expect(rt, "a plan");
-    assert!(rt; plan.effect == effect);
-    node.carry_out(plan.change).expect(rt, "memory");
-    plan.letters
+    let first = plan(rt, alloc, node, input);
+    assert!(rt; first.effect == effect);
+    let before = copy_of(rt, node);
+    if node.carry_out(first.change).is_err() {
+        assert!(rt; node.same(&before));
+        let again = plan(rt, alloc, node, input);
+        node.carry_out(again.change).expect(rt, "memory");
+    }
+    first.letters
 }
 
 // The letter comes to the node; what it answers.
-fn takes(
+pub(crate) fn takes(
     rt: &impl Abort,
     alloc: Global,
     node: &mut Node,
     letter: &Letter,
     effect: Effect,
 ) -> Vec<Letter> {
-    let plan = node
-        .plan(alloc, &Input::Receives(letter))
-        .expect(rt, "a plan");
-    assert!(rt; plan.effect == effect);
-    node.carry_out(plan.change).expect(rt, "memory");
-    plan.letters
+    does(rt, alloc, node, &Input::Receives(letter), effect)
 }
 
 // The one letter that was sent.
-fn only(rt: &impl Abort, letters: Vec<Letter>) -> Letter {
+pub(crate) fn only(rt: &impl Abort, letters: Vec<Letter>) -> Letter {
     let mut letters = letters;
     assert!(rt; letters.len() == 1);
     letters.pop().expect(rt, "a letter")
 }
 
 // The first silo has the whole circle at version 1, and the moved grain is active on it.
-fn settled(rt: &impl Abort, alloc: Global) -> Node {
+pub(crate) fn settled(rt: &impl Abort, alloc: Global) -> Node {
     let mut node = joined(rt, alloc, first(rt));
-    let query = only(rt, sees(rt, alloc, &mut node, 1));
+    let query = only(rt, sees(rt, alloc, &mut node, 1, Effect::Next));
     let report = only(rt, takes(rt, alloc, &mut node, &query, Effect::Report));
     let letters = takes(rt, alloc, &mut node, &report, Effect::Complete);
     assert!(rt; letters.is_empty());
@@ -144,13 +195,13 @@ fn start(rt: &impl Abort, alloc: Global, node: &mut Node) {
 }
 
 // Both have seen version 2: the first silo has sealed what the second one, which asks for it, has now.
-fn handing(rt: &impl Abort, alloc: Global) -> (Node, Node, Letter) {
+pub(crate) fn handing(rt: &impl Abort, alloc: Global) -> (Node, Node, Letter) {
     let mut old = settled(rt, alloc);
-    let letters = sees(rt, alloc, &mut old, 2);
+    let letters = sees(rt, alloc, &mut old, 2, Effect::Next);
     assert!(rt; letters.is_empty());
     assert!(rt; old.shelf().snapshots().len() == 1);
     let mut new = joined(rt, alloc, second(rt));
-    let ask = only(rt, sees(rt, alloc, &mut new, 2));
+    let ask = only(rt, sees(rt, alloc, &mut new, 2, Effect::Next));
     (old, new, ask)
 }
 
@@ -199,17 +250,28 @@ fn page_in(letter: &Letter) -> Option<&Page> {
     }
 }
 
+// The entry alone, as a list; nothing where memory was refused.
+fn list_if(alloc: Global, entry: &Entry) -> Option<Vec<Entry>> {
+    let mut entries = Vec::new(alloc);
+    entries.push(*entry).ok()?;
+    Some(entries)
+}
+
+fn list_of(rt: &impl Abort, alloc: Global, entry: &Entry) -> Vec<Entry> {
+    match list_if(alloc, entry) {
+        Some(entries) => entries,
+        None => list_if(alloc, entry).expect(rt, "memory"),
+    }
+}
+
 // The page's letter with one entry in place of its own, the first silo's activation of that count.
 fn changed(rt: &impl Abort, alloc: Global, letter: &Letter, grain: GrainId, count: u64) -> Letter {
     let page = page_in(letter).expect(rt, "a page");
-    let mut entries = Vec::new(alloc);
     let activation = ActivationId {
         silo: first(rt),
         count,
     };
-    entries
-        .push(Entry { grain, activation })
-        .expect(rt, "memory");
+    let entries = list_of(rt, alloc, &Entry { grain, activation });
     let page = Page::new(
         page.version(),
         page.range(),
@@ -293,11 +355,8 @@ fn reported(
     grain: GrainId,
     silo: SiloAddress,
 ) -> Letter {
-    let mut entries = Vec::new(alloc);
     let activation = ActivationId { silo, count: 1 };
-    entries
-        .push(Entry { grain, activation })
-        .expect(rt, "memory");
+    let entries = list_of(rt, alloc, &Entry { grain, activation });
     let report = Report::new(2, range(rt), letter.from(), entries);
     Letter::new(letter.from(), letter.to(), 2, Body::Report(report))
 }

@@ -5,7 +5,11 @@
 #[cfg(test)]
 mod handing;
 #[cfg(test)]
+mod limits;
+#[cfg(test)]
 mod mails;
+#[cfg(test)]
+mod moving;
 #[cfg(test)]
 mod nodes;
 #[cfg(test)]

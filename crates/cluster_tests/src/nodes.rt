@@ -1,10 +1,10 @@
-ghost use Rattle.directory_node.specs.Placed.{IsPlaced};
+ghost use Rattle.directory_node.specs.Placed.{ArePlaced, IsPlaced};
 ghost use Rattle.directory_node.specs.InputModel.{input_of};
 
 use directory_letters::{Body, Letter};
 use directory_node::{Input, Node};
 use directory_rules::{Effect, Settings};
-use hash_ring::{Hashing, Places};
+use hash_ring::{Hashing, Places, Ring};
 use membership_view::{View, Views};
 use ring_range::RingRange;
 use silo_address::{GrainId, SiloAddress};
@@ -41,9 +41,28 @@ fn places(rt: &impl Abort, alloc: Global) -> Places {
     places
 }
 
+// What a sight asks: the places are those of the silos that are Active before it and after it, and the node's ring is by them.
+pub(crate) fn check_placed(
+    rt: &impl Abort,
+    alloc: Global,
+    node: &Node,
+    before: &View,
+    view: &View,
+    places: &Places,
+)
+    ensures { ArePlaced node.now before.now view.now places.now }
+{
+    assert!(rt; places.has_active_of(before) && places.has_active_of(view));
+    let own = match Ring::anew(alloc, node.view(), places) {
+        Ok(ring) => ring,
+        Err(_) => Ring::anew(alloc, node.view(), places).expect(rt, "a ring"),
+    };
+    assert!(rt; node.ring().same(&own));
+}
+
 // The step beside the node, and its plan carried out, say and leave the same: this effect, and one letter.
 fn check_plan(rt: &impl Abort, alloc: Global, node: &mut Node, input: &Input<'_>, effect: Effect)
-    requires { IsPlaced (input_of input.now) }
+    requires { IsPlaced node.old (input_of input.now) }
 {
     let stepped = node.step(alloc, input).expect(rt, "a step");
     let plan = node.plan(alloc, input).expect(rt, "a plan");
@@ -55,7 +74,7 @@ fn check_plan(rt: &impl Abort, alloc: Global, node: &mut Node, input: &Input<'_>
 
 // The number that refuses an input.
 fn refusal_of(rt: &impl Abort, alloc: Global, node: &Node, input: &Input<'_>) -> Option<u16>
-    requires { IsPlaced (input_of input.now) }
+    requires { IsPlaced node.now (input_of input.now) }
 {
     let refusal = node.plan(alloc, input).err();
     refusal.expect(rt, "a refusal").number()
@@ -67,7 +86,7 @@ fn recovering(rt: &impl Abort, alloc: Global) -> Node {
     let before = View::empty(alloc);
     let view = view(rt, alloc);
     let places = places(rt, alloc);
-    assert!(rt; places.has_active_of(&before) && places.has_active_of(&view));
+    check_placed(rt, alloc, &node, &before, &view, &places);
     let input = Input::Sees {
         before: &before,
         view: &view,

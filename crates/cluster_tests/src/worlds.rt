@@ -297,8 +297,11 @@ fn a_silo_comes_and_goes(rt: HostRuntime) {
 fn a_lost_letter(rt: HostRuntime) {
     let mut world = two_silos(&rt, rt.alloc());
     assert!(rt; world.least_deliverable() == Some(3));
+    assert!(rt; world.is_fresh(3) && world.least_fresh_to(&silo(&rt)) == Some(3));
+    assert!(rt; !world.is_fresh(1) && world.least_fresh_to(&second(&rt)).is_none());
     all_happen(&rt, &mut world, &[Event::Lose { number: 3 }]);
     assert!(rt; world.least_deliverable().is_none() && world.letter(3).is_none());
+    assert!(rt; !world.is_fresh(3) && world.least_fresh_to(&silo(&rt)).is_none());
     let deliver = Event::Deliver { number: 3 };
     is_refused(&rt, &mut world, &deliver, EventRefusal::NoSuchLetter, 905);
     let silo = second(&rt);

@@ -1,6 +1,6 @@
 mod Accepted
-mod Bytes
 mod NumberRows
+mod Numbers
 mod Refused
 mod Stops
 mod Walks

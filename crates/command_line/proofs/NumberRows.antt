@@ -86,3 +86,15 @@ has_with id how s values same (r ∷ rs) = go (bytes_eq r.id id) refl (has_with 
         → has_row id (cond b (more_values s values r ++ rs) (r ∷ with_values id how s values rs)) ≡ true
     go true is later = ap (λ b. b || has_row id rs) is
     go false is later = ap (λ b. b || has_row id (with_values id how s values rs)) is ∙ later
+
+-- values for any option leave the rows of the others
+pub still_has : (id name : Text) (how : Reading) (s : ValueSource) (values : List Text) (rows : List Row) → has_row id rows ≡ true
+    → has_row id (with_values name how s values rows) ≡ true
+still_has id name how s values [] has = absurd (true≢false (sym has))
+still_has id name how s values (r ∷ rs) has = go (bytes_eq r.id name) (bytes_eq r.id id) refl has (still_has id name how s values rs)
+  where
+    go : (b d : Bool) → bytes_eq r.id id ≡ d → (d || has_row id rs) ≡ true → (has_row id rs ≡ true → has_row id (with_values name how s values rs) ≡ true)
+        → has_row id (cond b (more_values s values r ++ rs) (r ∷ with_values name how s values rs)) ≡ true
+    go true d is here later = ap (λ b. b || has_row id rs) is ∙ here
+    go false true is here later = ap (λ b. b || has_row id (with_values name how s values rs)) is
+    go false false is here later = ap (λ b. b || has_row id (with_values name how s values rs)) is ∙ later here

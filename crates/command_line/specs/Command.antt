@@ -33,18 +33,26 @@ hashing_rule names = option_rule (codes "hashing") (parser.Names names) (codes "
 abbrev pub points_rule : Rule
 points_rule = option_rule (codes "points") (parser.Signed (pos 1) (pos 128)) (codes "30")
 
--- `play [--hashing NAME] [--points N]`
+-- `--cache`: a number from 1 to 65536, 1024 if it is left out
+abbrev pub cache_rule : Rule
+cache_rule = option_rule (codes "cache") (parser.Signed (pos 1) (pos 65536)) (codes "1024")
+
+-- `play [--hashing NAME] [--points N] [--cache N]`
 abbrev pub play_app : NameList → App
 play_app names =
-    with_rule (with_rule (new_app (codes "play")) (hashing_rule names)) points_rule
+    with_rule (with_rule (with_rule (new_app (codes "play")) (hashing_rule names)) points_rule) cache_rule
 
--- the program's name; a subcommand has to follow
+-- `check`, without options
+abbrev pub check_app : App
+check_app = new_app (codes "check")
+
+-- the program's name, and that it tells its version; a subcommand has to follow
 abbrev pub bare_app : App
-bare_app = on_top (λ shape. record shape { subcommand_required = true }) (new_app (codes "grain-directory"))
+bare_app = on_top (λ shape. record shape { subcommand_required = true; has_version = true }) (new_app (codes "grain-directory"))
 
 -- the whole command: one more `with_subcommand` for each subcommand
 abbrev pub app : NameList → App
-app names = with_subcommand bare_app (play_app names).top
+app names = with_subcommand (with_subcommand bare_app (play_app names).top) check_app.top
 
 -- what holds of the command, whose names stand where some reference of the code points
 abbrev pub OfCommand : (App → Type 0) → Type 0

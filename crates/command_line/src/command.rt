@@ -2,11 +2,14 @@ ghost use Rattle.std.specs.Prelude.{◌≡◌, IfOk, codes, false};
 ghost use Rattle.clap.specs.Walk.{rule_of, texts};
 ghost use Rattle.clap.specs.Simple.{app_of};
 ghost use Rattle.clap.specs.declared.builder.command.Command.TheViews.{out-Command};
-ghost use Rattle.command_line.specs.Command.{OfCommand, option_rule, play_app, points_rule, hashing_rule, hashing_names, NameList};
+ghost use Rattle.command_line.specs.Command.{OfCommand, check_app, option_rule, play_app, points_rule, cache_rule, hashing_rule, hashing_names, NameList};
 
 use clap::builder::ValueParser;
 use clap::{Arg, ArgAction, Command, value_parser};
 use std::alloc::{AllocError, Global};
+
+/// The program's version.
+const VERSION: &str = "0.1.0";
 
 static HASHINGS: [&str; 2] = ["sha256", "stated"];
 
@@ -16,12 +19,14 @@ pub(crate) fn grain_directory<'a>(alloc: Global) -> Result<Command<'a>, AllocErr
 {
     Command::new(alloc, "grain-directory")
         .about("A directory of grains on a cluster of silos, played from a script")
+        .version(VERSION)
         .bin_name("grain-directory")?
         .subcommand_required(true)
-        .subcommand(play(alloc)?)
+        .subcommand(play(alloc)?)?
+        .subcommand(check(alloc))
 }
 
-// `play [--hashing NAME] [--points N]`.
+// `play [--hashing NAME] [--points N] [--cache N]`.
 fn play<'a>(alloc: Global) -> Result<Command<'a>, AllocError>
     ensures app { IfOk result (λ c. (names : NameList) × (texts names.now ≡ hashing_names) × (app_of c ≡ play_app names)) }
     ensures local { IfOk result (λ c. (out-Command c).has_globals ≡ false) }
@@ -29,7 +34,16 @@ fn play<'a>(alloc: Global) -> Result<Command<'a>, AllocError>
     Command::new(alloc, "play")
         .about("Play a cluster's script, read from standard input")
         .arg(hashing(alloc))?
-        .arg(points(alloc))
+        .arg(points(alloc))?
+        .arg(cache(alloc))
+}
+
+// `check`.
+fn check<'a>(alloc: Global) -> Command<'a>
+    ensures app { app_of result ≡ check_app }
+    ensures local { (out-Command result).has_globals ≡ false }
+{
+    Command::new(alloc, "check").about("Judge the dump of a cluster, read from standard input")
 }
 
 fn hashing<'a>(alloc: Global) -> Arg<'a>
@@ -46,9 +60,19 @@ fn points<'a>(alloc: Global) -> Arg<'a>
     ensures rule { rule_of result ≡ points_rule }
     ensures local { result.global ≡ false }
 {
-    let numbers = value_parser!(u8).range(1..=128);
+    let numbers = value_parser!(u32).range(1..=128);
     option(alloc, "points", "POINTS", numbers, "30").help(
         "How many points a silo has under sha256, from 1 to 128",
+    )
+}
+
+fn cache<'a>(alloc: Global) -> Arg<'a>
+    ensures rule { rule_of result ≡ cache_rule }
+    ensures local { result.global ≡ false }
+{
+    let numbers = value_parser!(u32).range(1..=65536);
+    option(alloc, "cache", "CACHE", numbers, "1024").help(
+        "How many hints a silo's cache keeps, from 1 to 65536",
     )
 }
 

@@ -1,5 +1,5 @@
 ghost use Rattle.std.specs.Prelude.{◌≡◌, ◌↔◌, IsTrue};
-ghost use Rattle.command_line.specs.Refusal.{IsHelp};
+ghost use Rattle.command_line.specs.Refusal.{IsAnswer};
 ghost use Rattle.command_line.specs.declared.error.LineError.TheVariants.{OutOfMemory};
 
 use clap::error::ErrorKind;
@@ -9,7 +9,7 @@ use thiserror::Error;
 /// Why a command line is not carried out.
 #[derive(Debug, Drop, Error)]
 pub enum LineError {
-    /// The words ask for help, or are not a line of the program; the text is for the user.
+    /// The words ask for help or for the version, or are not a line of the program; the text is for the user.
     #[error("{0}")]
     Usage(clap::Error),
     /// Memory ran out.
@@ -18,12 +18,15 @@ pub enum LineError {
 }
 
 impl LineError {
-    /// Whether the words asked for help (`--help`, `-h`, `help`), which is no mistake.
-    pub fn is_help(&self) -> bool
-        ensures { IsTrue result ↔ IsHelp self.now }
+    /// Whether the words asked for help (`--help`, `-h`, `help`) or for the version (`--version`, `-V`), which is no mistake.
+    pub fn is_request(&self) -> bool
+        ensures { IsTrue result ↔ IsAnswer self.now }
     {
         match self {
-            LineError::Usage(error) => matches!(error.kind(), ErrorKind::DisplayHelp),
+            LineError::Usage(error) => matches!(
+                error.kind(),
+                ErrorKind::DisplayHelp | ErrorKind::DisplayVersion
+            ),
             LineError::OutOfMemory => false,
         }
     }

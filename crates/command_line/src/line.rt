@@ -2,7 +2,7 @@ ghost use Rattle.std.specs.Prelude.{◌≡◌, IfOk, map, option_and_then};
 ghost use Rattle.clap.specs.Matches.{found_of};
 ghost use Rattle.clap.specs.Walk.{rows_of};
 ghost use Rattle.clap.specs.Simple.{subcommand_rows_of};
-ghost use Rattle.command_line.specs.Line.{HasPoints, Reads, hashing_named, hashing_of, line_in, points_of};
+ghost use Rattle.command_line.specs.Line.{IsInRange, Reads, hashing_named, hashing_of, line_in, number_of};
 ghost use Rattle.command_line.specs.Refusal.{Refuses};
 
 use crate::LineError;
@@ -22,15 +22,19 @@ pub enum Line {
         hashing: Hashing,
         /// How many points a silo has under `Hashing::Sha256`, from 1 to 128.
         points: usize,
+        /// How many hints a silo's cache keeps, from 1 to 65536.
+        cache: usize,
     },
+    /// Judge the dump that comes on standard input.
+    Check,
 }
 
 /// Reads a command line: its words as the system gives them, the program's name first.
 ///
-/// The error is what clap says of the words, be it a mistake or the help that they ask for, or that memory ran out.
+/// The error is what clap says of the words, be it a mistake, or the help or the version that they ask for, or that memory ran out.
 pub fn read_line<S: AsStr>(alloc: Global, words: &[S]) -> Result<Line, LineError>
     ensures reads { Reads (map S.text words.entry.now) result }
-    ensures points { IfOk result HasPoints }
+    ensures in_range { IfOk result IsInRange }
 {
     let command = grain_directory(alloc)?;
     match command.try_get_matches_from(words) {
@@ -60,8 +64,10 @@ fn line_in(matches: &ArgMatches<'_>) -> Option<Line>
     match name {
         "play" => Some(Line::Play {
             hashing: hashing_of(settings),
-            points: points_of(settings),
+            points: number_of(settings, "points") as usize,
+            cache: number_of(settings, "cache") as usize,
         }),
+        "check" => Some(Line::Check),
         _ => None,
     }
 }
@@ -85,8 +91,9 @@ fn hashing_named(name: &str) -> Hashing
     }
 }
 
-fn points_of(settings: &ArgMatches<'_>) -> usize
-    ensures { result ≡ points_of (rows_of (found_of settings.now)) }
+// The number that an option has.
+fn number_of(settings: &ArgMatches<'_>, option: &str) -> u32
+    ensures { result ≡ number_of option.now (rows_of (found_of settings.now)) }
 {
-    usize::from(settings.get_one::<u8>("points").unwrap_or(0))
+    settings.get_one::<u32>(option).unwrap_or(0)
 }

@@ -1,30 +1,37 @@
 -- What the program does with the words of its command line.
-use Rattle.std.specs.Prelude.{◌≡◌, ◌≢◌, ℕ, List, Option, IfSome}
+use Rattle.std.specs.Prelude.{◌≡◌, ℕ, List, Option, IfSome}
 use Rattle.std.specs.Io.KnownBytes.{Appends}
 use Rattle.clap.specs.Walk.{Text}
 use Rattle.clap.specs.declared.error.kind.ErrorKind.{ErrorKind}
-use Rattle.clap.specs.declared.error.kind.ErrorKind.TheVariants.{DisplayHelp}
 use Rattle.directory_rules.specs.Settings.{directory_settings}
 use Rattle.directory_rules.specs.World.{first_world}
 use Rattle.script_loop.specs.Endings.{Ends}
 use Rattle.script_loop.specs.declared.ended.Ended.{Ended}
-use Rattle.console_play.specs.Playing.{lines_played, usual_cache}
-use Rattle.command_line.specs.Line.{AskFor, HaveFault}
+use Rattle.console_play.specs.Playing.{lines_played}
+use Rattle.console_check.specs.Checks.{Checks}
+use Rattle.console_check.specs.declared.checked.Checked.{Checked}
+use Rattle.command_line.specs.Line.{AskFor, AskToBeTold, HaveFault}
+use Rattle.command_line.specs.Refusal.{IsRequest}
 use Rattle.command_line.specs.declared.line.Line.{Line}
-use Rattle.command_line.specs.declared.line.Line.TheVariants.{Play}
+use Rattle.command_line.specs.declared.line.Line.TheVariants.{Play, Check}
 use Rattle.console_command.specs.declared.exit.Exit.{Exit}
-use Rattle.console_command.specs.declared.exit.Exit.TheVariants.{Played, Helped, HelpBroken, Refused, OutOfMemory}
+use Rattle.console_command.specs.declared.exit.Exit.TheVariants.{Played, Checked as CheckedDump, Answered, AnswerBroken, Refused, OutOfMemory}
 
 -- what the source has left, and what the sink of the output has
 pub record Streams : Type 0 where
   pub rest : Option (List ℕ)
   pub output : Option (List ℕ)
 
--- the source's script is played to a new cluster, with the hashing and the points of the line
+-- the source's script is played to a new cluster, with the settings of the line
 abbrev pub Plays : Line → (old new : Streams) → Ended → Type 0
-Plays (Play hashing points) old new ended = IfSome old.rest (λ script.
-    Ends script (lines_played (first_world (directory_settings hashing points usual_cache)) 1)
+Plays (Play hashing points cache) old new ended = IfSome old.rest (λ script.
+    Ends script (lines_played (first_world (directory_settings hashing points cache)) 1)
     new.rest old.output new.output ended)
+Plays Check old new ended = ⊥
+
+-- the source's dump is judged
+abbrev pub ChecksDump : (old new : Streams) → Checked → Type 0
+ChecksDump old new checked = IfSome old.rest (λ dump. Checks dump new.rest old.output new.output checked)
 
 -- nothing is read, and something is written to the output
 abbrev pub Prints : (old new : Streams) → Type 0
@@ -33,7 +40,8 @@ Prints old new = (new.rest ≡ old.rest) × ((text : List ℕ) × Appends old.ou
 -- what the words ask for is done; where they are a mistake, or memory runs out, nothing is read and nothing written to the output
 abbrev pub Does : (words : List Text) → (old new : Streams) → Exit → Type 0
 Does words old new (Played ended) = (line : Line) × AskFor words line × Plays line old new ended
-Does words old new Helped = HaveFault words DisplayHelp × Prints old new
-Does words old new HelpBroken = HaveFault words DisplayHelp × Prints old new
-Does words old new Refused = (kind : ErrorKind) × HaveFault words kind × (kind ≢ DisplayHelp) × (new ≡ old)
+Does words old new (CheckedDump checked) = AskFor words Check × ChecksDump old new checked
+Does words old new Answered = AskToBeTold words × Prints old new
+Does words old new AnswerBroken = AskToBeTold words × Prints old new
+Does words old new Refused = (kind : ErrorKind) × HaveFault words kind × (¬ (IsRequest kind)) × (new ≡ old)
 Does words old new OutOfMemory = new ≡ old

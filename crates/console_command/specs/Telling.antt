@@ -9,12 +9,18 @@ use Rattle.script_loop.specs.Sending.{WritesFront}
 use Rattle.script_loop.specs.declared.ended.Ended.{Ended}
 use Rattle.script_loop.specs.declared.ended.Ended.TheVariants as ended
 use Rattle.script_loop.specs.declared.ended.LineFault.{LineFault}
+use Rattle.console_check.specs.declared.checked.Checked.{Checked as Check}
+use Rattle.console_check.specs.declared.checked.Checked.TheVariants as checked
 use Rattle.console_command.specs.declared.exit.Exit.{Exit}
-use Rattle.console_command.specs.declared.exit.Exit.TheVariants.{Played, Refused, OutOfMemory}
+use Rattle.console_command.specs.declared.exit.Exit.TheVariants.{Played, Checked, AnswerBroken, Refused, OutOfMemory}
 
 -- memory ran out
 abbrev pub out_of_memory : List ℕ
 out_of_memory = printed (codes "error: out of memory")
+
+-- a read or a write failed
+abbrev pub failed_call : List ℕ
+failed_call = printed (codes "error: a read or a write failed")
 
 -- the line of that number has a fault, in these words
 abbrev pub fault_text : (line : ℕ) → (words : List ℕ) → List ℕ
@@ -30,11 +36,21 @@ TellsEnd ended.Played text = text ≡ []
 TellsEnd (ended.Faulted fault) text = TellsFault fault text
 TellsEnd ended.TooLong text = text ≡ printed (codes "error: the script has more than 268435456 bytes")
 TellsEnd ended.OutOfMemory text = text ≡ out_of_memory
-TellsEnd ended.Broken text = text ≡ printed (codes "error: a read or a write failed")
+TellsEnd ended.Broken text = text ≡ failed_call
 
--- what the program's end tells: of a mistake clap's words, of help nothing
+-- what a check's end tells: nothing where the dump was judged
+abbrev pub TellsCheck : Check → (text : List ℕ) → Type 0
+TellsCheck checked.Right text = text ≡ []
+TellsCheck checked.Faulty text = text ≡ []
+TellsCheck checked.TooLong text = text ≡ printed (codes "error: the dump has more than 268435456 bytes")
+TellsCheck checked.OutOfMemory text = text ≡ out_of_memory
+TellsCheck checked.Broken text = text ≡ failed_call
+
+-- what the program's end tells: of a mistake clap's words, of an answer nothing, unless it could not be written
 abbrev pub Tells : Exit → (text : List ℕ) → Type 0
 Tells (Played ended) text = TellsEnd ended text
+Tells (Checked ending) text = TellsCheck ending text
+Tells AnswerBroken text = text ≡ failed_call
 Tells Refused text = ⊤
 Tells OutOfMemory text = text ≡ out_of_memory
 Tells other text = text ≡ []

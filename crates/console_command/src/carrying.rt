@@ -1,26 +1,29 @@
 //! From the words of the command line to the exit.
 
-ghost use Rattle.std.specs.Prelude.{◌≡◌, List, [], ℕ, Option, Err, map};
+ghost use Rattle.std.specs.Prelude.{◌≡◌, List, ℕ, Option, Err, map};
 ghost use Rattle.clap.specs.Walk.{Text};
-ghost use Rattle.clap.specs.declared.error.kind.ErrorKind.TheVariants.{DisplayHelp};
-ghost use Rattle.command_line.specs.Line.{HasPoints, HaveFault, Reads};
+ghost use Rattle.command_line.specs.Line.{AskToBeTold, IsInRange, Reads};
+ghost use Rattle.command_line.specs.declared.line.Line.TheVariants.{Play};
 ghost use Rattle.script_loop.specs.Calls.{ReadFailed, WriteFailed};
 ghost use Rattle.script_loop.specs.Endings as play;
 ghost use Rattle.console_command.specs.Exits.{IsBrokenBy, exit_without_words};
 ghost use Rattle.console_command.specs.Running.{Does, Plays};
-ghost use Rattle.console_command.specs.Telling.{IsTold, Tells, Writes, told_without_words};
+ghost use Rattle.console_command.specs.Telling.{IsTold, Writes, told_without_words};
 
 use crate::Exit;
-use crate::telling::{tell, tell_end, tell_no_memory};
+use crate::telling::{tell, tell_check, tell_end, tell_failed_call, tell_no_memory};
 use command_line::{Line, LineError, read_line};
+use console_check::check;
 use console_play::play_to_new_cluster;
+use hash_ring::Hashing;
 use script_loop::{Ended, Sink, Source, send};
 use std::alloc::Global;
 use std::convert::AsStr;
 use std::io::ErrorKind;
 
-/// Does what the words of a command line ask for, the program's name first: plays the script that comes from the source, or
-/// prints help. What is wrong with the words, and what ends the script too early, is told to the sink of errors.
+/// Does what the words of a command line ask for, the program's name first: plays the script that comes from the source, judges the
+/// dump that does, or prints help or the version. What is wrong with the words, and what ends the script or the reading of the dump
+/// too early, is told to the sink of errors.
 pub fn carry_out<S: AsStr, R: Source, W: Sink, E: Sink>(
     alloc: Global,
     words: &[S],
@@ -35,30 +38,47 @@ pub fn carry_out<S: AsStr, R: Source, W: Sink, E: Sink>(
     ensures told { IsTold (WriteFailed E.writes errors.new) result (E.contents errors.old) (E.contents errors.new) }
 {
     match read_line(alloc, words) {
-        Ok(line) => {
-            let ended = play(alloc, line, source, output);
+        Ok(
+            Line::Play {
+                hashing,
+                points,
+                cache,
+            },
+        ) => {
+            let ended = play(alloc, hashing, points, cache, source, output);
             tell_end(alloc, ended, errors);
             Exit::Played(ended)
+        }
+        Ok(Line::Check) => {
+            let checked = check(alloc, source, output);
+            tell_check(checked, errors);
+            Exit::Checked(checked)
         }
         Err(error) => explain(alloc, &error, output, errors),
     }
 }
 
-fn play<R: Source, W: Sink>(alloc: Global, line: Line, source: &mut R, output: &mut W) -> Ended
-    requires { HasPoints line }
-    ensures plays { Plays line
+fn play<R: Source, W: Sink>(
+    alloc: Global,
+    hashing: Hashing,
+    points: usize,
+    cache: usize,
+    source: &mut R,
+    output: &mut W,
+) -> Ended
+    requires { IsInRange (Play hashing points cache) }
+    ensures plays { Plays (Play hashing points cache)
         (record { rest = R.remaining source.old; output = W.contents output.old })
         (record { rest = R.remaining source.new; output = W.contents output.new }) result }
     ensures cause { play.IsBrokenBy (ReadFailed R.reads source.new) (WriteFailed W.writes output.new) result }
 {
-    let Line::Play { hashing, points } = line;
-    match play_to_new_cluster(alloc, hashing, points, source, output) {
+    match play_to_new_cluster(alloc, hashing, points, cache, source, output) {
         Some(ended) => ended,
         None => unreachable!(),
     }
 }
 
-// Prints the help that the words ask for, or tells what is wrong with them.
+// Prints the help or the version that the words ask for, or tells what is wrong with them.
 fn explain<W: Sink, E: Sink>(
     alloc: Global,
     error: &LineError,
@@ -77,26 +97,26 @@ fn explain<W: Sink, E: Sink>(
     let Ok(text) = error.to_string(alloc) else {
         return tell_no_memory(errors);
     };
-    if error.is_help() {
-        return help(text.as_str(), output);
+    if error.is_request() {
+        return answer(text.as_str(), output, errors);
     }
     tell(errors, text.as_bytes());
     Exit::Refused
 }
 
-// Prints help.
-fn help<W: Sink>(text: &str, output: &mut W) -> Exit
-    ensures does { (words : List Text) → HaveFault words DisplayHelp → (rest : Option (List ℕ)) → Does words
+// Prints what the words ask for.
+fn answer<W: Sink, E: Sink>(text: &str, output: &mut W, errors: &mut E) -> Exit
+    ensures does { (words : List Text) → AskToBeTold words → (rest : Option (List ℕ)) → Does words
         (record { rest = rest; output = W.contents output.old })
         (record { rest = rest; output = W.contents output.new }) result }
     ensures cause { IsBrokenBy ⊥ (WriteFailed W.writes output.new) result }
-    ensures silent { Tells result [] }
+    ensures told { IsTold (WriteFailed E.writes errors.new) result (E.contents errors.old) (E.contents errors.new) }
 {
     if send(output, text.as_bytes()) {
-        Exit::Helped
-    } else {
-        Exit::HelpBroken
+        return Exit::Answered;
     }
+    tell_failed_call(errors);
+    Exit::AnswerBroken
 }
 
 /// Tells that the words of the command line can't be had: memory ran out, or one of them isn't text.

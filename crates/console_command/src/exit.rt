@@ -1,6 +1,7 @@
 ghost use Rattle.std.specs.Prelude.{◌≡◌};
 ghost use Rattle.console_command.specs.Exits.{status_of};
 
+use console_check::Checked;
 use script_loop::Ended;
 
 /// How the program ends.
@@ -8,10 +9,12 @@ use script_loop::Ended;
 pub enum Exit {
     /// The script was played, up to its end or to what ended it before.
     Played(Ended),
-    /// The words asked for help, which is written.
-    Helped,
-    /// The words asked for help, and a write of it failed.
-    HelpBroken,
+    /// The dump was judged, or what ended it before.
+    Checked(Checked),
+    /// The words asked for help or for the version, which is written.
+    Answered,
+    /// The words asked for help or for the version, and a write of it failed.
+    AnswerBroken,
     /// The words are a mistake.
     Refused,
     /// Memory ran out before anything was read or written.
@@ -25,10 +28,11 @@ impl Exit {
     {
         match self {
             Exit::Played(ended) => ended.status(),
-            Exit::Helped => 0,
+            Exit::Checked(checked) => checked.status(),
+            Exit::Answered => 0,
             Exit::OutOfMemory => 3,
             Exit::Refused => 4,
-            Exit::HelpBroken => 5,
+            Exit::AnswerBroken => 5,
         }
     }
 }

@@ -2,9 +2,10 @@
 
 ghost use Rattle.std.specs.Prelude.{◌≡◌, List, ℕ, IfOk, string_bytes};
 ghost use Rattle.script_loop.specs.Calls.{WriteFailed};
-ghost use Rattle.console_command.specs.Telling.{IsTold, Writes, fault_text};
+ghost use Rattle.console_command.specs.Telling.{IsTold, Writes, failed_call, fault_text};
 
 use crate::Exit;
+use console_check::Checked;
 use script_loop::{Ended, LineFault, Sink, send};
 use std::alloc::{AllocError, Global};
 
@@ -17,7 +18,19 @@ pub(crate) fn tell_end<E: Sink>(alloc: Global, ended: Ended, errors: &mut E)
         Ended::Faulted(fault) => tell_fault(alloc, fault, errors),
         Ended::TooLong => tell(errors, b"error: the script has more than 268435456 bytes\n"),
         Ended::OutOfMemory => tell(errors, b"error: out of memory\n"),
-        Ended::Broken => tell(errors, b"error: a read or a write failed\n"),
+        Ended::Broken => tell_failed_call(errors),
+    }
+}
+
+/// Tells what ended a check too early; nothing where the dump was judged.
+pub(crate) fn tell_check<E: Sink>(checked: Checked, errors: &mut E)
+    ensures { IsTold (WriteFailed E.writes errors.new) (Exit.Checked checked) (E.contents errors.old) (E.contents errors.new) }
+{
+    match checked {
+        Checked::Right | Checked::Faulty => {}
+        Checked::TooLong => tell(errors, b"error: the dump has more than 268435456 bytes\n"),
+        Checked::OutOfMemory => tell(errors, b"error: out of memory\n"),
+        Checked::Broken => tell_failed_call(errors),
     }
 }
 
@@ -52,6 +65,13 @@ pub(crate) fn tell_no_memory<E: Sink>(errors: &mut E) -> Exit
 {
     tell(errors, b"error: out of memory\n");
     Exit::OutOfMemory
+}
+
+/// Tells that a read or a write failed.
+pub(crate) fn tell_failed_call<E: Sink>(errors: &mut E)
+    ensures { Writes (WriteFailed E.writes errors.new) failed_call (E.contents errors.old) (E.contents errors.new) }
+{
+    tell(errors, b"error: a read or a write failed\n");
 }
 
 /// Writes a text.

@@ -9,10 +9,6 @@ use Rattle.script_commands.specs.Known.{known_commands}
 use Rattle.script_loop.specs.Lines.{faulty_output, no_output}
 use Rattle.console_play.specs.Performing.{in_session}
 
--- how many hints a silo's cache keeps, unless a cluster is set up otherwise
-abbrev pub usual_cache : ℕ
-usual_cache = 1024
-
 -- the output of lines of known commands, the first of which has this number, from a world on
 abbrev pub lines_played : World → (number : ℕ) → (lines : List (List ℕ)) → Output
 lines_played world number lines = played known_commands number (in_session world) lines

@@ -2,10 +2,12 @@
 #![tactic(auto)]
 
 mod cluster;
+mod dumping;
 mod letters;
 mod performing;
 mod placing;
 mod playing;
 mod showing;
+mod syncing;
 
 pub use playing::{play, play_to_new_cluster};

@@ -9,9 +9,11 @@ ghost use Rattle.script_commands.specs.CommandModel.{command_of};
 ghost use Rattle.script_output.specs.Spaced.{BeginsWith};
 ghost use Rattle.console_play.specs.Performing.{Performs, TakesTurn, delivery_turn, event_turn, in_session};
 
+use crate::dumping::{tell_dump, tell_verdict};
 use crate::letters::tell_mail;
 use crate::placing::tell_place;
 use crate::showing::{show, tell_owner};
+use crate::syncing::sync;
 use cluster_events::Event;
 use directory_core::World;
 use script_commands::Command;
@@ -63,6 +65,7 @@ fn carry_out(
 {
     match command {
         Command::Happen(event) => happen(world, event, out),
+        Command::Sync => sync(alloc, world, out),
         Command::Settle => settle(world, out),
         Command::Owner { hash } => tell_owner(alloc, world, *hash, out),
         Command::Place {
@@ -72,6 +75,8 @@ fn carry_out(
         } => tell_place(alloc, world, silo, *policy, grain, out),
         Command::Show => show(alloc, world, out),
         Command::Mail => tell_mail(world, out),
+        Command::Dump => tell_dump(alloc, world, out),
+        Command::Check => tell_verdict(alloc, world, out),
     }
 }
 
@@ -84,14 +89,18 @@ fn happen(world: &mut World, event: &Event, out: &mut Vec<u8>) -> Result<(), All
     Ok(())
 }
 
-// The same of one event among others: whether it was accepted, so that what comes next may happen.
-fn take_turn(world: &mut World, event: &Event, out: &mut Vec<u8>) -> Result<bool, AllocError>
+/// The same of one event among others: whether it was accepted, so that what comes next may happen.
+pub(crate) fn take_turn(
+    world: &mut World,
+    event: &Event,
+    out: &mut Vec<u8>,
+) -> Result<bool, AllocError>
     ensures taken { IfOk result (TakesTurn (event_turn world.old (event_of event.now)) out.old.items world.new out.new.items) }
     ensures unwritten { OnErr result (out.new.items ≡ out.old.items) }
 {
-    match world.apply(event) {
+    match &world.apply(event) {
         Ok(outcome) => {
-            write_outcome(out, &outcome)?;
+            write_outcome(out, outcome)?;
             Ok(true)
         }
         Err(fault) => {

@@ -5,7 +5,7 @@ ghost use Rattle.directory_rules.specs.Settings.{directory_settings};
 ghost use Rattle.directory_rules.specs.World.{first_world};
 ghost use Rattle.script_loop.specs.Calls.{ReadFailed, WriteFailed};
 ghost use Rattle.script_loop.specs.Endings.{Ends, IsBrokenBy};
-ghost use Rattle.console_play.specs.Playing.{lines_played, usual_cache};
+ghost use Rattle.console_play.specs.Playing.{lines_played};
 
 use crate::cluster::Cluster;
 use directory_core::World;
@@ -14,26 +14,24 @@ use hash_ring::Hashing;
 use script_loop::{Ended, Sink, Source};
 use std::alloc::Global;
 
-// How many hints a silo's cache keeps, unless a cluster is set up otherwise.
-const USUAL_CACHE: usize = 1024;
-
-/// Plays a script to a new cluster, under a way of hashing, with a number of points, 1 to 128, and caches of 1024 hints: `None`
-/// where that number is out of its range, and nothing is read or written. The script comes from the reader up to its end, and
-/// what it prints goes to the writer (`docs/RULES.md#scripts`).
+/// Plays a script to a new cluster, under a way of hashing, with a number of points, 1 to 128, and of hints that a silo's cache
+/// keeps, 0 to 65536: `None` where one of them is out of its range, and nothing is read or written. The script comes from the
+/// reader up to its end, and what it prints goes to the writer (`docs/RULES.md#scripts`).
 pub fn play_to_new_cluster<R: Source, W: Sink>(
     alloc: Global,
     hashing: Hashing,
     points: usize,
+    cache: usize,
     reader: &mut R,
     writer: &mut W,
 ) -> Option<Ended>
-    ensures in_range { IsSome result ↔ ((1 ≤ points) × (points ≤ 128)) }
+    ensures in_range { IsSome result ↔ ((1 ≤ points) × (points ≤ 128) × (cache ≤ 65536)) }
     ensures ends { IfSome result (λ ended. IfSome (R.remaining reader.old) (λ script.
-        Ends script (lines_played (first_world (directory_settings hashing points usual_cache)) 1)
+        Ends script (lines_played (first_world (directory_settings hashing points cache)) 1)
         (R.remaining reader.new) (W.contents writer.old) (W.contents writer.new) ended)) }
     ensures cause { IfSome result (IsBrokenBy (ReadFailed R.reads reader.new) (WriteFailed W.writes writer.new)) }
 {
-    let settings = Settings::of_directory(hashing, points, USUAL_CACHE)?;
+    let settings = Settings::of_directory(hashing, points, cache)?;
     Some(play(alloc, World::new(alloc, settings), reader, writer))
 }
 

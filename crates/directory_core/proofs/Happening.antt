@@ -16,8 +16,7 @@ use Rattle.directory_rules.specs.Happens.{attempted, deliver, delivers, delivers
 use Rattle.directory_rules.specs.Receive.{received}
 use Rattle.directory_rules.specs.declared.Effect.{Effect}
 use Rattle.directory_node.specs.Follows.{RefusesBy}
-use Rattle.directory_node.specs.declared.plan.Plan.{Plan}
-use Rattle.directory_node.specs.Planning.{Excuses, Sends, answer_count, changed, step_by}
+use Rattle.directory_node.specs.Planning.{Excuses, Sends}
 use Rattle.directory_core.specs.Stepping.{IsOwn, after_step, letters_number}
 use Rattle.directory_core.specs.Whole.{IsWorld, LeavesWorld}
 
@@ -107,15 +106,9 @@ told world number letter node letters effect sent = Ok (record {
   world = after_step (with_delivered world number letter) letter.to node letters;
 })
 
--- a plan of a letter is what the rule makes of it
-pub planned_as : (node : Node) (letter : Letter) (plan : Plan) → step node (Receives letter) ≡ Ok (step_by node plan)
-    → received node letter ≡ record { node = changed plan.change node; letters = plan.letters.items; effect = plan.effect }
-planned_as node letter plan is = cc (is)
-
--- where there is none, memory ran out for a known number of letters
-pub unplanned : (node : Node) (letter : Letter) (number : Option ℕ) → RefusesBy (Excuses node (Receives letter)) number (step node (Receives letter)) → length (received node letter).letters ≡ answer_count node letter.body
-unplanned node letter (Some number) refuses = absurd (cc (refuses))
-unplanned node letter None excused = excused
+-- a step that was made beside the world is what the rule makes of its letter
+pub stepped_as : (node : Node) (letter : Letter) (stepped : Stepped) → step node (Receives letter) ≡ Ok stepped → received node letter ≡ stepped
+stepped_as node letter stepped is = cc (is)
 
 pub delivered_told : (world : World) (number : ℕ) (letter : Letter) (node after : Node) (letters : List Letter) (effect : Effect) (sent : Option Span)
     → letter_of world number ≡ Some letter → node_of world letter.to ≡ Some node → received node letter ≡ record { node = after; letters = letters; effect = effect }

@@ -1,23 +1,24 @@
 -- What holds of a world that events have made: it can be made by one event more, and what the laws say of all of them.
-use Rattle.std.proofs.Common.{◌≡◌, ℕ, ◌-◌, ◌≤◌, List, [], ◌∷◌, ◌++◌, true, Result, Ok, Err, refl, sym, ◌∙◌, ap, subst}
+use Rattle.std.proofs.Common.{◌≡◌, ℕ, ◌-◌, ◌≤◌, List, [], ◌∷◌, ◌++◌, true, Some, Result, Ok, Err, refl, sym, ◌∙◌, ap, subst}
 use Rattle.std.specs.Map.{keys_of}
 use Rattle.std.proofs.lemmas.List.Elements.{All-nil, All-cons, All-append}
 use Rattle.silo_address.specs.Silo.{Silo}
 use Rattle.membership_view.specs.View.{ViewValue}
 use Rattle.membership_view.specs.Views.{ViewsValue, first_views, view_at}
 use Rattle.hash_ring.specs.Places.{PlacesValue}
-use Rattle.hash_ring.specs.Ring.{are_added}
+use Rattle.hash_ring.specs.Ring.{RingValue, are_added, ring_of}
 use Rattle.directory_rules.specs.Settings.{Settings, AreSettings}
 use Rattle.directory_rules.specs.Node.{Node}
 use Rattle.directory_rules.specs.Event.{Event, IsEvent}
-use Rattle.directory_rules.specs.World.{World, Accepted, first_world}
-use Rattle.directory_rules.specs.Happens.{happens}
+use Rattle.directory_rules.specs.World.{World, Accepted, current_ring, first_world}
+use Rattle.directory_rules.specs.Happens.{happens, node_of}
 use Rattle.directory_rules.specs.Headline.{AfterAnyEvents, Headline, MovesPlainly}
 use Rattle.directory_rules.specs.Laws.{ArePeopled}
 use Rattle.directory_rules.specs.Run.{run, run_from_start, world_after}
 use Rattle.directory_rules.proofs.Mails.{mail_after}
 use Rattle.directory_rules.proofs.Peopled.{peopled_after}
-use Rattle.directory_facts.proofs.Lawful.{settings_stay, shared_by}
+use Rattle.directory_facts.specs.Seen.{SeesItsVersion}
+use Rattle.directory_facts.proofs.Lawful.{nodes_see, settings_stay, shared_by}
 use Rattle.directory_facts.proofs.Placing.{AllAdded, added_view}
 use Rattle.directory_facts.proofs.Seeing.{seen_facts, seen_keep}
 use Rattle.directory_headline.proofs.Ending.{headline_after, plain_after}
@@ -84,12 +85,29 @@ mail_limited =
 all_added : (world : World) → IsWorld world → AllAdded world.places (keys_of world.views.rows)
 all_added = holds (λ w. AllAdded w.places (keys_of w.views.rows)) (λ settings events are named. (shared_by seen_facts seen_keep settings events are (λ k d below. tt)).added)
 
+-- a silo's node has the view of the version that it has seen, and its ring
+seeing : (world : World) → IsWorld world → (silo : Silo) (node : Node) → node_of world silo ≡ Some node → SeesItsVersion world.views world.places node
+seeing =
+    holds (λ w. (silo : Silo) (node : Node) → node_of w silo ≡ Some node → SeesItsVersion w.views w.places node)
+    (λ settings events are named silo node there. nodes_see settings events are silo node there)
+
+pub ringed : (world : World) → IsWorld world → (silo : Silo) (node : Node) → node_of world silo ≡ Some node → node.ring ≡ ring_of node.view world.places
+ringed world is silo node there = (seeing world is silo node there).ring_is
+
+-- where that is the current version, it is the current ring
+pub current_seen : (world : World) → IsWorld world → (silo : Silo) (node : Node) → node_of world silo ≡ Some node → node.view.version ≡ world.views.version → node.ring.points ≡ current_ring world
+current_seen world is silo node there current =
+    let sees = seeing world is silo node there in
+    ap (λ (r : RingValue). r.points) sees.ring_is
+    ∙ ap (λ (v : ViewValue). (ring_of v world.places).points) (sees.view_is ∙ ap (λ n. view_at world.views n) current)
+
 -- so the places are known that a sight asks for; the same of equal values
-pub placed_sight : (world now : World) → world ≡ now → (version : ℕ) (before view : ViewValue) → IsWorld world
-    → before ≡ view_at now.views (version - 1) → view ≡ view_at now.views version → ArePlaced before view world.places
-placed_sight world now same version before view is before_is view_is = record {
+pub placed_sight : (world now : World) → world ≡ now → (version : ℕ) (node : Node) (before view : ViewValue) → IsWorld world → node.ring ≡ ring_of node.view now.places
+    → before ≡ view_at now.views (version - 1) → view ≡ view_at now.views version → ArePlaced node before view world.places
+placed_sight world now same version node before view is ring_is before_is view_is = record {
   earlier = at (version - 1) before before_is;
   now = at version view view_is;
+  ring = ring_is ∙ ap (λ (w : World). ring_of node.view w.places) (sym same);
 }
   where
     at : (v : ℕ) (seen : ViewValue) → seen ≡ view_at now.views v → are_added seen world.places ≡ true

@@ -1,5 +1,5 @@
 -- A run, one event further.
-use Rattle.std.proofs.Common.{◌≡◌, ◌⊎◌, inl, inr, Ok, Err, OnErr, ℕ, ◌+◌, ◌<◌, List, [], ◌∷◌, ◌++◌, length, get_or, take, map, Result, refl, sym, ◌∙◌, ap, subst}
+use Rattle.std.proofs.Common.{◌≡◌, ◌⊎◌, inl, inr, Ok, Err, OnErr, ℕ, ◌+◌, ◌<◌, List, [], ◌∷◌, ◌++◌, length, get_or, take, map, Option, Result, refl, sym, ◌∙◌, ap, subst}
 use Rattle.std.specs.Prelude.{IfOk}
 use Rattle.std.proofs.lemmas.List.{take_more, map-append}
 use Rattle.cluster_events.specs.declared.Event.{Event}
@@ -13,10 +13,8 @@ use Rattle.directory_rules.specs.Happens.{happens}
 use Rattle.directory_rules.specs.Run.{run, told_of, world_after}
 use Rattle.cluster_events.specs.declared.Outcome.{Outcome}
 use Rattle.directory_node.specs.Follows.{Follows}
-use Rattle.directory_core.specs.declared.refusal.EventRefusal.{EventRefusal}
-use Rattle.directory_core.specs.Applying.{IsPlainlyTold, accepted_as, excused}
+use Rattle.directory_core.specs.Applying.{IsPlainlyTold, accepted_as}
 use Rattle.directory_core.specs.Moving.{AllMovePlainly, MovesBy}
-use Rattle.directory_core.specs.Numbers.{event_refusal_number}
 
 run_more_world : (world : World) (events : List rule.Event) (event : rule.Event)
     → (run world (events ++ event ∷ [])).world ≡ world_after (happens (run world events).world event) (run world events).world
@@ -73,11 +71,11 @@ moves_by world event plain is = by (happens world event) refl
     by (Err number) h = tt
 
 -- what the code tells of it is what it is
-pub told_plainly : (world after : World) (event : Event) (result : Result Outcome EventRefusal) → MovesBy world (event_of event)
-    → Follows (accepted_as after) event_refusal_number (excused event) (happens world (event_of event)) result → IfOk result (λ outcome. IsPlainlyTold world outcome after)
-told_plainly world after event (Ok outcome) moves follows =
+pub told_plainly : {E : Type 0} (number_of : E → Option ℕ) (excused : Result Accepted ℕ → Type 0) (world after : World) (event : rule.Event) (result : Result Outcome E) → MovesBy world event
+    → Follows (accepted_as after) number_of excused (happens world event) result → IfOk result (λ outcome. IsPlainlyTold world outcome after)
+told_plainly number_of excused world after event (Ok outcome) moves follows =
     subst (λ h. IfOk h (λ accepted. IsPlainStep (plain_of world) (plain_step_of accepted.outcome.happening) (plain_of accepted.world))) follows moves
-told_plainly world after event (Err refusal) moves follows = tt
+told_plainly number_of excused world after event (Err refusal) moves follows = tt
 
 more_plainly : (world : World) (events : List rule.Event) (event : rule.Event) → AllMovePlainly world events → MovesBy (run world events).world event → AllMovePlainly world (events ++ event ∷ [])
 unfolding run

@@ -1,9 +1,11 @@
 pub mod Numbers
 pub mod Stepping
+pub mod Mailing
 pub mod Joining
 pub mod Leaving
 pub mod Whole
 pub mod WorldModel
 pub mod Applying
+pub mod Delivering
 pub mod Moving
 pub mod ToldModel

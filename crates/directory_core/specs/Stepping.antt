@@ -21,5 +21,5 @@ letters_number world count = if (count == 0) || nat_le (world.sent + count) worl
 
 -- an input of the silo's own that is no sight and no nudge: a plan of it needs memory only for the one letter that it sends
 pub record IsOwn (input : Input) : Type 0 where
-  pub placed : IsPlaced input
+  pub placed : (node : Node) → IsPlaced node input
   pub one : (node : Node) (outcome : Result Stepped ℕ) → Excuses node input outcome → Sends 1 outcome

@@ -24,6 +24,7 @@ use std::collections::BTreeMap;
 
 impl World {
     // A silo joins: 201, 205, then 402, 403.
+    #[inline(never)]
     pub(crate) fn join(&mut self, silo: SiloAddress, given: &[u32]) -> Result<Outcome, EventRefusal>
         requires room { self.old.accepted < self.old.settings.events }
         requires leaves { LeavesWorld (join self.old silo given.now) }

@@ -16,6 +16,7 @@ use silo_address::SiloAddress;
 
 impl World {
     // A silo begins to leave: 202, 902, 203.
+    #[inline(never)]
     pub(crate) fn leave(&mut self, silo: &SiloAddress) -> Result<Outcome, EventRefusal>
         requires room { self.old.accepted < self.old.settings.events }
         requires leaves { LeavesWorld (leave self.old silo.now) }
@@ -31,6 +32,7 @@ impl World {
     }
 
     // A silo dies: 202, 902.
+    #[inline(never)]
     pub(crate) fn kill(&mut self, silo: &SiloAddress) -> Result<Outcome, EventRefusal>
         requires room { self.old.accepted < self.old.settings.events }
         requires leaves { LeavesWorld (kill self.old silo.now) }

@@ -2,6 +2,7 @@
 #![tactic(auto)]
 
 mod apply;
+mod delivering;
 mod join;
 mod leaving;
 mod posting;
@@ -12,6 +13,7 @@ mod steps;
 mod told;
 mod world;
 
+pub use delivering::Undelivered;
 pub use refusal::EventRefusal;
 pub use told::Told;
 pub use world::World;

@@ -1,5 +1,5 @@
 //! A change made and letters sent, or neither: the letters are sent first, and taken back where memory runs out.
-ghost use Rattle.std.specs.Prelude.{◌≡◌, Some, IsSome, OnErr, OnOk};
+ghost use Rattle.std.specs.Prelude.{◌≡◌, Some, IfErr, IsSome, OnErr, OnOk};
 ghost use Rattle.std.specs.Map.{lookup};
 ghost use Rattle.std.specs.BTreeMap.{is_at, insert_entry};
 ghost use Rattle.silo_address.specs.Silo.{silo_cmp};
@@ -9,7 +9,7 @@ ghost use Rattle.directory_node.specs.Planning.{Fits, changed};
 ghost use Rattle.letter_mail.specs.Mail.{letter_in, with_posted, with_stale};
 
 use directory_letters::Letter;
-use directory_node::{Change, Node};
+use directory_node::{Change, Node, Stepped};
 use letter_mail::Mail;
 use silo_address::SiloAddress;
 use std::alloc::AllocError;
@@ -82,5 +82,41 @@ fn carry_out_and_post(
             mail.take_back(count);
             Err(error)
         }
+    }
+}
+
+/// The silo's node is that of a step which was made beside, the step's letters are sent, by these copies of them, and the letter of
+/// a number is fresh no more, since it was received. Where memory runs out, the step comes back.
+pub(crate) fn receive_with_at(
+    nodes: &mut BTreeMap<SiloAddress, Node>,
+    mail: &mut Mail,
+    silo: &SiloAddress,
+    number: u64,
+    letters: Vec<Letter>,
+    stepped: Stepped,
+) -> Result<(), Stepped>
+    requires letter { IsSome (letter_in mail.old number) }
+    requires there { IsSome (lookup (is_at (silo_cmp silo.now)) nodes.old.entries) }
+    ensures made { OnOk result (nodes.new.entries ≡ insert_entry silo_cmp nodes.old.entries silo.now stepped.node) }
+    ensures posted { OnOk result ((letter : LetterValue) → letter_in mail.old number ≡ Some letter → mail.new ≡ with_posted (with_stale mail.old number letter) letters.items) }
+    ensures back { IfErr result (λ back. back ≡ stepped) }
+    ensures unchanged { OnErr result (nodes.new.entries ≡ nodes.old.entries) }
+    ensures mail_unchanged { OnErr result (mail.new ≡ mail.old) }
+{
+    let Ok(()) = mail.post(letters) else {
+        return Err(stepped);
+    };
+    mail.deliver(number);
+    put_at(nodes, silo, stepped.node);
+    Ok(())
+}
+
+// The silo, which has a node, has this one.
+fn put_at(nodes: &mut BTreeMap<SiloAddress, Node>, silo: &SiloAddress, node: Node)
+    requires there { IsSome (lookup (is_at (silo_cmp silo.now)) nodes.old.entries) }
+    ensures { nodes.new.entries ≡ insert_entry silo_cmp nodes.old.entries silo.now node }
+{
+    if let Some(place) = nodes.get_mut(silo) {
+        *place = node;
     }
 }

@@ -1,5 +1,6 @@
 ghost use Rattle.std.specs.Prelude.{◌≡◌, ◌<◌, ◌≤◌, IfErr, IfOk, IsOk, OnErr};
 ghost use Rattle.membership_view.specs.Views.{view_at};
+ghost use Rattle.hash_ring.specs.Ring.{ring_of};
 ghost use Rattle.directory_rules.specs.Happens.{is_seeable, sees, sight_of};
 ghost use Rattle.directory_rules.specs.Input.{step};
 ghost use Rattle.directory_node.specs.Follows.{Follows};
@@ -16,12 +17,14 @@ use silo_address::SiloAddress;
 
 impl World {
     // A silo sees a version: 901, 902, 903, 904, 805, then 909.
+    #[inline(never)]
     pub(crate) fn sees(&mut self, silo: &SiloAddress, version: u64) -> Result<Outcome, EventRefusal>
         requires room { self.old.accepted < self.old.settings.events }
         requires leaves { LeavesWorld (sees self.old silo.now version) }
         ensures told { Follows (accepted_as self.new) event_refusal_number IsOkOrFull (sees self.old silo.now version) result }
         ensures unchanged { OnErr result (self.new ≡ self.old) }
     {
+        self.whole();
         let Some(node) = self.node(silo) else {
             return Err(self.absent(silo));
         };
@@ -53,6 +56,7 @@ impl World {
     fn sight(&self, node: &Node, version: u64) -> Result<Plan, EventRefusal>
         requires newer { node.now.view.version < version }
         requires made { version ≤ self.now.views.version }
+        requires ringed { node.now.ring ≡ ring_of node.now.view self.now.places }
         ensures planned { Follows (step_by node.now) event_refusal_number IsOk (step node.now (sight_of self.now version)) result }
         ensures fits { IfOk result (λ plan. Fits plan.change node.now) }
     {

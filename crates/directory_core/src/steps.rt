@@ -26,6 +26,7 @@ use std::alloc::{AllocError, Global};
 // Steps of silos in the world: a step is planned, which changes nothing yet, then its letters are sent and it is carried out.
 impl World {
     // A silo takes a step of its own, which is no sight and no nudge: 901, 902, then as the step refuses, then 909.
+    #[inline(never)]
     pub(crate) fn does(
         &mut self,
         silo: &SiloAddress,
@@ -52,6 +53,7 @@ impl World {
     }
 
     // A silo sends again what it has outstanding: 901, 902, then as the step refuses, then 909.
+    #[inline(never)]
     pub(crate) fn nudges(&mut self, silo: &SiloAddress) -> Result<Outcome, EventRefusal>
         requires room { self.old.accepted < self.old.settings.events }
         requires leaves { LeavesWorld (does self.old silo.now Nudges) }
@@ -133,7 +135,7 @@ impl World {
     }
 
     // Whether these letters may still be sent; no letter always may.
-    fn has_room_for(&self, letters: &[Letter]) -> bool
+    pub(crate) fn has_room_for(&self, letters: &[Letter]) -> bool
         ensures { result ≡ has_room_for self.now letters.now }
     {
         match letters {
@@ -150,7 +152,7 @@ impl World {
     }
 
     // The first and the last number of letters that are sent now.
-    fn span_of(&self, letters: &[Letter]) -> Option<Span>
+    pub(crate) fn span_of(&self, letters: &[Letter]) -> Option<Span>
         requires { has_room_for self.now letters.now ≡ true }
         ensures { option_map code_span result ≡ span_of self.now letters.now }
     {
@@ -165,13 +167,15 @@ impl World {
     }
 
     // A letter comes to its receiver: 905, 902, then 909.
+    #[inline(never)]
     pub(crate) fn deliver(&mut self, number: u64) -> Result<Outcome, EventRefusal>
         requires room { self.old.accepted < self.old.settings.events }
         requires leaves { LeavesWorld (deliver self.old number) }
         ensures told { Follows (accepted_as self.new) event_refusal_number IsOk (deliver self.old number) result }
         ensures unchanged { OnErr result (self.new ≡ self.old) }
     {
-        let Some(mailed) = self.letter(number) else {
+        let found = self.letter(number);
+        let Some(mailed) = &found else {
             return Err(EventRefusal::NoSuchLetter);
         };
         let letter = mailed.letter();
@@ -180,28 +184,29 @@ impl World {
         let Some(node) = self.node(&to) else {
             return Err(EventRefusal::DeadSilo);
         };
-        let Ok(plan) = node.plan(self.allocator(), &Input::Receives(letter)) else {
+        let Ok(plan) = node.plan_letter(self.allocator(), letter) else {
             return Err(self.refused_sending(node.answer_count(letter)));
         };
-        drop(mailed);
+        drop(found);
         if !self.has_room_for(&plan.letters) {
             return Err(EventRefusal::MailFull);
         }
-        let outcome = Outcome {
-            happening: Happening::Delivered {
-                number,
-                kind,
-                effect: plan.effect,
-            },
-            sent: self.span_of(&plan.letters),
-        };
+        let sent = self.span_of(&plan.letters);
         match self.receive(&to, number, plan.letters, plan.change) {
-            Ok(()) => Ok(outcome),
+            Ok(()) => Ok(Outcome {
+                happening: Happening::Delivered {
+                    number,
+                    kind,
+                    effect: plan.effect,
+                },
+                sent,
+            }),
             Err(_) => Err(EventRefusal::OutOfMemory),
         }
     }
 
     // A letter is lost for good: 905.
+    #[inline(never)]
     pub(crate) fn lose(&mut self, number: u64) -> Result<Outcome, EventRefusal>
         requires room { self.old.accepted < self.old.settings.events }
         requires leaves { LeavesWorld (lose self.old number) }

@@ -1,13 +1,18 @@
-ghost use Rattle.std.specs.Prelude.{◌≡◌, IfOk};
+ghost use Rattle.std.specs.Map.Iter.{ShowsInOrder, deref_pair};
+ghost use Rattle.std.specs.Prelude.{◌≡◌, IfOk, IfSome};
 ghost use Rattle.std.specs.Option.{option_copied, option_map};
+ghost use Rattle.silo_address.specs.Silo.{Silo};
 ghost use Rattle.hash_ring.specs.Owner.{owner_of};
+ghost use Rattle.directory_rules.specs.Node.{Node as NodeValue};
 ghost use Rattle.directory_rules.specs.World.{first_world};
 ghost use Rattle.directory_rules.specs.Headline.{Headline, MovesPlainly};
 ghost use Rattle.directory_rules.specs.Happens.{node_of};
 ghost use Rattle.directory_rules.specs.Mail.{letter_of};
 ghost use Rattle.directory_rules.specs.World.{current_ring};
 ghost use Rattle.directory_rules.specs.Happens.{least_deliverable};
+ghost use Rattle.letter_mail.specs.Mail.{has_fresh, least_fresh_to};
 ghost use Rattle.letter_mail.specs.MailedModel.{letter_seen};
+ghost use Rattle.directory_core.specs.Mailing.{mail_of};
 ghost use Rattle.directory_core.specs.Whole.{IsWorld};
 
 use directory_node::Node;
@@ -18,6 +23,7 @@ use membership_view::Views;
 use silo_address::SiloAddress;
 use std::alloc::{AllocError, Global};
 use std::collections::BTreeMap;
+use std::collections::btree_map::Iter;
 use std::marker::Model;
 
 /// All that there is: the views, every silo's places, a node for each silo that isn't Dead, and the mail
@@ -101,6 +107,13 @@ impl World {
         self.views.current()
     }
 
+    /// Each silo's places, of those that ever joined.
+    pub fn places(&self) -> &Places
+        ensures { result.now ≡ self.now.places }
+    {
+        &self.places
+    }
+
     /// The node of a silo; `None` where the silo never joined, or is Dead.
     pub fn node(&self, silo: &SiloAddress) -> Option<&Node>
         ensures { option_copied result ≡ node_of self.now silo.now }
@@ -108,11 +121,33 @@ impl World {
         self.nodes.get(silo)
     }
 
+    /// The node of each silo that isn't Dead, by address.
+    pub fn nodes(&self) -> Iter<'_, SiloAddress, Node>
+        ensures rest { result ≡ self.now.nodes }
+        ensures runs { ShowsInOrder (deref_pair {K = Silo} {X = NodeValue}) }
+    {
+        self.nodes.iter()
+    }
+
     /// The letter of that number; `None` where no such letter is in the mail.
     pub fn letter(&self, number: u64) -> Option<MailedLetter<'_>>
         ensures { option_map letter_seen result ≡ letter_of self.now number }
     {
         self.mail.letter(number)
+    }
+
+    /// Whether the letter of that number is in the mail and was never delivered.
+    pub fn is_fresh(&self, number: u64) -> bool
+        ensures { result ≡ has_fresh (mail_of self.now) number }
+    {
+        self.mail.is_fresh(number)
+    }
+
+    /// The least letter to the silo that was never delivered, if there is one: one look, however many letters there are.
+    pub fn least_fresh_to(&self, silo: &SiloAddress) -> Option<u64>
+        ensures { result ≡ least_fresh_to silo.now (mail_of self.now) }
+    {
+        self.mail.least_fresh_to(silo)
     }
 
     /// The least letter that was never delivered and whose receiver has a node, if there is one: one look for each such silo,
@@ -136,12 +171,40 @@ impl World {
         }
     }
 
-    /// The point that owns a hash by the current view, `None` where nobody does. Fails only when memory runs out.
+    /// The point that owns a hash by the current view, `None` where nobody does. It is searched in the ring of a silo that has
+    /// seen the view; only where none has, the ring is made anew, which fails when memory runs out.
     pub fn owner(&self, alloc: Global, hash: u32) -> Result<Option<Point>, AllocError>
         ensures { IfOk result (λ owner. owner ≡ owner_of (current_ring self.now) hash) }
     {
+        if let Some(ring) = self.seen_ring() {
+            return Ok(ring.owner(hash));
+        }
         let ring = self.current_ring(alloc)?;
         Ok(ring.owner(hash))
+    }
+
+    /// The ring of the current view, as a silo has it that has seen the view; `None` where none has. One look for each silo.
+    pub fn seen_ring(&self) -> Option<&Ring>
+        ensures { IfSome result (λ ring. ring.now.points ≡ current_ring self.now) }
+    {
+        for silo in self.nodes.keys() {
+            if let Some(ring) = self.ring_seen_by(silo) {
+                return Some(ring);
+            }
+        }
+        None
+    }
+
+    // The silo's ring, where it has seen the current view.
+    fn ring_seen_by(&self, silo: &SiloAddress) -> Option<&Ring>
+        ensures { IfSome result (λ ring. ring.now.points ≡ current_ring self.now) }
+    {
+        self.whole();
+        let node = self.node(silo)?;
+        if node.view().version() != self.current() {
+            return None;
+        }
+        Some(node.ring())
     }
 
     /// A law: events have made the world.

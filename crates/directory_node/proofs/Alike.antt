@@ -1,5 +1,5 @@
 -- Nodes that differ only in what their letters don't depend on send the same; and so do pieces without their entries.
-use Rattle.std.proofs.Common.{◌≡◌, refl, ap, ◌∙◌, ℕ, List, [], ◌∷◌, ◌++◌}
+use Rattle.std.proofs.Common.{◌≡◌, refl, ap, ℕ, List, [], ◌∷◌, ◌++◌}
 use Rattle.std.specs.Prelude.{Option, Some, None, flat_map}
 use Rattle.silo_address.specs.Silo.{Silo}
 use Rattle.ring_range.specs.Range.{Range}
@@ -8,10 +8,10 @@ use Rattle.directory_rules.specs.declared.PieceState.{PieceState}
 use Rattle.directory_rules.specs.declared.PieceState.TheVariants.{Settled, Awaiting, Recovering}
 use Rattle.directory_rules.specs.Cache.{Cache}
 use Rattle.directory_rules.specs.Host.{outstanding, renewed}
-use Rattle.directory_rules.specs.Letter.{Letter, Request_letter}
+use Rattle.directory_rules.specs.Letter.{Request_letter}
 use Rattle.directory_rules.specs.Node.{Node}
 use Rattle.directory_rules.specs.Piece.{Piece, Holding}
-use Rattle.directory_rules.specs.Sending.{all_requests, all_wants, hash_of, letter_if_owned, owner_by, request_letters, request_of, wants_by}
+use Rattle.directory_rules.specs.Sending.{all_requests, hash_of, letter_if_owned, owner_by, request_letters, request_of, wants_by}
 use Rattle.directory_rules.specs.Snapshot.{Snapshot}
 use Rattle.grain_partition.specs.Seen.{emptied}
 use Rattle.directory_node.specs.Sender.{wants_of}

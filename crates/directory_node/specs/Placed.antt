@@ -1,22 +1,24 @@
--- What a sight asks of the places.
+-- What a sight asks of the places, and of the node's ring.
 use Rattle.std.specs.Prelude.{◌≡◌, true}
 use Rattle.membership_view.specs.View.{ViewValue}
 use Rattle.hash_ring.specs.Places.{PlacesValue}
-use Rattle.hash_ring.specs.Ring.{are_added}
+use Rattle.hash_ring.specs.Ring.{are_added, ring_of}
+use Rattle.directory_rules.specs.Node.{Node}
 use Rattle.directory_rules.specs.Input.{Input, Sees, Wakes, Closes, Finds, Forgets, Nudges, Offers, Receives}
 
--- the places of all who are Active in the view, or in the one before it, are known
-pub record ArePlaced (before view : ViewValue) (places : PlacesValue) : Type 0 where
+-- the places of all who are Active in the view, or in the one before it, are known, and the node's ring is its view's by them
+pub record ArePlaced (node : Node) (before view : ViewValue) (places : PlacesValue) : Type 0 where
   pub earlier : are_added before places ≡ true
   pub now : are_added view places ≡ true
+  pub ring : node.ring ≡ ring_of node.view places
 
 -- so are those of a sight
-abbrev pub IsPlaced : Input → Type 0
-IsPlaced (Sees before view places) = ArePlaced before view places
-IsPlaced (Wakes grain) = Unit {0}
-IsPlaced (Closes grain) = Unit {0}
-IsPlaced (Finds grain) = Unit {0}
-IsPlaced (Forgets grain) = Unit {0}
-IsPlaced Nudges = Unit {0}
-IsPlaced (Offers grain to) = Unit {0}
-IsPlaced (Receives letter) = Unit {0}
+abbrev pub IsPlaced : Node → Input → Type 0
+IsPlaced node (Sees before view places) = ArePlaced node before view places
+IsPlaced node (Wakes grain) = Unit {0}
+IsPlaced node (Closes grain) = Unit {0}
+IsPlaced node (Finds grain) = Unit {0}
+IsPlaced node (Forgets grain) = Unit {0}
+IsPlaced node Nudges = Unit {0}
+IsPlaced node (Offers grain to) = Unit {0}
+IsPlaced node (Receives letter) = Unit {0}

@@ -1,4 +1,4 @@
-ghost use Rattle.std.specs.Prelude.{◌≡◌, IfOk, OnErr, None, Some, length};
+ghost use Rattle.std.specs.Prelude.{◌≡◌, IfErr, IfOk, IsOk, OnErr, None, Some, length};
 ghost use Rattle.directory_rules.specs.Cache.{hint_of, in_front};
 ghost use Rattle.directory_rules.specs.Node.{Node as NodeValue};
 ghost use Rattle.directory_rules.specs.Step.{finding, find_grain, forget, silently, started, wake};
@@ -68,7 +68,7 @@ impl Node {
     {
         self.settings.in_range();
         if let Some(activation) = hint_in(&self.cache, grain) {
-            return Ok(cached(alloc, grain, activation));
+            return use_of(alloc, grain, activation);
         }
         if self.host.is_full_of_finds(&self.settings) {
             return Err(StepRefusal::HostFull);
@@ -76,21 +76,22 @@ impl Node {
         if !self.host.has_numbers(&self.settings, 1) {
             return Err(StepRefusal::NumbersSpent);
         }
-        match self.asking(alloc, grain) {
-            Ok(plan) => Ok(plan),
-            Err(_) => Err(StepRefusal::OutOfMemory),
-        }
+        self.asking(alloc, grain)
     }
 
     // The owner of the grain's hash is asked.
-    fn asking(&self, alloc: Global, grain: &GrainId) -> Result<Plan, AllocError>
+    fn asking(&self, alloc: Global, grain: &GrainId) -> Result<Plan, StepRefusal>
         ensures planned { IfOk result (λ plan. step_by self.now plan ≡ finding self.now grain.now) }
         ensures change { IfOk result (λ plan. plan.change ≡ Change.Asks grain.now) }
         ensures one { OnErr result (length (finding self.now grain.now).letters ≡ 1) }
+        ensures refused { IfErr result (λ refusal. refusal ≡ StepRefusal.OutOfMemory) }
     {
         let find = Act::Find { grain: *grain };
+        let Ok(letters) = self.request_letters(alloc, self.host.next_number(), find) else {
+            return Err(StepRefusal::OutOfMemory);
+        };
         Ok(Plan {
-            letters: self.request_letters(alloc, self.host.next_number(), find)?,
+            letters,
             effect: Effect::Finding(*grain),
             change: Change::Asks(*grain),
         })
@@ -139,6 +140,15 @@ impl Node {
             activation: ActivationId { silo, count },
         }
     }
+}
+
+// The plan of a find whose hint the cache had.
+fn use_of(alloc: Global, grain: &GrainId, activation: ActivationId) -> Result<Plan, StepRefusal>
+    ensures planned { (node : NodeValue) → hint_of node.cache grain.now ≡ Some activation → IfOk result (λ plan. step_by node plan ≡ silently (record node { cache = in_front node.cache grain.now activation }) (Cached (record { grain = grain.now; activation = activation }))) }
+    ensures change { IfOk result (λ plan. plan.change ≡ Change.UsesHint grain.now) }
+    ensures accepted { IsOk result }
+{
+    Ok(cached(alloc, grain, activation))
 }
 
 // The cache had a hint, which is used.

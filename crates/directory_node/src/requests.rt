@@ -4,6 +4,7 @@ ghost use Rattle.directory_rules.specs.Answer.{answered};
 ghost use Rattle.directory_rules.specs.Receive.{reply_effect, requested};
 ghost use Rattle.directory_node.specs.Planning.{Fits, changed, step_by};
 
+use crate::plan::list_of;
 use crate::{Change, Node, Plan};
 use directory_letters::{Body, Letter};
 use directory_rules::{Act, Effect, Reply, Request};
@@ -29,9 +30,12 @@ impl Node {
             number: request.number,
             reply,
         };
-        let back = self.letter_to(request.sender, body);
         let effect = reply_effect(&reply);
-        Plan::of_one(alloc, back, effect, self.change_by(request))
+        Ok(Plan {
+            letters: list_of(alloc, self.letter_to(request.sender, body))?,
+            effect,
+            change: self.change_by(request),
+        })
     }
 
     // What a request changes: a Find nothing.

@@ -1,5 +1,5 @@
 //! A sight as a plan: what it sends, and the change that it makes.
-ghost use Rattle.std.specs.Prelude.{◌≡◌, ◌&&◌, ◌==◌, ◌<◌, ◌++◌, if◌then◌else◌, IfOk, IsOk, OnOk, flat_map, length, true};
+ghost use Rattle.std.specs.Prelude.{◌≡◌, ◌&&◌, ◌==◌, ◌<◌, ◌+◌, ◌++◌, if◌then◌else◌, IfOk, IsOk, OnOk, flat_map, length, true};
 ghost use Rattle.directory_rules.specs.Host.{has_numbers, outstanding, renewed};
 ghost use Rattle.directory_rules.specs.Node.{Node as NodeValue};
 ghost use Rattle.directory_rules.specs.Sending.{all_requests, all_wants, request_letters};
@@ -8,7 +8,7 @@ ghost use Rattle.directory_rules.specs.Step.{compared_points, having_nudged, new
 ghost use Rattle.directory_rules.specs.declared.Effect.TheVariants.{Next, Skip};
 ghost use Rattle.grain_partition.specs.Holding.{ArePieces};
 ghost use Rattle.grain_partition.specs.Seen.{pieces_seen};
-ghost use Rattle.hash_ring.specs.Ring.{are_added, ring_of};
+ghost use Rattle.hash_ring.specs.Ring.{IsRingBy, are_added, ring_of};
 ghost use Rattle.host_activations.specs.Renewal.{renewal_of};
 ghost use Rattle.range_moves.specs.Arcs.{AreArcs, arcs_of};
 ghost use Rattle.grain_partition.specs.Sight.{AreOfRings};
@@ -41,7 +41,7 @@ impl Node {
         view: &View,
         places: &Places,
     ) -> Result<Plan, StepRefusal>
-        requires placed { ArePlaced before.now view.now places.now }
+        requires placed { ArePlaced self.now before.now view.now places.now }
         ensures planned { Follows (step_by self.now) step_refusal_number IsOk (see self.now before.now view.now places.now) result }
         ensures fits { IfOk result (λ plan. Fits plan.change self.now) }
     {
@@ -73,14 +73,14 @@ impl Node {
         view: &View,
         places: &Places,
     ) -> Result<Plan, AllocError>
-        requires placed { ArePlaced before.now view.now places.now }
+        requires placed { ArePlaced self.now before.now view.now places.now }
         requires newer { self.now.view.version < view.now.version }
         requires numbers { has_numbers self.now.settings self.now.host (length (outstanding self.now.host)) ≡ true }
         ensures planned { IfOk result (λ plan. step_by self.now plan ≡ sight (is_next self.now.view before.now view.now self.now.host.silo) self.now before.now view.now places.now) }
         ensures fits { IfOk result (λ plan. Fits plan.change self.now) }
     {
         let next = self.is_next(before, view);
-        let ring = ring_of(alloc, view, places)?;
+        let ring = self.ring_seen(alloc, view, places)?;
         let arcs = self.compared(alloc, next, before, places, &ring)?;
         let pieces = self.pieces_seen(alloc, next, view, &arcs)?;
         let sight = self.sight(alloc, next, view, ring, arcs, &pieces)?;
@@ -99,6 +99,20 @@ impl Node {
         }
         let silo = self.host.silo();
         self.view.version() == 0 && before.status(&silo).is_none() && view.status(&silo).is_some()
+    }
+
+    // The ring of the view: the node's own, advanced, if the view comes next after that seen, and otherwise made anew.
+    fn ring_seen(&self, alloc: Global, view: &View, places: &Places) -> Result<Ring, AllocError>
+        requires own { self.now.ring ≡ ring_of self.now.view places.now }
+        requires newer { self.now.view.version < view.now.version }
+        requires added { are_added view.now places.now ≡ true }
+        ensures { IfOk result (λ ring. ring ≡ ring_of view.now places.now) }
+    {
+        if view.version() == self.ring.version() + 1 {
+            advanced(&self.ring, view, places)
+        } else {
+            ring_of(alloc, view, places)
+        }
     }
 
     // The arcs between the ring compared and the new one.
@@ -312,6 +326,21 @@ fn seen_effect(next: bool) -> Effect
     ensures { result ≡ (if next then Next else Skip) }
 {
     if next { Effect::Next } else { Effect::Skip }
+}
+
+// The ring of the view that comes next, by that of the view before it.
+fn advanced(ring: &Ring, view: &View, places: &Places) -> Result<Ring, AllocError>
+    requires by { IsRingBy ring.now places.now }
+    requires next { view.now.version ≡ ring.now.version + 1 }
+    requires added { are_added view.now places.now ≡ true }
+    ensures { IfOk result (λ ring. ring ≡ ring_of view.now places.now) }
+{
+    let mut ring = ring.copy()?;
+    match ring.advance(view, places) {
+        Ok(()) => Ok(ring),
+        Err(RingError::OutOfMemory) => Err(AllocError),
+        Err(_) => unreachable!(),
+    }
 }
 
 // The ring of a view.

@@ -1,18 +1,22 @@
-ghost use Rattle.std.specs.Prelude.{◌≡◌, IfOk, IsOk, OnErr, filter, length, not};
+ghost use Rattle.std.specs.Prelude.{◌≡◌, [], IfOk, IsOk, OnErr, Ok, filter, length, not};
 ghost use Rattle.directory_rules.specs.Input.{step};
 ghost use Rattle.directory_rules.specs.Membership.{is_dead_status, members_of};
 ghost use Rattle.directory_rules.specs.Receive.{received};
+ghost use Rattle.directory_rules.specs.Reply.{replied};
+ghost use Rattle.directory_rules.specs.Step.{forget};
+ghost use Rattle.directory_rules.specs.Transfer.{done};
 ghost use Rattle.directory_node.specs.Placed.{IsPlaced};
 ghost use Rattle.directory_node.specs.InputModel.{input_of};
 ghost use Rattle.directory_node.specs.Follows.{Follows};
 ghost use Rattle.directory_node.specs.Numbers.{step_refusal_number};
-ghost use Rattle.directory_node.specs.Planning.{Excuses, Fits, answer_count, step_by, stepped_of};
+ghost use Rattle.directory_node.specs.Planning.{Excuses, Fits, Sends, answer_count, step_by, stepped_of};
 
 use crate::{Input, Node, Plan, StepRefusal};
 use directory_letters::{Body, Letter};
-use directory_rules::Effect;
+use directory_rules::{Effect, Reply};
 use membership_view::{Status, View};
-use silo_address::SiloAddress;
+use ring_range::RingRange;
+use silo_address::{GrainId, SiloAddress};
 use std::alloc::{AllocError, Global};
 
 /// What a step makes: the new node, the letters that it sends, in order, and what it did.
@@ -25,10 +29,11 @@ pub struct Stepped {
 
 impl Node {
     /// The silo's step with an input, which leaves this node as it is. Refused as the rule says of each input
-    /// (`docs/RULES.md#the-world`). A sight asks that the places are known of all who are Active in the view, or in the one before.
+    /// (`docs/RULES.md#the-world`). A sight asks that the places are known of all who are Active in the view, or in the one before,
+    /// and that the node's ring is its view's by these places: it is, where the node saw its view by them.
     /// Costs a copy of the node: whoever has the node to change plans the step and carries it out.
     pub fn step(&self, alloc: Global, input: &Input<'_>) -> Result<Stepped, StepRefusal>
-        requires placed { IsPlaced (input_of input.now) }
+        requires placed { IsPlaced self.now (input_of input.now) }
         ensures { Follows stepped_of step_refusal_number IsOk (step self.now (input_of input.now)) result }
     {
         let plan = self.plan(alloc, input)?;
@@ -56,7 +61,7 @@ impl Node {
     /// as the rule says of each input (`docs/RULES.md#the-world`). Out of memory comes only at an input that isn't refused:
     /// where letters are sent, at a report that counts, and at a sight.
     pub fn plan(&self, alloc: Global, input: &Input<'_>) -> Result<Plan, StepRefusal>
-        requires placed { IsPlaced (input_of input.now) }
+        requires placed { IsPlaced self.now (input_of input.now) }
         ensures planned { Follows (step_by self.now) step_refusal_number (Excuses self.now (input_of input.now)) (step self.now (input_of input.now)) result }
         ensures fits { IfOk result (λ plan. Fits plan.change self.now) }
     {
@@ -69,36 +74,91 @@ impl Node {
             Input::Wakes(grain) => self.plan_wake(alloc, grain),
             Input::Closes(grain) => self.plan_close(alloc, grain),
             Input::Finds(grain) => self.plan_find(alloc, grain),
-            Input::Forgets(grain) => Ok(self.plan_forget(alloc, grain)),
+            Input::Forgets(grain) => self.plan_to_forget(alloc, grain),
             Input::Nudges => self.plan_nudge(alloc),
             Input::Offers { grain, to } => self.plan_offer(alloc, grain, to),
-            Input::Receives(letter) => match self.plan_letter(alloc, letter) {
-                Ok(plan) => Ok(plan),
-                Err(_) => Err(StepRefusal::OutOfMemory),
-            },
+            Input::Receives(letter) => self.plan_receipt(alloc, letter),
         }
     }
 
-    // A letter comes. Needs memory where it sends a letter, which is one then, and for a report.
-    fn plan_letter(&self, alloc: Global, letter: &Letter) -> Result<Plan, AllocError>
+    // What the silo's cache has of a grain is forgotten, which is never refused.
+    fn plan_to_forget(&self, alloc: Global, grain: &GrainId) -> Result<Plan, StepRefusal>
+        ensures planned { IfOk result (λ plan. step_by self.now plan ≡ forget self.now grain.now) }
+        ensures fits { IfOk result (λ plan. Fits plan.change self.now) }
+        ensures accepted { IsOk result }
+    {
+        Ok(self.plan_forget(alloc, grain))
+    }
+
+    // A letter comes, which is never refused.
+    fn plan_receipt(&self, alloc: Global, letter: &Letter) -> Result<Plan, StepRefusal>
+        ensures planned { Follows (step_by self.now) step_refusal_number (Sends (answer_count self.now letter.now.body)) (Ok (received self.now letter.now)) result }
+        ensures fits { IfOk result (λ plan. Fits plan.change self.now) }
+    {
+        match self.plan_letter(alloc, letter) {
+            Ok(plan) => Ok(plan),
+            Err(_) => Err(StepRefusal::OutOfMemory),
+        }
+    }
+
+    /// The silo's step with a letter that comes, which is never refused, as a plan: what `plan` makes of that input
+    /// (`docs/RULES.md#the-world`). Out of memory comes only where letters are sent, as many as `answer_count` says, and at a
+    /// report that counts.
+    pub fn plan_letter(&self, alloc: Global, letter: &Letter) -> Result<Plan, AllocError>
         ensures planned { IfOk result (λ plan. step_by self.now plan ≡ received self.now letter.now) }
         ensures fits { IfOk result (λ plan. Fits plan.change self.now) }
         ensures answers { OnErr result (length (received self.now letter.now).letters ≡ answer_count self.now letter.now.body) }
     {
         match letter.body() {
             Body::Request(request) => self.plan_request(alloc, letter, request),
-            Body::Reply { number, reply } => {
-                Ok(self.plan_reply(alloc, letter.version(), *number, reply))
-            }
+            Body::Reply { number, reply } => self.plan_answered(alloc, letter, *number, reply),
             Body::Ask { range, page } => self.plan_ask(alloc, letter, *range, *page),
             Body::Page(page) => self.plan_page(alloc, letter, page),
             Body::Missing(range) => self.plan_missing(alloc, letter, *range),
-            Body::Done(range) => Ok(self.plan_done(alloc, letter, *range)),
+            Body::Done(range) => self.plan_taken_over(alloc, letter, *range),
             Body::Query(range) => self.plan_query(alloc, letter, *range),
             Body::Report(report) => self.plan_report(alloc, letter, report),
-            Body::Behind(_) | Body::Ahead(_) => Ok(Plan::idle(alloc, Effect::Noted)),
+            Body::Behind(_) | Body::Ahead(_) => self.plan_noted(alloc),
             Body::Offer(entry) => self.plan_offered(alloc, letter, entry),
         }
+    }
+
+    // A reply comes.
+    fn plan_answered(
+        &self,
+        alloc: Global,
+        letter: &Letter,
+        number: u64,
+        reply: &Reply,
+    ) -> Result<Plan, AllocError>
+        ensures planned { IfOk result (λ plan. step_by self.now plan ≡ replied self.now letter.now.version number reply.now) }
+        ensures fits { IfOk result (λ plan. Fits plan.change self.now) }
+        ensures planned_always { IsOk result }
+    {
+        Ok(self.plan_reply(alloc, letter.version(), number, reply))
+    }
+
+    // The new owner has its snapshot.
+    fn plan_taken_over(
+        &self,
+        alloc: Global,
+        letter: &Letter,
+        range: RingRange,
+    ) -> Result<Plan, AllocError>
+        ensures planned { IfOk result (λ plan. step_by self.now plan ≡ done self.now letter.now range) }
+        ensures fits { IfOk result (λ plan. Fits plan.change self.now) }
+        ensures planned_always { IsOk result }
+    {
+        Ok(self.plan_done(alloc, letter, range))
+    }
+
+    // Another silo has seen an earlier or a later view: that is noted, and nothing comes of it.
+    fn plan_noted(&self, alloc: Global) -> Result<Plan, AllocError>
+        ensures planned { IfOk result (λ plan. step_by self.now plan ≡ record { node = self.now; letters = []; effect = Effect.Noted }) }
+        ensures fits { IfOk result (λ plan. Fits plan.change self.now) }
+        ensures planned_always { IsOk result }
+    {
+        Ok(Plan::idle(alloc, Effect::Noted))
     }
 
     /// How many letters the node sends by this letter, where it needs memory for it: a report is answered by none, and where a

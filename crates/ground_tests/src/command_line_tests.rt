@@ -4,8 +4,12 @@ use hash_ring::Hashing;
 use std::alloc::Global;
 use std::test::Fail;
 
-const fn play(hashing: Hashing, points: usize) -> Result<Line, ErrorKind> {
-    Ok(Line::Play { hashing, points })
+const fn play(hashing: Hashing, points: usize, cache: usize) -> Result<Line, ErrorKind> {
+    Ok(Line::Play {
+        hashing,
+        points,
+        cache,
+    })
 }
 
 // What a line reads as, or of which kind its refusal is.
@@ -17,43 +21,81 @@ fn answer(alloc: Global, words: &'static [&'static str]) -> Result<Line, ErrorKi
     }
 }
 
+// A line, its hashing, points and cache.
+type Accepted = (&'static [&'static str], Hashing, usize, usize);
+
 #[test]
 fn lines_that_are_accepted(rt: HostRuntime) {
-    let rows: [(&'static [&'static str], Hashing, usize); 10] = [
-        (&["grain-directory", "play"], Hashing::Sha256, 30),
-        (&["", "play"], Hashing::Sha256, 30),
-        (&["g", "play", "--hashing", "stated"], Hashing::Stated, 30),
-        (&["g", "play", "--hashing=sha256"], Hashing::Sha256, 30),
-        (&["g", "play", "--points", "1"], Hashing::Sha256, 1),
-        (&["g", "play", "--points=128"], Hashing::Sha256, 128),
-        (&["g", "play", "--points", "+007"], Hashing::Sha256, 7),
+    let rows: [Accepted; 14] = [
+        (&["grain-directory", "play"], Hashing::Sha256, 30, 1024),
+        (&["", "play"], Hashing::Sha256, 30, 1024),
+        (
+            &["g", "play", "--hashing", "stated"],
+            Hashing::Stated,
+            30,
+            1024,
+        ),
+        (
+            &["g", "play", "--hashing=sha256"],
+            Hashing::Sha256,
+            30,
+            1024,
+        ),
+        (&["g", "play", "--points", "1"], Hashing::Sha256, 1, 1024),
+        (&["g", "play", "--points=128"], Hashing::Sha256, 128, 1024),
+        (&["g", "play", "--points", "+007"], Hashing::Sha256, 7, 1024),
+        (&["g", "play", "--cache", "1"], Hashing::Sha256, 30, 1),
+        (&["g", "play", "--cache=65536"], Hashing::Sha256, 30, 65_536),
+        (
+            &["g", "play", "--cache", "+000300"],
+            Hashing::Sha256,
+            30,
+            300,
+        ),
         (
             &["g", "play", "--points", "5", "--hashing", "stated"],
             Hashing::Stated,
             5,
+            1024,
         ),
         (
-            &["g", "play", "--hashing", "stated", "--points", "5"],
+            &[
+                "g",
+                "play",
+                "--cache",
+                "6",
+                "--hashing",
+                "stated",
+                "--points",
+                "5",
+            ],
             Hashing::Stated,
             5,
+            6,
         ),
-        (&["g", "play", "--"], Hashing::Sha256, 30),
+        (&["g", "play", "--"], Hashing::Sha256, 30, 1024),
+        (
+            &["g", "play", "--points", "5", "--"],
+            Hashing::Sha256,
+            5,
+            1024,
+        ),
     ];
-    for (words, hashing, points) in rows {
+    for (words, hashing, points, cache) in rows {
         let given = answer(rt.alloc(), words);
-        assert!(rt; given == play(hashing, points), "{words:?}");
+        assert!(rt; given == play(hashing, points, cache), "{words:?}");
     }
 }
 
 #[test]
 fn lines_that_are_refused(rt: HostRuntime) {
-    let rows: [(&'static [&'static str], ErrorKind); 25] = [
+    let rows: [(&'static [&'static str], ErrorKind); 42] = [
         (&[], ErrorKind::MissingSubcommand),
         (&["g"], ErrorKind::MissingSubcommand),
         (&["g", "run"], ErrorKind::InvalidSubcommand),
         (&["g", "Play"], ErrorKind::InvalidSubcommand),
         (&["g", "--points", "5", "play"], ErrorKind::UnknownArgument),
-        (&["g", "--version"], ErrorKind::UnknownArgument),
+        (&["g", "--"], ErrorKind::MissingSubcommand),
         (&["g", "play", "--version"], ErrorKind::UnknownArgument),
         (&["g", "play", "script"], ErrorKind::UnknownArgument),
         (&["g", "play", "help"], ErrorKind::UnknownArgument),
@@ -67,6 +109,22 @@ fn lines_that_are_refused(rt: HostRuntime) {
         ),
         (&["g", "play", "--points", "x"], ErrorKind::ValueValidation),
         (&["g", "play", "--points="], ErrorKind::ValueValidation),
+        (&["g", "play", "--cache"], ErrorKind::InvalidValue),
+        (&["g", "play", "--cache", "0"], ErrorKind::ValueValidation),
+        (
+            &["g", "play", "--cache", "65537"],
+            ErrorKind::ValueValidation,
+        ),
+        (
+            &["g", "play", "--cache", "4294967297"],
+            ErrorKind::ValueValidation,
+        ),
+        (&["g", "play", "--cache", "x"], ErrorKind::ValueValidation),
+        (
+            &["g", "play", "--cache", "5", "--cache=5"],
+            ErrorKind::ArgumentConflict,
+        ),
+        (&["g", "--cache", "5", "play"], ErrorKind::UnknownArgument),
         (
             &["g", "play", "--points", "5", "--points", "5"],
             ErrorKind::ArgumentConflict,
@@ -77,10 +135,20 @@ fn lines_that_are_refused(rt: HostRuntime) {
             ErrorKind::InvalidValue,
         ),
         (&["g", "help", "run"], ErrorKind::InvalidSubcommand),
+        (&["g", "help", "-h"], ErrorKind::InvalidSubcommand),
         (&["g", "help"], ErrorKind::DisplayHelp),
+        (&["g", "help", "help"], ErrorKind::DisplayHelp),
+        (&["g", "help", "--"], ErrorKind::InvalidSubcommand),
         (&["g", "help", "play"], ErrorKind::DisplayHelp),
         (&["g", "--help"], ErrorKind::DisplayHelp),
         (&["g", "-h"], ErrorKind::DisplayHelp),
+        (&["g", "-hx"], ErrorKind::DisplayHelp),
+        (&["g", "-xh"], ErrorKind::UnknownArgument),
+        (&["g", "play", "-hx"], ErrorKind::DisplayHelp),
+        (&["g", "--", "play"], ErrorKind::UnknownArgument),
+        (&["g", "play", "--", "--help"], ErrorKind::UnknownArgument),
+        (&["g", "--version"], ErrorKind::DisplayVersion),
+        (&["g", "-V"], ErrorKind::DisplayVersion),
         (
             &["g", "play", "--points", "5", "--help"],
             ErrorKind::DisplayHelp,
@@ -91,18 +159,18 @@ fn lines_that_are_refused(rt: HostRuntime) {
     }
 }
 
-// The text that a refusal shows, and whether it is help.
+// The text that a refusal shows, and whether it was asked for.
 fn told(alloc: Global, words: &'static [&'static str]) -> Result<(String, bool), Fail> {
     match read_line(alloc, words) {
         Ok(_) => Err(Fail::new("the line was accepted")),
-        Err(refusal) => Ok((format!(in alloc; "{refusal}")?, refusal.is_help())),
+        Err(refusal) => Ok((format!(in alloc; "{refusal}")?, refusal.is_request())),
     }
 }
 
 #[test]
 fn help_of_the_program(rt: HostRuntime) -> Result<(), Fail> {
-    let (text, is_help) = told(rt.alloc(), &["g", "help"])?;
-    assert!(rt; is_help);
+    let (text, is_asked) = told(rt.alloc(), &["g", "help"])?;
+    assert!(rt; is_asked);
     let wanted = "A directory of grains on a cluster of silos, played from a script
 
 Usage: grain-directory <COMMAND>
@@ -112,7 +180,8 @@ Commands:
   help  Print this message or the help of the given subcommand(s)
 
 Options:
-  -h, --help  Print help
+  -h, --help     Print help
+  -V, --version  Print version
 ";
     assert!(rt; text.as_str() == wanted, "{text}");
     Ok(())
@@ -120,8 +189,8 @@ Options:
 
 #[test]
 fn help_of_play(rt: HostRuntime) -> Result<(), Fail> {
-    let (text, is_help) = told(rt.alloc(), &["g", "play", "--help"])?;
-    assert!(rt; is_help);
+    let (text, is_asked) = told(rt.alloc(), &["g", "play", "--help"])?;
+    assert!(rt; is_asked);
     let wanted = "Play a cluster's script, read from standard input
 
 Usage: grain-directory play [OPTIONS]
@@ -129,6 +198,7 @@ Usage: grain-directory play [OPTIONS]
 Options:
       --hashing <HASHING>  How points and grains are hashed: by their texts, or as the script states [default: sha256] [possible values: sha256, stated]
       --points <POINTS>    How many points a silo has under sha256, from 1 to 128 [default: 30]
+      --cache <CACHE>      How many hints a silo's cache keeps, from 1 to 65536 [default: 1024]
   -h, --help               Print help
 ";
     assert!(rt; text.as_str() == wanted, "{text}");
@@ -136,9 +206,17 @@ Options:
 }
 
 #[test]
+fn the_version(rt: HostRuntime) -> Result<(), Fail> {
+    let (text, is_asked) = told(rt.alloc(), &["g", "--version"])?;
+    assert!(rt; is_asked);
+    assert!(rt; text.as_str() == "grain-directory 0.1.0\n", "{text}");
+    Ok(())
+}
+
+#[test]
 fn a_mistake_is_told_with_the_way_out(rt: HostRuntime) -> Result<(), Fail> {
-    let (text, is_help) = told(rt.alloc(), &["g", "play", "--points", "0"])?;
-    assert!(rt; !is_help);
+    let (text, is_asked) = told(rt.alloc(), &["g", "play", "--points", "0"])?;
+    assert!(rt; !is_asked);
     let wanted = "error: invalid value '0' for '--points <POINTS>': 0 is not in 1..=128
 
 For more information, try '--help'.

@@ -1,7 +1,7 @@
 -- Letters under their numbers: letter n of the mail stands in the n-th slot.
 use Rattle.std.proofs.Common.{◌≡◌, ◌≢◌, ◌⊎◌, inl, inr, ℕ, zero, suc, ◌+◌, ◌-◌, ◌<◌, ◌≤◌, true, false, cond, List, [], ◌∷◌, ◌++◌, length, get_or, set, take, map, Option, Some, None, IsSome, refl, sym, ◌∙◌, ap, subst, arith}
 use Rattle.std.specs.Prelude.{nat_le}
-use Rattle.std.specs.Option.{option_map}
+use Rattle.std.specs.Option.{option_map, option_map_or}
 use Rattle.std.specs.List.{cons_option, enumerate_from, filter, filter_map}
 use Rattle.std.specs.Ordering.{is_eq, nat_cmp}
 use Rattle.std.specs.Map.{lookup, remove_entry, set_value}
@@ -23,8 +23,9 @@ use Rattle.letter_mail.specs.declared.kept.Kept.{Kept}
 use Rattle.letter_mail.specs.declared.kept.Kept.TheVariants.{Brief, Whole}
 use Rattle.letter_mail.specs.Kept.{letter_kept, receiver_of}
 use Rattle.letter_mail.specs.Slots.{AreKept, lost_slot, posted_from, posted_in, slot_from, slot_to, stale_slot}
-use Rattle.letter_mail.specs.Mail.{MailValue, letter_in, with_lost, with_posted, with_stale, without_last}
+use Rattle.letter_mail.specs.Mail.{MailValue, has_fresh, letter_in, with_lost, with_posted, with_stale, without_last}
 use Rattle.letter_mail.specs.MailModel.{mail_in}
+use Rattle.letter_mail.specs.Queues.{fresh_at, is_fresh_in}
 use Rattle.letter_mail.specs.Keeping.{Grows}
 use Rattle.letter_mail.proofs.Growing.{posted_again}
 
@@ -86,6 +87,17 @@ at_number first number grains (s ∷ slots) = elim (cases_eq number first) [
         ≡ lookup (is_at (nat_cmp number)) (posted_from (first + 1) grains slots)
     passed None at = refl
     passed (Some p) at = ap (λ b. cond b (Some p) (lookup (is_at (nat_cmp number)) (posted_from (first + 1) grains slots))) at
+
+-- whether it is fresh
+pub fresh_is : (grains : List Grain) (slots : List Slot) (number : ℕ) → has_fresh (mail_in grains slots) number ≡ fresh_at slots number
+unfolding fresh_at
+fresh_is grains slots number = ap (λ o. option_map_or (λ (p : Posted). p.fresh) o false) (at_number 1 number grains slots) ∙ by (slot_from 1 slots number)
+  where
+    by : (found : Option Slot) → option_map_or (λ (p : Posted). p.fresh) (in_slot grains found) false ≡ is_fresh_in found
+    by None = refl
+    by (Some (Fresh letter)) = refl
+    by (Some (Stale letter)) = refl
+    by (Some (Lost to)) = refl
 
 abbrev letter_part : Option Posted → Option Letter
 letter_part o = option_map (λ (p : Posted). p.letter) o

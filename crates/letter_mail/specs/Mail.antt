@@ -1,6 +1,6 @@
 -- The mail of the code: the letters that were sent and aren't lost.
 use Rattle.std.specs.Prelude.{false, ℕ, ◌+◌, ◌-◌, ◌≤◌, ◌&&◌, nat_le, min, Bool, is_some, Some, None, find, List, ◌++◌, length, map, Option}
-use Rattle.std.specs.Option.{option_map}
+use Rattle.std.specs.Option.{option_map, option_map_or}
 use Rattle.std.specs.List.{enumerate_from, filter}
 use Rattle.std.specs.Ordering.{nat_cmp}
 use Rattle.std.specs.Map.{lookup, remove_entry, set_value}
@@ -19,6 +19,10 @@ pub record MailValue : Type 0 where
 -- the letter of that number, if it is in the mail
 abbrev pub letter_in : MailValue → ℕ → Option Letter
 letter_in mail number = option_map (λ posted. posted.letter) (lookup (is_at (nat_cmp number)) mail.letters)
+
+-- whether the letter of that number is in the mail, and was never delivered
+abbrev pub has_fresh : MailValue → ℕ → Bool
+has_fresh mail number = option_map_or (λ posted. posted.fresh) (lookup (is_at (nat_cmp number)) mail.letters) false
 
 -- with letters sent
 abbrev pub with_posted : MailValue → List Letter → MailValue

@@ -1,5 +1,5 @@
-ghost use Rattle.std.specs.Prelude.{◌≡◌, ◌<◌, length};
-ghost use Rattle.directory_rules.specs.Letter.{Reply_letter};
+ghost use Rattle.std.specs.Prelude.{◌≡◌, ◌<◌, None, length};
+ghost use Rattle.directory_rules.specs.Letter.{Offer_letter, Reply_letter};
 ghost use Rattle.directory_letters.specs.LetterModel.{body_of};
 ghost use Rattle.letter_mail.specs.Kept.{IsKept, IsNumbered, entry_by, grain_at, letter_by, letter_kept, receiver_of, request_by, said_by};
 ghost use Rattle.letter_mail.specs.MailedModel.{letter_seen};
@@ -120,7 +120,7 @@ fn letter_by(grains: &IndexSet<GrainId>, brief: &Brief) -> Letter
     Letter::new(brief.from, brief.to, brief.version, body_by(grains, brief))
 }
 
-// What it says.
+// What it says. Each arm is one call or has nothing large, since all that arms hold is cleared whichever one is taken.
 fn body_by(grains: &IndexSet<GrainId>, brief: &Brief) -> Body
     requires numbered { IsNumbered (length grains.now.keys) brief.now.says }
     ensures { body_of result ≡ said_by grains.now.keys brief.now.from brief.now.version brief.now.says }
@@ -130,64 +130,168 @@ fn body_by(grains: &IndexSet<GrainId>, brief: &Brief) -> Body
             number,
             hash,
             entry,
-        } => {
-            let entry = entry_by(grains, entry);
-            let previous = None;
-            request_by(brief, number, hash, Act::Register { entry, previous })
-        }
+        } => register(grains, brief, number, hash, entry),
         Says::Deregister {
             number,
             hash,
             entry,
-        } => {
-            let entry = entry_by(grains, entry);
-            request_by(brief, number, hash, Act::Deregister { entry })
-        }
+        } => deregister(grains, brief, number, hash, entry),
         Says::Find {
             number,
             hash,
             grain,
-        } => {
-            let grain = grain_at(grains, grain);
-            request_by(brief, number, hash, Act::Find { grain })
-        }
-        Says::Registered { number, entry } => {
-            reply(number, Reply::Registered(entry_by(grains, entry)))
-        }
-        Says::Taken { number, entry } => reply(number, Reply::Taken(entry_by(grains, entry))),
-        Says::Removed { number } => reply(number, Reply::Removed),
-        Says::Absent { number } => reply(number, Reply::Absent),
-        Says::Found { number, entry } => reply(number, Reply::Found(entry_by(grains, entry))),
-        Says::Nothing { number } => reply(number, Reply::Nothing),
-        Says::Retry { number, why } => reply(number, Reply::Retry(why)),
+        } => find(grains, brief, number, hash, grain),
+        Says::Registered { number, entry } => registered(grains, number, entry),
+        Says::Taken { number, entry } => taken(grains, number, entry),
+        Says::Removed { number } => removed(number),
+        Says::Absent { number } => absent(number),
+        Says::Found { number, entry } => found(grains, number, entry),
+        Says::Nothing { number } => nothing(number),
+        Says::Retry { number, why } => retry(number, why),
         Says::Ask { range, page } => Body::Ask { range, page },
         Says::Missing(range) => Body::Missing(range),
         Says::Done(range) => Body::Done(range),
         Says::Query(range) => Body::Query(range),
         Says::Behind(range) => Body::Behind(range),
         Says::Ahead(range) => Body::Ahead(range),
-        Says::Offer(entry) => Body::Offer(entry_by(grains, entry)),
+        Says::Offer(entry) => offer(grains, entry),
     }
 }
 
-// A request of the letter's own sender and version.
-fn request_by(brief: &Brief, number: u64, hash: u32, act: Act) -> Body
-    ensures { body_of result ≡ request_by brief.now.from brief.now.version number hash act }
+// A Register of the letter's own sender and version, in nobody's place.
+fn register(grains: &IndexSet<GrainId>, brief: &Brief, number: u64, hash: u32, entry: Named) -> Body
+    requires numbered { entry.grain < length grains.now.keys }
+    ensures { body_of result ≡ request_by brief.now.from brief.now.version number hash (Act.Register (entry_by grains.now.keys entry) None) }
 {
     Body::Request(Request {
         sender: brief.from,
         version: brief.version,
         number,
         hash,
-        act,
+        act: Act::Register {
+            entry: entry_by(grains, entry),
+            previous: None,
+        },
     })
 }
 
-// A reply.
-fn reply(number: u64, reply: Reply) -> Body
-    ensures { body_of result ≡ Reply_letter number reply }
+// A Deregister of the letter's own sender and version.
+fn deregister(
+    grains: &IndexSet<GrainId>,
+    brief: &Brief,
+    number: u64,
+    hash: u32,
+    entry: Named,
+) -> Body
+    requires numbered { entry.grain < length grains.now.keys }
+    ensures { body_of result ≡ request_by brief.now.from brief.now.version number hash (Act.Deregister (entry_by grains.now.keys entry)) }
 {
-    Body::Reply { number, reply }
+    Body::Request(Request {
+        sender: brief.from,
+        version: brief.version,
+        number,
+        hash,
+        act: Act::Deregister {
+            entry: entry_by(grains, entry),
+        },
+    })
+}
+
+// A Find of the letter's own sender and version.
+fn find(grains: &IndexSet<GrainId>, brief: &Brief, number: u64, hash: u32, grain: usize) -> Body
+    requires numbered { grain < length grains.now.keys }
+    ensures { body_of result ≡ request_by brief.now.from brief.now.version number hash (Act.Find (grain_at grains.now.keys grain)) }
+{
+    Body::Request(Request {
+        sender: brief.from,
+        version: brief.version,
+        number,
+        hash,
+        act: Act::Find {
+            grain: grain_at(grains, grain),
+        },
+    })
+}
+
+// The reply that an entry was put in.
+fn registered(grains: &IndexSet<GrainId>, number: u64, entry: Named) -> Body
+    requires numbered { entry.grain < length grains.now.keys }
+    ensures { body_of result ≡ Reply_letter number (Reply.Registered (entry_by grains.now.keys entry)) }
+{
+    Body::Reply {
+        number,
+        reply: Reply::Registered(entry_by(grains, entry)),
+    }
+}
+
+// The reply that another entry has the grain.
+fn taken(grains: &IndexSet<GrainId>, number: u64, entry: Named) -> Body
+    requires numbered { entry.grain < length grains.now.keys }
+    ensures { body_of result ≡ Reply_letter number (Reply.Taken (entry_by grains.now.keys entry)) }
+{
+    Body::Reply {
+        number,
+        reply: Reply::Taken(entry_by(grains, entry)),
+    }
+}
+
+// The reply that an entry was found.
+fn found(grains: &IndexSet<GrainId>, number: u64, entry: Named) -> Body
+    requires numbered { entry.grain < length grains.now.keys }
+    ensures { body_of result ≡ Reply_letter number (Reply.Found (entry_by grains.now.keys entry)) }
+{
+    Body::Reply {
+        number,
+        reply: Reply::Found(entry_by(grains, entry)),
+    }
+}
+
+// The reply that an entry was taken out.
+fn removed(number: u64) -> Body
+    ensures { body_of result ≡ Reply_letter number Reply.Removed }
+{
+    Body::Reply {
+        number,
+        reply: Reply::Removed,
+    }
+}
+
+// The reply that there was no such entry.
+fn absent(number: u64) -> Body
+    ensures { body_of result ≡ Reply_letter number Reply.Absent }
+{
+    Body::Reply {
+        number,
+        reply: Reply::Absent,
+    }
+}
+
+// The reply that the grain has no entry.
+fn nothing(number: u64) -> Body
+    ensures { body_of result ≡ Reply_letter number Reply.Nothing }
+{
+    Body::Reply {
+        number,
+        reply: Reply::Nothing,
+    }
+}
+
+// The reply that a request is to be asked again.
+fn retry(number: u64, why: Why) -> Body
+    ensures { body_of result ≡ Reply_letter number (Reply.Retry why) }
+{
+    Body::Reply {
+        number,
+        reply: Reply::Retry(why),
+    }
+}
+
+// An offer.
+fn offer(grains: &IndexSet<GrainId>, entry: Named) -> Body
+    requires numbered { entry.grain < length grains.now.keys }
+    ensures { body_of result ≡ Offer_letter (entry_by grains.now.keys entry) }
+{
+    Body::Offer(entry_by(grains, entry))
 }
 
 // The entry whose grain has the number.

@@ -1,7 +1,7 @@
 ghost use Rattle.std.specs.Prelude.{◌≡◌, ◌≤◌, Some, [], IsSome, OnOk, OnErr};
 ghost use Rattle.std.specs.Option.{option_map};
 ghost use Rattle.directory_rules.specs.Letter.{Letter as LetterValue};
-ghost use Rattle.letter_mail.specs.Mail.{HasRisingNumbers, least_fresh, least_fresh_to, lesser, letter_in, with_lost, with_posted, with_stale, without_last};
+ghost use Rattle.letter_mail.specs.Mail.{HasRisingNumbers, has_fresh, least_fresh, least_fresh_to, lesser, letter_in, with_lost, with_posted, with_stale, without_last};
 ghost use Rattle.letter_mail.specs.MailedModel.{letter_seen};
 
 use crate::MailedLetter;
@@ -9,7 +9,7 @@ use crate::passing::{deliver_in, lose_in};
 use crate::putting::{put_all, take_last};
 use crate::queue::Queue;
 use crate::queues::first_at;
-use crate::slots::{Slot, index_of};
+use crate::slots::{Slot, index_of, is_fresh_at};
 use directory_letters::Letter;
 use indexmap::IndexSet;
 use silo_address::{GrainId, SiloAddress};
@@ -71,6 +71,14 @@ impl Mail {
             Some(index) => slots[index].letter(&self.grains),
             None => None,
         }
+    }
+
+    /// Whether the letter of that number is in the mail and was never delivered.
+    pub fn is_fresh(&self, number: u64) -> bool
+        ensures { result ≡ has_fresh self.now number }
+    {
+        let slots: &[Slot] = &self.slots;
+        is_fresh_at(slots, number)
     }
 
     /// The least fresh letter to the silo, if there is one.

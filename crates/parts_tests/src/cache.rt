@@ -1,5 +1,6 @@
-//! A cache of hints.
-use crate::samples::{A, B, entry, grain, joined, silo, view};
+//! A cache of hints, in a form that any one refusal of an allocation leaves true: a call that is refused has changed nothing, and is
+//! made again. `rt try --test --fail-alloc N` refuses each test its Nth allocation.
+use crate::samples::{A, B, MANY, declare_dead, entry, grain, joined, view};
 use lookup_cache::{Cache, CacheError};
 use std::alloc::Global;
 use std::process::Abort;
@@ -72,6 +73,26 @@ fn the_last_used_stay(rt: HostRuntime) {
     }
 }
 
+// Learns where the grains are. None is compared with what was before it, so that few allocations are made.
+fn fill(rt: &impl Abort, cache: &mut Cache, grains: &[&str]) {
+    for text in grains {
+        if !has_learnt(rt, cache, text, (A, 1)) {
+            assert!(rt; has_learnt(rt, cache, text, (A, 1)), "{text}");
+        }
+    }
+}
+
+// More hints than the room that was made at first.
+#[test]
+fn room_is_made(rt: HostRuntime) {
+    let mut cache = cache(&rt, rt.alloc(), 16);
+    fill(&rt, &mut cache, &MANY[..9]);
+    learn(&rt, &mut cache, MANY[9], (B, 2));
+    assert!(rt; cache.len() == 10);
+    assert!(rt; find(&rt, &mut cache, MANY[0]) == 1);
+    assert!(rt; find(&rt, &mut cache, MANY[9]) == 2);
+}
+
 // A hint is forgotten by its grain and activation, and dropped where its silo has died.
 #[test]
 fn hints_go(rt: HostRuntime) {
@@ -82,7 +103,7 @@ fn hints_go(rt: HostRuntime) {
     cache.forget(&ann, &hint);
     assert!(rt; cache.len() == 2);
     let mut views = joined(&rt, rt.alloc(), &[A, B]);
-    views.declare_dead(&silo(&rt, B)).expect(&rt, "a death");
+    declare_dead(&rt, &mut views, B);
     cache.see(&view(&rt, rt.alloc(), &views, 3));
     assert!(rt; cache.len() == 1);
     assert!(rt; find(&rt, &mut cache, BOB) == 1);

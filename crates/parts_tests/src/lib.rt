@@ -8,11 +8,19 @@ mod activations;
 #[cfg(test)]
 mod cache;
 #[cfg(test)]
+mod host_calls;
+#[cfg(test)]
+mod host_memory;
+#[cfg(test)]
 mod partition;
+#[cfg(test)]
+mod partition_memory;
 #[cfg(test)]
 mod placement;
 #[cfg(test)]
 mod recovery;
+#[cfg(test)]
+mod recovery_memory;
 #[cfg(test)]
 mod reports;
 #[cfg(test)]
@@ -21,5 +29,7 @@ mod rules;
 mod samples;
 #[cfg(test)]
 mod sealing;
+#[cfg(test)]
+mod table_memory;
 #[cfg(test)]
 mod tables;

@@ -1,5 +1,5 @@
 //! What a silo keeps for others: its pieces, and the requests that it serves from them.
-use crate::samples::{A, B, C, entry, grain, joined, range, silo, view};
+use crate::samples::{A, B, C, declare_dead, entry, grain, joined, range, silo, view};
 use directory_rules::{Act, PieceState, Reply, Request, Why};
 use grain_partition::Holding;
 use grain_table::Table;
@@ -19,7 +19,7 @@ const BOB: &str = "user/bob#70";
 // Version 1 to 3: A joins, then B, then C. In version 4 B dies.
 fn views(rt: &impl Abort, alloc: Global) -> Views {
     let mut views = joined(rt, alloc, &[A, B, C]);
-    views.declare_dead(&silo(rt, B)).expect(rt, "a death");
+    declare_dead(rt, &mut views, B);
     views
 }
 

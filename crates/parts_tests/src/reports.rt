@@ -1,6 +1,7 @@
 //! What a host reports of a range, in a form that any one refusal of an allocation leaves true: a call that is refused is made
 //! again. `rt try --test --fail-alloc N` refuses each test its Nth allocation.
-use crate::samples::{grain, silo};
+use crate::host_calls::{new_host, start};
+use crate::samples::grain;
 use hash_ring::Hashing;
 use host_activations::Host;
 use ring_range::RingRange;
@@ -8,25 +9,12 @@ use silo_address::Entry;
 use std::alloc::Global;
 use std::process::Abort;
 
-const LAST: u64 = 1 << 60;
-
 // Grains, by the hashes that they state.
 const LOW: &str = "user/low#5";
 
 const MIDDLE: &str = "user/middle#1000";
 
 const HIGH: &str = "user/high#4294967290";
-
-fn new_host(rt: &impl Abort, alloc: Global) -> Host {
-    Host::new(alloc, silo(rt, "10.0.0.1:1000@1"), Hashing::Stated)
-}
-
-fn copy_of(rt: &impl Abort, host: &Host) -> Host {
-    match host.copy() {
-        Ok(copy) => copy,
-        Err(_) => host.copy().expect(rt, "memory"),
-    }
-}
 
 fn entries_of(rt: &impl Abort, alloc: Global, host: &Host, range: &RingRange) -> Vec<Entry> {
     match host.firm_entries(alloc, Hashing::Stated, range) {
@@ -59,25 +47,18 @@ fn reports(
     true
 }
 
-// An activation begins, and is firm. Where its beginning is refused, the host is as it was.
-fn start(rt: &impl Abort, host: &mut Host, text: &str) {
-    let (grain, number) = (grain(rt, text), host.next_number());
-    let before = copy_of(rt, host);
-    assert!(rt; host.held(&grain).is_none());
-    assert!(rt; number <= LAST);
-    assert!(rt; host.next_count() <= LAST);
-    if host.start(grain, None).is_err() {
-        assert!(rt; host.same(&before));
-        host.start(grain, None).expect(rt, "memory");
-    }
+// An activation begins, and is firm.
+fn start_firm(rt: &impl Abort, host: &mut Host, text: &str) {
+    let number = host.next_number();
+    start(rt, host, text);
     host.confirm(number);
 }
 
 fn three_firm(rt: &impl Abort, alloc: Global) -> Host {
     let mut host = new_host(rt, alloc);
-    start(rt, &mut host, MIDDLE);
-    start(rt, &mut host, LOW);
-    start(rt, &mut host, HIGH);
+    start_firm(rt, &mut host, MIDDLE);
+    start_firm(rt, &mut host, LOW);
+    start_firm(rt, &mut host, HIGH);
     host
 }
 
@@ -110,7 +91,7 @@ fn one_that_took_the_room_of_another_is_reported(rt: HostRuntime) {
     assert!(rt; reports(&rt, alloc, &host, CIRCLE, &[HIGH, LOW]));
     assert!(rt; reports(&rt, alloc, &host, (4_294_967_290, 1), &[HIGH]));
     host.end(&grain(&rt, HIGH));
-    start(&rt, &mut host, MIDDLE);
+    start_firm(&rt, &mut host, MIDDLE);
     assert!(rt; reports(&rt, alloc, &host, CIRCLE, &[LOW, MIDDLE]));
     host.end(&grain(&rt, MIDDLE));
     assert!(rt; reports(&rt, alloc, &host, CIRCLE, &[LOW]));

@@ -37,13 +37,53 @@ pub(crate) fn entry(rt: &impl Abort, (of, on, count): (&str, &str, u64)) -> Entr
 pub(crate) fn joined(rt: &impl Abort, alloc: Global, texts: &[&str]) -> Views {
     let mut views = Views::new(alloc, 256);
     for text in texts {
-        views.join(silo(rt, text)).expect(rt, "a join");
+        join(rt, &mut views, text);
     }
     views
 }
 
-// The view of a version that was made.
+// The silo joins, once more where that is refused memory.
+pub(crate) fn join(rt: &impl Abort, views: &mut Views, text: &str) {
+    let silo = silo(rt, text);
+    if views.join(silo).is_err() {
+        views.join(silo).expect(rt, "a join");
+    }
+}
+
+// The silo is declared dead, once more where that is refused memory.
+pub(crate) fn declare_dead(rt: &impl Abort, views: &mut Views, text: &str) {
+    let silo = silo(rt, text);
+    if views.declare_dead(&silo).is_err() {
+        views.declare_dead(&silo).expect(rt, "a death");
+    }
+}
+
+// The view of a version that was made, asked for again where memory is refused.
 pub(crate) fn view(rt: &impl Abort, alloc: Global, views: &Views, version: u64) -> View {
-    let made = views.view(alloc, version).expect(rt, "memory");
+    let made = match views.view(alloc, version) {
+        Ok(made) => made,
+        Err(_) => views.view(alloc, version).expect(rt, "memory"),
+    };
     made.expect(rt, "this version was made")
 }
+
+// As many grains as a node of a map takes, which is 15, one that splits it, and one more.
+pub(crate) const MANY: [&str; 17] = [
+    "user/a#10",
+    "user/b#20",
+    "user/c#30",
+    "user/d#40",
+    "user/e#50",
+    "user/f#60",
+    "user/g#70",
+    "user/h#80",
+    "user/i#90",
+    "user/j#100",
+    "user/k#110",
+    "user/l#120",
+    "user/m#130",
+    "user/n#140",
+    "user/o#150",
+    "user/p#160",
+    "user/q#170",
+];

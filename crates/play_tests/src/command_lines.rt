@@ -28,11 +28,16 @@ fn check_course(
     assert!(rt; errors.taken.as_slice() == told.as_bytes());
 }
 
-// A script, a fault, and a mistake, with what is told of each.
+// A script, a fault, the version, and a mistake, with what is told of each.
 #[test]
 fn courses(rt: HostRuntime) {
     let mistake: [&str; 4] = ["g", "play", "--points", "0"];
-    let table: [(&[&str], &[u8], Course<'static>); 3] = [
+    let table: [(&[&str], &[u8], Course<'static>); 4] = [
+        (
+            &["g", "--version"],
+            b"show\n",
+            (0, "grain-directory 0.1.0\n", ""),
+        ),
         (&PLAY, b"show\n", (0, "version 0\nno owner\n", "")),
         (
             &PLAY,
@@ -40,7 +45,7 @@ fn courses(rt: HostRuntime) {
             (
                 2,
                 "version 0\nno owner\nline 2 fault 921\n",
-                "error: line 2: a command is join SILO PLACE.., leave SILO, kill SILO, nudge SILO, see SILO VERSION, wake SILO GRAIN, close SILO GRAIN, find SILO GRAIN, forget SILO GRAIN, offer SILO GRAIN SILO, deliver LETTER, lose LETTER, settle, owner HASH, place SILO POLICY GRAIN, show or mail\n",
+                "error: line 2: a command is join SILO PLACE.., leave SILO, kill SILO, nudge SILO, see SILO VERSION, sync, wake SILO GRAIN, close SILO GRAIN, find SILO GRAIN, forget SILO GRAIN, offer SILO GRAIN SILO, deliver LETTER, lose LETTER, settle, owner HASH, place SILO POLICY GRAIN, show, mail, dump or check\n",
             ),
         ),
         (
@@ -84,14 +89,66 @@ owner 335007437 10.0.0.1:1000@1 2
     }
 }
 
-// An output that fails in the middle of a line or of the help, and errors that fail.
+// The second hint takes the place of the first.
+#[test]
+fn a_cache_of_one_hint(rt: HostRuntime) {
+    let words: [&str; 6] = ["g", "play", "--hashing", "stated", "--cache", "1"];
+    let script = "join 10.0.0.1:1000@1 0
+see 10.0.0.1:1000@1 1
+settle
+join 10.0.0.2:1000@1 2147483648
+sync
+settle
+wake 10.0.0.2:1000@1 user/g#1
+wake 10.0.0.2:1000@1 user/k#2
+settle
+find 10.0.0.1:1000@1 user/g#1
+settle
+find 10.0.0.1:1000@1 user/g#1
+find 10.0.0.1:1000@1 user/k#2
+settle
+find 10.0.0.1:1000@1 user/g#1
+find 10.0.0.1:1000@1 user/k#2
+";
+    let printed = "view 1 joined 10.0.0.1:1000@1
+10.0.0.1:1000@1 sees 1 next sent 1..1
+delivered 1 query report sent 2..2
+delivered 2 report complete
+view 2 joined 10.0.0.2:1000@1
+10.0.0.1:1000@1 sees 2 next
+10.0.0.2:1000@1 sees 2 next sent 3..3
+delivered 3 ask page sent 4..4
+delivered 4 page installed sent 5..5
+delivered 5 done deleted
+started 10.0.0.2:1000@1!1 user/g#1 sent 6..6
+started 10.0.0.2:1000@1!2 user/k#2 sent 7..7
+delivered 6 register registered sent 8..8
+delivered 7 register registered sent 9..9
+delivered 8 registered firm
+delivered 9 registered firm
+finding user/g#1 sent 10..10
+delivered 10 find found sent 11..11
+delivered 11 found learnt
+cached 10.0.0.2:1000@1!1 user/g#1
+finding user/k#2 sent 12..12
+delivered 12 find found sent 13..13
+delivered 13 found learnt
+finding user/g#1 sent 14..14
+cached 10.0.0.2:1000@1!2 user/k#2
+";
+    let line = (words.as_slice(), script.as_bytes());
+    check_course(&rt, rt.alloc(), line, (1000, 0), (0, printed, ""));
+}
+
+// An output that fails in the middle of a line, of the help or of the version, and errors that fail.
 #[test]
 fn writers_that_fail(rt: HostRuntime) {
     let broken = "error: a read or a write failed\n";
-    let table: [(&[&str], (usize, usize), Course<'static>); 3] = [
+    let table: [(&[&str], (usize, usize), Course<'static>); 4] = [
         (&PLAY, (5, 100), (5, "versi", broken)),
         (&PLAY, (0, 5), (5, "", "error")),
-        (&["g", "help"], (5, 100), (5, "A dir", "")),
+        (&["g", "help"], (5, 100), (5, "A dir", broken)),
+        (&["g", "--version"], (5, 5), (5, "grain", "error")),
     ];
     for (words, rooms, course) in table {
         check_course(&rt, rt.alloc(), (words, b"show\n"), rooms, course);

@@ -1,4 +1,4 @@
-//! How plays begin and end: the number of points, and faults.
+//! How plays begin and end: the numbers of points and of hints, and faults.
 
 use crate::plays::{check_play, check_prints};
 use console_play::play_to_new_cluster;
@@ -6,18 +6,20 @@ use hash_ring::Hashing;
 use std::alloc::Global;
 use std::process::Abort;
 
-// Where the number of points is out of its range, nothing is read and nothing written.
-fn check_points(rt: &impl Abort, alloc: Global, points: usize) {
+// Where the number of points or of hints is out of its range, nothing is read and nothing written.
+fn check_numbers(rt: &impl Abort, alloc: Global, points: usize, cache: usize) {
     let mut reader: &[u8] = b"show\n";
     let mut written = Vec::new(alloc);
-    let ended = play_to_new_cluster(alloc, Hashing::Stated, points, &mut reader, &mut written);
+    let hashing = Hashing::Stated;
+    let ended = play_to_new_cluster(alloc, hashing, points, cache, &mut reader, &mut written);
     assert!(rt; ended.is_none() && reader.len() == 5 && written.is_empty());
 }
 
 #[test]
-fn numbers_of_points(rt: HostRuntime) {
-    check_points(&rt, rt.alloc(), 0);
-    check_points(&rt, rt.alloc(), 129);
+fn numbers_out_of_range(rt: HostRuntime) {
+    check_numbers(&rt, rt.alloc(), 0, 1024);
+    check_numbers(&rt, rt.alloc(), 129, 1024);
+    check_numbers(&rt, rt.alloc(), 30, 65_537);
 }
 
 const HASHED: &[u8] = b"join 10.0.0.1:1000@1 0\njoin 10.0.0.1:1000@1\nowner 2737053157\nshow";
@@ -88,4 +90,6 @@ fn the_longest_line(rt: HostRuntime) {
     check_prints(&rt, rt.alloc(), &longest, ("version 0\nno owner\n", 0));
     let longer = padded(&rt, rt.alloc(), 8189);
     check_prints(&rt, rt.alloc(), &longer, ("line 1 fault 924\n", 2));
+    let one_word = vec![in rt.alloc(); b'a'; 8193].expect(&rt, "memory");
+    check_prints(&rt, rt.alloc(), &one_word, ("line 1 fault 924\n", 2));
 }

@@ -3,7 +3,13 @@
 #![tactic(auto)]
 
 #[cfg(test)]
+mod caches;
+#[cfg(test)]
+mod checks;
+#[cfg(test)]
 mod command_lines;
+#[cfg(test)]
+mod dumps;
 #[cfg(test)]
 mod endings;
 #[cfg(test)]
@@ -17,10 +23,18 @@ mod offers;
 #[cfg(test)]
 mod owners;
 #[cfg(test)]
+mod pages;
+#[cfg(test)]
 mod plays;
 #[cfg(test)]
 mod ranges;
 #[cfg(test)]
+mod recoveries;
+#[cfg(test)]
 mod requests;
 #[cfg(test)]
 mod rows;
+#[cfg(test)]
+mod runs;
+#[cfg(test)]
+mod syncs;

@@ -2,7 +2,7 @@
 
 use crate::rows::{Row, check_row};
 
-const OFFER: Row = Row {
+pub(crate) const OFFER: Row = Row {
     script: "join 10.0.0.1:1000@1 0
 see 10.0.0.1:1000@1 1
 settle
@@ -43,7 +43,7 @@ delivered 12 absent ended
     status: 0,
 };
 
-const OFFER_HELD: Row = Row {
+pub(crate) const OFFER_HELD: Row = Row {
     script: "join 10.0.0.1:1000@1 0
 see 10.0.0.1:1000@1 1
 settle
@@ -91,7 +91,7 @@ range 2147483648+2147483648 10.0.0.2:1000@1 settled entries 1
     status: 0,
 };
 
-const OFFER_AFTER_DEREGISTER: Row = Row {
+pub(crate) const OFFER_AFTER_DEREGISTER: Row = Row {
     script: "join 10.0.0.1:1000@1 0
 see 10.0.0.1:1000@1 1
 settle

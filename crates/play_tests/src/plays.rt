@@ -15,7 +15,7 @@ pub(crate) fn check_play(
 ) {
     let mut reader = script;
     let mut written = Vec::new(alloc);
-    let ended = play_to_new_cluster(alloc, hashing, points, &mut reader, &mut written);
+    let ended = play_to_new_cluster(alloc, hashing, points, 1024, &mut reader, &mut written);
     assert!(rt; written.as_slice() == text);
     assert!(rt; ended.expect(rt, "1 to 128 points").status() == status);
 }

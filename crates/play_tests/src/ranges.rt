@@ -29,7 +29,7 @@ owner 2147483648 10.0.0.2:1000@1 0
     status: 0,
 };
 
-const FIND_MEETS_TRANSFER: Row = Row {
+pub(crate) const FIND_MEETS_TRANSFER: Row = Row {
     script: "join 10.0.0.1:1000@1 0
 see 10.0.0.1:1000@1 1
 settle
@@ -69,7 +69,7 @@ cached 10.0.0.1:1000@1!1 user/bob#3000000000
     status: 0,
 };
 
-const REPLY_OF_AN_OLDER_VIEW: Row = Row {
+pub(crate) const REPLY_OF_AN_OLDER_VIEW: Row = Row {
     script: "join 10.0.0.1:1000@1 0
 see 10.0.0.1:1000@1 1
 settle
@@ -112,7 +112,7 @@ delivered 13 registered firm
     status: 0,
 };
 
-const VIEW_OVERTAKES: Row = Row {
+pub(crate) const VIEW_OVERTAKES: Row = Row {
     script: "join 10.0.0.1:1000@1 0
 see 10.0.0.1:1000@1 1
 settle
@@ -172,7 +172,7 @@ range 3221225472+1073741824 10.0.0.3:1000@1 settled entries 0
     status: 0,
 };
 
-const NO_REPORT_OF_A_SKIPPED_VERSION: Row = Row {
+pub(crate) const NO_REPORT_OF_A_SKIPPED_VERSION: Row = Row {
     script: "join 10.0.0.1:1000@1 0
 see 10.0.0.1:1000@1 1
 settle

@@ -2,7 +2,7 @@
 
 use crate::rows::{Row, check_row};
 
-const TWO_WAKES: Row = Row {
+pub(crate) const TWO_WAKES: Row = Row {
     script: "join 10.0.0.1:1000@1 0
 see 10.0.0.1:1000@1 1
 settle
@@ -34,7 +34,7 @@ delivered 9 taken yielded
     status: 0,
 };
 
-const OLD_NUMBER: Row = Row {
+pub(crate) const OLD_NUMBER: Row = Row {
     script: "join 10.0.0.1:1000@1 0
 see 10.0.0.1:1000@1 1
 settle
@@ -92,7 +92,7 @@ range 0+4294967296 10.0.0.1:1000@1 settled entries 0
     status: 0,
 };
 
-const LOST_LETTER: Row = Row {
+pub(crate) const LOST_LETTER: Row = Row {
     script: "join 10.0.0.1:1000@1 0
 see 10.0.0.1:1000@1 1
 settle

@@ -12,7 +12,7 @@ pub(crate) struct Row {
     pub(crate) status: u8,
 }
 
-const ONE_SILO: Row = Row {
+pub(crate) const ONE_SILO: Row = Row {
     script: "join 10.0.0.1:1000@1 0
 see 10.0.0.1:1000@1 1
 settle
@@ -62,7 +62,7 @@ range 1073741824+4294967296 10.0.0.1:1000@1 unsettled
     status: 0,
 };
 
-const SHORT_ROWS: [Row; 8] = [
+const SHORT_ROWS: [Row; 10] = [
     ONE_SILO,
     OWNER,
     UNSETTLED,
@@ -91,6 +91,16 @@ const SHORT_ROWS: [Row; 8] = [
         out: "line 1 fault 922\n",
         status: 2,
     },
+    Row {
+        script: "deliver 01\n",
+        out: "line 1 fault 923\n",
+        status: 2,
+    },
+    Row {
+        script: "place 10.0.0.1:1000@1 best user/a\n",
+        out: "line 1 fault 926\n",
+        status: 2,
+    },
 ];
 
 #[test]
@@ -106,11 +116,12 @@ pub(crate) fn check_row(rt: &impl Abort, alloc: Global, row: Row) {
     check_prints(rt, alloc, row.script.as_bytes(), prints);
 }
 
-// The line of a join with so many places, each of them 7.
-fn push_join(rt: &impl Abort, script: &mut String, places: u32) {
+// The line of a join with so many places: 0, 1000 and so on.
+fn push_join(rt: &impl Abort, alloc: Global, script: &mut String, places: u32) {
     script.push_str("join 10.0.0.1:1000@1").expect(rt, "memory");
-    for _ in 0..places {
-        script.push_str(" 7").expect(rt, "memory");
+    for thousands in 0..places {
+        let place = format!(in alloc; " {}", u64::from(thousands) * 1000).expect(rt, "memory");
+        script.push_str(&place).expect(rt, "memory");
     }
     script.push_str("\n").expect(rt, "memory");
 }
@@ -120,7 +131,7 @@ fn push_join(rt: &impl Abort, script: &mut String, places: u32) {
 fn numbers_of_places(rt: HostRuntime) {
     let mut script = String::new(rt.alloc());
     for places in [129, 0, 128] {
-        push_join(&rt, &mut script, places);
+        push_join(&rt, rt.alloc(), &mut script, places);
     }
     let out = "refused 402\nrefused 403\nview 1 joined 10.0.0.1:1000@1\n";
     check_prints(&rt, rt.alloc(), script.as_bytes(), (out, 0));

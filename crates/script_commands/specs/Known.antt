@@ -1,15 +1,16 @@
--- The commands that the program knows, each as it stands among those of the rule.
+-- The commands that the program knows, by what they are about: all that the rule has.
 use Rattle.std.specs.Prelude.{ℕ, List, [], ◌∷◌, ◌++◌, codes}
 use Rattle.directory_rules.specs.Event as event
-use Rattle.script_rules.specs.Script.{Grammar, Settle, Owner, Place, Show, Mail, a_hash, a_letter, a_silo, a_silo_a_grain_and_a_silo, a_silo_a_policy_and_a_grain, a_silo_and_grain, a_silo_and_places, a_silo_and_version, no_word}
+use Rattle.script_rules.specs.Script.{Grammar, Sync, Settle, Owner, Place, Show, Mail, Dump, Check, a_hash, a_letter, a_silo, a_silo_a_grain_and_a_silo, a_silo_a_policy_and_a_grain, a_silo_and_grain, a_silo_and_places, a_silo_and_version, no_word}
 
--- what happens to a silo that has joined
+-- what happens to silos that have joined
 abbrev pub silo_commands : List (List ℕ × Grammar)
 silo_commands =
     (codes "leave", a_silo event.Leave)
     ∷ (codes "kill", a_silo event.Kill)
     ∷ (codes "nudge", a_silo event.Nudge)
     ∷ (codes "see", a_silo_and_version event.See)
+    ∷ (codes "sync", no_word Sync)
     ∷ []
 
 -- what a silo does about a grain
@@ -37,6 +38,8 @@ question_commands =
     ∷ (codes "place", a_silo_a_policy_and_a_grain Place)
     ∷ (codes "show", no_word Show)
     ∷ (codes "mail", no_word Mail)
+    ∷ (codes "dump", no_word Dump)
+    ∷ (codes "check", no_word Check)
     ∷ []
 
 -- each known command under its name, with what stands behind the name

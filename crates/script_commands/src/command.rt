@@ -7,6 +7,8 @@ use silo_address::{GrainId, SiloAddress};
 pub enum Command {
     /// An event of the cluster.
     Happen(Event),
+    /// Each silo that isn't Dead sees the versions that it hasn't.
+    Sync,
     /// Fresh letters are delivered until there is none.
     Settle,
     /// The owner of a hash in the current view is printed.
@@ -23,4 +25,8 @@ pub enum Command {
     Show,
     /// The mail is printed.
     Mail,
+    /// The cluster's dump is printed.
+    Dump,
+    /// The cluster's dump is judged, and the verdict printed.
+    Check,
 }

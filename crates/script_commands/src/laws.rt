@@ -1,15 +1,14 @@
 //! Laws of lines and commands: each function has a law as its contract, and does nothing.
 
-ghost use Rattle.std.specs.Map.{lookup};
-ghost use Rattle.std.specs.Prelude.{◌≡◌, ◌<◌, ◌+◌, ◌++◌, ℕ, List, Some, Contains, bytes_eq, length, map};
+ghost use Rattle.std.specs.Prelude.{◌≡◌, ◌<◌, ◌+◌, ◌++◌, ℕ, List, Contains, length};
 ghost use Rattle.texts.specs.Words.{line_feed};
 ghost use Rattle.script_rules.specs.Script.{Grammar, commands, lines_of, longest_line};
 ghost use Rattle.script_commands.specs.Known.{known_commands};
 ghost use Rattle.script_commands.specs.Laws.{BeginsWithFault};
 
-/// Each known command has behind its name what it has among all commands of the rule.
-pub fn known_rows()
-    ensures { map (λ row. lookup (bytes_eq row.0) commands) known_commands ≡ map (λ row. Some row.1) known_commands }
+/// The known commands are all commands of the rule.
+pub fn all_are_known()
+    ensures { known_commands ≡ commands }
 {}
 
 /// More than 8193 bytes without a line feed begin a line that is too long, whatever comes behind them: who reads a script

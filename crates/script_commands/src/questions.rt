@@ -26,6 +26,12 @@ pub(crate) fn question(name: &[u8], words: &[u8]) -> Option<Result<Command, Scri
     if name == b"mail".as_slice() {
         return Some(mail(words));
     }
+    if name == b"dump".as_slice() {
+        return Some(dump(words));
+    }
+    if name == b"check".as_slice() {
+        return Some(check(words));
+    }
     None
 }
 
@@ -59,4 +65,18 @@ fn mail(words: &[u8]) -> Result<Command, ScriptFault>
 {
     no_word(words)?;
     Ok(Command::Mail)
+}
+
+fn dump(words: &[u8]) -> Result<Command, ScriptFault>
+    ensures { told command_of result ≡ script.no_word script.Dump (words_in words.now) }
+{
+    no_word(words)?;
+    Ok(Command::Dump)
+}
+
+fn check(words: &[u8]) -> Result<Command, ScriptFault>
+    ensures { told command_of result ≡ script.no_word script.Check (words_in words.now) }
+{
+    no_word(words)?;
+    Ok(Command::Check)
 }

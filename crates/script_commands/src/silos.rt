@@ -1,4 +1,4 @@
-//! Commands about a silo, but for its joining.
+//! Commands about silos, but for their joining.
 
 ghost use Rattle.std.specs.Prelude.{◌≡◌, option_map};
 ghost use Rattle.directory_rules.specs.Event as event;
@@ -8,11 +8,11 @@ ghost use Rattle.script_commands.specs.CommandModel.{command_of};
 ghost use Rattle.script_commands.specs.Known.{silo_commands};
 ghost use Rattle.script_commands.specs.Reading.{asked_of, told};
 
-use crate::grammar::{a_silo, a_silo_and_version};
+use crate::grammar::{a_silo, a_silo_and_version, no_word};
 use crate::{Command, ScriptFault};
 use cluster_events::Event;
 
-/// The command of that name about a silo, with the words behind it.
+/// The command of that name about silos, with the words behind it.
 pub(crate) fn silo_command(name: &[u8], words: &[u8]) -> Option<Result<Command, ScriptFault>>
     ensures { option_map (told command_of) result ≡ asked_of silo_commands name.now (words_in words.now) }
 {
@@ -27,6 +27,9 @@ pub(crate) fn silo_command(name: &[u8], words: &[u8]) -> Option<Result<Command, 
     }
     if name == b"see".as_slice() {
         return Some(see(words));
+    }
+    if name == b"sync".as_slice() {
+        return Some(sync(words));
     }
     None
 }
@@ -57,4 +60,11 @@ fn see(words: &[u8]) -> Result<Command, ScriptFault>
 {
     let (silo, version) = a_silo_and_version(words)?;
     Ok(Command::Happen(Event::See { silo, version }))
+}
+
+fn sync(words: &[u8]) -> Result<Command, ScriptFault>
+    ensures { told command_of result ≡ script.no_word script.Sync (words_in words.now) }
+{
+    no_word(words)?;
+    Ok(Command::Sync)
 }

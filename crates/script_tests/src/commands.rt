@@ -27,11 +27,14 @@ fn number_in(rt: &impl Abort, alloc: Global, line: &str) -> Option<u64> {
 fn name_in(rt: &impl Abort, alloc: Global, line: &str) -> &'static str {
     match read_command(alloc, line.as_bytes()).expect(rt, "no fault") {
         Some(Command::Happen(event)) => event_name(&event),
+        Some(Command::Sync) => "sync",
         Some(Command::Settle) => "settle",
         Some(Command::Owner { .. }) => "owner",
         Some(Command::Place { .. }) => "place",
         Some(Command::Show) => "show",
         Some(Command::Mail) => "mail",
+        Some(Command::Dump) => "dump",
+        Some(Command::Check) => "check",
         None => "",
     }
 }
@@ -56,12 +59,13 @@ fn event_name(event: &Event) -> &'static str {
 // A line of each command.
 #[test]
 fn names(rt: HostRuntime) {
-    let table: [(&str, &str); 18] = [
+    let table: [(&str, &str); 21] = [
         ("join 10.0.0.1:1000@1", "join"),
         ("leave 10.0.0.1:1000@1", "leave"),
         ("kill 10.0.0.1:1000@1", "kill"),
         ("nudge 10.0.0.1:1000@1", "nudge"),
         ("see 10.0.0.1:1000@1 1", "see"),
+        ("sync", "sync"),
         ("wake 10.0.0.1:1000@1 user/ann", "wake"),
         ("close 10.0.0.1:1000@1 user/ann", "close"),
         ("find 10.0.0.1:1000@1 user/ann", "find"),
@@ -74,6 +78,8 @@ fn names(rt: HostRuntime) {
         ("place 10.0.0.1:1000@1 least_held user/ann", "place"),
         ("show", "show"),
         ("mail", "mail"),
+        ("dump", "dump"),
+        ("check", "check"),
         ("; show", ""),
     ];
     for (line, name) in table {
@@ -107,7 +113,7 @@ fn faults(rt: HostRuntime) {
     let table: [(&str, u16); 25] = [
         ("SHOW", 921),
         ("show; now", 921),
-        ("sync x y z", 921),
+        ("sync x y z", 922),
         ("show ;", 922),
         ("nudge x y", 922),
         ("kill", 922),
@@ -218,11 +224,11 @@ fn words_of_faults(rt: HostRuntime) {
         ),
         (
             ScriptFault::UnknownCommand,
-            "a command is join SILO PLACE.., leave SILO, kill SILO, nudge SILO, see SILO VERSION, wake SILO GRAIN, close SILO GRAIN, find SILO GRAIN, forget SILO GRAIN, offer SILO GRAIN SILO, deliver LETTER, lose LETTER, settle, owner HASH, place SILO POLICY GRAIN, show or mail",
+            "a command is join SILO PLACE.., leave SILO, kill SILO, nudge SILO, see SILO VERSION, sync, wake SILO GRAIN, close SILO GRAIN, find SILO GRAIN, forget SILO GRAIN, offer SILO GRAIN SILO, deliver LETTER, lose LETTER, settle, owner HASH, place SILO POLICY GRAIN, show, mail, dump or check",
         ),
         (
             ScriptFault::WordCount,
-            "too few words or too many: a command is join SILO PLACE.., leave SILO, kill SILO, nudge SILO, see SILO VERSION, wake SILO GRAIN, close SILO GRAIN, find SILO GRAIN, forget SILO GRAIN, offer SILO GRAIN SILO, deliver LETTER, lose LETTER, settle, owner HASH, place SILO POLICY GRAIN, show or mail",
+            "too few words or too many: a command is join SILO PLACE.., leave SILO, kill SILO, nudge SILO, see SILO VERSION, sync, wake SILO GRAIN, close SILO GRAIN, find SILO GRAIN, forget SILO GRAIN, offer SILO GRAIN SILO, deliver LETTER, lose LETTER, settle, owner HASH, place SILO POLICY GRAIN, show, mail, dump or check",
         ),
         (
             ScriptFault::Silo(SiloError::Shape),

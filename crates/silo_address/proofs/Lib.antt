@@ -7,3 +7,4 @@ pub mod GrainStored
 pub mod StatedLaws
 pub mod ActivationLaws
 pub mod Order
+mod TextOrder

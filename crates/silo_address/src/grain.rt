@@ -243,8 +243,12 @@ impl Ord for GrainId {
     ghost matches_eq = { Prim.search (comparing, rules) };
 
     fn cmp(&self, other: &GrainId) -> Ordering {
-        let by_kind = self.kind().cmp(other.kind());
-        by_kind.then(self.key().cmp(other.key()))
+        let (kind, other_kind) = (self.kind(), other.kind());
+        // Where the kinds have one length, the texts compare as the kinds and then the keys.
+        if kind.len() == other_kind.len() {
+            return self.as_bytes().cmp(other.as_bytes());
+        }
+        kind.cmp(other_kind).then(self.key().cmp(other.key()))
     }
 }
 

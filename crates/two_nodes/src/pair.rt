@@ -5,7 +5,7 @@ use anyhow::{Context, Result, bail};
 use directory_letters::Letter;
 use directory_node::{Input, Node};
 use directory_rules::{LetterKind, Settings};
-use hash_ring::{Hashing, Places};
+use hash_ring::{Hashing, Places, Ring};
 use membership_view::{View, Views};
 use silo_address::{ActivationId, GrainId, SiloAddress};
 use std::alloc::Global;
@@ -135,6 +135,10 @@ fn see(
     if !(places.has_active_of(before) && places.has_active_of(view)) {
         bail!("a silo has no place");
     }
+    // It is, since both nodes have seen all that they saw by the same places.
+    if !node.ring().same(&Ring::anew(alloc, node.view(), places)?) {
+        bail!("the node's ring is of other places");
+    }
     let input = Input::Sees {
         before,
         view,
@@ -151,7 +155,7 @@ fn view_of(alloc: Global, views: &Views, version: u64) -> Result<View> {
 // The node's step with an input: the letters that it sends. The plan says what is sent and what will change, and changes nothing
 // yet: a server that has no room for the letters drops it. Only then the change is carried out, which only memory can fail.
 fn step(alloc: Global, node: &mut Node, input: &Input<'_>) -> Result<Vec<Letter>>
-    requires { IsPlaced (input_of input.now) }
+    requires { IsPlaced node.old (input_of input.now) }
 {
     let plan = node.plan(alloc, input)?;
     node.carry_out(plan.change)?;

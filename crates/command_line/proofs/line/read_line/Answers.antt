@@ -4,7 +4,7 @@ use Rattle.clap.specs.Faults.{fault_of, is_simple_and_free}
 use Rattle.clap.specs.Kinds.{HasKind}
 use Rattle.command_line.specs.Command.{app}
 use Rattle.command_line.specs.Line.{line_in, line_of}
-use Rattle.command_line.proofs.Accepted.{accepted, never_none, points_of_line}
+use Rattle.command_line.proofs.Accepted.{accepted, never_none, range_of_line}
 use Rattle.command_line.proofs.Refused.{refused}
 use Rattle.command_line.proofs.line.read_line.Goals as goal
 
@@ -31,11 +31,11 @@ returns-in-Some-clause-reads g c =
       ),
     )
 
-pub returns-in-Some-clause-points : goal.returns-in-Some-clause-points
-returns-in-Some-clause-points g c =
+pub returns-in-Some-clause-in_range : goal.returns-in-Some-clause-in_range
+returns-in-Some-clause-in_range g c =
     let read = returns-in-Some-clause-reads g c in
     let words = map g.S.AsStr.text c.args.words.now in
-    points_of_line (line_of (app read.0) words) c.in-Some.line read.2.0 (accepted read.0 words read.2.1)
+    range_of_line (line_of (app read.0) words) c.in-Some.line read.2.0 (accepted read.0 words read.2.1)
 
 pub returns-in-Err-clause-reads : goal.returns-in-Err-clause-reads
 returns-in-Err-clause-reads g c =

@@ -1,9 +1,9 @@
 use Rattle.std.proofs.Common.{refl, rules}
-use Rattle.console_command.proofs.Explained.{helped, mistaken}
+use Rattle.console_command.proofs.Explained.{asked, mistaken}
 use Rattle.console_command.proofs.carrying.explain.Goals as goal
 
-pub returns-then-is_help-clause-does : goal.returns-then-is_help-clause-does
-returns-then-is_help-clause-does g c = λ words read rest. c.help.ensures.does words (helped c.args.error.now (search rules) words read) rest
+pub returns-then-is_request-clause-does : goal.returns-then-is_request-clause-does
+returns-then-is_request-clause-does g c = λ words read rest. c.answer.ensures.does words (asked c.args.error.now (search rules) words read) rest
 
 pub returns-clause-does : goal.returns-clause-does
 returns-clause-does g c = λ words read rest.

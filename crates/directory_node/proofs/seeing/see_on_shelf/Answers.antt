@@ -1,4 +1,4 @@
-use Rattle.std.proofs.Common.{◌≡◌, sym, ap, ◌∙◌}
+use Rattle.std.proofs.Common.{sym, ap, ◌∙◌}
 use Rattle.directory_rules.specs.Sight.{shelf_after}
 use Rattle.directory_node.proofs.seeing.see_on_shelf.Goals as goal
 

@@ -1,4 +1,4 @@
-use Rattle.std.proofs.Common.{◌≡◌, true, List, Ok, Some, refl, sym, ◌∙◌, ap, subst, arith}
+use Rattle.std.proofs.Common.{◌≡◌, true, List, Ok, Option, Some, refl, sym, ◌∙◌, ap, subst, arith}
 use Rattle.std.specs.Prelude.{IsOk, is_ok}
 use Rattle.std.specs.Option.{option_map}
 use Rattle.std.proofs.lemmas.Option.{same_Some}
@@ -12,21 +12,22 @@ use Rattle.directory_rules.specs.Mail.{has_room_for, letter_of, span_of, with_de
 use Rattle.directory_rules.specs.Happens.{deliver, node_of}
 use Rattle.cluster_events.specs.OutcomeModel.{span_of as code_span}
 use Rattle.directory_node.specs.Follows.{RefusesBy}
-use Rattle.directory_node.specs.Numbers.{step_refusal_number}
+use Rattle.letter_mail.specs.MailedModel.{letter_seen}
+use Rattle.letter_mail.specs.declared.MailedLetter.{MailedLetter}
 use Rattle.directory_node.specs.Planning.{changed}
 use Rattle.directory_core.specs.Stepping.{after_step}
 use Rattle.directory_core.specs.Whole.{IsWorld}
-use Rattle.directory_core.proofs.Happening.{delivered_told, delivery_refused, leaves_delivered, planned_as, unplanned}
+use Rattle.directory_core.proofs.Happening.{delivered_told, delivery_refused, leaves_delivered}
 use Rattle.directory_core.proofs.world.World.deliver.Goals as goal
 
-pub returns-in_default-plan-clause-told : goal.returns-in_default-plan-clause-told
-returns-in_default-plan-clause-told c =
+pub returns-in_default-plan_letter-clause-told : goal.returns-in_default-plan_letter-clause-told
+returns-in_default-plan_letter-clause-told c =
     let letter = c.letter-letter.result.now in
     let node = c.in-Some-node.node.now in
     subst (λ n. RefusesBy IsOk n (deliver c.args.self.now c.args.number)) (sym c.refused_sending.ensures)
-    (delivery_refused c.args.self.now c.args.number letter node c.answer_count.result (sym c.in-Some.ensures ∙ ap (λ (l : Letter). Some l) (sym c.letter-letter.ensures))
+    (delivery_refused c.args.self.now c.args.number letter node c.answer_count.result (sym c.letter-found.ensures ∙ ap (λ (m : Option MailedLetter). option_map letter_seen m) c.in-Some.is ∙ ap (λ (l : Letter). Some l) (sym c.letter-letter.ensures))
     (ap (λ (s : Silo). node_of c.args.self.now s) (sym c.to-to.ensures) ∙ sym c.in-Some-node.ensures)
-    (unplanned node letter (step_refusal_number c.in_default-plan.field-0) c.in_default-plan.ensures.planned ∙ sym c.answer_count.ensures))
+    (c.in_default-plan_letter.ensures.answers ∙ sym c.answer_count.ensures))
 
 pub returns-in-Err-clause-told : goal.returns-in-Err-clause-told
 returns-in-Err-clause-told c =
@@ -34,9 +35,9 @@ returns-in-Err-clause-told c =
     let node = c.in-Some-node.node.now in
     let letters = c.in-Ok.plan.letters.items in
     let room : has_room_for c.args.self.now c.deref.result.now ≡ true = grind arith in
-    ap is_ok (delivered_told c.args.self.now c.args.number letter node (changed c.in-Ok.plan.change node) letters c.in-Ok.plan.effect _ (sym c.in-Some.ensures ∙ ap (λ (l : Letter). Some l) (sym c.letter-letter.ensures))
+    ap is_ok (delivered_told c.args.self.now c.args.number letter node (changed c.in-Ok.plan.change node) letters c.in-Ok.plan.effect _ (sym c.letter-found.ensures ∙ ap (λ (m : Option MailedLetter). option_map letter_seen m) c.in-Some.is ∙ ap (λ (l : Letter). Some l) (sym c.letter-letter.ensures))
     (ap (λ (s : Silo). node_of c.args.self.now s) (sym c.to-to.ensures) ∙ sym c.in-Some-node.ensures)
-    (planned_as node letter c.in-Ok.plan c.in-Ok.ensures.planned)
+    (sym c.in-Ok.ensures.planned)
     (ap (λ (l : List Letter). has_room_for c.args.self.now l) (sym c.deref.ensures.value) ∙ room) refl)
 
 pub returns-in-Ok-receive-clause-told : goal.returns-in-Ok-receive-clause-told
@@ -46,20 +47,20 @@ returns-in-Ok-receive-clause-told c =
     let letters = c.in-Ok.plan.letters.items in
     let after = changed c.in-Ok.plan.change node in
     let room : has_room_for c.args.self.now c.deref.result.now ≡ true = grind arith in
-    delivered_told c.args.self.now c.args.number letter node after letters c.in-Ok.plan.effect (option_map code_span c.span_of.result) (sym c.in-Some.ensures ∙ ap (λ (l : Letter). Some l) (sym c.letter-letter.ensures))
+    delivered_told c.args.self.now c.args.number letter node after letters c.in-Ok.plan.effect (option_map code_span c.span_of-sent.result) (sym c.letter-found.ensures ∙ ap (λ (m : Option MailedLetter). option_map letter_seen m) c.in-Some.is ∙ ap (λ (l : Letter). Some l) (sym c.letter-letter.ensures))
     (ap (λ (s : Silo). node_of c.args.self.now s) (sym c.to-to.ensures) ∙ sym c.in-Some-node.ensures)
-    (planned_as node letter c.in-Ok.plan c.in-Ok.ensures.planned)
+    (sym c.in-Ok.ensures.planned)
     (ap (λ (l : List Letter). has_room_for c.args.self.now l) (sym c.deref.ensures.value) ∙ room)
-    (c.span_of.ensures ∙ ap (λ (l : List Letter). span_of c.args.self.now l) c.deref-2.ensures.value)
+    (c.span_of-sent.ensures ∙ ap (λ (l : List Letter). span_of c.args.self.now l) c.deref-2.ensures.value)
     ∙ ap (λ (k : LetterKind). Ok (record {
-      outcome = record { happening = Delivered c.args.number k c.in-Ok.plan.effect; sent = option_map code_span c.span_of.result };
+      outcome = record { happening = Delivered c.args.number k c.in-Ok.plan.effect; sent = option_map code_span c.span_of-sent.result };
       world = after_step (with_delivered c.args.self.now c.args.number letter) letter.to after letters;
     })) (sym c.kind-kind.ensures)
     ∙ ap (λ (w : World). Ok (record {
-      outcome = record { happening = Delivered c.args.number c.kind-kind.result c.in-Ok.plan.effect; sent = option_map code_span c.span_of.result };
+      outcome = record { happening = Delivered c.args.number c.kind-kind.result c.in-Ok.plan.effect; sent = option_map code_span c.span_of-sent.result };
       world = w;
     })) (ap (λ (s : Silo). after_step (with_delivered c.args.self.now c.args.number letter) s after letters) (sym c.to-to.ensures)
-    ∙ sym (c.in-Ok-receive.ensures.made letter node (sym c.in-Some.ensures ∙ ap (λ (l : Letter). Some l) (sym c.letter-letter.ensures)) (sym c.in-Some-node.ensures)))
+    ∙ sym (c.in-Ok-receive.ensures.made letter node (sym c.letter-found.ensures ∙ ap (λ (m : Option MailedLetter). option_map letter_seen m) c.in-Some.is ∙ ap (λ (l : Letter). Some l) (sym c.letter-letter.ensures)) (sym c.in-Some-node.ensures)))
 
 pub receive-requires-clause-leaves : goal.receive-requires-clause-leaves
 receive-requires-clause-leaves c = λ l n l_is n_is.
@@ -68,11 +69,11 @@ receive-requires-clause-leaves c = λ l n l_is n_is.
     let node = c.in-Some-node.node.now in
     let letters = c.in-Ok.plan.letters.items in
     let room : has_room_for world c.deref.result.now ≡ true = grind arith in
-    let found : letter_of world c.args.number ≡ Some letter = sym c.in-Some.ensures ∙ ap (λ (x : Letter). Some x) (sym c.letter-letter.ensures) in
+    let found : letter_of world c.args.number ≡ Some letter = sym c.letter-found.ensures ∙ ap (λ (m : Option MailedLetter). option_map letter_seen m) c.in-Some.is ∙ ap (λ (l : Letter). Some l) (sym c.letter-letter.ensures) in
     let there : node_of world c.to-to.result ≡ Some node = sym c.in-Some-node.ensures in
     subst (λ (x : Node). IsWorld (after_step (with_delivered world c.args.number l) c.to-to.result (changed c.in-Ok.plan.change x) letters)) (same_Some node n (sym there ∙ n_is))
     (subst (λ (x : Letter). IsWorld (after_step (with_delivered world c.args.number x) c.to-to.result (changed c.in-Ok.plan.change node) letters)) (same_Some letter l (sym found ∙ l_is))
     (subst (λ (s : Silo). IsWorld (after_step (with_delivered world c.args.number letter) s (changed c.in-Ok.plan.change node) letters)) (sym c.to-to.ensures)
     (leaves_delivered world c.args.number letter node (changed c.in-Ok.plan.change node) letters c.in-Ok.plan.effect found
-    (ap (λ (s : Silo). node_of world s) (sym c.to-to.ensures) ∙ there) (planned_as node letter c.in-Ok.plan c.in-Ok.ensures.planned)
+    (ap (λ (s : Silo). node_of world s) (sym c.to-to.ensures) ∙ there) (sym c.in-Ok.ensures.planned)
     (ap (λ (x : List Letter). has_room_for world x) (sym c.deref.ensures.value) ∙ room) c.requires.leaves)))

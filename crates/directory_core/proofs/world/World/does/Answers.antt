@@ -13,4 +13,4 @@ returns-in-Err-clause-told c =
     (refused_told c.args.self.now c.args.silo.now (input_of c.args.input.now) c.in-Some.node.now (step_refusal_number c.in-Err.refusal) c.requires.own (sym c.in-Some.ensures) c.in-Err.ensures.planned)
 
 pub plan-requires : goal.plan-requires
-plan-requires c = record { placed = c.requires.own.placed }
+plan-requires c = record { placed = c.requires.own.placed c.in-Some.node.now }

@@ -1,4 +1,4 @@
-use Rattle.std.proofs.Common.{◌≡◌, ◌≤◌, ◌+◌, length, sym, ap, ◌∙◌, true}
+use Rattle.std.proofs.Common.{length, sym, ap, ◌∙◌}
 use Rattle.directory_rules.specs.Host.{has_numbers, outstanding}
 use Rattle.directory_rules.specs.Node.{Node}
 use Rattle.host_activations.specs.Renewal.{renewal_of}

@@ -1,4 +1,4 @@
-use Rattle.std.proofs.Common.{◌≡◌, ◌≤◌, ◌+◌, length, sym, ap, subst, ◌∙◌, [], true}
+use Rattle.std.proofs.Common.{◌≡◌, length, sym, ap, subst, ◌∙◌, []}
 use Rattle.directory_rules.specs.Host.{has_numbers, outstanding}
 use Rattle.directory_rules.specs.Node.{Node}
 use Rattle.directory_rules.specs.Piece.{Holding}
@@ -7,7 +7,7 @@ use Rattle.grain_partition.specs.Holding.{ArePieces}
 use Rattle.host_activations.specs.Renewal.{renewal_of}
 use Rattle.directory_node.specs.Node.{IsNode}
 use Rattle.directory_node.specs.NodeModel.{node_of}
-use Rattle.directory_node.specs.Planning.{FitsSight, pieces_by, seen_by}
+use Rattle.directory_node.specs.Planning.{FitsSight, seen_by}
 use Rattle.directory_node.proofs.Numbers.{numbers_fit}
 use Rattle.directory_node.proofs.AfterSight.{behind, seen_keeps}
 use Rattle.directory_node.proofs.node.Node.see.Goals as goal

@@ -1,0 +1,79 @@
+//! Dumps read from bytes, tested, and written again.
+use rebuild_checker::read_dump;
+use std::alloc::Global;
+use std::process::Abort;
+
+/// One silo, which has all hashes.
+const ONE: &str =
+    "{\"current\":1,\"hashing\":\"stated\",\"nodes\":[{\"held\":[],\"pieces\":[{\"entries\":[],\"from\":\"\",\"range\":\"0+4294967296\",\"state\":\"settled\"}],\"ring\":[[0,\"10.0.0.1:1000@1\",0]],\"seen\":1,\"silo\":\"10.0.0.1:1000@1\"}],\"points\":30,\"rows\":[{\"dead\":0,\"joined\":1,\"left\":0,\"places\":[0],\"silo\":\"10.0.0.1:1000@1\"}]}";
+
+/// Two silos, and a grain that is firm on both.
+const TWO: &str =
+    "{\"current\":2,\"hashing\":\"stated\",\"nodes\":[{\"held\":[{\"activation\":\"10.0.0.1:1000@1!1\",\"grain\":\"user/z#1\",\"phase\":\"firm\"}],\"pieces\":[{\"entries\":[[\"user/z#1\",\"10.0.0.1:1000@1!1\"]],\"from\":\"\",\"range\":\"0+2147483648\",\"state\":\"settled\"}],\"ring\":[[0,\"10.0.0.1:1000@1\",0],[2147483648,\"10.0.0.2:1000@1\",0]],\"seen\":2,\"silo\":\"10.0.0.1:1000@1\"},{\"held\":[{\"activation\":\"10.0.0.2:1000@1!1\",\"grain\":\"user/z#1\",\"phase\":\"firm\"}],\"pieces\":[{\"entries\":[],\"from\":\"\",\"range\":\"2147483648+2147483648\",\"state\":\"settled\"}],\"ring\":[[0,\"10.0.0.1:1000@1\",0],[2147483648,\"10.0.0.2:1000@1\",0]],\"seen\":2,\"silo\":\"10.0.0.2:1000@1\"}],\"points\":30,\"rows\":[{\"dead\":0,\"joined\":1,\"left\":0,\"places\":[0],\"silo\":\"10.0.0.1:1000@1\"},{\"dead\":0,\"joined\":2,\"left\":0,\"places\":[2147483648],\"silo\":\"10.0.0.2:1000@1\"}]}";
+
+/// A grain whose key has a quotation mark.
+const QUOTED: &str =
+    "{\"current\":1,\"hashing\":\"stated\",\"nodes\":[{\"held\":[],\"pieces\":[{\"entries\":[[\"user/\\\"z#1\",\"10.0.0.1:1000@1!1\"]],\"from\":\"\",\"range\":\"0+4294967296\",\"state\":\"settled\"}],\"ring\":[[0,\"10.0.0.1:1000@1\",0]],\"seen\":1,\"silo\":\"10.0.0.1:1000@1\"}],\"points\":30,\"rows\":[{\"dead\":0,\"joined\":1,\"left\":0,\"places\":[0],\"silo\":\"10.0.0.1:1000@1\"}]}";
+
+/// Points are hashed.
+const HASHED: &str =
+    "{\"current\":1,\"hashing\":\"stated\",\"nodes\":[{\"held\":[],\"pieces\":[{\"entries\":[],\"from\":\"\",\"range\":\"0+4294967296\",\"state\":\"settled\"}],\"ring\":[[0,\"10.0.0.1:1000@1\",0]],\"seen\":1,\"silo\":\"10.0.0.1:1000@1\"}],\"points\":30,\"rows\":[{\"dead\":0,\"joined\":1,\"left\":0,\"places\":[0],\"silo\":\"10.0.0.1:1000@1\"}]}";
+
+// The number by which the bytes are refused.
+fn refusal(rt: &impl Abort, alloc: Global, text: &str) -> Option<u16> {
+    match read_dump(alloc, text.as_bytes()) {
+        Ok(dump) => {
+            let is_dump = dump.is_dump(alloc).expect(rt, "memory");
+            if is_dump { None } else { Some(972) }
+        }
+        Err(error) => error.number(),
+    }
+}
+
+// What is read is written as it was.
+fn comes_back(rt: &impl Abort, alloc: Global, text: &str) -> bool {
+    let dump = read_dump(alloc, text.as_bytes()).expect(rt, text);
+    let written = dump.write(alloc).expect(rt, "memory");
+    written.as_slice() == text.as_bytes()
+}
+
+#[test]
+fn refusals(rt: HostRuntime) {
+    let table: [(&str, Option<u16>); 9] = [
+        (ONE, None),
+        (TWO, None),
+        (QUOTED, None),
+        (HASHED, None),
+        (CUT, Some(971)),
+        (MORE_MEMBERS, Some(972)),
+        (SIGN, Some(972)),
+        (UNMADE_VERSION, Some(972)),
+        ("", Some(971)),
+    ];
+    for (text, number) in table {
+        assert!(rt; refusal(&rt, rt.alloc(), text) == number, "{text}");
+    }
+}
+
+#[test]
+fn written_again(rt: HostRuntime) {
+    for text in [ONE, TWO, QUOTED, HASHED] {
+        assert!(rt; comes_back(&rt, rt.alloc(), text), "{text}");
+    }
+}
+
+/// It lacks its last brace.
+const CUT: &str =
+    "{\"current\":1,\"hashing\":\"stated\",\"nodes\":[{\"held\":[],\"pieces\":[{\"entries\":[],\"from\":\"\",\"range\":\"0+4294967296\",\"state\":\"settled\"}],\"ring\":[[0,\"10.0.0.1:1000@1\",0]],\"seen\":1,\"silo\":\"10.0.0.1:1000@1\"}],\"points\":30,\"rows\":[{\"dead\":0,\"joined\":1,\"left\":0,\"places\":[0],\"silo\":\"10.0.0.1:1000@1\"}]";
+
+/// A member that no dump has.
+const MORE_MEMBERS: &str =
+    "{\"current\":1,\"hashing\":\"stated\",\"nodes\":[{\"held\":[],\"pieces\":[{\"entries\":[],\"from\":\"\",\"range\":\"0+4294967296\",\"state\":\"settled\"}],\"ring\":[[0,\"10.0.0.1:1000@1\",0]],\"seen\":1,\"silo\":\"10.0.0.1:1000@1\"}],\"extra\":0,\"points\":30,\"rows\":[{\"dead\":0,\"joined\":1,\"left\":0,\"places\":[0],\"silo\":\"10.0.0.1:1000@1\"}]}";
+
+/// A number with a sign.
+const SIGN: &str =
+    "{\"current\":1,\"hashing\":\"stated\",\"nodes\":[{\"held\":[],\"pieces\":[{\"entries\":[],\"from\":\"\",\"range\":\"0+4294967296\",\"state\":\"settled\"}],\"ring\":[[0,\"10.0.0.1:1000@1\",0]],\"seen\":-1,\"silo\":\"10.0.0.1:1000@1\"}],\"points\":30,\"rows\":[{\"dead\":0,\"joined\":1,\"left\":0,\"places\":[0],\"silo\":\"10.0.0.1:1000@1\"}]}";
+
+/// A silo has seen a version that isn't made.
+const UNMADE_VERSION: &str =
+    "{\"current\":1,\"hashing\":\"stated\",\"nodes\":[{\"held\":[],\"pieces\":[{\"entries\":[],\"from\":\"\",\"range\":\"0+4294967296\",\"state\":\"settled\"}],\"ring\":[[0,\"10.0.0.1:1000@1\",0]],\"seen\":2,\"silo\":\"10.0.0.1:1000@1\"}],\"points\":30,\"rows\":[{\"dead\":0,\"joined\":1,\"left\":0,\"places\":[0],\"silo\":\"10.0.0.1:1000@1\"}]}";

@@ -1,0 +1,45 @@
+//! A dump judged from a source to a sink.
+ghost use Rattle.std.specs.Prelude.{IfSome};
+ghost use Rattle.script_loop.specs.Calls.{ReadFailed, WriteFailed};
+ghost use Rattle.console_check.specs.Checks.{Checks, IsBrokenBy, Tells};
+
+use crate::Checked;
+use crate::reading::{Unread, read_all};
+use dump_verdict::{Judgement, judge};
+use script_loop::{Sink, Source, send};
+use std::alloc::Global;
+
+/// Reads a dump to its end, judges it, and writes what is said of it: one line. A dump may have 268435456 bytes; the read that goes
+/// on behind them ends the check. No read or write is tried again, and a write that takes nothing is a failure
+/// (`docs/RULES.md#the-dump-and-the-verdict`).
+pub fn check<R: Source, W: Sink>(alloc: Global, reader: &mut R, writer: &mut W) -> Checked
+    ensures checks { IfSome (R.remaining reader.old) (λ bytes. Checks bytes (R.remaining reader.new) (W.contents writer.old) (W.contents writer.new) result) }
+    ensures cause { IsBrokenBy (ReadFailed R.reads reader.new) (WriteFailed W.writes writer.new) result }
+{
+    match read_all(alloc, reader) {
+        Ok(bytes) => tell(alloc, &bytes, writer),
+        Err(Unread::TooLong) => Checked::TooLong,
+        Err(Unread::OutOfMemory) => Checked::OutOfMemory,
+        Err(Unread::Broken) => Checked::Broken,
+    }
+}
+
+// Judges the bytes, and writes what is said of them.
+fn tell<W: Sink>(alloc: Global, bytes: &[u8], writer: &mut W) -> Checked
+    ensures tells { Tells bytes.now (W.contents writer.old) (W.contents writer.new) result }
+    ensures cause { IsBrokenBy ⊥ (WriteFailed W.writes writer.new) result }
+{
+    let Ok(judgement) = judge(alloc, bytes) else {
+        return Checked::OutOfMemory;
+    };
+    let Ok(text) = judgement.text(alloc) else {
+        return Checked::OutOfMemory;
+    };
+    if !send(writer, text.as_bytes()) {
+        return Checked::Broken;
+    }
+    match judgement {
+        Judgement::Right => Checked::Right,
+        Judgement::Faulty(_) | Judgement::NotJson | Judgement::NotADump => Checked::Faulty,
+    }
+}

@@ -1,0 +1,9 @@
+//! A dump judged from its bytes, from any source to any sink. The rules are in `docs/RULES.md#the-dump-and-the-verdict`.
+#![tactic(auto)]
+
+mod checked;
+mod checking;
+mod reading;
+
+pub use checked::Checked;
+pub use checking::check;

@@ -1,0 +1,65 @@
+//! A library that is loaded before a program and refuses it one allocation: the one whose number, from 1, the variable REFUSE has. So
+//! `./refuse-memory` finds out what the program makes of it.
+use std::ffi::{c_char, c_int, c_void};
+use std::ptr::null_mut;
+use std::sync::atomic::{AtomicI32, AtomicPtr, Ordering::Relaxed};
+
+unsafe extern "C" {
+    fn dlsym(library: *mut c_void, name: *const c_char) -> *mut c_void;
+    fn getenv(name: *const c_char) -> *const c_char;
+    fn atoi(text: *const c_char) -> c_int;
+}
+
+/// Looks a name up in the libraries behind this one.
+const NEXT: *mut c_void = usize::MAX as *mut c_void;
+
+/// How many allocations there are until the refused one; 0 behind it, and where none is refused.
+static LEFT: AtomicI32 = AtomicI32::new(0);
+
+static MALLOC: AtomicPtr<c_void> = AtomicPtr::new(null_mut());
+static REALLOC: AtomicPtr<c_void> = AtomicPtr::new(null_mut());
+
+/// Before the program begins: what the allocator's own functions are, and which allocation is refused.
+extern "C" fn begin() {
+    unsafe {
+        MALLOC.store(dlsym(NEXT, c"malloc".as_ptr()), Relaxed);
+        REALLOC.store(dlsym(NEXT, c"realloc".as_ptr()), Relaxed);
+        let number = getenv(c"REFUSE".as_ptr());
+        LEFT.store(if number.is_null() { 0 } else { atoi(number) }, Relaxed);
+    }
+}
+
+#[used]
+#[unsafe(link_section = ".init_array")]
+static BEGIN: extern "C" fn() = begin;
+
+/// Counts an allocation: whether it is the refused one.
+fn is_refused() -> bool {
+    let left = LEFT.load(Relaxed);
+    LEFT.store((left - 1).max(0), Relaxed);
+    left == 1
+}
+
+#[unsafe(no_mangle)]
+unsafe extern "C" fn malloc(size: usize) -> *mut c_void {
+    if is_refused() {
+        return null_mut();
+    }
+    if MALLOC.load(Relaxed).is_null() {
+        MALLOC.store(unsafe { dlsym(NEXT, c"malloc".as_ptr()) }, Relaxed);
+    }
+    let allocate: extern "C" fn(usize) -> *mut c_void = unsafe { std::mem::transmute(MALLOC.load(Relaxed)) };
+    allocate(size)
+}
+
+#[unsafe(no_mangle)]
+unsafe extern "C" fn realloc(block: *mut c_void, size: usize) -> *mut c_void {
+    if is_refused() {
+        return null_mut();
+    }
+    if REALLOC.load(Relaxed).is_null() {
+        REALLOC.store(unsafe { dlsym(NEXT, c"realloc".as_ptr()) }, Relaxed);
+    }
+    let allocate: extern "C" fn(*mut c_void, usize) -> *mut c_void = unsafe { std::mem::transmute(REALLOC.load(Relaxed)) };
+    allocate(block, size)
+}

@@ -1,0 +1,53 @@
+use Rattle.std.proofs.Common.{◌≡◌, true, List, Ok, Some, sym, ◌∙◌, ap, subst, arith}
+use Rattle.std.specs.Option.{option_map}
+use Rattle.std.proofs.lemmas.Option.{same_Some}
+use Rattle.silo_address.specs.Silo.{Silo}
+use Rattle.directory_rules.specs.declared.LetterKind.{LetterKind}
+use Rattle.directory_rules.specs.Event.{Delivered}
+use Rattle.directory_rules.specs.Letter.{Letter, kind_of}
+use Rattle.directory_rules.specs.World.{World}
+use Rattle.directory_rules.specs.Mail.{has_room_for, letter_of, span_of, with_delivered}
+use Rattle.cluster_events.specs.OutcomeModel.{span_of as code_span}
+use Rattle.directory_core.specs.Stepping.{after_step}
+use Rattle.directory_core.specs.Whole.{IsWorld}
+use Rattle.directory_core.proofs.Happening.{delivered_told, leaves_delivered, stepped_as}
+use Rattle.directory_core.proofs.world.World.take_with.Goals as goal
+
+pub receive_with-requires-clause-leaves : goal.receive_with-requires-clause-leaves
+receive_with-requires-clause-leaves c = λ l l_is.
+    let world = c.args.self.now in
+    let step = c.requires.step in
+    let letters = c.args.stepped.letters.items in
+    let room : has_room_for world c.deref.result.now ≡ true = grind arith in
+    let found : letter_of world c.args.number ≡ Some c.letter-letter.result.now = sym c.in-Some.ensures ∙ ap (λ (x : Letter). Some x) (sym c.letter-letter.ensures) in
+    let to_is : c.to-to.result ≡ step.letter.to = c.to-to.ensures ∙ ap (λ (x : Letter). x.to) (same_Some c.letter-letter.result.now step.letter (sym found ∙ step.mailed)) in
+    subst (λ (x : Letter). IsWorld (after_step (with_delivered world c.args.number x) c.to-to.result c.args.stepped.node letters)) (same_Some step.letter l (sym step.mailed ∙ l_is))
+    (subst (λ (s : Silo). IsWorld (after_step (with_delivered world c.args.number step.letter) s c.args.stepped.node letters)) (sym to_is)
+    (leaves_delivered world c.args.number step.letter step.node c.args.stepped.node letters c.args.stepped.effect step.mailed step.live
+    (stepped_as step.node step.letter _ step.its) (ap (λ (x : List Letter). has_room_for world x) (sym c.deref.ensures.value) ∙ room) c.requires.leaves))
+
+pub returns-in-Ok-clause-told : goal.returns-in-Ok-clause-told
+returns-in-Ok-clause-told c =
+    let world = c.args.self.now in
+    let step = c.requires.step in
+    let after = c.args.stepped.node in
+    let letters = c.args.stepped.letters.items in
+    let effect = c.args.stepped.effect in
+    let sent = option_map code_span c.span_of.result in
+    let room : has_room_for world c.deref.result.now ≡ true = grind arith in
+    let found : letter_of world c.args.number ≡ Some c.letter-letter.result.now = sym c.in-Some.ensures ∙ ap (λ (x : Letter). Some x) (sym c.letter-letter.ensures) in
+    let same : c.letter-letter.result.now ≡ step.letter = same_Some c.letter-letter.result.now step.letter (sym found ∙ step.mailed) in
+    let to_is : c.to-to.result ≡ step.letter.to = c.to-to.ensures ∙ ap (λ (x : Letter). x.to) same in
+    let kind_is : c.kind-kind.result ≡ kind_of step.letter.body = c.kind-kind.ensures ∙ ap (λ (x : Letter). kind_of x.body) same in
+    delivered_told world c.args.number step.letter step.node after letters effect sent step.mailed step.live
+    (stepped_as step.node step.letter _ step.its) (ap (λ (x : List Letter). has_room_for world x) (sym c.deref.ensures.value) ∙ room)
+    (c.span_of.ensures ∙ ap (λ (x : List Letter). span_of world x) c.deref-2.ensures.value)
+    ∙ ap (λ (k : LetterKind). Ok (record {
+      outcome = record { happening = Delivered c.args.number k effect; sent = sent };
+      world = after_step (with_delivered world c.args.number step.letter) step.letter.to after letters;
+    })) (sym kind_is)
+    ∙ ap (λ (w : World). Ok (record {
+      outcome = record { happening = Delivered c.args.number c.kind-kind.result effect; sent = sent };
+      world = w;
+    })) (ap (λ (s : Silo). after_step (with_delivered world c.args.number step.letter) s after letters) (sym to_is)
+    ∙ sym (c.in-Ok.ensures.made step.letter step.mailed))

@@ -1,0 +1,23 @@
+-- A step that a silo made beside the world, with a letter to it.
+use Rattle.std.specs.Prelude.{◌≡◌, ℕ, Option, Some, Ok}
+use Rattle.directory_rules.specs.Letter.{Letter}
+use Rattle.directory_rules.specs.Input.{Receives, step}
+use Rattle.directory_rules.specs.Node.{Node}
+use Rattle.directory_rules.specs.Step.{Stepped}
+use Rattle.directory_rules.specs.World.{World}
+use Rattle.directory_rules.specs.Mail.{letter_of}
+use Rattle.directory_rules.specs.Happens.{node_of}
+use Rattle.directory_core.specs.declared.delivering.Undelivered.{Undelivered}
+use Rattle.directory_core.specs.Numbers.{event_refusal_number}
+
+-- the letter of the number is in the mail, its receiver isn't Dead, and this is the step of that silo's node with it
+pub record IsStepWith (world : World) (number : ℕ) (stepped : Stepped) : Type 0 where
+  pub letter : Letter
+  pub node : Node
+  pub mailed : letter_of world number ≡ Some letter
+  pub live : node_of world letter.to ≡ Some node
+  pub its : step node (Receives letter) ≡ Ok stepped
+
+-- the number of the refusal by which a step couldn't be taken
+abbrev pub undelivered_number : Undelivered → Option ℕ
+undelivered_number undelivered = event_refusal_number undelivered.refusal

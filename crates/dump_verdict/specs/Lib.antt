@@ -1,0 +1,9 @@
+pub mod Covers
+pub mod Entries
+pub mod Faults
+pub mod Lent
+pub mod Lesser
+pub mod Ready
+pub mod Rings
+pub mod Rows
+pub mod Tallies

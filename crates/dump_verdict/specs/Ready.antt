@@ -1,0 +1,20 @@
+-- What has to be so of a node before its pieces are looked at, and at what of them.
+use Rattle.std.specs.Prelude.{◌&&◌, Bool, List, map}
+use Rattle.std.specs.List.Sorted.{IsStrictlySortedBy}
+use Rattle.ring_range.specs.Range.{Range, ahead}
+use Rattle.hash_ring.specs.Point.{point_cmp}
+use Rattle.dump_rules.specs.Dump.{DumpNode}
+use Rattle.dump_rules.specs.Verdict.{HasHashes, is_held_as_owned}
+
+-- the ring is in order, places are hashes, and ranges are ranges
+pub record IsReady (node : DumpNode) : Type 0 where
+  pub in_order : IsStrictlySortedBy point_cmp node.ring
+  pub hashes : HasHashes node
+
+-- the ranges of its pieces
+abbrev pub ranges_of : DumpNode → List Range
+ranges_of node = map (λ piece. piece.range) node.pieces
+
+-- whether it holds what it owns where a range begins, and where it ends
+abbrev pub is_right_at_bounds : DumpNode → Range → Bool
+is_right_at_bounds node range = is_held_as_owned node range.start && is_held_as_owned node (ahead range.start range.size)

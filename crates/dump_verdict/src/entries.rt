@@ -1,0 +1,64 @@
+//! Whether entries lie in their pieces, one a grain.
+
+ghost use Rattle.std.specs.Prelude.{◌≡◌, IfOk};
+ghost use Rattle.std.specs.List.{list_all};
+ghost use Rattle.ring_range.specs.Range.{holds};
+ghost use Rattle.hash_ring.specs.Hash.{hash_grain};
+ghost use Rattle.dump_rules.specs.Verdict.{has_entries_inside, has_one_entry_a_grain};
+ghost use Rattle.dump_verdict.specs.Entries.{AddsTo, grains_of};
+
+use rebuild_checker::{Dump, Node, Piece};
+use silo_address::{Entry, GrainId};
+use std::alloc::{AllocError, Global};
+use std::collections::BTreeSet;
+
+/// Whether the entries of each piece of the node are hashed into it.
+pub(crate) fn have_entries_inside(dump: &Dump, node: &Node) -> bool
+    ensures { result ≡ list_all (has_entries_inside dump.now) node.now.pieces }
+{
+    node.pieces
+        .iter()
+        .all(|piece| has_entries_inside(dump, piece))
+}
+
+/// Whether the entries of the piece are hashed into it.
+fn has_entries_inside(dump: &Dump, piece: &Piece) -> bool
+    ensures { result ≡ has_entries_inside dump.now piece.now }
+{
+    piece
+        .entries
+        .iter()
+        .all(|entry| is_inside(dump, piece, entry))
+}
+
+/// Whether the entry is hashed into the piece.
+fn is_inside(dump: &Dump, piece: &Piece, entry: &Entry) -> bool
+    ensures { result ≡ holds piece.now.range (hash_grain dump.now.hashing entry.now.grain) }
+{
+    piece.range.contains(dump.hashing.hash_grain(&entry.grain))
+}
+
+/// Whether the node has no two entries of one grain. Fails only when memory runs out.
+pub(crate) fn has_one_entry_a_grain(alloc: Global, node: &Node) -> Result<bool, AllocError>
+    ensures { IfOk result (λ answer. answer ≡ has_one_entry_a_grain node.now) }
+{
+    let mut grains = BTreeSet::new(alloc);
+    for piece in &node.pieces {
+        if !add_grains(&mut grains, &piece.entries)? {
+            return Ok(false);
+        }
+    }
+    Ok(true)
+}
+
+/// Adds the grains of the entries to those that were found before them; `false` where one was found before.
+fn add_grains(grains: &mut BTreeSet<GrainId>, entries: &[Entry]) -> Result<bool, AllocError>
+    ensures { IfOk result (λ answer. AddsTo grains.old (grains_of entries.now) grains.new answer) }
+{
+    for entry in entries {
+        if !grains.insert(entry.grain)? {
+            return Ok(false);
+        }
+    }
+    Ok(true)
+}

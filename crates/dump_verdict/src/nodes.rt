@@ -1,0 +1,21 @@
+//! The nodes over which there is a verdict.
+
+ghost use Rattle.std.specs.Prelude.{◌≡◌, IfOk, IsTrue};
+ghost use Rattle.dump_rules.specs.DumpShape.{is_dump};
+ghost use Rattle.dump_rules.specs.Verdict as rule;
+ghost use Rattle.dump_verdict.specs.Lent.{nodes_lent};
+
+use crate::living::is_dead;
+use rebuild_checker::{Dump, Node};
+use std::alloc::{AllocError, Global};
+
+/// The nodes of silos that aren't Dead in the current version. Costs a logarithm of the number of rows for each node.
+pub(crate) fn live_nodes(alloc: Global, dump: &Dump) -> Result<Vec<&Node>, AllocError>
+    requires { IsTrue (is_dump dump.now) }
+    ensures { IfOk result (λ nodes. nodes_lent nodes.items ≡ rule.live_nodes dump.now) }
+{
+    dump.nodes
+        .iter()
+        .filter(|node| !is_dead(dump, &node.silo))
+        .collect(alloc)
+}

@@ -1,0 +1,59 @@
+//! The verdict: the first fault of a dump.
+
+ghost use Rattle.std.specs.Prelude.{◌≡◌, ◌∷◌, [], IfOk, IsTrue, map, option_map};
+ghost use Rattle.std.specs.List.{list_all};
+ghost use Rattle.dump_rules.specs.DumpShape.{is_dump};
+ghost use Rattle.dump_rules.specs.Verdict as rule;
+ghost use Rattle.dump_verdict.specs.Faults.{fault_of};
+ghost use Rattle.dump_verdict.specs.Lent.{nodes_lent};
+
+use crate::Fault;
+use crate::entered::missing_firm;
+use crate::firm::twice_firm;
+use crate::nodes::live_nodes;
+use crate::ranges::wrong_pieces;
+use crate::rings::wrong_ring;
+use crate::strangers::stranger;
+use rebuild_checker::{Dump, Node};
+use std::alloc::{AllocError, Global};
+
+/// The first fault of a dump, none where all is right: each check goes over all nodes before the next one, and names the first silo
+/// or the least grain that fails it (`docs/RULES.md#the-dump-and-the-verdict`).
+#[tactic(auto, unfolding(dump_rules::specs::Verdict::verdict))]
+pub(crate) fn verdict(alloc: Global, dump: &Dump) -> Result<Option<Fault>, AllocError>
+    requires { IsTrue (is_dump dump.now) }
+    ensures { IfOk result (λ fault. option_map fault_of fault ≡ rule.verdict dump.now) }
+{
+    let nodes = live_nodes(alloc, dump)?;
+    if let Some(silo) = wrong_ring(alloc, dump, &nodes)? {
+        return Ok(Some(Fault::RingDiffers(silo)));
+    }
+    if let Some(silo) = wrong_pieces(alloc, dump, &nodes)? {
+        return Ok(Some(Fault::WrongRange(silo)));
+    }
+    activations_fault(alloc, dump, &nodes)
+}
+
+/// The first fault of activations and entries, where rings and pieces are right.
+fn activations_fault(
+    alloc: Global,
+    dump: &Dump,
+    nodes: &[&Node],
+) -> Result<Option<Fault>, AllocError>
+    requires is_dump { IsTrue (is_dump dump.now) }
+    requires live { nodes_lent nodes.now ≡ rule.live_nodes dump.now }
+    requires right { IsTrue (list_all (rule.has_right_pieces dump.now) (rule.live_nodes dump.now)) }
+    ensures { IfOk result (λ fault. option_map fault_of fault
+        ≡ rule.first_of (option_map rule.TwoFirm (rule.least_grain (rule.firm_on_two (rule.live_nodes dump.now)))
+        ∷ option_map rule.MissingFirm (rule.least_grain (map (λ entry. entry.grain) (rule.missing_firm dump.now)))
+        ∷ option_map rule.Stranger (rule.least_grain (map (λ entry. entry.grain) (rule.strangers dump.now))) ∷ [])) }
+{
+    if let Some(grain) = twice_firm(alloc, nodes)? {
+        return Ok(Some(Fault::TwoFirm(grain)));
+    }
+    if let Some(grain) = missing_firm(alloc, dump, nodes)? {
+        return Ok(Some(Fault::MissingFirm(grain)));
+    }
+    let strange = stranger(alloc, dump, nodes)?;
+    Ok(strange.map(|grain| Fault::Stranger(grain)))
+}

@@ -1,0 +1,83 @@
+-- The rules of shape, from tests of their parts.
+use Rattle.std.proofs.Common.{◌≡◌, ℕ, ◌<◌, ◌^◌, Bool, true, List, map, sym, ◌∙◌, ap}
+use Rattle.std.specs.Prelude.{◌&&◌}
+use Rattle.std.specs.BTreeMap.{is_at}
+use Rattle.std.specs.BTreeSet.{BTreeSet, contains}
+use Rattle.std.specs.List.{list_all}
+use Rattle.std.proofs.lemmas.Bool.Decides.{Decides-ltb}
+use Rattle.std.proofs.lemmas.List.Folds.{list_all-append, list_all-map}
+use Rattle.silo_address.specs.Silo.{Silo, silo_cmp, silo_eq}
+use Rattle.dump_rules.specs.Dump.{DumpPiece, DumpNode, DumpRow, DumpValue}
+use Rattle.dump_rules.specs.DumpShape.{are_distinct_by, are_in_order, is_version, is_hash, is_number_of_points, has_row_numbers, has_point_numbers, has_piece_numbers, has_node_numbers, has_numbers, row_silos, node_silos, has_row, activation_silos, holds_its_own, holds_activations_once, holds_grains_once, has_seen_a_version, has_joined, has_places, has_entries_if_settled, has_from_if_awaiting, has_pieces_in_order, has_entries_in_order, is_row_of, is_piece, is_node_of, has_shape}
+use Rattle.dump_rules.specs.Verdict.{node_entries}
+use Rattle.rebuild_checker.specs.Sets.{HasItems}
+use Rattle.rebuild_checker.proofs.InOrder.{list_all_alike, list_all-flat_map}
+use Rattle.rebuild_checker.proofs.Tests.{two, three, seven, two_pairs}
+use Rattle.rebuild_checker.proofs.Ties.{distinct_silos, known_silos}
+
+version_is : (n : ℕ) → n < 2 ^ 64 → is_version n ≡ true
+version_is n fits = (Decides-ltb n (2 ^ 64)).1 fits
+
+both : (a A b B : Bool) → a ≡ A → b ≡ B → (a && b) ≡ (A && B)
+both a A b B first second = ap (λ t. t && b) first ∙ ap (λ t. A && t) second
+
+pub numbers_told : (dump : DumpValue) (n r s : Bool) → dump.current < 2 ^ 64
+    → n ≡ is_number_of_points dump.points → r ≡ list_all has_row_numbers dump.rows → s ≡ list_all has_node_numbers dump.nodes
+    → (n && (r && (s && true))) ≡ has_numbers dump
+numbers_told dump n r s fits a b c =
+    three n r s ∙ (both _ _ _ _ (both _ _ _ _ a b) c
+    ∙ sym (ap (λ t. ((t && is_number_of_points dump.points) && list_all has_row_numbers dump.rows) && list_all has_node_numbers dump.nodes) (version_is dump.current fits)))
+
+pub row_told : (row : DumpRow) → row.dead < 2 ^ 64 → row.joined < 2 ^ 64 → row.left < 2 ^ 64 → list_all is_hash row.places ≡ has_row_numbers row
+row_told row dead joined left = sym
+    (ap (λ t. ((t && is_version row.joined) && is_version row.left) && list_all is_hash row.places) (version_is row.dead dead)
+    ∙ (ap (λ t. (t && is_version row.left) && list_all is_hash row.places) (version_is row.joined joined)
+    ∙ ap (λ t. t && list_all is_hash row.places) (version_is row.left left)))
+
+pub node_told : (node : DumpNode) (r p : Bool) → node.seen < 2 ^ 64
+    → r ≡ list_all has_point_numbers node.ring → p ≡ list_all has_piece_numbers node.pieces → (r && (p && true)) ≡ has_node_numbers node
+node_told node r p fits a b =
+    two r p ∙ (both _ _ _ _ a b
+    ∙ sym (ap (λ t. (t && list_all has_point_numbers node.ring) && list_all has_piece_numbers node.pieces) (version_is node.seen fits)))
+
+-- the silos of a node's activations
+pub activations_told : (known : Silo → Bool) (node : DumpNode) (o h e : Bool) → o ≡ known node.silo
+    → h ≡ list_all (λ held. known held.activation.silo) node.held
+    → e ≡ list_all (λ piece. list_all (λ entry. known entry.activation.silo) piece.entries) node.pieces
+    → (o && (h && (e && true))) ≡ (known node.silo && list_all known (activation_silos node))
+activations_told known node o h e a b c =
+    ap (λ t. o && t) (two h e)
+    ∙ both _ _ _ _ a (both _ _ _ _ b c
+    ∙ sym (list_all-append known (map (λ held. held.activation.silo) node.held) (map (λ entry. entry.activation.silo) (node_entries node))
+    ∙ both _ _ _ _ (list_all-map known (λ held. held.activation.silo) node.held)
+    (list_all-map known (λ entry. entry.activation.silo) (node_entries node)
+    ∙ list_all-flat_map (λ entry. known entry.activation.silo) (λ piece. piece.entries) node.pieces)))
+
+pub node_is : (dump : DumpValue) (set : BTreeSet Silo) (node : DumpNode) → HasItems silo_cmp set (row_silos dump) → (k o a g s i p : Bool)
+    → k ≡ (contains silo_cmp set node.silo && list_all (contains silo_cmp set) (activation_silos node))
+    → o ≡ holds_its_own node → a ≡ holds_activations_once node → g ≡ holds_grains_once node → s ≡ has_seen_a_version dump node
+    → i ≡ has_pieces_in_order node → p ≡ list_all is_piece node.pieces
+    → (k && (o && (a && (g && (s && (i && (p && true))))))) ≡ is_node_of dump node
+node_is dump set node has k o a g s i p known own activations grains seen order pieces =
+    seven k o a g s i p
+    ∙ both _ _ _ _ (both _ _ _ _ (both _ _ _ _ (both _ _ _ _ (both _ _ _ _ (both _ _ _ _
+    (known ∙ both _ _ _ _ (known_silos dump set has node.silo) (list_all_alike (contains silo_cmp set) (has_row dump) (known_silos dump set has) (activation_silos node)))
+    own) activations) grains) seen) order) pieces
+
+pub piece_is : (piece : DumpPiece) (s f o : Bool) → s ≡ has_entries_if_settled piece → f ≡ has_from_if_awaiting piece → o ≡ has_entries_in_order piece
+    → (s && (f && (o && true))) ≡ is_piece piece
+piece_is piece s f o a b c = three s f o ∙ both _ _ _ _ (both _ _ _ _ a b) c
+
+pub row_is : (dump : DumpValue) (row : DumpRow) (j p : Bool) → j ≡ has_joined dump row → p ≡ has_places dump row → (j && (p && true)) ≡ is_row_of dump row
+row_is dump row j p a b = two j p ∙ both _ _ _ _ a b
+
+pub shape_is : (dump : DumpValue) (rows nodes : List Silo) (a b c d e f : Bool) → rows ≡ row_silos dump → nodes ≡ node_silos dump
+    → a ≡ are_distinct_by (λ one. is_at (silo_cmp one)) rows → b ≡ are_distinct_by (λ one. is_at (silo_cmp one)) nodes
+    → c ≡ are_in_order silo_cmp rows → d ≡ are_in_order silo_cmp nodes
+    → e ≡ list_all (is_row_of dump) dump.rows → f ≡ list_all (is_node_of dump) dump.nodes
+    → (a && (b && (c && (d && (e && (f && true)))))) ≡ has_shape dump
+shape_is dump rows nodes a b c d e f its_rows its_nodes p q r s t u =
+    two_pairs a b c d e f
+    ∙ both _ _ _ _ (both _ _ _ _ (both _ _ _ _
+    (both _ _ _ _ (p ∙ (distinct_silos rows ∙ ap (are_distinct_by silo_eq) its_rows)) (q ∙ (distinct_silos nodes ∙ ap (are_distinct_by silo_eq) its_nodes)))
+    (both _ _ _ _ (r ∙ ap (are_in_order silo_cmp) its_rows) (s ∙ ap (are_in_order silo_cmp) its_nodes))) t) u

@@ -1,0 +1,4 @@
+pub mod DumpModel
+pub mod ReadNumbers
+pub mod Reading
+pub mod Sets

@@ -1,0 +1,48 @@
+//! Lists in order, lists without an item that stands twice, and sets of their items.
+
+ghost use Rattle.std.specs.Prelude.{◌≡◌, IfOk};
+ghost use Rattle.std.specs.BTreeMap.{is_at};
+ghost use Rattle.std.specs.List.{list_all};
+ghost use Rattle.dump_rules.specs.DumpShape.{are_distinct_by, are_in_order as in_order};
+ghost use Rattle.rebuild_checker.specs.Sets.{HasItems};
+
+use std::alloc::{AllocError, Global};
+use std::collections::BTreeSet;
+
+/// Whether no item is below the one before it.
+pub(crate) fn are_in_order<T: Ord>(items: &[T]) -> bool
+    ensures { result ≡ in_order T.cmp items.now }
+{
+    items.is_sorted()
+}
+
+/// Whether no two items are the same.
+pub(crate) fn are_distinct<T: Ord + Copy>(alloc: Global, items: &[T]) -> Result<bool, AllocError>
+    ensures { IfOk result (λ answer. answer ≡ are_distinct_by (λ one. is_at (T.cmp one)) items.now) }
+{
+    let mut found = BTreeSet::new(alloc);
+    for item in items {
+        if !found.insert(*item)? {
+            return Ok(false);
+        }
+    }
+    Ok(true)
+}
+
+/// The set of the items.
+pub(crate) fn set_of<T: Ord + Copy>(alloc: Global, items: &[T]) -> Result<BTreeSet<T>, AllocError>
+    ensures { IfOk result (λ set. HasItems T.cmp set items.now) }
+{
+    let mut set = BTreeSet::new(alloc);
+    for item in items {
+        set.insert(*item)?;
+    }
+    Ok(set)
+}
+
+/// Whether all of the tests were passed.
+pub(crate) fn all_hold(tests: &[bool]) -> bool
+    ensures { result ≡ list_all (λ test. test) tests.now }
+{
+    tests.iter().all(|test| *test)
+}

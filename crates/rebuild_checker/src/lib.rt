@@ -1,0 +1,19 @@
+//! Dumps, read, written and judged: a checker that shares no code with the directory. The rules are in
+//! `docs/RULES.md#the-dump-and-the-verdict`.
+#![tactic(auto)]
+
+mod distinct;
+mod dump;
+mod error;
+mod node_shape;
+mod numbers;
+mod piece_shape;
+mod reading;
+mod shape;
+mod values;
+mod words;
+mod writing;
+
+pub use dump::{Dump, Held, ListedPoint, Node, Phase, Piece, Row, State};
+pub use error::ReadError;
+pub use reading::read_dump;

@@ -1,0 +1,189 @@
+//! The values in a dump, read from JSON: numbers, texts, words, the members of an object, the items of a list.
+
+ghost use Rattle.std.specs.Prelude.{option_and_then};
+ghost use Rattle.serde_json.specs.Find.{as_array, as_str, get_member};
+ghost use Rattle.serde_json.specs.View.{items_view, members_view, view};
+ghost use Rattle.dump_rules.specs.DumpIn.{hashing_in, phase_in, state_in};
+ghost use Rattle.dump_rules.specs.Values.{activation_in, from_in, grain_in, members_in, number_in, range_in, silo_in, three_items, two_items};
+ghost use Rattle.rebuild_checker.specs.DumpModel.{phase_of, state_of};
+ghost use Rattle.rebuild_checker.specs.Reading.{IsReading, IsReadingBy};
+
+use crate::{Phase, ReadError, State};
+use hash_ring::Hashing;
+use ring_range::RingRange;
+use serde_json::{Map, Value};
+use silo_address::{ActivationId, GrainId, SiloAddress};
+
+/// An object's members, if they are so many.
+pub(crate) fn members_of(value: &Value, many: usize) -> Result<&Map<String, Value>, ReadError>
+    ensures { IsReadingBy (λ members. members_view members.now.entries) result (members_in many (view value.now)) }
+{
+    let Some(members) = value.as_object() else {
+        return Err(ReadError::NotADump);
+    };
+    if members.len() != many {
+        return Err(ReadError::NotADump);
+    }
+    Ok(members)
+}
+
+/// The member of that name.
+pub(crate) fn member<'v>(
+    members: &'v Map<String, Value>,
+    name: &str,
+) -> Result<&'v Value, ReadError>
+    ensures { IsReadingBy (λ value. view value.now) result (get_member name.now (members_view members.now.entries)) }
+{
+    members.get(name).ok_or(ReadError::NotADump)
+}
+
+/// A list's items.
+pub(crate) fn items(value: &Value) -> Result<&[Value], ReadError>
+    ensures { IsReadingBy (λ items. items_view items.now) result (as_array (view value.now)) }
+{
+    match value.as_array() {
+        Some(items) => Ok(items.as_slice()),
+        None => Err(ReadError::NotADump),
+    }
+}
+
+/// The items of a list of two.
+pub(crate) fn two_items(value: &Value) -> Result<(&Value, &Value), ReadError>
+    ensures { IsReadingBy (λ pair. (view pair.0.now, view pair.1.now)) result (option_and_then two_items (as_array (view value.now))) }
+{
+    let parts = items(value)?;
+    if parts.len() != 2 {
+        return Err(ReadError::NotADump);
+    }
+    Ok((&parts[0], &parts[1]))
+}
+
+/// The items of a list of three.
+pub(crate) fn three_items(value: &Value) -> Result<(&Value, &Value, &Value), ReadError>
+    ensures { IsReadingBy (λ triple. (view triple.0.now, view triple.1.now, view triple.2.now)) result (option_and_then three_items (as_array (view value.now))) }
+{
+    let parts = items(value)?;
+    if parts.len() != 3 {
+        return Err(ReadError::NotADump);
+    }
+    Ok((&parts[0], &parts[1], &parts[2]))
+}
+
+/// A text.
+pub(crate) fn text(value: &Value) -> Result<&[u8], ReadError>
+    ensures { IsReadingBy (λ text. text.now) result (as_str (view value.now)) }
+{
+    match value.as_str() {
+        Some(text) => Ok(text.as_bytes()),
+        None => Err(ReadError::NotADump),
+    }
+}
+
+/// A number.
+pub(crate) fn number(value: &Value) -> Result<u64, ReadError>
+    ensures { IsReading result (number_in (view value.now)) }
+{
+    value.as_u64().ok_or(ReadError::NotADump)
+}
+
+/// A silo.
+pub(crate) fn silo(value: &Value) -> Result<SiloAddress, ReadError>
+    ensures { IsReading result (silo_in (view value.now)) }
+{
+    match SiloAddress::parse(text(value)?) {
+        Ok(silo) => Ok(silo),
+        Err(_) => Err(ReadError::NotADump),
+    }
+}
+
+/// A grain.
+pub(crate) fn grain(value: &Value) -> Result<GrainId, ReadError>
+    ensures { IsReading result (grain_in (view value.now)) }
+{
+    match GrainId::parse(text(value)?) {
+        Ok(grain) => Ok(grain),
+        Err(_) => Err(ReadError::NotADump),
+    }
+}
+
+/// An activation.
+pub(crate) fn activation(value: &Value) -> Result<ActivationId, ReadError>
+    ensures { IsReading result (activation_in (view value.now)) }
+{
+    match ActivationId::parse(text(value)?) {
+        Ok(activation) => Ok(activation),
+        Err(_) => Err(ReadError::NotADump),
+    }
+}
+
+/// A range.
+pub(crate) fn range(value: &Value) -> Result<RingRange, ReadError>
+    ensures { IsReading result (range_in (view value.now)) }
+{
+    match RingRange::parse(text(value)?) {
+        Ok(range) => Ok(range),
+        Err(_) => Err(ReadError::NotADump),
+    }
+}
+
+/// The silo from which a piece awaits its entries: the empty text for none.
+pub(crate) fn from(value: &Value) -> Result<Option<SiloAddress>, ReadError>
+    ensures { IsReading result (from_in (view value.now)) }
+{
+    let text = text(value)?;
+    if text.is_empty() {
+        return Ok(None);
+    }
+    match SiloAddress::parse(text) {
+        Ok(silo) => Ok(Some(silo)),
+        Err(_) => Err(ReadError::NotADump),
+    }
+}
+
+/// How the cluster hashes.
+pub(crate) fn hashing(value: &Value) -> Result<Hashing, ReadError>
+    ensures { IsReading result (hashing_in (view value.now)) }
+{
+    let word = text(value)?;
+    if word == b"sha256".as_slice() {
+        return Ok(Hashing::Sha256);
+    }
+    if word == b"stated".as_slice() {
+        return Ok(Hashing::Stated);
+    }
+    Err(ReadError::NotADump)
+}
+
+/// The phase of an activation.
+pub(crate) fn phase(value: &Value) -> Result<Phase, ReadError>
+    ensures { IsReadingBy phase_of result (phase_in (view value.now)) }
+{
+    let word = text(value)?;
+    if word == b"asking".as_slice() {
+        return Ok(Phase::Asking);
+    }
+    if word == b"firm".as_slice() {
+        return Ok(Phase::Firm);
+    }
+    if word == b"closing".as_slice() {
+        return Ok(Phase::Closing);
+    }
+    Err(ReadError::NotADump)
+}
+
+/// The state of a piece.
+pub(crate) fn state(value: &Value) -> Result<State, ReadError>
+    ensures { IsReadingBy state_of result (state_in (view value.now)) }
+{
+    let word = text(value)?;
+    if word == b"settled".as_slice() {
+        return Ok(State::Settled);
+    }
+    if word == b"awaiting".as_slice() {
+        return Ok(State::Awaiting);
+    }
+    if word == b"recovering".as_slice() {
+        return Ok(State::Recovering);
+    }
+    Err(ReadError::NotADump)
+}

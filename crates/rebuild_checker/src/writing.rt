@@ -1,0 +1,263 @@
+//! A dump as the bytes of one JSON object.
+
+ghost use Rattle.std.specs.Prelude.{◌≡◌, ◌++◌, ◌<◌, ◌∷◌, [], List, ℕ, OnOk, IfOk, map, codes, string_bytes};
+ghost use Rattle.std.specs.Fmt.{decimal};
+ghost use Rattle.silo_address.specs.SiloText.{silo_text};
+ghost use Rattle.silo_address.specs.Grain.{grain_text};
+ghost use Rattle.silo_address.specs.ActivationText.{activation_text};
+ghost use Rattle.ring_range.specs.Text.{range_text};
+ghost use Rattle.dump_rules.specs.Dump.{comma, dump_text, entry_json, escaped, from_text, held_json, json_list, json_member, node_json, piece_json, point_json, quoted, row_json};
+
+use crate::words::{word_of_hashing, word_of_phase, word_of_state};
+use crate::{Dump, Held, ListedPoint, Node, Piece, Row};
+use itoa::Buffer;
+use silo_address::{Entry, SiloAddress};
+use std::alloc::{AllocError, Global};
+
+/// What stands in a dump as JSON.
+trait WriteJson {
+    ghost json: { Self → List ℕ };
+
+    /// Writes it behind what stands in the buffer. Fails only when memory runs out.
+    fn write_to(&self, alloc: Global, out: &mut Vec<u8>) -> Result<(), AllocError>
+        ensures { OnOk result (out.new.items ≡ out.old.items ++ json self.now) };
+}
+
+impl Dump {
+    /// The dump's text: one JSON object without spaces, the members of each object in the order of their names
+    /// (`docs/RULES.md#the-dump-and-the-verdict`). Fails only when memory runs out.
+    pub fn write(&self, alloc: Global) -> Result<Vec<u8>, AllocError>
+        ensures { IfOk result (λ text. text.items ≡ dump_text self.now) }
+    {
+        let mut out = Vec::new(alloc);
+        push_number_member(&mut out, b'{', b"current", self.current)?;
+        push_text_member(&mut out, b',', b"hashing", word_of_hashing(self.hashing))?;
+        push_list_member(alloc, &mut out, b',', b"nodes", &self.nodes)?;
+        push_number_member(&mut out, b',', b"points", self.points)?;
+        push_list_member(alloc, &mut out, b',', b"rows", &self.rows)?;
+        out.push(b'}')?;
+        Ok(out)
+    }
+}
+
+impl WriteJson for Row {
+    ghost json = { row_json };
+
+    fn write_to(&self, alloc: Global, out: &mut Vec<u8>) -> Result<(), AllocError> {
+        push_number_member(out, b'{', b"dead", self.dead)?;
+        push_number_member(out, b',', b"joined", self.joined)?;
+        push_number_member(out, b',', b"left", self.left)?;
+        push_list_member(alloc, out, b',', b"places", &self.places)?;
+        push_silo_member(alloc, out, b',', &self.silo)?;
+        out.push(b'}')?;
+        Ok(())
+    }
+}
+
+impl WriteJson for Node {
+    ghost json = { node_json };
+
+    fn write_to(&self, alloc: Global, out: &mut Vec<u8>) -> Result<(), AllocError> {
+        push_list_member(alloc, out, b'{', b"held", &self.held)?;
+        push_list_member(alloc, out, b',', b"pieces", &self.pieces)?;
+        push_list_member(alloc, out, b',', b"ring", &self.ring)?;
+        push_number_member(out, b',', b"seen", self.seen)?;
+        push_silo_member(alloc, out, b',', &self.silo)?;
+        out.push(b'}')?;
+        Ok(())
+    }
+}
+
+impl WriteJson for Piece {
+    ghost json = { piece_json };
+
+    fn write_to(&self, alloc: Global, out: &mut Vec<u8>) -> Result<(), AllocError> {
+        let from = text_of_from(alloc, self.from)?;
+        let range = self.range.text(alloc)?;
+        push_list_member(alloc, out, b'{', b"entries", &self.entries)?;
+        push_text_member(out, b',', b"from", from.as_bytes())?;
+        push_text_member(out, b',', b"range", range.as_bytes())?;
+        push_text_member(out, b',', b"state", word_of_state(self.state))?;
+        out.push(b'}')?;
+        Ok(())
+    }
+}
+
+impl WriteJson for Held {
+    ghost json = { held_json };
+
+    fn write_to(&self, alloc: Global, out: &mut Vec<u8>) -> Result<(), AllocError> {
+        let activation = self.activation.text(alloc)?;
+        push_text_member(out, b'{', b"activation", activation.as_bytes())?;
+        push_text_member(out, b',', b"grain", self.grain.as_bytes())?;
+        push_text_member(out, b',', b"phase", word_of_phase(self.phase))?;
+        out.push(b'}')?;
+        Ok(())
+    }
+}
+
+impl WriteJson for ListedPoint {
+    ghost json = { point_json };
+
+    fn write_to(&self, alloc: Global, out: &mut Vec<u8>) -> Result<(), AllocError> {
+        let silo = self.silo.text(alloc)?;
+        out.push(b'[')?;
+        push_number(out, self.place)?;
+        out.push(b',')?;
+        push_quoted(out, silo.as_bytes())?;
+        out.push(b',')?;
+        push_number(out, self.index)?;
+        out.push(b']')?;
+        Ok(())
+    }
+}
+
+impl WriteJson for Entry {
+    ghost json = { entry_json };
+
+    fn write_to(&self, alloc: Global, out: &mut Vec<u8>) -> Result<(), AllocError> {
+        let activation = self.activation.text(alloc)?;
+        out.push(b'[')?;
+        push_quoted(out, self.grain.as_bytes())?;
+        out.push(b',')?;
+        push_quoted(out, activation.as_bytes())?;
+        out.push(b']')?;
+        Ok(())
+    }
+}
+
+impl WriteJson for u64 {
+    ghost json = { decimal };
+
+    fn write_to(&self, _alloc: Global, out: &mut Vec<u8>) -> Result<(), AllocError> {
+        push_number(out, *self)
+    }
+}
+
+/// The silo's text, and the empty text for none.
+fn text_of_from(alloc: Global, from: Option<SiloAddress>) -> Result<String, AllocError>
+    ensures { IfOk result (λ text. string_bytes text ≡ from_text from) }
+{
+    match from {
+        Some(silo) => silo.text(alloc),
+        None => Ok(String::new(alloc)),
+    }
+}
+
+/// A silo under its name.
+fn push_silo_member(
+    alloc: Global,
+    out: &mut Vec<u8>,
+    mark: u8,
+    silo: &SiloAddress,
+) -> Result<(), AllocError>
+    ensures { OnOk result (out.new.items ≡ out.old.items ++ mark ∷ json_member (codes "silo", quoted (silo_text silo.now))) }
+{
+    let text = silo.text(alloc)?;
+    push_text_member(out, mark, b"silo", text.as_bytes())
+}
+
+/// A mark, and behind it a list under its name.
+fn push_list_member<T: WriteJson>(
+    alloc: Global,
+    out: &mut Vec<u8>,
+    mark: u8,
+    name: &[u8],
+    items: &[T],
+) -> Result<(), AllocError>
+    ensures { OnOk result (out.new.items ≡ out.old.items ++ mark ∷ json_member (name.now, json_list (map T.json items.now))) }
+{
+    push_name(out, mark, name)?;
+    push_list(alloc, out, items)
+}
+
+/// A mark, and behind it a number under its name.
+fn push_number_member(
+    out: &mut Vec<u8>,
+    mark: u8,
+    name: &[u8],
+    number: u64,
+) -> Result<(), AllocError>
+    ensures { OnOk result (out.new.items ≡ out.old.items ++ mark ∷ json_member (name.now, decimal number)) }
+{
+    push_name(out, mark, name)?;
+    push_number(out, number)
+}
+
+/// A mark, and behind it a text under its name.
+fn push_text_member(out: &mut Vec<u8>, mark: u8, name: &[u8], text: &[u8]) -> Result<(), AllocError>
+    ensures { OnOk result (out.new.items ≡ out.old.items ++ mark ∷ json_member (name.now, quoted text.now)) }
+{
+    push_name(out, mark, name)?;
+    push_quoted(out, text)
+}
+
+/// A mark, a name and a colon.
+fn push_name(out: &mut Vec<u8>, mark: u8, name: &[u8]) -> Result<(), AllocError>
+    ensures { OnOk result (out.new.items ≡ out.old.items ++ mark ∷ (quoted name.now ++ codes ":")) }
+{
+    out.push(mark)?;
+    push_quoted(out, name)?;
+    out.push(b':')?;
+    Ok(())
+}
+
+/// A list, commas between its items.
+fn push_list<T: WriteJson>(alloc: Global, out: &mut Vec<u8>, items: &[T]) -> Result<(), AllocError>
+    ensures { OnOk result (out.new.items ≡ out.old.items ++ json_list (map T.json items.now)) }
+{
+    out.push(b'[')?;
+    for (index, item) in items.iter().enumerate() {
+        push_item(alloc, out, index, item)?;
+    }
+    out.push(b']')?;
+    Ok(())
+}
+
+/// The item of a list at that index, and a comma before each but the first.
+fn push_item<T: WriteJson>(
+    alloc: Global,
+    out: &mut Vec<u8>,
+    index: usize,
+    item: &T,
+) -> Result<(), AllocError>
+    ensures first { index ≡ 0 → OnOk result (out.new.items ≡ out.old.items ++ T.json item.now) }
+    ensures later { 0 < index → OnOk result (out.new.items ≡ out.old.items ++ comma ∷ T.json item.now) }
+{
+    if index > 0 {
+        out.push(b',')?;
+    }
+    item.write_to(alloc, out)
+}
+
+/// A number in decimal.
+fn push_number(out: &mut Vec<u8>, number: u64) -> Result<(), AllocError>
+    ensures { OnOk result (out.new.items ≡ out.old.items ++ decimal number) }
+{
+    let mut digits = Buffer::new();
+    out.extend_from_slice(digits.format(number).as_bytes())
+}
+
+/// A text in quotation marks.
+fn push_quoted(out: &mut Vec<u8>, text: &[u8]) -> Result<(), AllocError>
+    ensures { OnOk result (out.new.items ≡ out.old.items ++ quoted text.now) }
+{
+    out.push(b'"')?;
+    for byte in text {
+        push_escaped(out, *byte)?;
+    }
+    out.push(b'"')?;
+    Ok(())
+}
+
+/// A byte of a text, a backslash before it if it is a quotation mark or a backslash.
+fn push_escaped(out: &mut Vec<u8>, byte: u8) -> Result<(), AllocError>
+    ensures { OnOk result (out.new.items ≡ out.old.items ++ escaped byte) }
+{
+    if byte == b'"' || byte == b'\\' {
+        out.extend_from_slice(&[b'\\', byte])
+    } else {
+        out.push(byte)?;
+        Ok(())
+    }
+}

@@ -1,0 +1,54 @@
+//! The pieces that a silo keeps.
+ghost use Rattle.std.specs.Prelude.{◌≡◌, IfOk, map};
+ghost use Rattle.dump_rules.specs.Dump.{awaited_from, dump_piece, dump_state};
+ghost use Rattle.rebuild_checker.specs.DumpModel.{state_of};
+
+use directory_rules::PieceState;
+use grain_partition::{Holding, Piece};
+use rebuild_checker::{Piece as DumpPiece, State};
+use silo_address::SiloAddress;
+use std::alloc::{AllocError, Global};
+
+/// The pieces, by start, each with its entries in the order of their grains.
+pub(crate) fn pieces(alloc: Global, holding: &Holding) -> Result<Vec<DumpPiece>, AllocError>
+    ensures { IfOk result (λ pieces. pieces.items ≡ map (λ e. dump_piece e.1) holding.now.pieces) }
+{
+    let mut pieces = Vec::new(alloc);
+    for (_, piece) in holding.pieces() {
+        let piece = dumped(alloc, piece)?;
+        pieces.push(piece)?;
+    }
+    Ok(pieces)
+}
+
+fn dumped(alloc: Global, piece: &Piece) -> Result<DumpPiece, AllocError>
+    ensures { IfOk result (λ dumped. dumped ≡ dump_piece piece.now) }
+{
+    let entries = piece.entries().in_order(alloc)?;
+    Ok(DumpPiece {
+        entries,
+        from: awaited(&piece.state()),
+        range: piece.range(),
+        state: state(&piece.state()),
+    })
+}
+
+// The silo from which the entries are awaited.
+fn awaited(state: &PieceState) -> Option<SiloAddress>
+    ensures { result ≡ awaited_from state.now }
+{
+    match state {
+        PieceState::Awaiting(from) => Some(*from),
+        PieceState::Settled | PieceState::Recovering => None,
+    }
+}
+
+fn state(state: &PieceState) -> State
+    ensures { state_of result ≡ dump_state state.now }
+{
+    match state {
+        PieceState::Settled => State::Settled,
+        PieceState::Awaiting(_) => State::Awaiting,
+        PieceState::Recovering => State::Recovering,
+    }
+}
