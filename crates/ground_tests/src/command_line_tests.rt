@@ -176,8 +176,9 @@ fn help_of_the_program(rt: HostRuntime) -> Result<(), Fail> {
 Usage: grain-directory <COMMAND>
 
 Commands:
-  play  Play a cluster's script, read from standard input
-  help  Print this message or the help of the given subcommand(s)
+  play   Play a cluster's script, read from standard input
+  check  Judge the dump of a cluster, read from standard input
+  help   Print this message or the help of the given subcommand(s)
 
 Options:
   -h, --help     Print help
