@@ -1,7 +1,8 @@
 -- What the first and the last key of a table tell of all.
 use Rattle.std.proofs.Common.{arith, ◌≡◌, refl, sym, ap, ◌∙◌, ℕ, ◌+◌, ◌-◌, ◌<◌, ◌≤◌, List, [], ◌∷◌, ◌++◌, length, slice_get}
 use Rattle.std.proofs.lemmas.Bool.Decides.{nat_tests}
-use Rattle.std.specs.Prelude.{Bool, true, false, cond, filter, nat_lt, Option, Some, None, All, IfSome, IfNone}
+use Rattle.std.proofs.lemmas.Cmp.{ranked}
+use Rattle.std.specs.Prelude.{Bool, true, false, cond, filter, nat_lt, Option, Some, None, Result, Ok, Err, All, IfSome, IfNone, OnOk, OnErr}
 use Rattle.std.specs.List.{AllByRecursion}
 use Rattle.std.specs.Map.{keys_of}
 use Rattle.std.specs.Ordering.{is_gt, is_lt, nat_cmp, ordering_then}
@@ -11,8 +12,7 @@ use Rattle.std.proofs.lemmas.List.{append-nil, length-append}
 use Rattle.std.proofs.lemmas.List.Elements.{filter-append, recursion_from_All}
 use Rattle.std.proofs.lemmas.Map.Keys.{ge_from_not_lt, le_from_not_gt}
 use Rattle.std.proofs.lemmas.Option.{same_Some}
-use Rattle.silo_address.specs.Grain.{Grain, grain_cmp}
-use Rattle.silo_address.specs.declared.Entry.{Entry}
+use Rattle.silo_address.specs.Grain.{grain_cmp}
 use Rattle.silo_address.specs.declared.ActivationId.{ActivationId}
 use Rattle.ring_range.specs.Range.{Range, IsRange, circle, holds}
 use Rattle.hash_ring.specs.declared.Hashing.{Hashing}
@@ -20,7 +20,7 @@ use Rattle.hash_ring.specs.Hash.{hash_grain}
 use Rattle.directory_rules.specs.Table.{Table}
 use Rattle.grain_table.specs.declared.hashed_grain.HashedGrain.{HashedGrain}
 use Rattle.grain_table.specs.Hashed.{Hashed, hashed_cmp}
-use Rattle.grain_table.specs.Stretch.{is_between}
+use Rattle.grain_table.specs.Stretch.{first_at, first_grain, is_between}
 use Rattle.grain_table.proofs.HashesBelow.{grain_below}
 
 -- ---- A key that isn't below another has no lower hash.
@@ -94,7 +94,7 @@ popped end old new (Some p) some none behind =
     ∙ append-nil (filter (λ (e : HashedGrain × ActivationId). nat_lt e.0.hash end) new))
 
 -- ---- What is hashed into a range stands before its end.
-stays_within : (p q : Grain × Entry → Bool) → ((e : Grain × Entry) → p e ≡ true → q e ≡ true) → (table : Table) → filter p (filter q table) ≡ filter p table
+stays_within : {K X : Type 0} (p q : K × X → Bool) → ((e : K × X) → p e ≡ true → q e ≡ true) → (es : List (K × X)) → filter p (filter q es) ≡ filter p es
 stays_within p q so [] = refl
 stays_within p q so (e ∷ es) = by (q e) (p e) refl refl (stays_within p q so es)
   where
@@ -111,3 +111,17 @@ within_before hashing range end is ends =
   where
     before : (hash : ℕ) → hash < circle → holds range hash ≡ true → nat_lt hash end ≡ true
     before hash below has = let start = is.start_below in let size = is.size_within in grind (arith, nat_tests)
+
+-- ---- What is split off stands under the end or higher hashes.
+above_lower : (end hash : ℕ) (o r : Ordering) → o ≡ nat_cmp end hash → nat_lt hash end ≡ true → is_gt (ordering_then o r) ≡ true
+above_lower end hash Less r is before = let above : end < hash = ranked end hash Less is in grind (arith, nat_tests)
+above_lower end hash Equal r is before = let same : end ≡ hash = ranked end hash Equal is in grind (arith, nat_tests)
+above_lower end hash Greater r is before = refl
+
+pub split : {T E : Type 0} (r : Result T E) (end : ℕ) (key : HashedGrain) → key ≡ first_at end → (old new : Hashed) → OnOk r (new ≡ filter (λ e. is_gt (hashed_cmp key e.0)) old) → OnErr r (new ≡ old)
+    → filter (λ e. nat_lt e.0.hash end) new ≡ filter (λ e. nat_lt e.0.hash end) old
+split (Ok x) end key first old new below same =
+    ap (filter (λ (e : HashedGrain × ActivationId). nat_lt e.0.hash end)) (below ∙ (λ i. filter (λ (e : HashedGrain × ActivationId). is_gt (hashed_cmp (first i) e.0)) old))
+    ∙ stays_within (λ (e : HashedGrain × ActivationId). nat_lt e.0.hash end) (λ e. is_gt (hashed_cmp (first_at end) e.0))
+    (λ e before. above_lower end e.0.hash (nat_cmp end e.0.hash) (grain_cmp first_grain e.0.grain) refl before) old
+split (Err x) end key first old new below same = ap (filter (λ (e : HashedGrain × ActivationId). nat_lt e.0.hash end)) same

@@ -9,6 +9,7 @@ ghost use Rattle.grain_table.specs.Hashed.{Hashed};
 
 use super::Table;
 use crate::hashed_grain::HashedMap;
+use crate::stretch::{CIRCLE, first_at};
 use hash_ring::Hashing;
 use ring_range::RingRange;
 
@@ -65,12 +66,25 @@ impl Table {
     }
 }
 
-// Takes out what stands under the end or higher hashes, one after another from the last: so nothing has to move.
+// Takes out what stands under the end or higher hashes: at once, and what may be left one after another from the last, so that
+// nothing has to move.
 fn drop_behind(map: &mut HashedMap, end: u64)
     ensures { map.new.entries ≡ filter (λ e. nat_lt e.0.hash end) map.old.entries }
 {
+    split_behind(map, end);
     'behind: while ends_behind(map, end) {
         map.pop_last();
+    }
+}
+
+// Splits off what stands under the end or higher hashes, which costs a logarithm and then its nodes, not its entries. Where there is
+// no memory to split, it stays.
+fn split_behind(map: &mut HashedMap, end: u64)
+    ensures { filter (λ e. nat_lt e.0.hash end) map.new.entries ≡ filter (λ e. nat_lt e.0.hash end) map.old.entries }
+{
+    if end < CIRCLE {
+        let first = first_at(end as u32);
+        drop(map.split_off(&first));
     }
 }
 
