@@ -14,8 +14,9 @@ use hash_ring::Hashing;
 use ring_range::RingRange;
 
 impl Table {
-    /// Takes out the entries whose grains are hashed outside the range. Looks at each entry where there are such, and copies none;
-    /// needs no memory.
+    /// Takes out the entries whose grains are hashed outside the range, and copies none. Those behind the range are split off, which
+    /// costs a logarithm and their nodes; where some are before it, each entry is looked at. Needs no memory: where there is none to
+    /// split, what is behind is taken out one by one.
     pub fn keep_within(&mut self, hashing: Hashing, range: &RingRange)
         ensures { self.new ≡ record self.old { entries = filter (λ e. holds range.now (hash_grain hashing e.0)) self.old.entries } }
     {
