@@ -1,0 +1,346 @@
+//! A node: all that one silo knows, and what it does by itself and with each letter. Each step first looks whether there is room for
+//! the letters that it would send (909), and changes something only then.
+
+use super::cache::Cache;
+use super::host::{Host, Phase, Request, Slot};
+use super::identities::{Activation, Grain, Grains, Silo};
+use super::mail::{Body, Letter, Mail};
+use super::pieces::{Entry, Pieces, Sealed, Shelf, State, Table};
+use super::ring::{Range, Ring, Rings};
+use super::views::{Version, Views};
+use super::{Effect, Happening};
+use std::collections::btree_map;
+use std::rc::Rc;
+
+/// What nodes have in common: what was named, the views and rings, and the mail with what its letters refer to.
+pub struct Commons {
+    pub grains: Grains,
+    pub views: Views,
+    pub rings: Rings,
+    pub mail: Mail,
+    pub sealed: Vec<Sealed>,
+    pub reports: Vec<Report>,
+}
+
+/// The firm activations of a silo that are hashed into a range.
+pub struct Report {
+    pub range: Range,
+    pub entries: Box<[Entry]>,
+}
+
+pub struct Node {
+    pub silo: Silo,
+    pub seen: Version,
+    pub ring: Rc<Ring>,
+    /// The last number that was served to each silo at the version seen; those behind the end were served nothing.
+    pub served: Vec<u64>,
+    pub pieces: Pieces,
+    pub table: Table,
+    pub shelf: Shelf,
+    pub host: Host,
+    pub cache: Cache,
+}
+
+/// A step: what it did, or the number of its refusal.
+pub type Step<T> = Result<T, u16>;
+
+impl Node {
+    /// The node of a silo that has just joined.
+    pub fn new(silo: Silo, cache: usize) -> Node {
+        Node {
+            silo,
+            seen: 0,
+            ring: Rc::default(),
+            served: Vec::new(),
+            pieces: Pieces::default(),
+            table: Table::new(),
+            shelf: Shelf::new(),
+            host: Host::new(silo),
+            cache: Cache::new(cache),
+        }
+    }
+
+    fn letter(&self, to: Silo, number: u64, body: Body) -> Letter {
+        Letter::new(self.silo, to, self.seen, number, body)
+    }
+
+    fn is_active(&self, commons: &Commons) -> bool {
+        commons.views.is_active(self.silo, self.seen)
+    }
+
+    /// The owner of a grain's hash, to whom a request would go, if there is room for it.
+    fn owner(&self, commons: &Commons, grain: Grain) -> Step<Option<Silo>> {
+        let owner = self.ring.owner(commons.grains.hash(grain));
+        commons.mail.has_room_for(usize::from(owner.is_some()))?;
+        Ok(owner)
+    }
+
+    fn post_request(&self, commons: &mut Commons, owner: Option<Silo>, number: u64, body: Body) {
+        if let Some(owner) = owner {
+            commons.mail.post(self.letter(owner, number, body));
+        }
+    }
+
+    // ---- What a silo does by itself.
+
+    /// An activation begins, perhaps in the place of another one, and asks to be entered.
+    fn start(&mut self, commons: &mut Commons, grain: Grain, previous: Option<Activation>) -> Step<Activation> {
+        let owner = self.owner(commons, grain)?;
+        let (activation, number) = self.host.start(grain, previous);
+        self.post_request(commons, owner, number, Body::Register { grain, activation, previous });
+        Ok(activation)
+    }
+
+    pub fn wake(&mut self, commons: &mut Commons, grain: Grain) -> Step<Happening> {
+        if !self.is_active(commons) {
+            return Err(804);
+        }
+        if self.host.slot_of(grain).is_some() {
+            return Err(801);
+        }
+        if self.host.is_full() {
+            return Err(806);
+        }
+        let activation = self.start(commons, grain, None)?;
+        Ok(Happening::Started { activation, grain })
+    }
+
+    /// The firm activation of a grain; 802 where there is none, 803 where it isn't firm.
+    fn firm(&self, grain: Grain) -> Step<(Slot, Activation)> {
+        let slot = self.host.slot_of(grain).ok_or(802u16)?;
+        let held = self.host.held(slot);
+        if held.phase == Phase::Firm { Ok((slot, held.activation)) } else { Err(803) }
+    }
+
+    pub fn close(&mut self, commons: &mut Commons, grain: Grain) -> Step<Happening> {
+        let (slot, activation) = self.firm(grain)?;
+        let owner = self.owner(commons, grain)?;
+        let number = self.host.close(slot, &commons.grains);
+        self.post_request(commons, owner, number, Body::Deregister { grain, activation });
+        Ok(Happening::Closing { activation, grain })
+    }
+
+    /// The activation closes, but its Deregister isn't sent before the next nudge or sight. The other silo is none that never joined.
+    pub fn offer(&mut self, commons: &mut Commons, grain: Grain, to: Option<Silo>) -> Step<Happening> {
+        let (slot, activation) = self.firm(grain)?;
+        let may_be_offered = |to: &Silo| *to != self.silo && commons.views.is_active(*to, self.seen);
+        let to = to.filter(may_be_offered).ok_or(807u16)?;
+        commons.mail.has_room_for(1)?;
+        self.host.close(slot, &commons.grains);
+        commons.mail.post(self.letter(to, 0, Body::Offer { grain, activation }));
+        Ok(Happening::Offered { activation, grain, to })
+    }
+
+    pub fn find(&mut self, commons: &mut Commons, grain: Grain) -> Step<Happening> {
+        if let Some(activation) = self.cache.use_hint(grain) {
+            return Ok(Happening::Cached { activation, grain });
+        }
+        if self.host.is_full_of_finds() {
+            return Err(806);
+        }
+        let owner = self.owner(commons, grain)?;
+        let number = self.host.find(grain);
+        self.post_request(commons, owner, number, Body::Find { grain });
+        Ok(Happening::Finding { grain })
+    }
+
+    pub fn forget(&mut self, grain: Grain) -> Happening {
+        if self.cache.forget(grain) { Happening::Forgot { grain } } else { Happening::NothingCached { grain } }
+    }
+
+    pub fn nudge(&mut self, commons: &mut Commons) -> Step<Happening> {
+        let wanted: usize = self.pieces.0.iter().map(|piece| piece.state.wants()).sum();
+        let asked = if self.ring.points.is_empty() { 0 } else { self.host.outstanding() };
+        commons.mail.has_room_for(wanted + asked)?;
+        self.host.renew();
+        self.post_requests(commons);
+        self.post_wants(commons);
+        Ok(Happening::Nudged { silo: self.silo })
+    }
+
+    /// Sends every outstanding request to its owner.
+    pub fn post_requests(&self, commons: &mut Commons) {
+        for (number, request) in self.host.requests() {
+            let (grain, body) = match request {
+                Request::Nothing => continue,
+                Request::Find(grain) => (grain, Body::Find { grain }),
+                Request::Of(slot) => self.body_of(slot),
+            };
+            let owner = self.ring.owner(commons.grains.hash(grain));
+            self.post_request(commons, owner, number, body);
+        }
+    }
+
+    fn body_of(&self, slot: Slot) -> (Grain, Body) {
+        let held = self.host.held(slot);
+        let (grain, activation, previous) = (held.grain, held.activation, held.previous);
+        match held.phase {
+            Phase::Asking => (grain, Body::Register { grain, activation, previous }),
+            _ => (grain, Body::Deregister { grain, activation }),
+        }
+    }
+
+    /// Asks for what the pieces want, piece by piece.
+    pub fn post_wants(&self, commons: &mut Commons) {
+        for piece in &self.pieces.0 {
+            let range = piece.range;
+            match piece.state {
+                State::Settled => {}
+                State::Awaiting { from, page } => commons.mail.post(self.letter(from, 0, Body::Ask { range, page })),
+                State::Recovering { of, .. } => {
+                    let Commons { views, mail, .. } = &mut *commons;
+                    let awaited = views.by_address.iter().filter(|silo| of.contains(**silo));
+                    awaited.for_each(|silo| mail.post(self.letter(*silo, 0, Body::Query { range })));
+                }
+            }
+        }
+    }
+
+    // ---- What it does with a letter. What is tested of a letter here is what may differ: a request, a page and a report are always
+    // their sender's and of the letter's version, and the entries of the last two are hashed into their range.
+
+    pub fn receive(&mut self, commons: &mut Commons, letter: &Letter) -> Step<Effect> {
+        match letter.body {
+            Body::Register { grain, .. } | Body::Deregister { grain, .. } | Body::Find { grain } => self.serve(commons, letter, grain),
+            Body::Registered | Body::Taken { .. } | Body::Removed | Body::Absent | Body::Found { .. } | Body::Nothing | Body::Retry => {
+                Ok(self.take_reply(&commons.grains, letter))
+            }
+            Body::Ask { range, page } => self.answer_ask(commons, letter, range, page),
+            Body::Page { sealed, page } => self.take_page(commons, letter, sealed, page),
+            Body::Missing { range } => self.take_missing(commons, letter, range),
+            Body::Done { range } => Ok(self.take_done(commons, letter, range)),
+            Body::Query { range } => self.answer_query(commons, letter, range),
+            Body::Report { report } => Ok(self.take_report(commons, letter, report)),
+            Body::Behind | Body::Ahead => Ok(Effect::Noted),
+            Body::Offer { grain, activation } => self.take_offer(commons, letter, grain, activation),
+        }
+    }
+
+    /// A request is answered.
+    fn serve(&mut self, commons: &mut Commons, letter: &Letter, grain: Grain) -> Step<Effect> {
+        commons.mail.has_room_for(1)?;
+        let (reply, effect) = match self.may_serve(letter, commons.grains.hash(grain)) {
+            Err(why) => (Body::Retry, Effect::Retry(why)),
+            Ok(()) => self.turn(letter, commons.grains.key(grain)),
+        };
+        commons.mail.post(self.letter(letter.from, letter.number, reply));
+        Ok(effect)
+    }
+
+    /// Whether a request about a hash is served, and if not the number of the reason. A Register or a Deregister that is served is the
+    /// last one served to its sender.
+    fn may_serve(&mut self, letter: &Letter, hash: u32) -> Result<(), u16> {
+        if letter.version != self.seen {
+            return Err(601);
+        }
+        let index = self.pieces.index_of(hash).ok_or(604u16)?;
+        if !self.pieces.0[index].state.is_settled() {
+            return Err(602);
+        }
+        if let Body::Find { .. } = letter.body {
+            return Ok(());
+        }
+        let sender = usize::from(letter.from);
+        if self.served.len() <= sender {
+            self.served.resize(sender + 1, 0);
+        }
+        if letter.number <= self.served[sender] {
+            return Err(603);
+        }
+        self.served[sender] = letter.number;
+        Ok(())
+    }
+
+    /// What the table answers to a request that is served, and how that is told.
+    fn turn(&mut self, letter: &Letter, key: u64) -> (Body, Effect) {
+        let (activation, previous) = match letter.body {
+            Body::Register { activation, previous, .. } => (activation, previous),
+            Body::Deregister { activation, .. } => return self.remove(key, activation),
+            _ => {
+                return match self.table.get(&key) {
+                    Some(by) => (Body::Found { by: *by }, Effect::Found),
+                    None => (Body::Nothing, Effect::Nothing),
+                };
+            }
+        };
+        match self.table.entry(key) {
+            btree_map::Entry::Vacant(vacant) => {
+                vacant.insert(activation);
+            }
+            btree_map::Entry::Occupied(mut there) => {
+                let by = *there.get();
+                if by != activation && Some(by) != previous {
+                    return (Body::Taken { by }, Effect::Taken);
+                }
+                there.insert(activation);
+            }
+        }
+        (Body::Registered, Effect::Registered)
+    }
+
+    fn remove(&mut self, key: u64, activation: Activation) -> (Body, Effect) {
+        match self.table.entry(key) {
+            btree_map::Entry::Occupied(there) if *there.get() == activation => {
+                there.remove();
+                (Body::Removed, Effect::Removed)
+            }
+            _ => (Body::Absent, Effect::Absent),
+        }
+    }
+
+    /// A reply counts if it is of the version seen and a request of its kind is outstanding under its number; a retry counts if any is.
+    fn take_reply(&mut self, grains: &Grains, letter: &Letter) -> Effect {
+        let number = letter.number;
+        if let Body::Retry = letter.body {
+            let is_outstanding = !matches!(self.host.request(number), Request::Nothing);
+            return if is_outstanding { Effect::Noted } else { Effect::Ignored };
+        }
+        if letter.version != self.seen {
+            return Effect::Ignored;
+        }
+        let counted = match letter.body {
+            Body::Registered => self.confirm(grains, number),
+            Body::Taken { by } => self.end(number, Phase::Asking).map(|grain| {
+                self.cache.learn(grain, by);
+                Effect::Yielded
+            }),
+            Body::Found { by } => self.end_find(number).map(|grain| {
+                self.cache.learn(grain, by);
+                Effect::Learnt
+            }),
+            Body::Nothing => self.end_find(number).map(|_| Effect::Noted),
+            _ => self.end(number, Phase::Closing).map(|_| Effect::Ended),
+        };
+        counted.unwrap_or(Effect::Ignored)
+    }
+
+    fn confirm(&mut self, grains: &Grains, number: u64) -> Option<Effect> {
+        let slot = self.host.slot_under(number, Phase::Asking)?;
+        self.host.confirm(number, slot, grains);
+        Some(Effect::Firm)
+    }
+
+    fn end(&mut self, number: u64, phase: Phase) -> Option<Grain> {
+        let slot = self.host.slot_under(number, phase)?;
+        Some(self.host.end(number, slot))
+    }
+
+    fn end_find(&mut self, number: u64) -> Option<Grain> {
+        let grain = self.host.found(number)?;
+        self.host.end_find(number);
+        Some(grain)
+    }
+
+    /// An activation begins in the place of the one offered, unless the silo lags, isn't Active, holds one, or is full.
+    fn take_offer(&mut self, commons: &mut Commons, letter: &Letter, grain: Grain, offered: Activation) -> Step<Effect> {
+        let takes = letter.version <= self.seen
+            && self.is_active(commons)
+            && self.host.slot_of(grain).is_none()
+            && !self.host.is_full();
+        if !takes {
+            return Ok(Effect::Ignored);
+        }
+        self.start(commons, grain, Some(offered))?;
+        Ok(Effect::Started)
+    }
+}
