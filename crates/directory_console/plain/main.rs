@@ -17,7 +17,7 @@ mod verdict;
 mod world;
 
 use script::{Command, LONGEST_LINE, read_line};
-use std::io::{self, Read, Write};
+use std::io::{self, BufRead, Read, Write};
 use std::process::ExitCode;
 use text::Output;
 use world::{Event, Settings, World};
@@ -153,18 +153,20 @@ fn without_return(line: &[u8]) -> &[u8] {
 /// Plays the lines that are whole, and tells how many bytes they have; none where the script has ended by a fault. A line that isn't
 /// whole but longer than any may be is played as well: it is a fault.
 fn play_lines(session: &mut Session, bytes: &[u8], writer: &mut impl Write) -> io::Result<Option<usize>> {
-    let mut played = 0;
-    for line in bytes.split_inclusive(|byte| *byte == b'\n') {
+    let mut rest = bytes;
+    while !rest.is_empty() {
+        let before = rest;
+        let length = rest.skip_until(b'\n')?;
+        let line = &before[..length];
         let whole = line.strip_suffix(b"\n");
-        if whole.is_none() && line.len() <= LONGEST_LINE + 1 {
-            break;
+        if whole.is_none() && length <= LONGEST_LINE + 1 {
+            return Ok(Some(bytes.len() - length));
         }
         if !session.play_line(without_return(whole.unwrap_or(line)), writer)? {
             return Ok(None);
         }
-        played += line.len();
     }
-    Ok(Some(played))
+    Ok(Some(bytes.len()))
 }
 
 /// Plays a script, with everything that the lines read so far print written before more is read; the answer is the exit status.

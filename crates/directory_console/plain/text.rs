@@ -1,12 +1,24 @@
 //! What is printed: lines of events, and of what is asked about a world.
 
 use crate::world::{
-    Activation, Effect, Grain, Happening, Held, Kind, Letter, Outcome, Phase, Point, Range, Row, Silo, State, Status, World, entries_in,
+    Activation, Effect, Grain, Happening, Held, Kind, Letter, Outcome, Phase, Point, Range, Row, Silo, State, Status, World,
+    entries_in,
 };
 
 /// Bytes on their way out. A line's words are put one after another, each with what stands before it.
 #[derive(Default)]
 pub struct Output(pub Vec<u8>);
+
+/// The digits of the numbers below a hundred.
+const PAIRS: [[u8; 2]; 100] = {
+    let mut pairs = [[0; 2]; 100];
+    let mut number = 0;
+    while number < 100 {
+        pairs[number] = [b'0' + (number / 10) as u8, b'0' + (number % 10) as u8];
+        number += 1;
+    }
+    pairs
+};
 
 impl Output {
     pub fn text(&mut self, text: &[u8]) -> &mut Output {
@@ -22,14 +34,16 @@ impl Output {
         let mut digits = [0; 20];
         let mut at = digits.len();
         let mut rest = number.into();
-        loop {
-            at -= 1;
-            digits[at] = b'0' + (rest % 10) as u8;
-            rest /= 10;
-            if rest == 0 {
-                return self.text(&digits[at..]);
-            }
+        while rest >= 10 {
+            at -= 2;
+            digits[at..at + 2].copy_from_slice(&PAIRS[(rest % 100) as usize]);
+            rest /= 100;
         }
+        if rest > 0 || at == digits.len() {
+            at -= 1;
+            digits[at] = b'0' + rest as u8;
+        }
+        self.text(&digits[at..])
     }
 
     fn count(&mut self, count: usize) -> &mut Output {

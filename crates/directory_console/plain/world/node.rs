@@ -202,9 +202,13 @@ impl Node {
     pub fn receive(&mut self, commons: &mut Commons, letter: &Letter) -> Step<Effect> {
         match letter.body {
             Body::Register { grain, .. } | Body::Deregister { grain, .. } | Body::Find { grain } => self.serve(commons, letter, grain),
-            Body::Registered | Body::Taken { .. } | Body::Removed | Body::Absent | Body::Found { .. } | Body::Nothing | Body::Retry => {
-                Ok(self.take_reply(&commons.grains, letter))
-            }
+            Body::Registered
+            | Body::Taken { .. }
+            | Body::Removed
+            | Body::Absent
+            | Body::Found { .. }
+            | Body::Nothing
+            | Body::Retry => Ok(self.take_reply(&commons.grains, letter)),
             Body::Ask { range, page } => self.answer_ask(commons, letter, range, page),
             Body::Page { sealed, page } => self.take_page(commons, letter, sealed, page),
             Body::Missing { range } => self.take_missing(commons, letter, range),
@@ -333,10 +337,8 @@ impl Node {
 
     /// An activation begins in the place of the one offered, unless the silo lags, isn't Active, holds one, or is full.
     fn take_offer(&mut self, commons: &mut Commons, letter: &Letter, grain: Grain, offered: Activation) -> Step<Effect> {
-        let takes = letter.version <= self.seen
-            && self.is_active(commons)
-            && self.host.slot_of(grain).is_none()
-            && !self.host.is_full();
+        let takes =
+            letter.version <= self.seen && self.is_active(commons) && self.host.slot_of(grain).is_none() && !self.host.is_full();
         if !takes {
             return Ok(Effect::Ignored);
         }
