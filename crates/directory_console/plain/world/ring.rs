@@ -1,6 +1,6 @@
 //! The circle of hashes, and on it the ring of each view.
 
-use super::identities::Silo;
+use super::identities::{Address, Silo};
 use super::views::{Version, Views};
 use std::rc::{Rc, Weak};
 
@@ -129,20 +129,11 @@ impl Ring {
     /// The ring of a version, made of the ring of another one: the points of silos that are no longer Active go, and those of new
     /// ones are merged in.
     fn advanced(&self, seen: Version, version: Version, views: &Views) -> Ring {
-        let key = |point: &Point| (point.place, views.row(point.silo).address, point.index);
-        let mut new: Vec<Point> = Vec::new();
-        for silo in views.active(version).filter(|silo| !views.is_active(*silo, seen)) {
-            let places = views.row(silo).places.iter();
-            new.extend(places.zip(0u8..).map(|(place, index)| Point { place: *place, silo, index }));
-        }
-        new.sort_unstable_by_key(key);
-        let goes: Vec<bool> = (0..views.rows.len()).map(|silo| !views.is_active(silo as Silo, version)).collect();
+        let mut new = new_points(seen, version, views).into_iter().peekable();
+        let stays: Vec<bool> = (0..views.rows.len()).map(|silo| views.is_active(silo as Silo, version)).collect();
         let mut points = Vec::with_capacity(self.points.len() + new.len());
-        let mut new = new.into_iter().peekable();
-        for point in self.points.iter().filter(|point| !goes[usize::from(point.silo)]) {
-            while let Some(earlier) = new.next_if(|new| new.place <= point.place && key(new) < key(point)) {
-                points.push(earlier);
-            }
+        for point in self.points.iter().filter(|point| stays[usize::from(point.silo)]) {
+            points.extend(std::iter::from_fn(|| new.next_if(|new| new.is_before(point, views))));
             points.push(*point);
         }
         points.extend(new);
@@ -151,27 +142,52 @@ impl Ring {
 
     /// The ring of points in order.
     fn of(points: Vec<Point>, silos: usize) -> Ring {
-        let mut ring = Ring { firsts: vec![0; silos + 1], ..Ring::default() };
-        for point in &points {
-            if ring.places.last() != Some(&point.place) {
-                ring.places.push(point.place);
-                ring.owners.push(point.silo);
-                ring.firsts[usize::from(point.silo) + 1] += 1;
-            }
-        }
-        for silo in 0..silos {
-            ring.firsts[silo + 1] += ring.firsts[silo];
-        }
-        let mut next = ring.firsts.clone();
-        ring.indices = vec![0; ring.places.len()];
-        for (index, owner) in (0..).zip(&ring.owners) {
-            let place = &mut next[usize::from(*owner)];
-            ring.indices[*place as usize] = index;
-            *place += 1;
+        let mut ring = Ring::default();
+        for at_place in points.chunk_by(|one, next| one.place == next.place) {
+            ring.places.push(at_place[0].place);
+            ring.owners.push(at_place[0].silo);
         }
         ring.points = points;
+        (ring.firsts, ring.indices) = grouped(&ring.owners, silos);
         ring
     }
+}
+
+impl Point {
+    fn key(&self, views: &Views) -> (u32, Address, u8) {
+        (self.place, views.row(self.silo).address, self.index)
+    }
+
+    fn is_before(&self, other: &Point, views: &Views) -> bool {
+        self.place < other.place || self.place == other.place && self.key(views) < other.key(views)
+    }
+}
+
+/// The points of the silos that are Active in a version and weren't in another one, in order.
+fn new_points(seen: Version, version: Version, views: &Views) -> Vec<Point> {
+    let silos = views.active(version).filter(|silo| !views.is_active(*silo, seen));
+    let points_of = |silo: Silo| {
+        let places = views.row(silo).places.iter().zip(0..);
+        places.map(move |(place, index)| Point { place: *place, silo, index })
+    };
+    let mut points: Vec<Point> = silos.flat_map(points_of).collect();
+    points.sort_unstable_by_key(|point| point.key(views));
+    points
+}
+
+/// The indices grouped by owner, each group in order, and where the group of each silo begins; that of the last one ends with them.
+fn grouped(owners: &[Silo], silos: usize) -> (Vec<u32>, Vec<u32>) {
+    let mut firsts = vec![0; silos + 1];
+    owners.iter().for_each(|owner| firsts[usize::from(*owner) + 1] += 1);
+    (0..silos).for_each(|silo| firsts[silo + 1] += firsts[silo]);
+    let mut next = firsts.clone();
+    let mut indices = vec![0; owners.len()];
+    for (owner, index) in owners.iter().zip(0..) {
+        let place = &mut next[usize::from(*owner)];
+        indices[*place as usize] = index;
+        *place += 1;
+    }
+    (firsts, indices)
 }
 
 impl Rings {
