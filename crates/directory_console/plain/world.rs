@@ -1,9 +1,9 @@
 //! The rule of the directory (`docs/RULES.md`), without any text but the names of silos and grains, in plain Rust written for speed.
 //!
-//! Silos and grains are numbered once, so that letters, tables and activations are small and `Copy`. An event costs a logarithm, and
-//! besides what it moves or sends; no event of a silo allocates but where a table or a list grows. What can never be told apart is
-//! left out: no digest of a snapshot is computed, since what is sealed is lent to its pages and so stays as it is, and numbers of
-//! requests are never refused by 805. It shares no code with the proved program, and was written by the rules alone.
+//! Silos and grains are numbered once, so that letters, tables and activations are small and `Copy`. An event costs a logarithm,
+//! besides what it moves or sends, and allocates no more than it keeps. What can never be told apart is left out: no digest of a
+//! snapshot is computed, since its entries are lent to its pages and so can't differ, and no request is refused by 805, since numbers
+//! and counts never come that far. It shares no code with the proved program: it was written by the rules.
 
 mod cache;
 mod host;
