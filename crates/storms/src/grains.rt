@@ -36,8 +36,24 @@ pub(crate) fn grains(alloc: Global, random: &mut Random, home: Option<u32>) -> R
 // The grain of a number, whose key states the hash.
 fn numbered(alloc: Global, number: u64, hash: u32) -> Result<Grain> {
     let text = format!(in alloc; "user/{number}#{hash}")?;
-    let id = GrainId::parse(text.as_bytes())?;
+    stated(text.as_bytes(), hash)
+}
+
+// The grain of a text that states the hash.
+fn stated(text: &[u8], hash: u32) -> Result<Grain> {
+    let id = GrainId::parse(text)?;
     Ok(Grain { id, hash })
+}
+
+/// Eight grains, hashed to where the eighths of the circle begin.
+pub(crate) fn eighths(alloc: Global) -> Result<Vec<Grain>> {
+    let mut grains = Vec::new(alloc);
+    for eighth in 0..8_u32 {
+        let hash = eighth << 29;
+        let text = format!(in alloc; "user/s#{hash}")?;
+        grains.push(stated(text.as_bytes(), hash)?)?;
+    }
+    Ok(grains)
 }
 
 /// The index of a grain.

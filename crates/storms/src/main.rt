@@ -4,6 +4,7 @@
 
 mod before;
 mod chronicle;
+mod dumps;
 mod fault;
 mod grains;
 mod judge;
@@ -13,12 +14,15 @@ mod pieces;
 mod random;
 mod ring;
 mod script_lines;
+mod seeded;
+mod stage;
 mod storm;
 mod tally;
 
 use anyhow::{Context, Result, bail};
 use random::Random;
 use script_lines::tell;
+use seeded::{Course, SeededStorm, whole_storm};
 use std::alloc::Global;
 use std::env;
 use storm::Storm;
@@ -28,7 +32,10 @@ use tally::Tally;
 const WORLD: u64 = 20_000;
 
 /// How the program is called.
-const USAGE: &str = "usage: storms SEED EVENTS, or storms SEED EVENTS script";
+const USAGE: &str = "usage: storms SEED EVENTS [seeded|script|views|offers]";
+
+/// The seeded storms have the seeds from 1 to this one.
+const SEEDED: u64 = 20;
 
 fn main(rt: HostRuntime) -> Result<()> {
     let words: Vec<String> = env::args(&rt)?.collect(rt.alloc())?;
@@ -36,9 +43,53 @@ fn main(rt: HostRuntime) -> Result<()> {
     let events = number(&words, 2).context(USAGE)?;
     match words.get(3) {
         None => all_worlds(&rt, seed, events),
-        Some(word) if word.as_str() == "script" => script(&rt, seed, events),
-        Some(_) => bail!("{USAGE}"),
+        Some(word) => of_kind(&rt, word.as_str(), seed, events),
     }
+}
+
+// What the third word says.
+fn of_kind(rt: &HostRuntime, word: &str, seed: u64, events: u64) -> Result<()> {
+    if word == "seeded" {
+        seeded_storms(rt, Course::Views)?;
+        seeded_storms(rt, Course::Offers)?;
+        all_worlds(rt, seed, events)
+    } else if word == "script" {
+        script(rt, seed, events)
+    } else if word == "views" {
+        seeded_script(rt, Course::Views, seed, events)
+    } else if word == "offers" {
+        seeded_script(rt, Course::Offers, seed, events)
+    } else {
+        bail!("{USAGE}")
+    }
+}
+
+// All seeded storms of a course, a line each.
+fn seeded_storms(rt: &HostRuntime, course: Course) -> Result<()> {
+    let mut tally = Tally::new();
+    for seed in 1..SEEDED.wrapping_add(1) {
+        let (turns, accepted) = whole_storm(rt.alloc(), course, seed, &mut tally).context(
+            format_args!("storm of {course} with the seed {seed}"),
+        )?;
+        println!(rt; "storm of {course} {seed}: {turns} turns, {accepted} events")?;
+    }
+    Ok(())
+}
+
+// The first events of a seeded storm, as a script, up to the first after which the headline doesn't hold or the dump is wrong.
+fn seeded_script(rt: &HostRuntime, course: Course, seed: u64, events: u64) -> Result<()> {
+    let mut tally = Tally::new();
+    let mut storm = SeededStorm::new(rt.alloc(), course, seed)?;
+    for _ in 0..events.saturating_mul(8) {
+        if storm.is_over() || storm.accepted() >= events {
+            break;
+        }
+        if let Some((event, before)) = storm.turn(&mut tally)? {
+            tell(rt, &event)?;
+            storm.judge(&before)?;
+        }
+    }
+    Ok(())
 }
 
 // So many events in all, and what came of them.
