@@ -1,24 +1,34 @@
 -- The grains that are firm on a node and on a later one, told from the last node back.
-use Rattle.std.proofs.Common.{◌≡◌, ℕ, ◌+◌, ◌<◌, suc, Bool, true, false, List, [], ◌∷◌, length, get_or, drop, filter, flat_map, refl, sym, ◌∙◌, ap, Option, add-one, drop-cons}
-use Rattle.std.specs.Prelude.{◌||◌}
+use Rattle.std.proofs.Common.{◌≡◌, ℕ, ◌+◌, ◌<◌, suc, Bool, true, false, cond, not, List, [], ◌∷◌, ◌++◌, length, map, get_or, drop, filter, flat_map, refl, sym, ◌∙◌, ap, Option, add-one, drop-cons}
+use Rattle.std.specs.Prelude.{◌&&◌, ◌||◌}
 use Rattle.std.specs.Borrow.{Bor}
 use Rattle.std.specs.BTreeMap.{is_at}
 use Rattle.std.specs.BTreeSet.{BTreeSet, contains, InsertsAll}
 use Rattle.std.specs.List.{list_any}
 use Rattle.std.proofs.lemmas.List.Elements.{filter_agree}
-use Rattle.std.proofs.lemmas.List.Folds.{list_any-append}
+use Rattle.std.proofs.lemmas.List.Folds.{flat_map-map, list_any-append}
 use Rattle.silo_address.specs.Grain.{Grain, grain_cmp, grain_eq}
 use Rattle.rebuild_checker.specs.Sets.{HasItems}
 use Rattle.rebuild_checker.proofs.Ties.{grain_tie, list_any_alike}
-use Rattle.dump_rules.specs.Dump.{DumpNode}
-use Rattle.dump_rules.specs.Verdict.{firm_grains, firm_on_two, is_firm_on, least_grain}
-use Rattle.dump_verdict.specs.Lent.{nodes_lent}
+use Rattle.dump_rules.specs.Dump.{DumpHeld, DumpNode}
+use Rattle.dump_rules.specs.DumpShape.{are_distinct_by}
+use Rattle.dump_rules.specs.Verdict.{firm_grains, firm_held, firm_on_two, is_firm_on, is_firm_phase, least_grain}
+use Rattle.dump_verdict.specs.Lent.{held_lent, held_on, nodes_lent}
 use Rattle.dump_verdict.specs.Lesser.{lesser_of}
 use Rattle.dump_verdict.proofs.LeastOf.{least-append}
+use Rattle.dump_verdict.proofs.Listed.{filter-flat_map, map-flat_map, map-map}
 
 list_any-flat_map : {X Y : Type 0} (p : Y → Bool) (f : X → List Y) (xs : List X) → list_any p (flat_map f xs) ≡ list_any (λ x. list_any p (f x)) xs
 list_any-flat_map p f [] = refl
 list_any-flat_map p f (x ∷ xs) = list_any-append p (f x) (flat_map f xs) ∙ ap (λ b. list_any p (f x) || b) (list_any-flat_map p f xs)
+
+split : (a b : Bool) → (not a && b) ≡ true → (a ≡ false) × (b ≡ true)
+split true b is = absurd (cc)
+split false b is = (refl, is)
+
+never : (t : Bool) → (t || true) ≡ false → ⊥
+never true is = cc
+never false is = cc
 
 either : (a b : Bool) → (a || b) ≡ (b || a)
 either true true = refl
@@ -69,3 +79,40 @@ least_before nodes index at node later least shared within here step has so_far 
   where
     rest : List DumpNode
     rest = nodes_lent (drop index nodes)
+
+-- ---- Where all firm grains are distinct, none is firm on two nodes.
+apart_from : (xs ys : List Grain) → are_distinct_by grain_eq (xs ++ ys) ≡ true → filter (λ grain. list_any (grain_eq grain) ys) xs ≡ []
+apart_from [] ys apart = refl
+apart_from (x ∷ xs) ys apart =
+    by (list_any (grain_eq x) ys) refl (apart_from xs ys)
+  where
+    both_apart : (list_any (grain_eq x) (xs ++ ys) ≡ false) × (are_distinct_by grain_eq (xs ++ ys) ≡ true)
+    both_apart = split (list_any (grain_eq x) (xs ++ ys)) (are_distinct_by grain_eq (xs ++ ys)) apart
+
+    by : (t : Bool) → list_any (grain_eq x) ys ≡ t → (are_distinct_by grain_eq (xs ++ ys) ≡ true → filter (λ grain. list_any (grain_eq grain) ys) xs ≡ [])
+        → filter (λ grain. list_any (grain_eq grain) ys) (x ∷ xs) ≡ []
+    by true there later = absurd (never (list_any (grain_eq x) xs) (sym (list_any-append (grain_eq x) xs ys ∙ ap (λ b. list_any (grain_eq x) xs || b) there) ∙ both_apart.0))
+    by false none later = ap (λ b. cond b (x ∷ filter (λ grain. list_any (grain_eq grain) ys) xs) (filter (λ grain. list_any (grain_eq grain) ys) xs)) none ∙ later both_apart.1
+
+behind : (xs ys : List Grain) → are_distinct_by grain_eq (xs ++ ys) ≡ true → are_distinct_by grain_eq ys ≡ true
+behind [] ys apart = apart
+behind (x ∷ xs) ys apart = behind xs ys (split (list_any (grain_eq x) (xs ++ ys)) (are_distinct_by grain_eq (xs ++ ys)) apart).1
+
+pub none_twice : (nodes : List DumpNode) → are_distinct_by grain_eq (flat_map firm_grains nodes) ≡ true → firm_on_two nodes ≡ []
+none_twice [] apart = refl
+none_twice (node ∷ nodes) apart =
+    ap (λ gs. gs ++ firm_on_two nodes)
+    (filter_agree (λ grain. list_any (is_firm_on grain) nodes) (λ grain. list_any (grain_eq grain) (flat_map firm_grains nodes))
+    (λ grain. sym (list_any-flat_map (grain_eq grain) firm_grains nodes)) (firm_grains node)
+    ∙ apart_from (firm_grains node) (flat_map firm_grains nodes) apart)
+    ∙ none_twice nodes (behind (firm_grains node) (flat_map firm_grains nodes) apart)
+
+-- the firm grains, node by node
+pub firm_listed : (nodes : List (Bor DumpNode)) (held : List (Bor DumpHeld)) (grains : List Grain) → grains ≡ map (λ (one : Bor DumpHeld). one.now.grain) held
+    → held_lent held ≡ filter (λ (one : DumpHeld). is_firm_phase one.phase) (held_on nodes) → grains ≡ flat_map firm_grains (nodes_lent nodes)
+firm_listed nodes held grains is firm =
+    is
+    ∙ (sym (map-map (λ (one : DumpHeld). one.grain) (λ (one : Bor DumpHeld). one.now) held)
+    ∙ (ap (map (λ (one : DumpHeld). one.grain)) (firm ∙ filter-flat_map (λ (one : DumpHeld). is_firm_phase one.phase) (λ (node : Bor DumpNode). node.now.held) nodes)
+    ∙ (map-flat_map (λ (one : DumpHeld). one.grain) (λ (node : Bor DumpNode). firm_held node.now) nodes
+    ∙ sym (flat_map-map firm_grains (λ (node : Bor DumpNode). node.now) nodes))))

@@ -1,6 +1,7 @@
 -- The grains of entries, added to a set one by one.
-use Rattle.std.proofs.Common.{◌≡◌, ℕ, suc, zero, ◌+◌, ◌<◌, Bool, true, false, cond, not, List, [], ◌∷◌, ◌++◌, length, get_or, take, drop, refl, sym, ◌∙◌, ap, subst, append_assoc, arith}
+use Rattle.std.proofs.Common.{◌≡◌, ℕ, suc, zero, ◌+◌, ◌<◌, Bool, true, false, cond, not, List, [], ◌∷◌, ◌++◌, map, length, get_or, take, drop, refl, sym, ◌∙◌, ap, subst, append_assoc, arith}
 use Rattle.std.specs.Prelude.{◌&&◌, flat_map}
+use Rattle.std.specs.Borrow.{Bor}
 use Rattle.std.specs.BTreeMap.{is_at}
 use Rattle.std.specs.BTreeSet.{BTreeSet, contains}
 use Rattle.std.specs.List.{list_any}
@@ -16,8 +17,10 @@ use Rattle.rebuild_checker.specs.Sets.{HasItems}
 use Rattle.rebuild_checker.proofs.SetsMade.{distinct_more, distinct_no_more, set_more}
 use Rattle.rebuild_checker.proofs.Ties.{distinct_grains}
 use Rattle.dump_verdict.specs.Entries.{IsAdded, grains_in, grains_of}
+use Rattle.dump_verdict.specs.Lent.{entries_lent}
+use Rattle.dump_verdict.proofs.Listed.{map-map}
 
-same_test : (xs : List Grain) → are_distinct xs ≡ are_distinct_by grain_eq xs
+pub same_test : (xs : List Grain) → are_distinct xs ≡ are_distinct_by grain_eq xs
 same_test [] = refl
 same_test (x ∷ xs) = ap (λ b. not (list_any (grain_eq x) xs) && b) (same_test xs)
 
@@ -141,3 +144,9 @@ piece_not_added pieces all whole index piece entries next answer low is its wron
     ∙ ap are_distinct (sym (pieces_cut pieces (index + 1)))
     ∙ ap (λ l. are_distinct (l ++ grains_in (drop (index + 1) pieces))) (sym same)
     ∙ sure (grains_in (drop (index + 1) pieces)))
+
+-- the grains of entries behind references
+pub grains_listed : (pieces : List DumpPiece) (entries : List (Bor Entry)) (grains : List Grain) → grains ≡ map (λ (one : Bor Entry). one.now.grain) entries
+    → entries_lent entries ≡ flat_map entries_of pieces → grains ≡ grains_in pieces
+grains_listed pieces entries grains is listed =
+    is ∙ (sym (map-map (λ (one : Entry). one.grain) (λ (one : Bor Entry). one.now) entries) ∙ ap grains_of listed)

@@ -8,6 +8,7 @@ pub mod LeastOf
 pub mod Listed
 pub mod ListedEntries
 pub mod Missing
+pub mod Named
 pub mod NoneFailing
 pub mod OwnerFound
 pub mod Passing
@@ -15,6 +16,5 @@ pub mod Points
 pub mod ReadyNodes
 pub mod RightPieces
 pub mod Rows
-pub mod Tallies
 pub mod Tested
 pub mod ViewRings

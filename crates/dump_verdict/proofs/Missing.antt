@@ -1,8 +1,8 @@
 -- An activation is missing where fewer pieces have its entry than have its hash.
-use Rattle.std.proofs.Common.{◌≡◌, ℕ, ◌+◌, ltb, Bool, true, false, cond, not, List, [], ◌∷◌, map, filter, flat_map, count_by, refl, sym, ◌∙◌, ap, subst, arith, unwrap_or}
+use Rattle.std.proofs.Common.{◌≡◌, ℕ, ◌+◌, ltb, Bool, true, false, cond, not, List, [], ◌∷◌, map, filter, flat_map, count_by, refl, sym, ◌∙◌, ap, subst, arith}
 use Rattle.std.specs.Prelude.{◌&&◌, ◌||◌}
 use Rattle.std.specs.Borrow.{Bor}
-use Rattle.std.specs.BTreeMap.{BTreeMap, get, is_at}
+use Rattle.std.specs.BTreeMap.{is_at}
 use Rattle.std.specs.List.{list_all, list_any}
 use Rattle.std.proofs.lemmas.Bool.Decides.{nat_tests}
 use Rattle.std.proofs.lemmas.List.Elements.{filter_agree}
@@ -19,13 +19,15 @@ use Rattle.rebuild_checker.proofs.Ties.{entry_tie}
 use Rattle.dump_rules.specs.Dump.{DumpHeld, DumpNode, DumpPiece, DumpValue}
 use Rattle.dump_rules.specs.DumpShape.{has_piece_numbers}
 use Rattle.dump_rules.specs.Verdict.{are_distinct, current_pieces, entry_of_held, firm_entries, firm_held, has_entries_inside, is_entry_among, is_firm_phase, is_missing_in, live_nodes, missing_firm}
-use Rattle.dump_verdict.specs.Tallies.{IsTally, is_lacking}
+use Rattle.dump_verdict.specs.Named.{IsIndex, Named, entries_named}
+use Rattle.dump_verdict.specs.Tallies.{count_of, is_lacking}
 use Rattle.dump_verdict.specs.Covers.{IsCover, covering}
-use Rattle.dump_verdict.specs.Lent.{entries_in, entries_lent, held_on, nodes_lent, pieces_lent}
+use Rattle.dump_verdict.specs.Lent.{entries_in, held_on, nodes_lent, pieces_lent}
 use Rattle.dump_verdict.specs.declared.cover.Cover.{Cover}
 use Rattle.dump_verdict.proofs.Covered.{covering_is_count}
 use Rattle.dump_verdict.proofs.HashesBelow.{hash_is_below}
 use Rattle.dump_verdict.proofs.Listed.{filter-flat_map, filter-map, map-flat_map, map-map}
+use Rattle.dump_verdict.proofs.Named.{count_index}
 use Rattle.dump_verdict.proofs.RightPieces.{is_by_grain, is_right}
 
 -- an entry that is listed, and its grain
@@ -127,23 +129,21 @@ more_than : (a m : ℕ) → ltb a (a + m) ≡ ltb 0 m
 more_than a m = grind (arith, nat_tests)
 
 -- what the test of an activation by its counts answers
-pub lacking_told : (dump : DumpValue) (counts : BTreeMap Entry ℕ) (cover : Cover) (entries : List (Bor Entry)) (pieces : List (Bor DumpPiece))
+pub lacking_told : (dump : DumpValue) (cover : Cover) (names : List Named) (pieces : List (Bor DumpPiece))
     → pieces_lent pieces ≡ current_pieces dump → list_all (is_right dump) (current_pieces dump) ≡ true
     → IsCover (map (λ (piece : Bor DumpPiece). piece.now.range) pieces) cover
-    → entries_lent entries ≡ entries_in pieces → IsTally counts entries
-    → (entry : Entry) → is_lacking dump.hashing cover counts entry ≡ list_any (is_missing_in dump entry) (current_pieces dump)
-lacking_told dump counts cover entries pieces current right covers listed tells entry =
+    → IsIndex (entries_in pieces) names
+    → (entry : Entry) → is_lacking dump.hashing cover names entry ≡ list_any (is_missing_in dump entry) (current_pieces dump)
+lacking_told dump cover names pieces current right covers index entry =
     ap (λ n. ltb n (covering cover (hash_grain dump.hashing entry.grain))) entered
-    ∙ (ap (ltb (count_by (λ (one : Entry). is_at (entry_cmp entry) one) (flat_map (λ (piece : DumpPiece). piece.entries) (current_pieces dump)))) (held ∙ balance dump entry (current_pieces dump) right)
+    ∙ (ap (ltb (count_of entry (flat_map (λ (piece : DumpPiece). piece.entries) (current_pieces dump)))) (held ∙ balance dump entry (current_pieces dump) right)
     ∙ (more_than _ _ ∙ sym (some_counted (is_missing_in dump entry) (current_pieces dump))))
   where
-    entered : unwrap_or (get entry_cmp counts entry) 0 ≡ count_by (λ (one : Entry). is_at (entry_cmp entry) one) (flat_map (λ (piece : DumpPiece). piece.entries) (current_pieces dump))
+    entered : count_of entry (entries_named names) ≡ count_of entry (flat_map (λ (piece : DumpPiece). piece.entries) (current_pieces dump))
     entered =
-        tells entry
-        ∙ (sym (fold-map (λ a (x : Entry). a + cond (is_at (entry_cmp entry) x) 1 0) (λ (e : Bor Entry). e.now) 0 entries)
-        ∙ (ap (count_by (λ (one : Entry). is_at (entry_cmp entry) one)) listed
-        ∙ ap (count_by (λ (one : Entry). is_at (entry_cmp entry) one))
-        (sym (flat_map-map (λ (piece : DumpPiece). piece.entries) (λ (piece : Bor DumpPiece). piece.now) pieces) ∙ ap (flat_map (λ (piece : DumpPiece). piece.entries)) current)))
+        count_index _ names index entry
+        ∙ ap (count_of entry)
+        (sym (flat_map-map (λ (piece : DumpPiece). piece.entries) (λ (piece : Bor DumpPiece). piece.now) pieces) ∙ ap (flat_map (λ (piece : DumpPiece). piece.entries)) current)
 
     held : covering cover (hash_grain dump.hashing entry.grain) ≡ count_by (λ (piece : DumpPiece). holds piece.range (hash_grain dump.hashing entry.grain)) (current_pieces dump)
     held =

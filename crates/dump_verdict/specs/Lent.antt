@@ -13,6 +13,9 @@ pieces_lent pieces = map (λ piece. piece.now) pieces
 abbrev pub entries_lent : List (Bor Entry) → List Entry
 entries_lent entries = map (λ entry. entry.now) entries
 
+abbrev pub held_lent : List (Bor DumpHeld) → List DumpHeld
+held_lent held = map (λ one. one.now) held
+
 -- the activations that the nodes hold
 abbrev pub held_on : List (Bor DumpNode) → List DumpHeld
 held_on nodes = flat_map (λ node. node.now.held) nodes

@@ -3,6 +3,7 @@ pub mod Entries
 pub mod Faults
 pub mod Lent
 pub mod Lesser
+pub mod Named
 pub mod Ready
 pub mod Rings
 pub mod Rows

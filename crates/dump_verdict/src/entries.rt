@@ -1,13 +1,15 @@
 //! Whether entries lie in their pieces, one a grain.
 
-ghost use Rattle.std.specs.Prelude.{◌≡◌, IfOk};
+ghost use Rattle.std.specs.Prelude.{◌≡◌, IfOk, map};
 ghost use Rattle.std.specs.List.{list_all};
 ghost use Rattle.ring_range.specs.Range.{holds};
 ghost use Rattle.hash_ring.specs.Hash.{hash_grain};
-ghost use Rattle.dump_rules.specs.Verdict.{has_entries_inside, has_one_entry_a_grain};
+ghost use Rattle.dump_rules.specs.Verdict.{has_entries_inside, has_one_entry_a_grain, node_entries};
 ghost use Rattle.dump_verdict.specs.Entries.{AddsTo, grains_of};
+ghost use Rattle.dump_verdict.specs.Lent.{entries_lent};
+ghost use Rattle.rebuild_checker.specs.Mixed.{grains_lent};
 
-use rebuild_checker::{Dump, Node, Piece};
+use rebuild_checker::{Dump, Node, Piece, are_told_apart};
 use silo_address::{Entry, GrainId};
 use std::alloc::{AllocError, Global};
 use std::collections::BTreeSet;
@@ -38,8 +40,42 @@ fn is_inside(dump: &Dump, piece: &Piece, entry: &Entry) -> bool
     piece.range.contains(dump.hashing.hash_grain(&entry.grain))
 }
 
-/// Whether the node has no two entries of one grain. Fails only when memory runs out.
+/// Whether the node has no two entries of one grain: where their numbers don't tell the grains apart, a set of them does. Fails only
+/// when memory runs out.
 pub(crate) fn has_one_entry_a_grain(alloc: Global, node: &Node) -> Result<bool, AllocError>
+    ensures { IfOk result (λ answer. answer ≡ has_one_entry_a_grain node.now) }
+{
+    let entries = entries_of(alloc, node)?;
+    let grains = grains_of(alloc, &entries)?;
+    if are_told_apart(alloc, &grains)? {
+        return Ok(true);
+    }
+    are_distinct(alloc, node)
+}
+
+/// The node's entries.
+fn entries_of<'a>(alloc: Global, node: &'a Node) -> Result<Vec<&'a Entry>, AllocError>
+    ensures { IfOk result (λ entries. entries_lent entries.items ≡ node_entries node.now) }
+{
+    node.pieces
+        .iter()
+        .flat_map(|piece| piece.entries.iter())
+        .collect(alloc)
+}
+
+/// The grains of entries.
+fn grains_of<'a>(alloc: Global, entries: &[&'a Entry]) -> Result<Vec<&'a GrainId>, AllocError>
+    ensures { IfOk result (λ grains. grains_lent grains.items ≡ map (λ one. one.now.grain) entries.now) }
+{
+    entries
+        .iter()
+        .copied()
+        .map(|entry| &entry.grain)
+        .collect(alloc)
+}
+
+/// Whether the node has no two entries of one grain, whatever their numbers are.
+fn are_distinct(alloc: Global, node: &Node) -> Result<bool, AllocError>
     ensures { IfOk result (λ answer. answer ≡ has_one_entry_a_grain node.now) }
 {
     let mut grains = BTreeSet::new(alloc);

@@ -1,19 +1,52 @@
 //! Whether no grain is firm on two silos.
 
-ghost use Rattle.std.specs.Prelude.{◌≡◌, IfOk, OnOk, filter};
+ghost use Rattle.std.specs.Prelude.{◌≡◌, IfOk, OnOk, filter, map};
 ghost use Rattle.std.specs.BTreeSet.{contains, InsertsAll};
 ghost use Rattle.silo_address.specs.Grain.{grain_cmp};
 ghost use Rattle.dump_rules.specs.Verdict as rule;
-ghost use Rattle.dump_verdict.specs.Lent.{nodes_lent};
+ghost use Rattle.dump_verdict.specs.Lent.{held_lent, held_on, nodes_lent};
+ghost use Rattle.rebuild_checker.specs.Mixed.{grains_lent};
 
 use crate::least::{least_of, lesser};
-use rebuild_checker::{Node, Phase};
+use rebuild_checker::{Held, Node, Phase, are_told_apart};
 use silo_address::GrainId;
 use std::alloc::{AllocError, Global};
 use std::collections::BTreeSet;
 
-/// The least grain that is firm on two of the nodes: 976. Costs a logarithm for each firm activation.
+/// The least grain that is firm on two of the nodes: 976. Where the firm grains are told apart by their numbers there is none; else
+/// it is looked for in sets, which costs a logarithm for each firm activation.
 pub(crate) fn twice_firm(alloc: Global, nodes: &[&Node]) -> Result<Option<GrainId>, AllocError>
+    ensures { IfOk result (λ found. found ≡ rule.least_grain (rule.firm_on_two (nodes_lent nodes.now))) }
+{
+    let firm = firm_on(alloc, nodes)?;
+    let grains = grains_of(alloc, &firm)?;
+    if are_told_apart(alloc, &grains)? {
+        return Ok(None);
+    }
+    least_twice(alloc, nodes)
+}
+
+/// The firm activations on the nodes.
+fn firm_on<'a>(alloc: Global, nodes: &[&'a Node]) -> Result<Vec<&'a Held>, AllocError>
+    ensures { IfOk result (λ held. held_lent held.items ≡ filter (λ held. rule.is_firm_phase held.phase) (held_on nodes.now)) }
+{
+    nodes
+        .iter()
+        .copied()
+        .flat_map(|node| node.held.iter())
+        .filter(|held| held.phase == Phase::Firm)
+        .collect(alloc)
+}
+
+/// The grains of activations.
+fn grains_of<'a>(alloc: Global, held: &[&'a Held]) -> Result<Vec<&'a GrainId>, AllocError>
+    ensures { IfOk result (λ grains. grains_lent grains.items ≡ map (λ one. one.now.grain) held.now) }
+{
+    held.iter().copied().map(|held| &held.grain).collect(alloc)
+}
+
+/// The least grain that is firm on two of the nodes, whatever their numbers are.
+fn least_twice(alloc: Global, nodes: &[&Node]) -> Result<Option<GrainId>, AllocError>
     ensures { IfOk result (λ found. found ≡ rule.least_grain (rule.firm_on_two (nodes_lent nodes.now))) }
 {
     let mut later = BTreeSet::new(alloc);

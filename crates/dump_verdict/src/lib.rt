@@ -8,6 +8,7 @@ mod entered;
 mod entries;
 mod fault;
 mod firm;
+mod index;
 mod judgement;
 mod judging;
 mod least;

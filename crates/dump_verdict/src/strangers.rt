@@ -1,62 +1,71 @@
 //! Whether each entry that has to agree with the activations names one that a silo holds.
 
 ghost use Rattle.std.specs.Prelude.{◌≡◌, IfOk, map, not, filter};
-ghost use Rattle.std.specs.BTreeSet.{contains, IsFromIterResult};
-ghost use Rattle.silo_address.specs.Activation.{entry_cmp};
+ghost use Rattle.std.specs.List.{list_all};
+ghost use Rattle.std.specs.List.Sorted.{IsSorted};
 ghost use Rattle.dump_rules.specs.Verdict as rule;
-ghost use Rattle.dump_verdict.specs.Lent.{entries_in, held_on, nodes_lent};
+ghost use Rattle.dump_verdict.specs.Lent.{entries_in, nodes_lent, pieces_lent};
+ghost use Rattle.dump_verdict.specs.Named.{IsIndex, entries_named, entry_named, named_cmp};
 
-use crate::current::current_pieces;
+use crate::index::{Named, index_of_held, is_named};
 use crate::least::least_of;
-use rebuild_checker::{Dump, Held, Node, Piece};
+use rebuild_checker::{Dump, Node, Piece};
 use silo_address::{Entry, GrainId};
 use std::alloc::{AllocError, Global};
-use std::collections::BTreeSet;
 
 /// The least grain of an entry that has to name an activation which a silo holds for the grain, in whatever phase, and doesn't: 975.
-/// Costs a logarithm for each activation that is held and for each entry.
+/// Given are the pieces whose entries have to, and an index of these: in its order all are looked at first, so that what is held is
+/// read from its beginning to its end. Costs a logarithm for each activation that is held and for each entry.
 pub(crate) fn stranger(
     alloc: Global,
     dump: &Dump,
     nodes: &[&Node],
+    pieces: &[&Piece],
+    entered: &[Named],
 ) -> Result<Option<GrainId>, AllocError>
-    requires { nodes_lent nodes.now ≡ rule.live_nodes dump.now }
+    requires live { nodes_lent nodes.now ≡ rule.live_nodes dump.now }
+    requires pieces { pieces_lent pieces.now ≡ rule.current_pieces dump.now }
+    requires entered { IsIndex (entries_in pieces.now) entered.now }
     ensures { IfOk result (λ found. found ≡ rule.least_grain (map (λ entry. entry.grain) (rule.strangers dump.now))) }
 {
-    let held = held_entries(alloc, nodes)?;
-    let pieces = current_pieces(alloc, dump, nodes)?;
-    let grains = strange_grains(alloc, &held, &pieces)?;
+    let held = index_of_held(alloc, nodes)?;
+    if are_all_named(&held, entered) {
+        return Ok(None);
+    }
+    let grains = strange_grains(alloc, &held, pieces)?;
     Ok(least_of(&grains))
 }
 
-/// All activations on live nodes, each as its entry would be.
-fn held_entries(alloc: Global, nodes: &[&Node]) -> Result<BTreeSet<Entry>, AllocError>
-    ensures { IfOk result (λ entries. IsFromIterResult entry_cmp (map rule.entry_of_held (held_on nodes.now)) entries) }
+/// Whether all are among those of what is held.
+fn are_all_named(held: &[Named], names: &[Named]) -> bool
+    requires { IsSorted named_cmp held.now }
+    ensures { result ≡ list_all (λ one. rule.is_entry_among (entries_named held.now) (entry_named one)) names.now }
 {
-    nodes
-        .iter()
-        .copied()
-        .flat_map(|node| node.held.iter())
-        .map(|held| Entry {
-            grain: held.grain,
-            activation: held.activation,
-        })
-        .collect(alloc)
+    names.iter().all(|one| is_named(held, one))
 }
 
 /// The grains of entries that aren't among those of what is held.
 fn strange_grains(
     alloc: Global,
-    held: &BTreeSet<Entry>,
+    held: &[Named],
     pieces: &[&Piece],
 ) -> Result<Vec<GrainId>, AllocError>
-    ensures { IfOk result (λ grains. grains.items ≡ map (λ entry. entry.grain) (filter (λ entry. not (contains entry_cmp held.now entry)) (entries_in pieces.now))) }
+    requires { IsSorted named_cmp held.now }
+    ensures { IfOk result (λ grains. grains.items ≡ map (λ entry. entry.grain) (filter (λ entry. not (rule.is_entry_among (entries_named held.now) entry)) (entries_in pieces.now))) }
 {
     pieces
         .iter()
         .copied()
         .flat_map(|piece| piece.entries.iter())
-        .filter(|entry| !held.contains(*entry))
+        .filter(|entry| is_strange(held, entry))
         .map(|entry| entry.grain)
         .collect(alloc)
+}
+
+/// Whether the entry isn't among those of what is held.
+fn is_strange(held: &[Named], entry: &Entry) -> bool
+    requires { IsSorted named_cmp held.now }
+    ensures { result ≡ not (rule.is_entry_among (entries_named held.now) entry.now) }
+{
+    !is_named(held, &(entry.activation, &entry.grain))
 }

@@ -8,8 +8,10 @@ ghost use Rattle.dump_verdict.specs.Faults.{fault_of};
 ghost use Rattle.dump_verdict.specs.Lent.{nodes_lent};
 
 use crate::Fault;
+use crate::current::current_pieces;
 use crate::entered::missing_firm;
 use crate::firm::twice_firm;
+use crate::index::index_of_entries;
 use crate::nodes::live_nodes;
 use crate::ranges::wrong_pieces;
 use crate::rings::wrong_ring;
@@ -51,9 +53,23 @@ fn activations_fault(
     if let Some(grain) = twice_firm(alloc, nodes)? {
         return Ok(Some(Fault::TwoFirm(grain)));
     }
-    if let Some(grain) = missing_firm(alloc, dump, nodes)? {
+    entries_fault(alloc, dump, nodes)
+}
+
+/// The first fault of entries that have to agree with the activations.
+fn entries_fault(alloc: Global, dump: &Dump, nodes: &[&Node]) -> Result<Option<Fault>, AllocError>
+    requires is_dump { IsTrue (is_dump dump.now) }
+    requires live { nodes_lent nodes.now ≡ rule.live_nodes dump.now }
+    requires right { IsTrue (list_all (rule.has_right_pieces dump.now) (rule.live_nodes dump.now)) }
+    ensures { IfOk result (λ fault. option_map fault_of fault
+        ≡ rule.first_of (option_map rule.MissingFirm (rule.least_grain (map (λ entry. entry.grain) (rule.missing_firm dump.now)))
+        ∷ option_map rule.Stranger (rule.least_grain (map (λ entry. entry.grain) (rule.strangers dump.now))) ∷ [])) }
+{
+    let pieces = current_pieces(alloc, dump, nodes)?;
+    let entered = index_of_entries(alloc, &pieces)?;
+    if let Some(grain) = missing_firm(alloc, dump, nodes, &pieces, &entered)? {
         return Ok(Some(Fault::MissingFirm(grain)));
     }
-    let strange = stranger(alloc, dump, nodes)?;
+    let strange = stranger(alloc, dump, nodes, &pieces, &entered)?;
     Ok(strange.map(|grain| Fault::Stranger(grain)))
 }

@@ -1,5 +1,5 @@
 -- Lists in order, by a look at each two neighbours; tests of all items.
-use Rattle.std.proofs.Common.{◌≡◌, ℕ, ◌+◌, ◌<◌, zero, suc, Bool, true, false, not, List, [], ◌∷◌, length, get_or, refl, sym, ◌∙◌, ap, subst, arith, Option, Some, Ordering, Less, Equal, Greater}
+use Rattle.std.proofs.Common.{◌≡◌, ℕ, ◌+◌, ◌<◌, zero, suc, Bool, true, false, not, List, [], ◌∷◌, length, map, get_or, refl, sym, ◌∙◌, ap, subst, arith, Option, Some, Ordering, Less, Equal, Greater}
 use Rattle.std.specs.Prelude.{◌&&◌, flat_map}
 use Rattle.std.specs.List.{IsAllAdjacentAnswer, list_all}
 use Rattle.std.specs.Cmp.{IsTotalOrder}
@@ -62,3 +62,10 @@ list_all_alike p q alike (x ∷ xs) = ap (λ b. b && list_all p xs) (alike x) �
 pub list_all-flat_map : {X Y : Type 0} (p : Y → Bool) (f : X → List Y) (xs : List X) → list_all p (flat_map f xs) ≡ list_all (λ x. list_all p (f x)) xs
 list_all-flat_map p f [] = refl
 list_all-flat_map p f (x ∷ xs) = list_all-append p (f x) (flat_map f xs) ∙ ap (λ b. list_all p (f x) && b) (list_all-flat_map p f xs)
+
+-- in order by a key
+pub in_order_by : {X K : Type 0} (compare : K → K → Ordering) (key : X → K) (xs : List X)
+    → are_in_order (λ one next. compare (key one) (key next)) xs ≡ are_in_order compare (map key xs)
+in_order_by compare key [] = refl
+in_order_by compare key (x ∷ []) = refl
+in_order_by compare key (x ∷ y ∷ rest) = ap (λ b. not (is_lt (compare (key y) (key x))) && b) (in_order_by compare key (y ∷ rest))

@@ -6,3 +6,4 @@ pub mod SetsMade
 pub mod Shaped
 pub mod Tests
 pub mod Ties
+pub mod ToldApart

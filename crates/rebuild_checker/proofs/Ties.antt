@@ -2,6 +2,7 @@
 use Rattle.std.proofs.Common.{◌≡◌, Bool, true, false, not, List, [], ◌∷◌, refl, sym, ◌∙◌, ap, Ordering, Equal, Less, Greater, is_eq}
 use Rattle.std.specs.Prelude.{◌&&◌, ◌||◌}
 use Rattle.std.specs.Bool.{Decides}
+use Rattle.std.specs.Borrow.{Bor}
 use Rattle.std.specs.BTreeMap.{is_at}
 use Rattle.std.specs.BTreeSet.{BTreeSet, contains}
 use Rattle.std.specs.Cmp.{IsTotalOrder}
@@ -17,6 +18,7 @@ use Rattle.silo_address.proofs.Order.{silo_cmp_total, silo_cmp_exact, grain_cmp_
 use Rattle.silo_address.proofs.Same.{Decides-silo, Decides-grain, Decides-activation, Decides-entry}
 use Rattle.dump_rules.specs.Dump.{DumpValue}
 use Rattle.dump_rules.specs.DumpShape.{are_distinct_by, has_row, row_silos}
+use Rattle.rebuild_checker.specs.Mixed.{grains_lent}
 use Rattle.rebuild_checker.specs.Sets.{HasItems}
 
 equal_if : (o : Ordering) → is_eq o ≡ true → o ≡ Equal
@@ -70,3 +72,16 @@ distinct_activations = distinct_alike (λ one. is_at (activation_cmp one)) activ
 -- the set of those that have rows
 pub known_silos : (dump : DumpValue) (set : BTreeSet Silo) → HasItems silo_cmp set (row_silos dump) → (silo : Silo) → contains silo_cmp set silo ≡ has_row dump silo
 known_silos dump set has silo = has silo ∙ list_any_alike (is_at (silo_cmp silo)) (silo_eq silo) (silo_tie silo) (row_silos dump)
+
+-- grains behind references
+any_lent : (grain : Grain) (grains : List (Bor Grain)) → list_any (λ (one : Bor Grain). is_eq (grain_cmp grain one.now)) grains ≡ list_any (grain_eq grain) (grains_lent grains)
+any_lent grain [] = refl
+any_lent grain (one ∷ grains) =
+    ap (λ b. b || list_any (λ (g : Bor Grain). is_eq (grain_cmp grain g.now)) grains) (grain_tie grain one.now)
+    ∙ ap (λ b. grain_eq grain one.now || b) (any_lent grain grains)
+
+pub distinct_lent : (grains : List (Bor Grain)) → are_distinct_by (λ (one other : Bor Grain). is_eq (grain_cmp one.now other.now)) grains ≡ are_distinct_by grain_eq (grains_lent grains)
+distinct_lent [] = refl
+distinct_lent (grain ∷ grains) =
+    ap (λ b. not b && are_distinct_by (λ (one other : Bor Grain). is_eq (grain_cmp one.now other.now)) grains) (any_lent grain.now grains)
+    ∙ ap (λ b. not (list_any (grain_eq grain.now) (grains_lent grains)) && b) (distinct_lent grains)

@@ -1,4 +1,5 @@
 pub mod DumpModel
+pub mod Mixed
 pub mod ReadNumbers
 pub mod Reading
 pub mod Sets

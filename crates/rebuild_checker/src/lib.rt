@@ -5,6 +5,7 @@
 mod distinct;
 mod dump;
 mod error;
+mod mixed;
 mod node_shape;
 mod numbers;
 mod piece_shape;
@@ -16,4 +17,5 @@ mod writing;
 
 pub use dump::{Dump, Held, ListedPoint, Node, Phase, Piece, Row, State};
 pub use error::ReadError;
+pub use mixed::are_told_apart;
 pub use reading::read_dump;

@@ -5,9 +5,11 @@ ghost use Rattle.std.specs.List.{list_all};
 ghost use Rattle.std.specs.BTreeSet.{contains};
 ghost use Rattle.silo_address.specs.Silo.{silo_cmp};
 ghost use Rattle.dump_rules.specs.DumpShape as rule;
+ghost use Rattle.rebuild_checker.specs.Mixed.{grains_lent};
 ghost use Rattle.rebuild_checker.specs.Sets.{HasItems};
 
 use crate::distinct::{all_hold, are_distinct, are_in_order};
+use crate::mixed::are_told_apart;
 use crate::piece_shape::are_pieces;
 use crate::{Dump, Node, Piece};
 use silo_address::{ActivationId, GrainId, SiloAddress};
@@ -27,7 +29,6 @@ pub(crate) fn is_node(
     let activations_once = holds_activations_once(alloc, node)?;
     let grains_once = holds_grains_once(alloc, node)?;
     let in_order = has_pieces_in_order(alloc, node)?;
-    let pieces = are_pieces(alloc, node)?;
     Ok(all_hold(&[
         has_known_silos(silos, node),
         holds_its_own(node),
@@ -35,7 +36,7 @@ pub(crate) fn is_node(
         grains_once,
         has_seen_a_version(dump, node),
         in_order,
-        pieces,
+        are_pieces(node),
     ]))
 }
 
@@ -104,19 +105,22 @@ fn activations_of(alloc: Global, node: &Node) -> Result<Vec<ActivationId>, Alloc
     node.held.iter().map(|held| held.activation).collect(alloc)
 }
 
-/// Whether a node holds at most one activation a grain.
+/// Whether a node holds at most one activation a grain: where their numbers don't tell the grains apart, a set of them does.
 fn holds_grains_once(alloc: Global, node: &Node) -> Result<bool, AllocError>
     ensures { IfOk result (λ answer. answer ≡ rule.holds_grains_once node.now) }
 {
     let grains = grains_of(alloc, node)?;
+    if are_told_apart(alloc, &grains)? {
+        return Ok(true);
+    }
     let once = are_distinct(alloc, &grains)?;
     Ok(once)
 }
 
-fn grains_of(alloc: Global, node: &Node) -> Result<Vec<GrainId>, AllocError>
-    ensures { IfOk result (λ grains. grains.items ≡ map (λ held. held.grain) node.now.held) }
+fn grains_of<'a>(alloc: Global, node: &'a Node) -> Result<Vec<&'a GrainId>, AllocError>
+    ensures { IfOk result (λ grains. grains_lent grains.items ≡ map (λ held. held.grain) node.now.held) }
 {
-    node.held.iter().map(|held| held.grain).collect(alloc)
+    node.held.iter().map(|held| &held.grain).collect(alloc)
 }
 
 /// Whether the silo has seen a version that was made.

@@ -1,42 +1,28 @@
 //! Whether a piece of a dump is one.
 
-ghost use Rattle.std.specs.Prelude.{◌≡◌, IfOk, map};
+ghost use Rattle.std.specs.Prelude.{◌≡◌};
 ghost use Rattle.std.specs.List.{list_all};
 ghost use Rattle.dump_rules.specs.DumpShape as rule;
 
-use crate::distinct::{all_hold, are_in_order};
+use crate::distinct::all_hold;
 use crate::{Node, Piece, State};
-use silo_address::GrainId;
-use std::alloc::{AllocError, Global};
 
 /// Whether each piece of the node is one.
-pub(crate) fn are_pieces(alloc: Global, node: &Node) -> Result<bool, AllocError>
-    ensures { IfOk result (λ answer. answer ≡ list_all rule.is_piece node.now.pieces) }
+pub(crate) fn are_pieces(node: &Node) -> bool
+    ensures { result ≡ list_all rule.is_piece node.now.pieces }
 {
-    each_is_one(alloc, &node.pieces)
-}
-
-fn each_is_one(alloc: Global, pieces: &[Piece]) -> Result<bool, AllocError>
-    ensures { IfOk result (λ answer. answer ≡ list_all rule.is_piece pieces.now) }
-{
-    for piece in pieces {
-        if !is_piece(alloc, piece)? {
-            return Ok(false);
-        }
-    }
-    Ok(true)
+    node.pieces.iter().all(|piece| is_piece(piece))
 }
 
 /// Whether only a settled piece has entries, by grain, and just an awaiting one tells from whom.
-fn is_piece(alloc: Global, piece: &Piece) -> Result<bool, AllocError>
-    ensures { IfOk result (λ answer. answer ≡ rule.is_piece piece.now) }
+fn is_piece(piece: &Piece) -> bool
+    ensures { result ≡ rule.is_piece piece.now }
 {
-    let in_order = has_entries_in_order(alloc, piece)?;
-    Ok(all_hold(&[
+    all_hold(&[
         has_entries_if_settled(piece),
         has_from_if_awaiting(piece),
-        in_order,
-    ]))
+        has_entries_in_order(piece),
+    ])
 }
 
 /// Whether only a settled piece has entries.
@@ -60,15 +46,10 @@ fn has_from_if_awaiting(piece: &Piece) -> bool
 }
 
 /// Whether entries stand by grain.
-fn has_entries_in_order(alloc: Global, piece: &Piece) -> Result<bool, AllocError>
-    ensures { IfOk result (λ answer. answer ≡ rule.has_entries_in_order piece.now) }
+fn has_entries_in_order(piece: &Piece) -> bool
+    ensures { result ≡ rule.has_entries_in_order piece.now }
 {
-    let grains = grains_of(alloc, piece)?;
-    Ok(are_in_order(&grains))
-}
-
-fn grains_of(alloc: Global, piece: &Piece) -> Result<Vec<GrainId>, AllocError>
-    ensures { IfOk result (λ grains. grains.items ≡ map (λ entry. entry.grain) piece.now.entries) }
-{
-    piece.entries.iter().map(|entry| entry.grain).collect(alloc)
+    piece
+        .entries
+        .is_sorted_by(|one, next| !next.grain.cmp(&one.grain).is_lt())
 }

@@ -10,21 +10,19 @@ use Rattle.dump_verdict.proofs.entered.missing_firm.Goals as goal
 
 pub cover_of_pieces-requires : goal.cover_of_pieces-requires
 cover_of_pieces-requires c =
-    rw c.deref.ensures.value
-    (current_ranges c.args.dump.now c.in_ok-pieces.pieces.items c.in_ok-pieces.ensures (current_right c.args.dump.now c.requires.is_dump c.requires.right))
+    current_ranges c.args.dump.now c.args.pieces.now c.requires.pieces (current_right c.args.dump.now c.requires.is_dump c.requires.right)
 
 pub returns : goal.returns
 returns c =
-    let counts = c.in_ok-counts.counts in
+    let entered = c.args.entered.now in
     let cover = c.in_ok-cover.cover in
     let hashing = ap (λ (dump : DumpValue). dump.hashing) c.dump.view_is in
-    let told = lacking_told c.args.dump.now counts cover c.in_ok-entries.entries.items c.in_ok-pieces.pieces.items
-    c.in_ok-pieces.ensures (current_right c.args.dump.now c.requires.is_dump c.requires.right)
-    (rw c.deref.ensures.value at c.in_ok-cover.ensures) (rw c.deref-2.ensures.value at c.in_ok-entries.ensures) (rw c.deref-3.ensures.value at c.in_ok-counts.ensures) in
+    let told = lacking_told c.args.dump.now cover entered c.args.pieces.now
+    c.requires.pieces (current_right c.args.dump.now c.requires.is_dump c.requires.right) c.in_ok-cover.ensures c.requires.entered in
     c.least_of.ensures
-    ∙ ap least_grain (c.deref-4.ensures.value
+    ∙ ap least_grain (c.deref.ensures.value
     ∙ (c.in_ok-grains.ensures
     ∙ (ap (λ (how : Hashing). map (λ (held : DumpHeld). held.grain)
-    (filter (λ (held : DumpHeld). is_lacking how cover counts (entry_of_held held))
+    (filter (λ (held : DumpHeld). is_lacking how cover entered (entry_of_held held))
     (filter (λ (held : DumpHeld). is_firm_phase held.phase) (held_on c.args.nodes.now)))) hashing
-    ∙ missing_told c.args.dump.now c.args.nodes.now (is_lacking c.args.dump.now.hashing cover counts) c.requires.live told)))
+    ∙ missing_told c.args.dump.now c.args.nodes.now (is_lacking c.args.dump.now.hashing cover entered) c.requires.live told)))

@@ -1,22 +1,13 @@
-use Rattle.std.proofs.Common.{◌∙◌, ap}
-use Rattle.dump_rules.specs.Dump.{DumpNode, DumpPiece}
+use Rattle.std.proofs.Common.{◌∙◌, ap, sym}
+use Rattle.silo_address.specs.Grain.{grain_eq}
+use Rattle.dump_rules.specs.DumpShape.{are_distinct_by}
+use Rattle.rebuild_checker.specs.Mixed.{grains_lent}
+use Rattle.dump_verdict.proofs.Grains.{grains_listed, same_test}
 use Rattle.dump_verdict.specs.Entries.{grains_in}
-use Rattle.std.proofs.Common.{take}
-use Rattle.dump_verdict.proofs.Grains.{piece_added, piece_not_added}
 use Rattle.dump_verdict.proofs.entries.has_one_entry_a_grain.Goals as goal
 
-pub returns-then-not-branch : goal.returns-then-not-branch
-returns-then-not-branch c =
-    piece_not_added c.deref-piece-items.result.now c.args.node.now.pieces (c.deref-piece-items.ensures.value ∙ ap (λ (n : DumpNode). n.pieces) c.node.view_is)
-    c.loop-piece.piece-index c.piece-item.result c.deref.result.now c.add_grains.new.grains c.in_ok-add_grains.field-0 c.loop-piece-test.true c.piece-item.is
-    (c.deref.ensures.value ∙ ap (λ (p : DumpPiece). p.entries) c.piece.view_is) c.if-not-branch.true
-    (c.in_ok-add_grains.ensures (grains_in (take c.loop-piece.piece-index c.deref-piece-items.result.now)) c.loop-piece.invariant.has c.loop-piece.invariant.apart)
-
-pub loop-piece-preserved : goal.loop-piece-preserved
-loop-piece-preserved c =
-    let next =
-    piece_added c.deref-piece-items.result.now
-    c.loop-piece.piece-index c.piece-item.result c.deref.result.now c.add_grains.new.grains c.in_ok-add_grains.field-0 c.loop-piece-test.true c.piece-item.is
-    (c.deref.ensures.value ∙ ap (λ (p : DumpPiece). p.entries) c.piece.view_is) c.if-not-branch.false
-    (c.in_ok-add_grains.ensures (grains_in (take c.loop-piece.piece-index c.deref-piece-items.result.now)) c.loop-piece.invariant.has c.loop-piece.invariant.apart) in
-    record { apart = next.0; has = next.1 }
+pub returns-then-branch : goal.returns-then-branch
+returns-then-branch c =
+    sym (same_test (grains_in c.args.node.now.pieces) ∙ (ap (are_distinct_by grain_eq) (sym (ap grains_lent c.deref-2.ensures.value
+    ∙ grains_listed c.args.node.now.pieces c.in_ok-entries.entries.items _ (rw c.deref.ensures.value at c.in_ok-grains.ensures) c.in_ok-entries.ensures))
+    ∙ c.in_ok-are_told_apart.ensures c.if-branch.true))

@@ -1,18 +1,14 @@
-use Rattle.std.proofs.Common.{◌≡◌, ◌+◌, ◌-◌, ◌<◌, ◌∙◌, length, ap, arith}
+use Rattle.std.proofs.Common.{◌∙◌, ap, sym}
+use Rattle.silo_address.specs.Grain.{grain_eq}
+use Rattle.dump_rules.specs.DumpShape.{are_distinct_by}
 use Rattle.dump_rules.specs.Verdict.{least_grain}
-use Rattle.dump_verdict.specs.Lesser.{lesser_of}
-use Rattle.dump_verdict.proofs.FirmOnTwo.{one_before, least_before}
+use Rattle.rebuild_checker.specs.Mixed.{grains_lent}
+use Rattle.dump_verdict.specs.Lent.{nodes_lent}
+use Rattle.dump_verdict.proofs.FirmOnTwo.{firm_listed, none_twice}
 use Rattle.dump_verdict.proofs.firm.twice_firm.Goals as goal
 
-pub loop-index-preserved : goal.loop-index-preserved
-loop-index-preserved c =
-    let within : c.loop-index.index - 1 < length c.args.nodes.now = omega arith in
-    let step : c.loop-index.index ≡ (c.loop-index.index - 1) + 1 = omega arith in
-    record {
-      later = one_before c.args.nodes.now _ _ c.index-nodes-index.result c.loop-index.later c.add_firm.new.grains
-          within c.index-nodes-index.is step c.loop-index.invariant.later c.in_ok-add_firm.ensures;
-      least = c.lesser-least.ensures
-          ∙ (ap (λ g. lesser_of g c.loop-index.least) (c.least_of.ensures ∙ ap least_grain c.deref.ensures.value)
-          ∙ least_before c.args.nodes.now _ _ c.index-nodes-index.result c.loop-index.later c.loop-index.least _
-          within c.index-nodes-index.is step c.loop-index.invariant.later c.loop-index.invariant.least c.in_ok-shared.ensures);
-    }
+pub returns-then-branch : goal.returns-then-branch
+returns-then-branch c =
+    sym (ap least_grain (none_twice (nodes_lent c.args.nodes.now)
+    (ap (are_distinct_by grain_eq) (sym (ap grains_lent c.deref-2.ensures.value
+    ∙ firm_listed c.args.nodes.now c.in_ok-firm.firm.items _ (rw c.deref.ensures.value at c.in_ok-grains.ensures) c.in_ok-firm.ensures)) ∙ c.in_ok-are_told_apart.ensures c.if-branch.true)))

@@ -1,0 +1,138 @@
+-- Entries in the order of their activations, found by halves.
+use Rattle.std.proofs.Common.{◌≡◌, ℕ, zero, suc, ◌+◌, ◌-◌, ◌<◌, ◌≤◌, Bool, true, false, cond, List, [], ◌∷◌, length, get_or, count_by, refl, sym, ◌∙◌, ap, arith, inl, inr, Ordering, Less, Equal, Greater}
+use Rattle.std.specs.Prelude.{◌||◌}
+use Rattle.std.specs.BTreeMap.{is_at}
+use Rattle.std.specs.Cmp.{IsTotalOrder}
+use Rattle.std.specs.List.{list_any}
+use Rattle.std.specs.List.Sorted.{IsNonDecreasingBy, IsPartitionedBy, IsPartitionPoint, IsSorted}
+use Rattle.std.specs.Ordering.{is_eq, is_le, is_lt, ordering_index, ordering_reverse, ordering_then}
+use Rattle.std.proofs.lemmas.Bool.{cases_lt}
+use Rattle.std.proofs.lemmas.Cmp.{on_total, then_total}
+use Rattle.std.proofs.lemmas.List.Sorted.{searchable_from_sorted, list_any-IsPermutation, sum_by-IsPermutation}
+use Rattle.std.proofs.lemmas.List.Sums.{sum_by-cons}
+use Rattle.silo_address.specs.Activation.{activation_cmp, entry_cmp, entry_eq}
+use Rattle.silo_address.specs.Grain.{grain_cmp}
+use Rattle.silo_address.specs.declared.Entry.{Entry}
+use Rattle.silo_address.proofs.Order.{activation_cmp_total, grain_cmp_total}
+use Rattle.rebuild_checker.proofs.Ties.{entry_tie}
+use Rattle.dump_rules.specs.Verdict.{is_entry_among}
+use Rattle.dump_verdict.specs.Named.{IsIndex, Named, entries_named, entry_named, named_cmp}
+use Rattle.dump_verdict.specs.Tallies.{count_of}
+
+named_total : IsTotalOrder named_cmp
+named_total = then_total (on_total (λ (n : Named). n.0) activation_cmp_total) (on_total (λ (n : Named). n.1.now) grain_cmp_total)
+
+-- ---- Names tie where they name one entry.
+either_way : (r s : Ordering) → is_eq (ordering_then r s) ≡ is_eq (ordering_then s r)
+either_way Less Less = refl
+either_way Less Equal = refl
+either_way Less Greater = refl
+either_way Equal Less = refl
+either_way Equal Equal = refl
+either_way Equal Greater = refl
+either_way Greater Less = refl
+either_way Greater Equal = refl
+either_way Greater Greater = refl
+
+turned : (o : Ordering) → is_eq (ordering_reverse o) ≡ is_eq o
+turned Less = refl
+turned Equal = refl
+turned Greater = refl
+
+tied_as_entry : (one other : Named) → is_eq (named_cmp other one) ≡ is_at (entry_cmp (entry_named one)) (entry_named other)
+tied_as_entry one other =
+    ap is_eq (named_total.antisymm other one) ∙ turned (named_cmp one other) ∙ either_way (activation_cmp one.0 other.0) (grain_cmp one.1.now other.1.now)
+
+-- ---- Whether one is among them.
+or_so : (b t : Bool) → t ≡ true → (b || t) ≡ true
+or_so true t is = refl
+or_so false t is = is
+
+some_at : {X : Type 0} (p : X → Bool) (xs : List X) (index : ℕ) → index < length xs → ((d : X) → p (get_or xs index d) ≡ true) → list_any p xs ≡ true
+some_at p [] index within passes = absurd (omega (arith, within))
+some_at p (x ∷ xs) zero within passes = ap (λ b. b || list_any p xs) (passes x)
+some_at p (x ∷ xs) (suc index) within passes = or_so (p x) (list_any p xs) (some_at p xs index (omega (arith, within)) passes)
+
+none_at : {X : Type 0} (p : X → Bool) (xs : List X) → ((index : ℕ) (d : X) → index < length xs → p (get_or xs index d) ≡ false) → list_any p xs ≡ false
+none_at p [] fails = refl
+none_at p (x ∷ xs) fails = ap (λ b. b || list_any p xs) (fails 0 x (omega arith)) ∙ none_at p xs (λ index d within. fails (suc index) d (omega (arith, within)))
+
+among_alike : (one : Named) (names : List Named) → list_any (λ other. is_eq (named_cmp other one)) names ≡ is_entry_among (entries_named names) (entry_named one)
+among_alike one [] = refl
+among_alike one (other ∷ names) =
+    ap (λ b. b || list_any (λ n. is_eq (named_cmp n one)) names) (tied_as_entry one other ∙ entry_tie (entry_named one) (entry_named other))
+    ∙ ap (λ b. entry_eq (entry_named one) (entry_named other) || b) (among_alike one names)
+
+pub named_hit : (one : Named) (names : List Named) (index : ℕ) → index < length names → ((d : Named) → named_cmp (get_or names index d) one ≡ Equal)
+    → true ≡ is_entry_among (entries_named names) (entry_named one)
+named_hit one names index within hit =
+    sym (some_at (λ other. is_eq (named_cmp other one)) names index within (λ d. ap is_eq (hit d))) ∙ among_alike one names
+
+rises : (one : Named) (names : List Named) → IsSorted named_cmp names → IsNonDecreasingBy (λ other. ordering_index (named_cmp other one)) names
+rises one names in_order = searchable_from_sorted named_total (λ (n : Named). n) names one in_order
+
+pub named_miss : (one : Named) (names : List Named) (index : ℕ) → IsSorted named_cmp names
+    → (IsNonDecreasingBy (λ other. ordering_index (named_cmp other one)) names → IsPartitionPoint (λ other. named_cmp other one ≡ Less) (λ other. named_cmp other one ≡ Greater) names index)
+    → false ≡ is_entry_among (entries_named names) (entry_named one)
+named_miss one names index in_order parts =
+    sym (none_at (λ other. is_eq (named_cmp other one)) names apart) ∙ among_alike one names
+  where
+    apart : (k : ℕ) (d : Named) → k < length names → is_eq (named_cmp (get_or names k d) one) ≡ false
+    apart k d within =
+        let point = parts (rises one names in_order) in
+        elim (cases_lt k index) [ inl low ↦ ap is_eq (point.0 k d (omega arith) low) | inr high ↦ ap is_eq (point.1 k d high within) ]
+
+-- ---- How many of them name one.
+le_down : (o r : Ordering) → ordering_index o ≤ ordering_index r → is_le r ≡ true → is_le o ≡ true
+le_down Less r low is = refl
+le_down Equal r low is = refl
+le_down Greater Less low is = absurd (omega (arith, low))
+le_down Greater Equal low is = absurd (omega (arith, low))
+le_down Greater Greater low is = is
+
+lt_down : (o r : Ordering) → ordering_index o ≤ ordering_index r → is_lt r ≡ true → is_lt o ≡ true
+lt_down Less r low is = refl
+lt_down Equal Less low is = absurd (omega (arith, low))
+lt_down Equal Equal low is = is
+lt_down Equal Greater low is = is
+lt_down Greater Less low is = absurd (omega (arith, low))
+lt_down Greater Equal low is = is
+lt_down Greater Greater low is = is
+
+pub parted_le : (one : Named) (names : List Named) → IsSorted named_cmp names → IsPartitionedBy (λ other. is_le (named_cmp other one)) names
+parted_le one names in_order i j d upto within = le_down (named_cmp (get_or names i d) one) (named_cmp (get_or names j d) one) (rises one names in_order i j d upto within)
+
+pub parted_lt : (one : Named) (names : List Named) → IsSorted named_cmp names → IsPartitionedBy (λ other. is_lt (named_cmp other one)) names
+parted_lt one names in_order i j d upto within = lt_down (named_cmp (get_or names i d) one) (named_cmp (get_or names j d) one) (rises one names in_order i j d upto within)
+
+one_parted : (o : Ordering) → cond (is_le o) 1 0 ≡ cond (is_lt o) 1 0 + cond (is_eq o) 1 0
+one_parted Less = refl
+one_parted Equal = refl
+one_parted Greater = refl
+
+pub count_parted : (one : Named) (names : List Named)
+    → count_by (λ other. is_le (named_cmp other one)) names ≡ count_by (λ other. is_lt (named_cmp other one)) names + count_of (entry_named one) (entries_named names)
+count_parted one [] = refl
+count_parted one (other ∷ names) =
+    joined _ _ _ _ _ _ _ _ _
+    (sum_by-cons (λ (n : Named). cond (is_le (named_cmp n one)) 1 0) other names)
+    (sum_by-cons (λ (n : Named). cond (is_lt (named_cmp n one)) 1 0) other names)
+    (sum_by-cons (λ (e : Entry). cond (is_at (entry_cmp (entry_named one)) e) 1 0) (entry_named other) (entries_named names))
+    (one_parted (named_cmp other one) ∙ ap (λ t. cond (is_lt (named_cmp other one)) 1 0 + cond t 1 0) (tied_as_entry one other))
+    (count_parted one names)
+  where
+    joined : (a b d h p q A B D : ℕ) → a ≡ h + A → b ≡ p + B → d ≡ q + D → h ≡ p + q → A ≡ B + D → a ≡ b + d
+    joined a b d h p q A B D ia ib id here rest = omega arith
+
+pub parted_bound : (one : Named) (names : List Named) (below up_to : ℕ) → below ≡ count_by (λ other. is_lt (named_cmp other one)) names
+    → up_to ≡ count_by (λ other. is_le (named_cmp other one)) names → below ≤ up_to
+parted_bound one names below up_to below_is up_to_is = let parted = count_parted one names in omega (arith, below_is, up_to_is, parted)
+
+-- ---- By an index of entries.
+pub among_index : (entries : List Entry) (names : List Named) → IsIndex entries names → (entry : Entry)
+    → is_entry_among (entries_named names) entry ≡ is_entry_among entries entry
+among_index entries names index entry = sym (list_any-IsPermutation (entry_eq entry) entries (entries_named names) index.each)
+
+pub count_index : (entries : List Entry) (names : List Named) → IsIndex entries names → (entry : Entry)
+    → count_of entry (entries_named names) ≡ count_of entry entries
+count_index entries names index entry = sum_by-IsPermutation (λ (one : Entry). cond (is_at (entry_cmp entry) one) 1 0) entries (entries_named names) index.each

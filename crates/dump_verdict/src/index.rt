@@ -1,0 +1,103 @@
+//! Entries in the order of their activations, found by halves. What is moved about is an activation and where its grain stands.
+
+ghost use Rattle.std.specs.Prelude.{◌≡◌, IfOk, map};
+ghost use Rattle.std.specs.List.Sorted.{IsSorted};
+ghost use Rattle.dump_rules.specs.Verdict as rule;
+ghost use Rattle.dump_verdict.specs.Lent.{entries_in, entries_lent, held_lent, held_on};
+ghost use Rattle.dump_verdict.specs.Named.{IsIndex, entries_named, entry_named, named_cmp};
+ghost use Rattle.dump_verdict.specs.Tallies.{count_of};
+
+use rebuild_checker::{Held, Node, Piece};
+use silo_address::{ActivationId, Entry, GrainId};
+use std::alloc::{AllocError, Global};
+
+/// An activation, and the grain that is said to be active in it.
+pub(crate) type Named<'a> = (ActivationId, &'a GrainId);
+
+/// What the entries of some pieces name, in order.
+pub(crate) fn index_of_entries<'a>(
+    alloc: Global,
+    pieces: &[&'a Piece],
+) -> Result<Vec<Named<'a>>, AllocError>
+    ensures { IfOk result (λ names. IsIndex (entries_in pieces.now) names.items) }
+{
+    let entries = entries_of(alloc, pieces)?;
+    let mut names = named_by_entries(alloc, &entries)?;
+    names.sort_unstable();
+    Ok(names)
+}
+
+/// The entries of some pieces.
+fn entries_of<'a>(alloc: Global, pieces: &[&'a Piece]) -> Result<Vec<&'a Entry>, AllocError>
+    ensures { IfOk result (λ entries. entries_lent entries.items ≡ entries_in pieces.now) }
+{
+    pieces
+        .iter()
+        .copied()
+        .flat_map(|piece| piece.entries.iter())
+        .collect(alloc)
+}
+
+fn named_by_entries<'a>(alloc: Global, entries: &[&'a Entry]) -> Result<Vec<Named<'a>>, AllocError>
+    ensures { IfOk result (λ names. entries_named names.items ≡ entries_lent entries.now) }
+{
+    entries
+        .iter()
+        .copied()
+        .map(|entry| (entry.activation, &entry.grain))
+        .collect(alloc)
+}
+
+/// The activations on some nodes, in order.
+pub(crate) fn index_of_held<'a>(
+    alloc: Global,
+    nodes: &[&'a Node],
+) -> Result<Vec<Named<'a>>, AllocError>
+    ensures { IfOk result (λ names. IsIndex (map rule.entry_of_held (held_on nodes.now)) names.items) }
+{
+    let held = held_on(alloc, nodes)?;
+    let mut names = named_by_held(alloc, &held)?;
+    names.sort_unstable();
+    Ok(names)
+}
+
+/// The activations on some nodes.
+fn held_on<'a>(alloc: Global, nodes: &[&'a Node]) -> Result<Vec<&'a Held>, AllocError>
+    ensures { IfOk result (λ held. held_lent held.items ≡ held_on nodes.now) }
+{
+    nodes
+        .iter()
+        .copied()
+        .flat_map(|node| node.held.iter())
+        .collect(alloc)
+}
+
+fn named_by_held<'a>(alloc: Global, held: &[&'a Held]) -> Result<Vec<Named<'a>>, AllocError>
+    ensures { IfOk result (λ names. entries_named names.items ≡ map rule.entry_of_held (held_lent held.now)) }
+{
+    held.iter()
+        .copied()
+        .map(|held| (held.activation, &held.grain))
+        .collect(alloc)
+}
+
+/// Whether one of them names the grain in the activation.
+pub(crate) fn is_named(names: &[Named], one: &Named) -> bool
+    requires { IsSorted named_cmp names.now }
+    ensures { result ≡ rule.is_entry_among (entries_named names.now) (entry_named one.now) }
+{
+    match names.binary_search(one) {
+        Ok(_) => true,
+        Err(_) => false,
+    }
+}
+
+/// How many of them name the grain in the activation.
+pub(crate) fn count_named(names: &[Named], one: &Named) -> usize
+    requires { IsSorted named_cmp names.now }
+    ensures { result ≡ count_of (entry_named one.now) (entries_named names.now) }
+{
+    let below = names.partition_point(|other| other.cmp(one).is_lt());
+    let up_to = names.partition_point(|other| other.cmp(one).is_le());
+    up_to - below
+}

@@ -1,0 +1,21 @@
+-- Numbers mixed from the texts of grains.
+use Rattle.std.specs.Prelude.{ℕ, ◌+◌, ◌*◌, ◌^◌, ◌%◌, ◌<◌, List, get_or, length, map}
+use Rattle.std.specs.Borrow.{Bor}
+use Rattle.std.specs.List.{fold}
+use Rattle.silo_address.specs.Grain.{Grain, grain_text}
+
+-- a number with a byte more
+abbrev pub mixed_with : ℕ → ℕ → ℕ
+mixed_with number byte = ((number * 6364136223846793005) % 2 ^ 64 + byte) % 2 ^ 64
+
+-- the number of a grain; other grains may have it too
+unfoldable pub mixed : Grain → ℕ
+mixed grain = fold mixed_with 0 (grain_text grain)
+
+-- what stands behind references
+abbrev pub grains_lent : List (Bor Grain) → List Grain
+grains_lent grains = map (λ grain. grain.now) grains
+
+-- each number is above the one before it
+abbrev pub Rises : List ℕ → Type 0
+Rises numbers = (index : ℕ) (d : ℕ) → index + 1 < length numbers → get_or numbers index d < get_or numbers (index + 1) d
