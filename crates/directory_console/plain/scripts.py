@@ -76,17 +76,17 @@ def any_line(numbers):
     one, other = silo(numbers.below(4) + 1), silo(numbers.below(4) + 1)
     name = grain(numbers.below(GRAINS))
     lines = (
-        (55, f"find {one} {name}"),
-        (65, f"wake {one} {name}"),
-        (72, f"close {one} {name}"),
-        (77, f"offer {one} {name} {other}"),
-        (80, f"forget {one} {name}"),
-        (83, f"owner {numbers.below(1 << 31)}"),
-        (86, f"place {one} {POLICIES[numbers.below(3)]} {name}"),
-        (87, f"nudge {one}"),
-        (88, f"deliver {numbers.below(300_000) + 1}"),
-        (89, f"lose {numbers.below(600_000) + 1}"),
-        (91, "; a remark"),
+        (72, f"find {one} {name}"),
+        (79, f"wake {one} {name}"),
+        (84, f"close {one} {name}"),
+        (88, f"offer {one} {name} {other}"),
+        (89, f"forget {one} {name}"),
+        (90, f"owner {numbers.below(1 << 31)}"),
+        (91, f"place {one} {POLICIES[numbers.below(3)]} {name}"),
+        (92, f"nudge {one}"),
+        (93, f"deliver {numbers.below(300_000) + 1}"),
+        (94, f"lose {numbers.below(600_000) + 1}"),
+        (95, "; a remark"),
         (100, "settle"),
     )
     drawn = numbers.below(100)
