@@ -1,5 +1,4 @@
 pub mod Covers
-pub mod Entries
 pub mod Faults
 pub mod Lent
 pub mod Lesser

@@ -5,14 +5,12 @@ ghost use Rattle.std.specs.List.{list_all};
 ghost use Rattle.ring_range.specs.Range.{holds};
 ghost use Rattle.hash_ring.specs.Hash.{hash_grain};
 ghost use Rattle.dump_rules.specs.Verdict.{has_entries_inside, has_one_entry_a_grain, node_entries};
-ghost use Rattle.dump_verdict.specs.Entries.{AddsTo, grains_of};
 ghost use Rattle.dump_verdict.specs.Lent.{entries_lent};
 ghost use Rattle.rebuild_checker.specs.Mixed.{grains_lent};
 
-use rebuild_checker::{Dump, Node, Piece, are_told_apart};
+use rebuild_checker::{Dump, Node, Piece, are_distinct_grains};
 use silo_address::{Entry, GrainId};
 use std::alloc::{AllocError, Global};
-use std::collections::BTreeSet;
 
 /// Whether the entries of each piece of the node are hashed into it.
 pub(crate) fn have_entries_inside(dump: &Dump, node: &Node) -> bool
@@ -40,17 +38,14 @@ fn is_inside(dump: &Dump, piece: &Piece, entry: &Entry) -> bool
     piece.range.contains(dump.hashing.hash_grain(&entry.grain))
 }
 
-/// Whether the node has no two entries of one grain: where their numbers don't tell the grains apart, a set of them does. Fails only
-/// when memory runs out.
+/// Whether the node has no two entries of one grain. Fails only when memory runs out.
 pub(crate) fn has_one_entry_a_grain(alloc: Global, node: &Node) -> Result<bool, AllocError>
     ensures { IfOk result (λ answer. answer ≡ has_one_entry_a_grain node.now) }
 {
     let entries = entries_of(alloc, node)?;
     let grains = grains_of(alloc, &entries)?;
-    if are_told_apart(alloc, &grains)? {
-        return Ok(true);
-    }
-    are_distinct(alloc, node)
+    let once = are_distinct_grains(alloc, &grains)?;
+    Ok(once)
 }
 
 /// The node's entries.
@@ -72,29 +67,4 @@ fn grains_of<'a>(alloc: Global, entries: &[&'a Entry]) -> Result<Vec<&'a GrainId
         .copied()
         .map(|entry| &entry.grain)
         .collect(alloc)
-}
-
-/// Whether the node has no two entries of one grain, whatever their numbers are.
-fn are_distinct(alloc: Global, node: &Node) -> Result<bool, AllocError>
-    ensures { IfOk result (λ answer. answer ≡ has_one_entry_a_grain node.now) }
-{
-    let mut grains = BTreeSet::new(alloc);
-    for piece in &node.pieces {
-        if !add_grains(&mut grains, &piece.entries)? {
-            return Ok(false);
-        }
-    }
-    Ok(true)
-}
-
-/// Adds the grains of the entries to those that were found before them; `false` where one was found before.
-fn add_grains(grains: &mut BTreeSet<GrainId>, entries: &[Entry]) -> Result<bool, AllocError>
-    ensures { IfOk result (λ answer. AddsTo grains.old (grains_of entries.now) grains.new answer) }
-{
-    for entry in entries {
-        if !grains.insert(entry.grain)? {
-            return Ok(false);
-        }
-    }
-    Ok(true)
 }

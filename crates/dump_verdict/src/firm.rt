@@ -8,19 +8,19 @@ ghost use Rattle.dump_verdict.specs.Lent.{held_lent, held_on, nodes_lent};
 ghost use Rattle.rebuild_checker.specs.Mixed.{grains_lent};
 
 use crate::least::{least_of, lesser};
-use rebuild_checker::{Held, Node, Phase, are_told_apart};
+use rebuild_checker::{Held, Node, Phase, are_distinct_grains};
 use silo_address::GrainId;
 use std::alloc::{AllocError, Global};
 use std::collections::BTreeSet;
 
-/// The least grain that is firm on two of the nodes: 976. Where the firm grains are told apart by their numbers there is none; else
-/// it is looked for in sets, which costs a logarithm for each firm activation.
+/// The least grain that is firm on two of the nodes: 976. Where the firm grains are distinct there is none; else it is looked for in
+/// sets. Costs a logarithm for each firm activation.
 pub(crate) fn twice_firm(alloc: Global, nodes: &[&Node]) -> Result<Option<GrainId>, AllocError>
     ensures { IfOk result (λ found. found ≡ rule.least_grain (rule.firm_on_two (nodes_lent nodes.now))) }
 {
     let firm = firm_on(alloc, nodes)?;
     let grains = grains_of(alloc, &firm)?;
-    if are_told_apart(alloc, &grains)? {
+    if are_distinct_grains(alloc, &grains)? {
         return Ok(None);
     }
     least_twice(alloc, nodes)
@@ -45,7 +45,7 @@ fn grains_of<'a>(alloc: Global, held: &[&'a Held]) -> Result<Vec<&'a GrainId>, A
     held.iter().copied().map(|held| &held.grain).collect(alloc)
 }
 
-/// The least grain that is firm on two of the nodes, whatever their numbers are.
+/// The least grain that is firm on two of the nodes, looked for in sets.
 fn least_twice(alloc: Global, nodes: &[&Node]) -> Result<Option<GrainId>, AllocError>
     ensures { IfOk result (λ found. found ≡ rule.least_grain (rule.firm_on_two (nodes_lent nodes.now))) }
 {

@@ -59,12 +59,9 @@ distinct_alike p q alike [] = refl
 distinct_alike p q alike (x ∷ xs) =
     ap (λ b. not b && are_distinct_by p xs) (list_any_alike (p x) (q x) (alike x) xs) ∙ ap (λ b. not (list_any (q x) xs) && b) (distinct_alike p q alike xs)
 
--- lists of silos, grains and activations, each once
+-- lists of silos and activations, each once
 pub distinct_silos : (xs : List Silo) → are_distinct_by (λ one. is_at (silo_cmp one)) xs ≡ are_distinct_by silo_eq xs
 distinct_silos = distinct_alike (λ one. is_at (silo_cmp one)) silo_eq silo_tie
-
-pub distinct_grains : (xs : List Grain) → are_distinct_by (λ one. is_at (grain_cmp one)) xs ≡ are_distinct_by grain_eq xs
-distinct_grains = distinct_alike (λ one. is_at (grain_cmp one)) grain_eq grain_tie
 
 pub distinct_activations : (xs : List ActivationId) → are_distinct_by (λ one. is_at (activation_cmp one)) xs ≡ are_distinct_by activation_eq xs
 distinct_activations = distinct_alike (λ one. is_at (activation_cmp one)) activation_eq activation_tie

@@ -17,5 +17,5 @@ mod writing;
 
 pub use dump::{Dump, Held, ListedPoint, Node, Phase, Piece, Row, State};
 pub use error::ReadError;
-pub use mixed::are_told_apart;
+pub use mixed::are_distinct_grains;
 pub use reading::read_dump;

@@ -1,19 +1,31 @@
-//! Grains told apart by numbers that are mixed from their texts.
+//! Whether grains are distinct, told by numbers that are mixed from their texts.
 
 ghost use Rattle.std.specs.Prelude.{◌≡◌, IfOk, IsTrue, map};
 ghost use Rattle.silo_address.specs.Grain.{grain_eq};
 ghost use Rattle.dump_rules.specs.DumpShape.{are_distinct_by};
 ghost use Rattle.rebuild_checker.specs.Mixed.{Rises, grains_lent, mixed, mixed_with};
 
+use crate::distinct::are_distinct;
 use silo_address::GrainId;
 use std::alloc::{AllocError, Global};
 
 /// By what a number is multiplied before the next byte is added: an odd number without a pattern.
 const FACTOR: u64 = 6_364_136_223_846_793_005;
 
-/// Whether no two of the grains are the same, told by numbers that are mixed from their texts. Each text is read once, in order, which
-/// costs far less than a set of grains. `false` says nothing: two grains may have one number. Fails only when memory runs out.
-pub fn are_told_apart(alloc: Global, grains: &[&GrainId]) -> Result<bool, AllocError>
+/// Whether no two of the grains are the same. Mostly numbers tell that are mixed from their texts, each of which is read once, in order;
+/// only where two have one number, a set of the grains does. Costs a logarithm for each grain. Fails only when memory runs out.
+pub fn are_distinct_grains(alloc: Global, grains: &[&GrainId]) -> Result<bool, AllocError>
+    ensures { IfOk result (λ distinct. distinct ≡ are_distinct_by grain_eq (grains_lent grains.now)) }
+{
+    if are_told_apart(alloc, grains)? {
+        return Ok(true);
+    }
+    let once = are_distinct(alloc, grains)?;
+    Ok(once)
+}
+
+/// Whether the grains have numbers of their own. `false` says nothing: two grains may have one number.
+fn are_told_apart(alloc: Global, grains: &[&GrainId]) -> Result<bool, AllocError>
     ensures { IfOk result (λ apart. IsTrue apart → IsTrue (are_distinct_by grain_eq (grains_lent grains.now))) }
 {
     let mut numbers = numbers_of(alloc, grains)?;

@@ -9,7 +9,7 @@ ghost use Rattle.rebuild_checker.specs.Mixed.{grains_lent};
 ghost use Rattle.rebuild_checker.specs.Sets.{HasItems};
 
 use crate::distinct::{all_hold, are_distinct, are_in_order};
-use crate::mixed::are_told_apart;
+use crate::mixed::are_distinct_grains;
 use crate::piece_shape::are_pieces;
 use crate::{Dump, Node, Piece};
 use silo_address::{ActivationId, GrainId, SiloAddress};
@@ -105,15 +105,12 @@ fn activations_of(alloc: Global, node: &Node) -> Result<Vec<ActivationId>, Alloc
     node.held.iter().map(|held| held.activation).collect(alloc)
 }
 
-/// Whether a node holds at most one activation a grain: where their numbers don't tell the grains apart, a set of them does.
+/// Whether a node holds at most one activation a grain.
 fn holds_grains_once(alloc: Global, node: &Node) -> Result<bool, AllocError>
     ensures { IfOk result (λ answer. answer ≡ rule.holds_grains_once node.now) }
 {
     let grains = grains_of(alloc, node)?;
-    if are_told_apart(alloc, &grains)? {
-        return Ok(true);
-    }
-    let once = are_distinct(alloc, &grains)?;
+    let once = are_distinct_grains(alloc, &grains)?;
     Ok(once)
 }
 

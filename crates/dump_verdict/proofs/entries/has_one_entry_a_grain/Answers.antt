@@ -2,12 +2,12 @@ use Rattle.std.proofs.Common.{◌∙◌, ap, sym}
 use Rattle.silo_address.specs.Grain.{grain_eq}
 use Rattle.dump_rules.specs.DumpShape.{are_distinct_by}
 use Rattle.rebuild_checker.specs.Mixed.{grains_lent}
-use Rattle.dump_verdict.proofs.Grains.{grains_listed, same_test}
-use Rattle.dump_verdict.specs.Entries.{grains_in}
+use Rattle.dump_verdict.proofs.Grains.{grains_in, grains_listed, same_test}
 use Rattle.dump_verdict.proofs.entries.has_one_entry_a_grain.Goals as goal
 
-pub returns-then-branch : goal.returns-then-branch
-returns-then-branch c =
-    sym (same_test (grains_in c.args.node.now.pieces) ∙ (ap (are_distinct_by grain_eq) (sym (ap grains_lent c.deref-2.ensures.value
-    ∙ grains_listed c.args.node.now.pieces c.in_ok-entries.entries.items _ (rw c.deref.ensures.value at c.in_ok-grains.ensures) c.in_ok-entries.ensures))
-    ∙ c.in_ok-are_told_apart.ensures c.if-branch.true))
+pub returns : goal.returns
+returns c =
+    c.in_ok-once.ensures
+    ∙ (ap (are_distinct_by grain_eq) (ap grains_lent c.deref-2.ensures.value
+    ∙ grains_listed c.args.node.now.pieces c.in_ok-entries.entries.items _ (rw c.deref.ensures.value at c.in_ok-grains.ensures) c.in_ok-entries.ensures)
+    ∙ sym (same_test (grains_in c.args.node.now.pieces)))
