@@ -10,6 +10,7 @@ pub mod Ownership
 pub mod OwnerSearch
 pub mod Thirds
 pub mod PutIn
+pub mod Merging
 pub mod WholeSilos
 pub mod NewPoints
 pub mod Advanced

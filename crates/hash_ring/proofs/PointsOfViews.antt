@@ -16,9 +16,9 @@ use Rattle.membership_view.specs.Row.{is_active}
 use Rattle.membership_view.specs.View.{ViewValue, IsByAddress, active_silos}
 use Rattle.hash_ring.specs.declared.point.Point.{Point}
 use Rattle.hash_ring.specs.Places.{PlacesValue, places_of, is_added}
-use Rattle.hash_ring.specs.Ring.{points_at, points_if, silo_points, points_of}
+use Rattle.hash_ring.specs.Ring.{RingValue, points_at, points_if, silo_points, points_of, is_on_ring, new_silos}
 use Rattle.hash_ring.proofs.Members.{In, In-from_flat_map}
-use Rattle.hash_ring.proofs.Rising.{Rising, Rising-from_sorted, Rising-append}
+use Rattle.hash_ring.proofs.Rising.{Rising, Rising-from_sorted, Rising-filter, Rising-append}
 
 abbrev at_index : Silo → ℕ × ℕ → Point
 at_index silo e = record { place = e.1; silo = silo; index = e.0 }
@@ -190,3 +190,10 @@ active_rising p (x ∷ xs) rising = by (p x) (active_rising p xs rising.1)
 pub points_of-rising : (view : ViewValue) (places : PlacesValue) → IsByAddress view → Rising naming_cmp (points_of view places)
 points_of-rising view places by_address =
     flat_rising places (active_silos view) (active_rising (λ row. is_active row.1) view.rows (Rising-from_sorted silo_cmp (keys_of view.rows) by_address))
+
+-- and so do those of its new silos
+pub new_points-rising : (ring : RingValue) (view : ViewValue) (places : PlacesValue) → IsByAddress view → Rising naming_cmp (flat_map (silo_points places) (new_silos ring view))
+new_points-rising ring view places by_address =
+    flat_rising places (new_silos ring view)
+    (Rising-filter silo_cmp (λ silo. not (is_on_ring ring.points silo)) (active_silos view)
+    (active_rising (λ row. is_active row.1) view.rows (Rising-from_sorted silo_cmp (keys_of view.rows) by_address)))

@@ -19,7 +19,7 @@ use Rattle.hash_ring.proofs.Rising.{Rising-from_sorted, turned, In-insert_key, I
 
 module _ {K : Type 0} {R : K → K → Ordering} (o : IsTotalOrder R) (exact : CmpEqualImpliesEq R) where
   -- what a binary search needs
-  searchable : (xs : List K) (x : K) → IsStrictlySortedBy R xs → IsNonDecreasingBy (λ y. ordering_index (R y x)) xs
+  pub searchable : (xs : List K) (x : K) → IsStrictlySortedBy R xs → IsNonDecreasingBy (λ y. ordering_index (R y x)) xs
   searchable xs x sorted =
       searchable_from_sorted o (λ y. y) xs x (λ k d low within.
       ap is_lt (o.antisymm (get_or xs (k + 1) d) (get_or xs k d) ∙ ap ordering_reverse (Less-from_sorted R xs k (k + 1) d sorted (omega arith) within)))

@@ -6,5 +6,6 @@ pub mod Owner
 pub mod Ring
 pub mod Ranges
 pub mod Search
+pub mod Merge
 pub mod Numbers
 pub mod Laws

@@ -1,14 +1,15 @@
 ghost use Rattle.std.specs.BTreeSet.{insert_key};
 ghost use Rattle.std.specs.List.{filter, flat_map, fold, slice_get};
 ghost use Rattle.std.specs.List.Sorted.{IsStrictlySortedBy};
-ghost use Rattle.std.specs.Prelude.{◌≡◌, ◌≢◌, ◌↔◌, ◌⊎◌, ◌+◌, ◌<◌, ◌≤◌, ◌&&◌, not, [], length, Contains, vec_len, vec_capacity, IsTrue, IfOk, IfErr, OnOk, OnErr, IsErrOf, IsOk, false};
+ghost use Rattle.std.specs.Prelude.{◌≡◌, ◌≢◌, ◌↔◌, ◌⊎◌, ◌+◌, ◌≤◌, ◌&&◌, not, [], length, Contains, vec_len, vec_capacity, IsTrue, IfOk, IfErr, OnOk, OnErr, IsErrOf, IsOk, false};
 ghost use Rattle.silo_address.specs.Silo.{silo_eq};
 ghost use Rattle.membership_view.specs.Row.{is_active};
 ghost use Rattle.membership_view.specs.View.{IsByAddress};
 ghost use Rattle.hash_ring.specs.Point.{point_cmp};
-ghost use Rattle.hash_ring.specs.Ring.{IsRingBy, are_added, is_active_in, is_on_ring, new_silos, ring_of, silo_points};
+ghost use Rattle.hash_ring.specs.Ring.{IsRingBy, are_added, is_active_in, is_on_ring, new_silos, ring_of, silo_points, sorted_points};
 ghost use Rattle.hash_ring.specs.Search.{HasWholeSilos};
 
+use crate::merge::merge;
 use crate::points::push_points;
 use crate::ring::up_to;
 use crate::{Places, Point, Ring, RingError};
@@ -64,14 +65,29 @@ fn change(points: &mut Vec<Point>, view: &View, places: &Places) -> Result<(), A
     ensures succeeds { new_silos (record { version = 0; points = points.old.items }) view.now ≡ [] → IsOk result }
     ensures unchanged { OnErr result (points.new.items ≡ points.old.items) }
 {
-    let new = new_points(*points.allocator(), points, view, places)?;
-    points.reserve(new.len())?;
+    let alloc = *points.allocator();
+    let new = new_points(alloc, points, view, places)?;
+    let mut merged = Vec::with_capacity(alloc, room_for(points, &new))?;
     take_out(points, view, places);
-    put_in(points, &new);
+    if !new.is_empty() {
+        merge(&mut merged, points, &new);
+        *points = merged;
+    }
     Ok(())
 }
 
-// The points of the silos that are Active in the view and have none yet.
+// How much room points take that are merged with new ones: none where there are no new ones.
+fn room_for(points: &[Point], new: &[Point]) -> usize
+    ensures none { new.now ≡ [] → result ≡ 0 }
+    ensures some { new.now ≢ [] → result ≡ length points.now + length new.now }
+{
+    if new.is_empty() {
+        return 0;
+    }
+    points.len() + new.len()
+}
+
+// The points of the silos that are Active in the view and have none yet, in order.
 fn new_points(
     alloc: Global,
     points: &[Point],
@@ -79,15 +95,17 @@ fn new_points(
     places: &Places,
 ) -> Result<Vec<Point>, AllocError>
     requires { HasWholeSilos places.now points.now }
-    ensures new { IfOk result (λ new. new.items ≡ flat_map (silo_points places.now) (new_silos (record { version = 0; points = points.now }) view.now)) }
+    ensures new { IfOk result (λ new. new.items ≡ sorted_points (flat_map (silo_points places.now) (new_silos (record { version = 0; points = points.now }) view.now))) }
     ensures succeeds { new_silos (record { version = 0; points = points.now }) view.now ≡ [] → IsOk result }
 {
+    view.in_order();
     let mut new = Vec::new(alloc);
     for row in view.rows() {
         if is_new(points, row, places) {
             push_points(&mut new, &row.0, places)?;
         }
     }
+    new.sort_unstable();
     Ok(new)
 }
 
@@ -179,29 +197,5 @@ fn is_active_in(view: &View, silo: &SiloAddress) -> bool
     match view.status(silo) {
         Some(status) => status.is_active(),
         None => false,
-    }
-}
-
-// Inserts points, keeping the order. There has to be room for them.
-fn put_in(points: &mut Vec<Point>, new: &[Point])
-    requires in_order { IsStrictlySortedBy point_cmp points.old.items }
-    requires room { vec_len points.old + length new.now ≤ vec_capacity points.old }
-    ensures { points.new.items ≡ fold (insert_key point_cmp) points.old.items new.now }
-{
-    for point in new {
-        put_in_one(points, point);
-    }
-}
-
-// Inserts a point, keeping the order. There has to be room for it.
-fn put_in_one(points: &mut Vec<Point>, point: &Point)
-    requires in_order { IsStrictlySortedBy point_cmp points.old.items }
-    requires room { vec_len points.old < vec_capacity points.old }
-    ensures put { points.new.items ≡ insert_key point_cmp points.old.items point.now }
-    ensures len { vec_len points.new ≤ vec_len points.old + 1 }
-    ensures room { vec_capacity points.old ≤ vec_capacity points.new }
-{
-    if let Err(index) = points.binary_search(point) {
-        points.insert(index, *point).unwrap();
     }
 }

@@ -5,6 +5,7 @@ mod advance;
 mod error;
 mod hashing;
 pub mod laws;
+mod merge;
 mod places;
 mod point;
 mod points;

@@ -22,7 +22,7 @@ pub fn arcs(alloc: Global, old: &Ring, new: &Ring) -> Result<Vec<Arc>, AllocErro
 {
     old.whole();
     new.whole();
-    let mut arcs = Vec::new(alloc);
+    let mut arcs = Vec::with_capacity(alloc, old.points().len().max(new.points().len()))?;
     let (mut old, mut new) = (Side::before_first(old), Side::before_first(new));
     let Some(first) = next_place(&old, &new) else {
         return Ok(arcs);

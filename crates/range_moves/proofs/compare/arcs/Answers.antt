@@ -23,7 +23,7 @@ pub loop-next-init : goal.loop-next-init
 loop-next-init c =
     let rings = are_rings c.args.old.now c.args.new.now c.whole.ensures c.whole-2.ensures in
     let e : nearer_place (place_ahead c.args.old.now.points) (place_ahead c.args.new.now.points) ≡ Some c.in-Some.first = cc in
-    rw (c.at-old.ensures.owner, c.at-new.ensures.owner, c.at-old.ensures.ahead, c.at-new.ensures.ahead, c.new-arcs.ensures.items, c.before_first-old.ensures.ahead, c.before_first-new.ensures.ahead)
+    rw (c.at-old.ensures.owner, c.at-new.ensures.owner, c.at-old.ensures.ahead, c.at-new.ensures.ahead, c.in_ok-arcs.ensures.items, c.before_first-old.ensures.ahead, c.before_first-new.ensures.ahead)
     (underway_first c.args.old.now.points c.args.new.now.points rings c.in-Some.first c.before_first-old.result.owner c.before_first-new.result.owner c.before_first-old.ensures.owner c.before_first-new.ensures.owner e)
 
 pub up_to-requires : goal.up_to-requires
