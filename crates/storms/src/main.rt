@@ -8,6 +8,7 @@ mod dumps;
 mod fault;
 mod grains;
 mod judge;
+mod kinds;
 mod members;
 mod mixture;
 mod pieces;

@@ -1,6 +1,7 @@
 use crate::before::Before;
 use crate::grains::grains;
-use crate::mixture::{Scene, Weather};
+use crate::kinds::Weather;
+use crate::mixture::Scene;
 use crate::random::Random;
 use crate::stage::Stage;
 use crate::tally::Tally;
