@@ -1,3 +1,4 @@
+pub mod Along
 pub mod InOrder
 pub mod Joined
 pub mod ReadLists
@@ -6,4 +7,5 @@ pub mod SetsMade
 pub mod Shaped
 pub mod Tests
 pub mod Ties
+pub mod Told
 pub mod ToldApart

@@ -1,5 +1,5 @@
 -- Members and items of JSON values, by how many there are; and the dump that bytes tell.
-use Rattle.std.proofs.Common.{◌≡◌, ◌≢◌, ◌⊎◌, inl, inr, ℕ, eqb, cond, Bool, true, false, List, [], ◌∷◌, length, get_or, Some, None, option_and_then, Result, Ok, Err, refl, sym, ◌∙◌, ap, arith}
+use Rattle.std.proofs.Common.{◌≡◌, ◌≢◌, ◌⊎◌, inl, inr, ℕ, eqb, cond, Bool, true, false, List, [], ◌∷◌, length, get_or, Some, None, option_and_then, Result, Ok, Err, IfOk, refl, sym, ◌∙◌, ap, arith}
 use Rattle.std.specs.Str.{IsUtf8, is_utf8}
 use Rattle.std.proofs.lemmas.Bool.Decides.{Decides-eqb}
 use Rattle.std.proofs.lemmas.Str.{IsUtf8-from_is_utf8, is_utf8-from_IsUtf8}
@@ -100,3 +100,9 @@ nothing_told error bytes memory (inr (is, other)) none = inr (ap (λ e. Err e) i
     by : (t : Bool) → is_utf8 bytes ≡ t → value_in bytes ≡ None
     by true text = ap (λ t. cond t (read bytes) None) text ∙ none other (IsUtf8-from_is_utf8 bytes text)
     by false broken = ap (λ t. cond t (read bytes) None) broken
+
+-- a dump that was read straight from bytes that are a text
+pub straight_told : (result : Result DumpValue ReadError) (bytes text : List ℕ) → text ≡ bytes → IsUtf8 bytes
+    → IfOk result (λ dump. (value : Data) × (read text ≡ Some value) × (dump_in value ≡ Some dump)) → IfOk result (λ dump. told bytes ≡ Ok dump)
+straight_told (Ok dump) bytes text same is one = ap told_value (value_told bytes one.0 is (ap read (sym same) ∙ one.1)) ∙ ap told_lists one.2
+straight_told (Err error) bytes text same is one = tt

@@ -3,3 +3,4 @@ pub mod Mixed
 pub mod ReadNumbers
 pub mod Reading
 pub mod Sets
+pub mod Straight

@@ -1,6 +1,6 @@
 //! Dumps read from JSON, the members of each object in any order.
 
-ghost use Rattle.std.specs.Prelude.{◌≡◌, ◌⊎◌, Option, Err};
+ghost use Rattle.std.specs.Prelude.{◌≡◌, ◌⊎◌, Option, Ok, Err, IfOk};
 ghost use Rattle.serde_json.specs.Data.{Data};
 ghost use Rattle.serde_json.specs.Errors.{IsMemory};
 ghost use Rattle.serde_json.specs.View.{view};
@@ -8,6 +8,7 @@ ghost use Rattle.dump_rules.specs.DumpIn.{dump_in, entry_in, held_in, node_in, p
 ghost use Rattle.dump_rules.specs.Values.{list_in, number_in};
 ghost use Rattle.rebuild_checker.specs.Reading.{IsReading, IsReadingBy, told};
 
+use crate::straight::read_straight;
 use crate::values::{
     activation, from, grain, hashing, items, member, members_of, number, phase, range, silo, state,
     three_items, two_items,
@@ -21,6 +22,27 @@ use std::alloc::Global;
 /// refused by 971; and the value has to tell a dump, else they are refused by 972
 /// (`docs/RULES.md#the-dump-and-the-verdict`). What is read may still be no dump by its lists, as `Dump::is_dump` tells.
 pub fn read_dump(alloc: Global, bytes: &[u8]) -> Result<Dump, ReadError>
+    ensures { (result ≡ Err ReadError.OutOfMemory) ⊎ (result ≡ told bytes.now) }
+{
+    match straight(alloc, bytes) {
+        Ok(dump) => Ok(dump),
+        Err(ReadError::OutOfMemory) => Err(ReadError::OutOfMemory),
+        Err(_) => by_value(alloc, bytes),
+    }
+}
+
+/// The dump that bytes tell, where it is written as the program writes dumps.
+fn straight(alloc: Global, bytes: &[u8]) -> Result<Dump, ReadError>
+    ensures { IfOk result (λ dump. told bytes.now ≡ Ok dump) }
+{
+    match str::from_utf8(bytes) {
+        Ok(text) => read_straight(alloc, text),
+        Err(_) => Err(ReadError::NotJson),
+    }
+}
+
+/// The dump that bytes tell, however it is written.
+fn by_value(alloc: Global, bytes: &[u8]) -> Result<Dump, ReadError>
     ensures { (result ≡ Err ReadError.OutOfMemory) ⊎ (result ≡ told bytes.now) }
 {
     match Value::from_slice(alloc, bytes) {

@@ -8,7 +8,7 @@ ghost use Rattle.dump_rules.specs.Values.{activation_in, from_in, grain_in, memb
 ghost use Rattle.rebuild_checker.specs.DumpModel.{phase_of, state_of};
 ghost use Rattle.rebuild_checker.specs.Reading.{IsReading, IsReadingBy};
 
-use crate::{Phase, ReadError, State};
+use crate::{Phase, ReadError, State, named};
 use hash_ring::Hashing;
 use ring_range::RingRange;
 use serde_json::{Map, Value};
@@ -90,100 +90,54 @@ pub(crate) fn number(value: &Value) -> Result<u64, ReadError>
 pub(crate) fn silo(value: &Value) -> Result<SiloAddress, ReadError>
     ensures { IsReading result (silo_in (view value.now)) }
 {
-    match SiloAddress::parse(text(value)?) {
-        Ok(silo) => Ok(silo),
-        Err(_) => Err(ReadError::NotADump),
-    }
+    named::silo(text(value)?)
 }
 
 /// A grain.
 pub(crate) fn grain(value: &Value) -> Result<GrainId, ReadError>
     ensures { IsReading result (grain_in (view value.now)) }
 {
-    match GrainId::parse(text(value)?) {
-        Ok(grain) => Ok(grain),
-        Err(_) => Err(ReadError::NotADump),
-    }
+    named::grain(text(value)?)
 }
 
 /// An activation.
 pub(crate) fn activation(value: &Value) -> Result<ActivationId, ReadError>
     ensures { IsReading result (activation_in (view value.now)) }
 {
-    match ActivationId::parse(text(value)?) {
-        Ok(activation) => Ok(activation),
-        Err(_) => Err(ReadError::NotADump),
-    }
+    named::activation(text(value)?)
 }
 
 /// A range.
 pub(crate) fn range(value: &Value) -> Result<RingRange, ReadError>
     ensures { IsReading result (range_in (view value.now)) }
 {
-    match RingRange::parse(text(value)?) {
-        Ok(range) => Ok(range),
-        Err(_) => Err(ReadError::NotADump),
-    }
+    named::range(text(value)?)
 }
 
 /// The silo from which a piece awaits its entries: the empty text for none.
 pub(crate) fn from(value: &Value) -> Result<Option<SiloAddress>, ReadError>
     ensures { IsReading result (from_in (view value.now)) }
 {
-    let text = text(value)?;
-    if text.is_empty() {
-        return Ok(None);
-    }
-    match SiloAddress::parse(text) {
-        Ok(silo) => Ok(Some(silo)),
-        Err(_) => Err(ReadError::NotADump),
-    }
+    named::from(text(value)?)
 }
 
 /// How the cluster hashes.
 pub(crate) fn hashing(value: &Value) -> Result<Hashing, ReadError>
     ensures { IsReading result (hashing_in (view value.now)) }
 {
-    let word = text(value)?;
-    if word == b"sha256".as_slice() {
-        return Ok(Hashing::Sha256);
-    }
-    if word == b"stated".as_slice() {
-        return Ok(Hashing::Stated);
-    }
-    Err(ReadError::NotADump)
+    named::hashing(text(value)?)
 }
 
 /// The phase of an activation.
 pub(crate) fn phase(value: &Value) -> Result<Phase, ReadError>
     ensures { IsReadingBy phase_of result (phase_in (view value.now)) }
 {
-    let word = text(value)?;
-    if word == b"asking".as_slice() {
-        return Ok(Phase::Asking);
-    }
-    if word == b"firm".as_slice() {
-        return Ok(Phase::Firm);
-    }
-    if word == b"closing".as_slice() {
-        return Ok(Phase::Closing);
-    }
-    Err(ReadError::NotADump)
+    named::phase(text(value)?)
 }
 
 /// The state of a piece.
 pub(crate) fn state(value: &Value) -> Result<State, ReadError>
     ensures { IsReadingBy state_of result (state_in (view value.now)) }
 {
-    let word = text(value)?;
-    if word == b"settled".as_slice() {
-        return Ok(State::Settled);
-    }
-    if word == b"awaiting".as_slice() {
-        return Ok(State::Awaiting);
-    }
-    if word == b"recovering".as_slice() {
-        return Ok(State::Recovering);
-    }
-    Err(ReadError::NotADump)
+    named::state(text(value)?)
 }

@@ -1,7 +1,7 @@
 use Rattle.rebuild_checker.proofs.ReadValues.{dump_told, nothing_told, value_told}
 use Rattle.serde_json.specs.Errors.{IsMemory}
 use Rattle.serde_json.specs.View.{view}
-use Rattle.rebuild_checker.proofs.reading.read_dump.Goals as goal
+use Rattle.rebuild_checker.proofs.reading.by_value.Goals as goal
 
 pub returns-in-Ok : goal.returns-in-Ok
 returns-in-Ok c =

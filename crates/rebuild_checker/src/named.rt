@@ -1,0 +1,110 @@
+//! Names, ranges and words, read from the texts that a dump has for them.
+
+ghost use Rattle.serde_json.specs.Data.{string};
+ghost use Rattle.dump_rules.specs.DumpIn.{hashing_in, phase_in, state_in};
+ghost use Rattle.dump_rules.specs.Values.{activation_in, from_in, grain_in, range_in, silo_in};
+ghost use Rattle.rebuild_checker.specs.DumpModel.{phase_of, state_of};
+ghost use Rattle.rebuild_checker.specs.Reading.{IsReading, IsReadingBy};
+
+use crate::{Phase, ReadError, State};
+use hash_ring::Hashing;
+use ring_range::RingRange;
+use silo_address::{ActivationId, GrainId, SiloAddress};
+
+/// A silo.
+pub(crate) fn silo(text: &[u8]) -> Result<SiloAddress, ReadError>
+    ensures { IsReading result (silo_in (string text.now)) }
+{
+    match SiloAddress::parse(text) {
+        Ok(silo) => Ok(silo),
+        Err(_) => Err(ReadError::NotADump),
+    }
+}
+
+/// A grain.
+pub(crate) fn grain(text: &[u8]) -> Result<GrainId, ReadError>
+    ensures { IsReading result (grain_in (string text.now)) }
+{
+    match GrainId::parse(text) {
+        Ok(grain) => Ok(grain),
+        Err(_) => Err(ReadError::NotADump),
+    }
+}
+
+/// An activation.
+pub(crate) fn activation(text: &[u8]) -> Result<ActivationId, ReadError>
+    ensures { IsReading result (activation_in (string text.now)) }
+{
+    match ActivationId::parse(text) {
+        Ok(activation) => Ok(activation),
+        Err(_) => Err(ReadError::NotADump),
+    }
+}
+
+/// A range.
+pub(crate) fn range(text: &[u8]) -> Result<RingRange, ReadError>
+    ensures { IsReading result (range_in (string text.now)) }
+{
+    match RingRange::parse(text) {
+        Ok(range) => Ok(range),
+        Err(_) => Err(ReadError::NotADump),
+    }
+}
+
+/// The silo from which a piece awaits its entries: the empty text for none.
+pub(crate) fn from(text: &[u8]) -> Result<Option<SiloAddress>, ReadError>
+    ensures { IsReading result (from_in (string text.now)) }
+{
+    if text.is_empty() {
+        return Ok(None);
+    }
+    match SiloAddress::parse(text) {
+        Ok(silo) => Ok(Some(silo)),
+        Err(_) => Err(ReadError::NotADump),
+    }
+}
+
+/// How the cluster hashes.
+pub(crate) fn hashing(text: &[u8]) -> Result<Hashing, ReadError>
+    ensures { IsReading result (hashing_in (string text.now)) }
+{
+    if text == b"sha256".as_slice() {
+        return Ok(Hashing::Sha256);
+    }
+    if text == b"stated".as_slice() {
+        return Ok(Hashing::Stated);
+    }
+    Err(ReadError::NotADump)
+}
+
+/// The phase of an activation.
+pub(crate) fn phase(text: &[u8]) -> Result<Phase, ReadError>
+    ensures { IsReadingBy phase_of result (phase_in (string text.now)) }
+{
+    if text == b"asking".as_slice() {
+        return Ok(Phase::Asking);
+    }
+    if text == b"firm".as_slice() {
+        return Ok(Phase::Firm);
+    }
+    if text == b"closing".as_slice() {
+        return Ok(Phase::Closing);
+    }
+    Err(ReadError::NotADump)
+}
+
+/// The state of a piece.
+pub(crate) fn state(text: &[u8]) -> Result<State, ReadError>
+    ensures { IsReadingBy state_of result (state_in (string text.now)) }
+{
+    if text == b"settled".as_slice() {
+        return Ok(State::Settled);
+    }
+    if text == b"awaiting".as_slice() {
+        return Ok(State::Awaiting);
+    }
+    if text == b"recovering".as_slice() {
+        return Ok(State::Recovering);
+    }
+    Err(ReadError::NotADump)
+}
