@@ -37,9 +37,16 @@ fn comes_back(rt: &impl Abort, alloc: Global, text: &str) -> bool {
     written.as_slice() == text.as_bytes()
 }
 
+// It is read as the dump of one silo.
+fn is_read_as_one(rt: &impl Abort, alloc: Global, text: &str) -> bool {
+    let dump = read_dump(alloc, text.as_bytes()).expect(rt, text);
+    let written = dump.write(alloc).expect(rt, "memory");
+    written.as_slice() == ONE.as_bytes()
+}
+
 #[test]
 fn refusals(rt: HostRuntime) {
-    let table: [(&str, Option<u16>); 9] = [
+    let table: [(&str, Option<u16>); 11] = [
         (ONE, None),
         (TWO, None),
         (QUOTED, None),
@@ -48,6 +55,8 @@ fn refusals(rt: HostRuntime) {
         (MORE_MEMBERS, Some(972)),
         (SIGN, Some(972)),
         (UNMADE_VERSION, Some(972)),
+        (MORE_TEXT, Some(971)),
+        (TOO_LARGE, Some(971)),
         ("", Some(971)),
     ];
     for (text, number) in table {
@@ -61,6 +70,29 @@ fn written_again(rt: HostRuntime) {
         assert!(rt; comes_back(&rt, rt.alloc(), text), "{text}");
     }
 }
+
+#[test]
+fn written_otherwise(rt: HostRuntime) {
+    for text in [OTHER_ORDER, REPEATED] {
+        assert!(rt; is_read_as_one(&rt, rt.alloc(), text), "{text}");
+    }
+}
+
+/// That of one silo, the members of each object in the opposite order.
+const OTHER_ORDER: &str =
+    "{\"rows\":[{\"silo\":\"10.0.0.1:1000@1\",\"places\":[0],\"left\":0,\"joined\":1,\"dead\":0}],\"points\":30,\"nodes\":[{\"silo\":\"10.0.0.1:1000@1\",\"seen\":1,\"ring\":[[0,\"10.0.0.1:1000@1\",0]],\"pieces\":[{\"state\":\"settled\",\"range\":\"0+4294967296\",\"from\":\"\",\"entries\":[]}],\"held\":[]}],\"hashing\":\"stated\",\"current\":1}";
+
+/// That of one silo, with a member twice, of which the last one counts.
+const REPEATED: &str =
+    "{\"current\":1,\"hashing\":\"stated\",\"nodes\":[{\"held\":[],\"pieces\":[{\"entries\":[],\"from\":\"\",\"range\":\"0+4294967296\",\"state\":\"settled\"}],\"ring\":[[0,\"10.0.0.1:1000@1\",0]],\"seen\":1,\"silo\":\"10.0.0.1:1000@1\"}],\"points\":[],\"points\":30,\"rows\":[{\"dead\":0,\"joined\":1,\"left\":0,\"places\":[0],\"silo\":\"10.0.0.1:1000@1\"}]}";
+
+/// Text behind the value.
+const MORE_TEXT: &str =
+    "{\"current\":1,\"hashing\":\"stated\",\"nodes\":[{\"held\":[],\"pieces\":[{\"entries\":[],\"from\":\"\",\"range\":\"0+4294967296\",\"state\":\"settled\"}],\"ring\":[[0,\"10.0.0.1:1000@1\",0]],\"seen\":1,\"silo\":\"10.0.0.1:1000@1\"}],\"points\":30,\"rows\":[{\"dead\":0,\"joined\":1,\"left\":0,\"places\":[0],\"silo\":\"10.0.0.1:1000@1\"}]}0";
+
+/// A number that no float is as large as, in a member that doesn't count.
+const TOO_LARGE: &str =
+    "{\"current\":1,\"hashing\":\"stated\",\"nodes\":[{\"held\":[],\"pieces\":[{\"entries\":[],\"from\":\"\",\"range\":\"0+4294967296\",\"state\":\"settled\"}],\"ring\":[[0,\"10.0.0.1:1000@1\",0]],\"seen\":1,\"silo\":\"10.0.0.1:1000@1\"}],\"points\":1e999,\"points\":30,\"rows\":[{\"dead\":0,\"joined\":1,\"left\":0,\"places\":[0],\"silo\":\"10.0.0.1:1000@1\"}]}";
 
 /// It lacks its last brace.
 const CUT: &str =
