@@ -5,6 +5,7 @@ pub mod Joining
 pub mod Leaving
 pub mod Whole
 pub mod WorldModel
+pub mod Sharing
 pub mod Applying
 pub mod Delivering
 pub mod Moving

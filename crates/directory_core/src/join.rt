@@ -59,6 +59,7 @@ impl World {
         ensures replaced { IfOk result (λ joined. joined.replaced ≡ occupant silo self.old.views.rows) }
         ensures unchanged { OnErr result (self.new ≡ self.old) }
     {
+        self.shared = None;
         let joined = put_in(
             self.alloc,
             self.settings,

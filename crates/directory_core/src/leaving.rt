@@ -60,6 +60,7 @@ impl World {
         requires leaves { IsWorld (with_leaving self.old silo.now).world }
         ensures { accepted_as self.new result ≡ with_leaving self.old silo.now }
     {
+        self.shared = None;
         let version = leave_in(&mut self.views, silo);
         self.accepted += 1;
         Outcome {
@@ -79,6 +80,7 @@ impl World {
         requires leaves { IsWorld (died self.old silo.now).world }
         ensures { accepted_as self.new result ≡ died self.old silo.now }
     {
+        self.shared = None;
         let version = die_in(&mut self.views, silo);
         let _node = self.nodes.remove(silo);
         self.accepted += 1;

@@ -15,7 +15,7 @@ ghost use Rattle.letter_mail.specs.MailedModel.{letter_seen};
 ghost use Rattle.directory_core.specs.Mailing.{mail_of};
 ghost use Rattle.directory_core.specs.Whole.{IsWorld};
 
-use directory_node::Node;
+use directory_node::{Node, Transition};
 use directory_rules::Settings;
 use hash_ring::{Places, Point, Ring};
 use letter_mail::{Mail, MailedLetter};
@@ -37,6 +37,8 @@ pub struct World {
     pub(crate) places: Places,
     pub(crate) nodes: BTreeMap<SiloAddress, Node>,
     pub(crate) mail: Mail,
+    // To the version that a silo saw last: who sees it after the version before needs no ring and no arcs of its own.
+    pub(crate) shared: Option<Transition>,
 }
 
 impl Model for World {
@@ -44,12 +46,12 @@ impl Model for World {
 
     ghost Value = { World };
 
-    ghost use Rattle.directory_core.specs.Whole.{IsWorld};
+    ghost use Rattle.directory_core.specs.Sharing.{IsWhole};
     ghost use Rattle.directory_core.specs.WorldModel.{world_of};
 
     ghost view = { world_of };
 
-    ghost invariant = { λ w. IsWorld (world_of w) };
+    ghost invariant = { IsWhole };
 }
 
 impl World {
@@ -69,6 +71,7 @@ impl World {
             places,
             nodes: BTreeMap::new(alloc),
             mail: Mail::new(alloc),
+            shared: None,
         }
     }
 

@@ -52,21 +52,21 @@ same_shelf false view shelf a b same = refl
 
 module _ (node : Node) (sight : Sight) (fits : FitsSight sight node) where
   abbrev seals : List Snapshot
-  seals = sealed node.settings.hashing sight.view node.host.silo node.holding.pieces sight.arcs.items
+  seals = sealed node.settings.hashing sight.view node.host.silo node.holding.pieces sight.transition.arcs
 
   module _ (is : IsNode node) where
     -- what is sealed comes behind the shelf
     pub behind : SealedComesBehind → AreInOrder node.shelf → sight.next ≡ true → AreInOrder (node.shelf ++ sight.sealed.items)
     behind law order next =
         subst (λ l. AreInOrder (node.shelf ++ l)) (sym (fits.sealed next))
-        (law node.settings.hashing sight.view node.host.silo node.holding.pieces sight.arcs.items node.shelf fits.arcs.are.in_order
+        (law node.settings.hashing sight.view node.host.silo node.holding.pieces sight.transition.arcs node.shelf fits.arcs.are.in_order
         (All-weaker (λ (s : Snapshot). s.version ≤ node.view.version) (λ (s : Snapshot). s.version < sight.view.version) (λ s low. let newer = fits.newer in omega (low, newer, arith)) node.shelf is.shelved) order)
 
     new_seals : sight.next ≡ true → All (λ s. s.version ≤ sight.view.version) sight.sealed.items
     new_seals next =
         subst (λ l. All (λ (s : Snapshot). s.version ≤ sight.view.version) l) (sym (fits.sealed next))
         (All-weaker (IsHandedOver sight.view node.host.silo node.holding.pieces) (λ (s : Snapshot). s.version ≤ sight.view.version) (λ s over. let same = over.version in omega (same, arith)) seals
-        (all_handed node.settings.hashing sight.view node.host.silo node.holding.pieces sight.arcs.items))
+        (all_handed node.settings.hashing sight.view node.host.silo node.holding.pieces sight.transition.arcs))
 
     pub seen_keeps : ArePieces (pieces_by sight node) → IsNode (seen_by sight node)
     seen_keeps are = record {
@@ -78,7 +78,7 @@ module _ (node : Node) (sight : Sight) (fits : FitsSight sight node) where
     }
 
   -- the rule's node
-  pub seen_is : (view : ViewValue) (places : PlacesValue) (arcs : List Arc) → sight.view ≡ view → sight.ring ≡ ring_of view places → sight.arcs.items ≡ arcs
+  pub seen_is : (view : ViewValue) (places : PlacesValue) (arcs : List Arc) → sight.view ≡ view → sight.transition.ring ≡ ring_of view places → sight.transition.arcs ≡ arcs
       → seen_by sight node ≡ node_after sight.next node view places arcs
   seen_is view places arcs v r a = λ i. record node {
     view = v i;
@@ -113,14 +113,14 @@ module _ (node : Node) (sight : Sight) (fits : FitsSight sight node) where
           ∙ same_wanted (ahead sight node) (seen_by sight node).holding (seen_by sight node).shelf (seen_by sight node).cache (pieces_by sight node)
 
 -- a sight fits if its parts are made of the node's, and of the pieces that are told before it
-pub fits_if : (node : Node) (sight : Sight) (view : ViewValue) (seen : List (ℕ × Piece)) → sight.view ≡ view → node.view.version < view.version → AreOfRings sight.arcs.items
-    → (sight.next ≡ true → sight.sealed.items ≡ sealed node.settings.hashing view node.host.silo node.holding.pieces sight.arcs.items)
-    → seen ≡ pieces_seen sight.next node.settings.hashing view node.host.silo node.holding.pieces sight.arcs.items
+pub fits_if : (node : Node) (sight : Sight) (view : ViewValue) (seen : List (ℕ × Piece)) → sight.view ≡ view → node.view.version < view.version → AreOfRings sight.transition.arcs
+    → (sight.next ≡ true → sight.sealed.items ≡ sealed node.settings.hashing view node.host.silo node.holding.pieces sight.transition.arcs)
+    → seen ≡ pieces_seen sight.next node.settings.hashing view node.host.silo node.holding.pieces sight.transition.arcs
     → sight.gatherings.entries ≡ new_gatherings view seen → sight.recoveries.entries ≡ new_recoveries view seen → MayRenew node sight.renewal → FitsSight sight node
 fits_if node sight view seen same =
-    subst (λ (v : ViewValue). node.view.version < v.version → AreOfRings sight.arcs.items
-    → (sight.next ≡ true → sight.sealed.items ≡ sealed node.settings.hashing v node.host.silo node.holding.pieces sight.arcs.items)
-    → seen ≡ pieces_seen sight.next node.settings.hashing v node.host.silo node.holding.pieces sight.arcs.items
+    subst (λ (v : ViewValue). node.view.version < v.version → AreOfRings sight.transition.arcs
+    → (sight.next ≡ true → sight.sealed.items ≡ sealed node.settings.hashing v node.host.silo node.holding.pieces sight.transition.arcs)
+    → seen ≡ pieces_seen sight.next node.settings.hashing v node.host.silo node.holding.pieces sight.transition.arcs
     → sight.gatherings.entries ≡ new_gatherings v seen → sight.recoveries.entries ≡ new_recoveries v seen → MayRenew node sight.renewal → FitsSight sight node) same
     (λ newer arcs seals are gatherings recoveries renewal. record {
       newer = newer;
@@ -133,7 +133,7 @@ fits_if node sight view seen same =
 
 -- the rule's step
 pub sight_is : (node : Node) (sight : Sight) → FitsSight sight node → (next : Bool) (before view : ViewValue) (places : PlacesValue) (letters : List Letter) (effect : Effect)
-    → sight.next ≡ next → sight.view ≡ view → sight.ring ≡ ring_of view places → sight.arcs.items ≡ arcs_of (compared_points next node before places) (ring_of view places).points
+    → sight.next ≡ next → sight.view ≡ view → sight.transition.ring ≡ ring_of view places → sight.transition.arcs ≡ arcs_of (compared_points next node before places) (ring_of view places).points
     → letters ≡ all_wants (seen_by sight node) ++ all_requests (seen_by sight node) → effect ≡ cond next Next Skip
     → stepped (seen_by sight node) letters effect ≡ rule.sight next node before view places
 sight_is node sight fits next before view places letters effect n v r a sent told =

@@ -7,3 +7,5 @@ pub mod NodeModel
 pub mod Placed
 pub mod Beginning
 pub mod Sender
+pub mod Transition
+pub mod TransitionModel

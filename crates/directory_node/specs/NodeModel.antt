@@ -1,5 +1,6 @@
 -- How the fields of the code's node are the rule's node.
 use Rattle.std.specs.Prelude.{Option, Some, None}
+use Rattle.std.specs.Arc.{arc_value}
 use Rattle.directory_rules.specs.Cache.{Cache, new_cache}
 use Rattle.directory_rules.specs.Node.{Node}
 use Rattle.directory_node.specs.declared.node.Node.TheInside.{Inside}
@@ -13,7 +14,7 @@ abbrev pub node_of : Inside → Node
 node_of n = record {
   settings = n.settings;
   view = n.view;
-  ring = n.ring;
+  ring = arc_value n.ring;
   holding = n.holding;
   shelf = n.shelf;
   gatherings = n.gatherings.entries;

@@ -54,13 +54,13 @@ recovering_by node recovery = record (with_recovery (with_state node recovery.ra
 
 -- the pieces after a sight
 abbrev pub pieces_by : Sight → Node → List (ℕ × Piece)
-pieces_by sight node = pieces_after sight.next node.settings.hashing sight.view node.host.silo node.holding.pieces sight.arcs.items
+pieces_by sight node = pieces_after sight.next node.settings.hashing sight.view node.host.silo node.holding.pieces sight.transition.arcs
 
 -- the node that has seen the view of a sight
 abbrev pub seen_by : Sight → Node → Node
 seen_by sight node = record node {
   view = sight.view;
-  ring = sight.ring;
+  ring = sight.transition.ring;
   holding = record { seen = sight.view.version; served = []; pieces = pieces_by sight node };
   shelf = shelf_after sight.next sight.view node.shelf sight.sealed.items;
   gatherings = sight.gatherings.entries;
@@ -116,8 +116,8 @@ pub record MayRenew (node : Node) (renewal : List (ℕ × Asked)) : Type 0 where
 -- a sight is of a newer view, with the arcs between two rings; its parts are those of the node's pieces and requests
 pub record FitsSight (sight : Sight) (node : Node) : Type 0 where
   pub newer : node.view.version < sight.view.version
-  pub arcs : AreOfRings sight.arcs.items
-  pub sealed : sight.next ≡ true → sight.sealed.items ≡ sealed node.settings.hashing sight.view node.host.silo node.holding.pieces sight.arcs.items
+  pub arcs : AreOfRings sight.transition.arcs
+  pub sealed : sight.next ≡ true → sight.sealed.items ≡ sealed node.settings.hashing sight.view node.host.silo node.holding.pieces sight.transition.arcs
   pub gatherings : sight.gatherings.entries ≡ new_gatherings sight.view (pieces_by sight node)
   pub recoveries : sight.recoveries.entries ≡ new_recoveries sight.view (pieces_by sight node)
   pub renewal : MayRenew node sight.renewal

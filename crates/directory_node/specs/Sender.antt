@@ -17,4 +17,4 @@ wants_of node pieces = flat_map (λ e. wants_by e.1.state node e.1.range) pieces
 
 -- the node with all of a sight on which its letters depend
 abbrev pub ahead : Sight → Node → Node
-ahead sight node = record node { view = sight.view; ring = sight.ring; gatherings = sight.gatherings.entries; recoveries = sight.recoveries.entries }
+ahead sight node = record node { view = sight.view; ring = sight.transition.ring; gatherings = sight.gatherings.entries; recoveries = sight.recoveries.entries }

@@ -20,9 +20,11 @@ mod sending;
 mod sight;
 mod step;
 mod transfers;
+mod transition;
 
 pub use input::Input;
 pub use node::Node;
 pub use plan::{Change, Plan, Sight};
 pub use refusal::StepRefusal;
 pub use step::Stepped;
+pub use transition::Transition;

@@ -3,6 +3,7 @@ ghost use Rattle.directory_rules.specs.Cache.{new_cache};
 ghost use Rattle.directory_rules.specs.Node.{new_node};
 ghost use Rattle.directory_node.specs.Node.{IsNode};
 ghost use Rattle.directory_node.specs.NodeModel.{cache_of};
+ghost use Rattle.std.specs.Arc.{arc_value};
 
 use directory_rules::Settings;
 use grain_partition::Holding;
@@ -16,6 +17,7 @@ use silo_address::SiloAddress;
 use std::alloc::{AllocError, Global};
 use std::collections::BTreeMap;
 use std::marker::Model;
+use std::sync;
 
 /// All that one silo knows (`docs/RULES.md#the-world`).
 #[derive(Drop)]
@@ -23,7 +25,8 @@ pub struct Node {
     pub(crate) alloc: Global,
     pub(crate) settings: Settings,
     pub(crate) view: View,
-    pub(crate) ring: Ring,
+    // Shared with whoever has seen the same view by the same transition.
+    pub(crate) ring: sync::Arc<Ring>,
     pub(crate) holding: Holding,
     pub(crate) shelf: Shelf,
     pub(crate) gatherings: BTreeMap<u32, Gathering>,
@@ -53,11 +56,12 @@ impl Node {
     {
         settings.in_range();
         let cache = new_cache(alloc, settings.cache())?;
+        let ring = sync::Arc::new(alloc, Ring::empty(alloc))?;
         Ok(Node {
             alloc,
             settings,
             view: View::empty(alloc),
-            ring: Ring::empty(alloc),
+            ring,
             holding: Holding::new(alloc),
             shelf: Shelf::new(alloc),
             gatherings: BTreeMap::new(alloc),
@@ -233,13 +237,13 @@ fn same_gatherings(one: &BTreeMap<u32, Gathering>, other: &BTreeMap<u32, Gatheri
     others.next().is_none()
 }
 
-// An equal view and an equal ring.
-fn copied_sight(view: &View, ring: &Ring) -> Result<(View, Ring), AllocError>
+// An equal view, and the same ring.
+fn copied_sight(view: &View, ring: &sync::Arc<Ring>) -> Result<(View, sync::Arc<Ring>), AllocError>
     ensures view { IfOk result (λ copied. copied.0 ≡ view.now) }
-    ensures ring { IfOk result (λ copied. copied.1 ≡ ring.now) }
+    ensures ring { IfOk result (λ copied. arc_value copied.1 ≡ arc_value ring.now) }
 {
     let view = view.copy()?;
-    let ring = ring.copy()?;
+    let ring = sync::Arc::try_clone(ring)?;
     Ok((view, ring))
 }
 

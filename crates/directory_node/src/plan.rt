@@ -2,13 +2,12 @@ ghost use Rattle.std.specs.Prelude.{◌≡◌, [], ◌∷◌, IfOk};
 ghost use Rattle.directory_rules.specs.Node.{Node as NodeValue};
 ghost use Rattle.directory_node.specs.Planning.{changed, step_by};
 
+use crate::Transition;
 use directory_letters::Letter;
 use directory_rules::{Effect, Request};
 use grain_table::Table;
-use hash_ring::Ring;
 use host_activations::Renewal;
 use membership_view::View;
-use range_moves::Arc;
 use range_recovery::{Recovery, Report};
 use ring_range::RingRange;
 use seal_snapshot::{Gathering, Page, Snapshot};
@@ -95,9 +94,8 @@ pub struct Sight {
     // Whether the view is the next one after that seen.
     pub(crate) next: bool,
     pub(crate) view: View,
-    pub(crate) ring: Ring,
-    // The arcs between the ring compared and the new one.
-    pub(crate) arcs: Vec<Arc>,
+    // The new ring, and the arcs from the one compared to it.
+    pub(crate) transition: Transition,
     pub(crate) sealed: Vec<Snapshot>,
     pub(crate) gatherings: BTreeMap<u32, Gathering>,
     pub(crate) recoveries: BTreeMap<u32, Recovery>,

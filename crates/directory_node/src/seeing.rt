@@ -32,14 +32,13 @@ impl Node {
             hashing,
             &sight.view,
             &silo,
-            &sight.arcs,
+            sight.transition.arcs(),
         )?;
         self.holding.whole();
         let Sight {
             next,
             view,
-            ring,
-            arcs: _arcs,
+            transition,
             sealed,
             gatherings,
             recoveries,
@@ -49,7 +48,7 @@ impl Node {
         self.host.renew(renewal);
         see_in_cache(&mut self.cache, &view);
         self.view = view;
-        self.ring = ring;
+        self.ring = transition.into_ring();
         self.gatherings = gatherings;
         self.recoveries = recoveries;
         Ok(())

@@ -1,5 +1,5 @@
 //! A sight as a plan: what it sends, and the change that it makes.
-ghost use Rattle.std.specs.Prelude.{◌≡◌, ◌&&◌, ◌==◌, ◌<◌, ◌+◌, ◌++◌, if◌then◌else◌, IfOk, IsOk, OnOk, flat_map, length, true};
+ghost use Rattle.std.specs.Prelude.{◌≡◌, ◌&&◌, ◌==◌, ◌<◌, ◌+◌, ◌++◌, if◌then◌else◌, IfErr, IfOk, IsOk, OnOk, flat_map, length, true};
 ghost use Rattle.directory_rules.specs.Host.{has_numbers, outstanding, renewed};
 ghost use Rattle.directory_rules.specs.Node.{Node as NodeValue};
 ghost use Rattle.directory_rules.specs.Sending.{all_requests, all_wants, request_letters};
@@ -12,15 +12,18 @@ ghost use Rattle.hash_ring.specs.Ring.{IsRingBy, are_added, ring_of};
 ghost use Rattle.host_activations.specs.Renewal.{renewal_of};
 ghost use Rattle.range_moves.specs.Arcs.{AreArcs, arcs_of};
 ghost use Rattle.grain_partition.specs.Sight.{AreOfRings};
-ghost use Rattle.directory_node.specs.Follows.{Follows};
+ghost use Rattle.directory_node.specs.Follows.{Follows, RefusesBy};
 ghost use Rattle.directory_node.specs.Numbers.{step_refusal_number};
 ghost use Rattle.directory_node.specs.Placed.{ArePlaced};
 ghost use Rattle.directory_node.specs.Planning.{Fits, FitsSight, seen_by, step_by};
 ghost use Rattle.directory_node.specs.Sender.{ahead, wants_of};
+ghost use Rattle.directory_node.specs.Transition.{IsOfSight};
+ghost use Rattle.hash_ring.specs.Places.{PlacesValue};
+ghost use Rattle.membership_view.specs.View.{ViewValue};
 
 use crate::beginning::{new_gatherings, new_recoveries};
 use crate::sending::Sender;
-use crate::{Change, Node, Plan, Sight, StepRefusal};
+use crate::{Change, Node, Plan, Sight, StepRefusal, Transition};
 use directory_letters::Letter;
 use directory_rules::{Act, Effect};
 use grain_partition::Piece;
@@ -45,16 +48,47 @@ impl Node {
         ensures planned { Follows (step_by self.now) step_refusal_number IsOk (see self.now before.now view.now places.now) result }
         ensures fits { IfOk result (λ plan. Fits plan.change self.now) }
     {
+        self.may_see(view)?;
+        match self.plan_alone(alloc, before, view, places) {
+            Ok(plan) => Ok(plan),
+            Err(_) => Err(StepRefusal::OutOfMemory),
+        }
+    }
+
+    /// The silo's step at the sight of a view, by what this changes of the ring: the plan that `plan` makes of the sight, without
+    /// making the ring and the arcs anew. Refused by 903 where the silo has seen this version or a later one, then by 805 where its
+    /// requests can get no new numbers. What it plans is the rule's sight by any places by which the transition is that of the
+    /// sight (`docs/RULES.md#the-world`).
+    pub fn plan_sight_by(
+        &self,
+        alloc: Global,
+        before: &View,
+        view: &View,
+        transition: &Transition,
+    ) -> Result<Plan, StepRefusal>
+        ensures planned { (places : PlacesValue) → (self.now.view.version < view.now.version → IsOfSight self.now before.now view.now places transition.now) → Follows (step_by self.now) step_refusal_number IsOk (see self.now before.now view.now places) result }
+        ensures fits { IfOk result (λ plan. Fits plan.change self.now) }
+    {
+        self.may_see(view)?;
+        match self.plan_newer(alloc, before, view, transition) {
+            Ok(plan) => Ok(plan),
+            Err(_) => Err(StepRefusal::OutOfMemory),
+        }
+    }
+
+    // Whether the silo may see the view: 903, 805.
+    fn may_see(&self, view: &View) -> Result<(), StepRefusal>
+        ensures newer { IsOk result → self.now.view.version < view.now.version }
+        ensures numbers { IsOk result → has_numbers self.now.settings self.now.host (length (outstanding self.now.host)) ≡ true }
+        ensures refused { IfErr result (λ refusal. (before : ViewValue) (places : PlacesValue) → RefusesBy IsOk (step_refusal_number refusal) (see self.now before view.now places)) }
+    {
         if self.view.version() >= view.version() {
             return Err(StepRefusal::NotNewer);
         }
         if !self.can_renew() {
             return Err(StepRefusal::NumbersSpent);
         }
-        match self.plan_newer(alloc, before, view, places) {
-            Ok(plan) => Ok(plan),
-            Err(_) => Err(StepRefusal::OutOfMemory),
-        }
+        Ok(())
     }
 
     /// Whether every outstanding request may get a new number: a sight, by which each gets one, is refused by 805 where not.
@@ -65,8 +99,8 @@ impl Node {
         self.host.has_numbers(&self.settings, count as u64)
     }
 
-    // The sight of a newer version.
-    fn plan_newer(
+    // The sight of a newer version, by a transition that the node makes itself.
+    fn plan_alone(
         &self,
         alloc: Global,
         before: &View,
@@ -79,11 +113,47 @@ impl Node {
         ensures planned { IfOk result (λ plan. step_by self.now plan ≡ sight (is_next self.now.view before.now view.now self.now.host.silo) self.now before.now view.now places.now) }
         ensures fits { IfOk result (λ plan. Fits plan.change self.now) }
     {
+        let transition = self.transition(alloc, before, view, places)?;
+        self.plan_newer(alloc, before, view, &transition)
+    }
+
+    /// What the sight of a newer view changes of the ring. It asks that the places are known of all who are Active in the view, or in
+    /// the one before, and that the node's ring is its view's by these places. Fails only when memory runs out
+    /// (`docs/RULES.md#arcs-and-moves`).
+    pub fn transition(
+        &self,
+        alloc: Global,
+        before: &View,
+        view: &View,
+        places: &Places,
+    ) -> Result<Transition, AllocError>
+        requires placed { ArePlaced self.now before.now view.now places.now }
+        requires newer { self.now.view.version < view.now.version }
+        ensures { IfOk result (λ transition. IsOfSight self.now before.now view.now places.now transition) }
+    {
         let next = self.is_next(before, view);
         let ring = self.ring_seen(alloc, view, places)?;
         let arcs = self.compared(alloc, next, before, places, &ring)?;
-        let pieces = self.pieces_seen(alloc, next, view, &arcs)?;
-        let sight = self.sight(alloc, next, view, ring, arcs, &pieces)?;
+        Transition::of(alloc, ring, arcs)
+    }
+
+    // The sight of a newer version.
+    fn plan_newer(
+        &self,
+        alloc: Global,
+        before: &View,
+        view: &View,
+        transition: &Transition,
+    ) -> Result<Plan, AllocError>
+        requires newer { self.now.view.version < view.now.version }
+        requires numbers { has_numbers self.now.settings self.now.host (length (outstanding self.now.host)) ≡ true }
+        ensures planned { IfOk result (λ plan. (places : PlacesValue) → IsOfSight self.now before.now view.now places transition.now → step_by self.now plan ≡ sight (is_next self.now.view before.now view.now self.now.host.silo) self.now before.now view.now places) }
+        ensures fits { IfOk result (λ plan. Fits plan.change self.now) }
+    {
+        transition.whole();
+        let next = self.is_next(before, view);
+        let pieces = self.pieces_seen(alloc, next, view, transition.arcs())?;
+        let sight = self.sight(alloc, next, view, transition, &pieces)?;
         let letters = self.letters_after(alloc, &sight, &pieces)?;
         let plan = plan_of(alloc, letters, seen_effect(next), sight)?;
         Ok(plan)
@@ -161,31 +231,29 @@ impl Node {
         alloc: Global,
         next: bool,
         view: &View,
-        ring: Ring,
-        arcs: Vec<Arc>,
+        transition: &Transition,
         pieces: &BTreeMap<u32, Piece>,
     ) -> Result<Sight, AllocError>
         requires newer { self.now.view.version < view.now.version }
         requires numbers { has_numbers self.now.settings self.now.host (length (outstanding self.now.host)) ≡ true }
-        requires arcs { AreOfRings arcs.items }
+        requires arcs { AreOfRings transition.now.arcs }
         requires pieces { ArePieces pieces.now.entries }
-        requires seen { pieces.now.entries ≡ pieces_seen next self.now.settings.hashing view.now self.now.host.silo self.now.holding.pieces arcs.items }
+        requires seen { pieces.now.entries ≡ pieces_seen next self.now.settings.hashing view.now self.now.host.silo self.now.holding.pieces transition.now.arcs }
         ensures fits { IfOk result (λ sight. FitsSight sight self.now) }
         ensures next { IfOk result (λ sight. sight.next ≡ next) }
         ensures view { IfOk result (λ sight. sight.view ≡ view.now) }
-        ensures ring { IfOk result (λ sight. sight.ring ≡ ring) }
-        ensures arcs { IfOk result (λ sight. sight.arcs ≡ arcs) }
+        ensures transition { IfOk result (λ sight. sight.transition ≡ transition.now) }
     {
-        let sealed = self.sealed(alloc, next, view, &arcs)?;
+        let sealed = self.sealed(alloc, next, view, transition.arcs())?;
         let gatherings = new_gatherings(alloc, view, pieces)?;
         let recoveries = new_recoveries(alloc, self.settings.hashing(), view, pieces)?;
         let renewal = self.renewal(alloc)?;
         let seen = view.copy()?;
+        let transition = transition.copy()?;
         Ok(Sight {
             next,
             view: seen,
-            ring,
-            arcs,
+            transition,
             sealed,
             gatherings,
             recoveries,
@@ -245,7 +313,7 @@ impl Node {
         let sender = Sender {
             node: self,
             view: &sight.view,
-            ring: &sight.ring,
+            ring: sight.transition.ring(),
             gatherings: &sight.gatherings,
             recoveries: &sight.recoveries,
         };

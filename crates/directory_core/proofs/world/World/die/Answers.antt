@@ -3,9 +3,11 @@ use Rattle.directory_core.proofs.Kept.{death_told, kept_death}
 use Rattle.directory_core.proofs.world.World.die.Goals as goal
 
 pub invariant_of-self : goal.invariant_of-self
-invariant_of-self c =
-    kept_death (world_of c.self.inside) c.args.self.now c.self.view_is c.args.silo.now c.die_in-version.new.views c.remove-node.new.self.entries c.requires.leaves
-    c.die_in-version.ensures.views c.remove-node.ensures.entries
+invariant_of-self c = record {
+  world = kept_death (world_of c.self.inside) c.args.self.now c.self.view_is c.args.silo.now c.die_in-version.new.views c.remove-node.new.self.entries c.requires.leaves
+      c.die_in-version.ensures.views c.remove-node.ensures.entries;
+  shared = tt;
+}
 
 pub returns : goal.returns
 returns c =

@@ -5,10 +5,10 @@ use Rattle.directory_core.proofs.world.World.has_room.Goals as goal
 
 pub overflow_sub-result : goal.overflow_sub-result
 overflow_sub-result c =
-    let limited : c.args.self.now.sent ≤ c.args.self.now.settings.letters = mail_limited c.args.self.now (subst IsWorld c.self.view_is c.self.invariant) in
+    let limited : c.args.self.now.sent ≤ c.args.self.now.settings.letters = mail_limited c.args.self.now (subst IsWorld c.self.view_is c.self.invariant.world) in
     search rules
 
 pub returns : goal.returns
 returns c =
-    let limited : c.args.self.now.sent ≤ c.args.self.now.settings.letters = mail_limited c.args.self.now (subst IsWorld c.self.view_is c.self.invariant) in
+    let limited : c.args.self.now.sent ≤ c.args.self.now.settings.letters = mail_limited c.args.self.now (subst IsWorld c.self.view_is c.self.invariant.world) in
     search rules

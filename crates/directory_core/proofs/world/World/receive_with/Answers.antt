@@ -13,8 +13,11 @@ invariant_of-self-2 c =
     let letter = found_of (letter_of c.args.self.now c.args.number) c.requires.letter in
     let is = ap (λ (w : World). letter_of w c.args.number) c.self.view_is ∙ letter.1 in
     let copied : c.in-Ok.letters.items ≡ c.args.stepped.letters.items = c.in-Ok.ensures ∙ c.deref.ensures.value in
-    kept_receipt (world_of c.self.inside) c.args.self.now c.self.view_is c.args.to.now c.args.stepped.node
-    c.receive_with_at.new.nodes.entries c.receive_with_at.new.mail c.in-Ok.letters.items c.args.number letter.0
-    (subst (λ (l : List Letter). IsWorld (after_step (with_delivered c.args.self.now c.args.number letter.0) c.args.to.now c.args.stepped.node l)) (sym copied) (c.requires.leaves letter.0 letter.1))
-    c.in_ok-receive_with_at.ensures.made
-    (c.in_ok-receive_with_at.ensures.posted letter.0 is)
+    record {
+      world = kept_receipt (world_of c.self.inside) c.args.self.now c.self.view_is c.args.to.now c.args.stepped.node
+          c.receive_with_at.new.nodes.entries c.receive_with_at.new.mail c.in-Ok.letters.items c.args.number letter.0
+          (subst (λ (l : List Letter). IsWorld (after_step (with_delivered c.args.self.now c.args.number letter.0) c.args.to.now c.args.stepped.node l)) (sym copied) (c.requires.leaves letter.0 letter.1))
+          c.in_ok-receive_with_at.ensures.made
+          (c.in_ok-receive_with_at.ensures.posted letter.0 is);
+      shared = c.self.invariant.shared;
+    }

@@ -31,10 +31,10 @@ invariant_of-self-2 c =
     let sight = c.args.sight in
     let fits = subst (λ (n : Node). FitsSight sight n) (sym c.self.view_is) c.requires.fits in
     let holding : c.sight.new.self ≡ (seen_by sight node).holding = c.in_ok-sight.ensures.seen
-    ∙ (λ i. record { seen = sight.view.version; served = []; pieces = pieces_after sight.next (c.hashing-hashing.ensures i) sight.view (c.silo-silo.ensures i) node.holding.pieces (c.deref-2.ensures.value i) }) in
+    ∙ (λ i. record { seen = sight.view.version; served = []; pieces = pieces_after sight.next (c.hashing-hashing.ensures i) sight.view (c.silo-silo.ensures i) node.holding.pieces (c.arcs.ensures i) }) in
     subst (λ (n : Node). IsNode n) (λ i. record node {
       view = sight.view;
-      ring = sight.ring;
+      ring = sym c.into_ring.ensures i;
       holding = sym holding i;
       shelf = sym c.see_on_shelf.ensures i;
       gatherings = sight.gatherings.entries;
@@ -49,10 +49,10 @@ returns-clause-made c =
     let node = node_of c.self.inside in
     let sight = c.args.sight in
     let holding : c.sight.new.self ≡ (seen_by sight node).holding = c.in_ok-sight.ensures.seen
-    ∙ (λ i. record { seen = sight.view.version; served = []; pieces = pieces_after sight.next (c.hashing-hashing.ensures i) sight.view (c.silo-silo.ensures i) node.holding.pieces (c.deref-2.ensures.value i) }) in
+    ∙ (λ i. record { seen = sight.view.version; served = []; pieces = pieces_after sight.next (c.hashing-hashing.ensures i) sight.view (c.silo-silo.ensures i) node.holding.pieces (c.arcs.ensures i) }) in
     (λ i. record node {
       view = sight.view;
-      ring = sight.ring;
+      ring = c.into_ring.ensures i;
       holding = holding i;
       shelf = c.see_on_shelf.ensures i;
       gatherings = sight.gatherings.entries;
