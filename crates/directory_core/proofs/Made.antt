@@ -86,7 +86,7 @@ all_added : (world : World) → IsWorld world → AllAdded world.places (keys_of
 all_added = holds (λ w. AllAdded w.places (keys_of w.views.rows)) (λ settings events are named. (shared_by seen_facts seen_keep settings events are (λ k d below. tt)).added)
 
 -- a silo's node has the view of the version that it has seen, and its ring
-seeing : (world : World) → IsWorld world → (silo : Silo) (node : Node) → node_of world silo ≡ Some node → SeesItsVersion world.views world.places node
+pub seeing : (world : World) → IsWorld world → (silo : Silo) (node : Node) → node_of world silo ≡ Some node → SeesItsVersion world.views world.places node
 seeing =
     holds (λ w. (silo : Silo) (node : Node) → node_of w silo ≡ Some node → SeesItsVersion w.views w.places node)
     (λ settings events are named silo node there. nodes_see settings events are silo node there)
