@@ -1,6 +1,6 @@
 -- Grains get numbers and keep them: what was kept before is the same letter after.
-use Rattle.std.proofs.Common.{◌≡◌, ℕ, zero, suc, ◌+◌, ◌-◌, ◌<◌, ◌≤◌, List, [], ◌∷◌, ◌++◌, length, get_or, set, take, true, false, Option, Some, None, refl, sym, ◌∙◌, ap, arith}
-use Rattle.std.specs.Prelude.{slice_get}
+use Rattle.std.proofs.Common.{◌≡◌, ℕ, zero, suc, ◌+◌, ◌-◌, ◌<◌, ◌≤◌, List, [], ◌∷◌, ◌++◌, length, get_or, set, take, Option, Some, None, refl, sym, ◌∙◌, ap, subst, arith}
+use Rattle.std.specs.Prelude.{IfSome, MatchOption, ◌^◌, slice_get}
 use Rattle.std.specs.List.{cons_option}
 use Rattle.std.specs.Option.{option_map}
 use Rattle.std.proofs.Math.ListN.{get_or-append}
@@ -8,19 +8,19 @@ use Rattle.std.proofs.lemmas.List.{append-nil, append_assoc, length-append, take
 use Rattle.std.proofs.lemmas.Option.{same_Some}
 use Rattle.silo_address.specs.Grain.{Grain}
 use Rattle.silo_address.specs.Silo.{Silo}
-use Rattle.directory_rules.specs.Letter.{Letter, Body, Reply_letter, Offer_letter}
+use Rattle.directory_rules.specs.Letter.{Body, Reply_letter, Offer_letter}
 use Rattle.directory_rules.specs.World.{Posted}
 use Rattle.directory_rules.specs.declared.Act.TheVariants as act
 use Rattle.directory_rules.specs.declared.Reply.TheVariants as reply
 use Rattle.letter_mail.specs.declared.kept.Says.{Says}
-use Rattle.letter_mail.specs.declared.kept.Says.TheVariants.{Register, Deregister, Find, Registered, Taken, Removed, Absent, Found, Nothing, Retry, Ask, Missing, Done, Query, Behind, Ahead, Offer}
-use Rattle.letter_mail.specs.declared.kept.Kept.{Kept}
-use Rattle.letter_mail.specs.declared.kept.Kept.TheVariants.{Brief, Whole}
+use Rattle.letter_mail.specs.declared.kept.Says.TheVariants.{Register, Deregister, Find, Registered, Taken, Removed, Absent, Found, Nothing, View, Unsettled, OldNumber, NotOwner, Ask, Missing, Done, Query, Behind, Ahead, Offer}
+use Rattle.silo_address.specs.declared.Entry.{Entry}
+use Rattle.letter_mail.specs.declared.kept.Named.{Named}
 use Rattle.letter_mail.specs.declared.slots.Slot.{Slot}
-use Rattle.letter_mail.specs.declared.slots.Slot.TheVariants.{Fresh, Stale, Lost}
+use Rattle.letter_mail.specs.declared.slots.Slot.TheVariants.{Short, Whole, Lost}
 use Rattle.letter_mail.specs.Slots.{AreKept, IsSlot, posted_from, posted_in, stale_slot}
 use Rattle.letter_mail.specs.Keeping.{Grows}
-use Rattle.letter_mail.specs.Kept.{IsKept, IsNumbered, grain_at, letter_kept, request_by, said_by}
+use Rattle.letter_mail.specs.Kept.{IsNumbered, entry_by, grain_at, request_by, said_by}
 use Rattle.letter_mail.specs.MailModel.{mail_in}
 
 -- ---- lists that grow
@@ -48,22 +48,21 @@ more_says count most (Removed number) up is = is
 more_says count most (Absent number) up is = is
 more_says count most (Found number entry) up is = omega arith
 more_says count most (Nothing number) up is = is
-more_says count most (Retry number why) up is = is
-more_says count most (Ask range page) up is = is
-more_says count most (Missing range) up is = is
-more_says count most (Done range) up is = is
-more_says count most (Query range) up is = is
-more_says count most (Behind range) up is = is
-more_says count most (Ahead range) up is = is
+more_says count most (View number seen) up is = is
+more_says count most (Unsettled number) up is = is
+more_says count most (OldNumber number last) up is = is
+more_says count most (NotOwner number) up is = is
+more_says count most (Ask span page) up is = is
+more_says count most (Missing span) up is = is
+more_says count most (Done span) up is = is
+more_says count most (Query span) up is = is
+more_says count most (Behind span) up is = is
+more_says count most (Ahead span) up is = is
 more_says count most (Offer entry) up is = omega arith
 
-more_kept : (count most : ℕ) (kept : Kept) → count ≤ most → IsKept count kept → IsKept most kept
-more_kept count most (Brief brief) up is = more_says count most brief.says up is
-more_kept count most (Whole letter) up is = is
-
 more_slot : (count most : ℕ) (slot : Slot) → count ≤ most → IsSlot count slot → IsSlot most slot
-more_slot count most (Fresh kept) up is = more_kept count most kept up is
-more_slot count most (Stale kept) up is = more_kept count most kept up is
+more_slot count most (Short fresh brief) up is = more_says count most brief.says up is
+more_slot count most (Whole fresh letter) up is = is
 more_slot count most (Lost to) up is = is
 
 pub are_more : (count most : ℕ) (slots : List Slot) → count ≤ most → AreKept count slots → AreKept most slots
@@ -74,39 +73,39 @@ are_more count most (s ∷ slots) up are = (more_slot count most s up are.0, are
 same_grain : (grains more : List Grain) (number : ℕ) → number < length grains → grain_at (grains ++ more) number ≡ grain_at grains number
 same_grain grains more number below = get_or-append grains more (record { kind = []; key = [] }) number below
 
+same_entry : (grains more : List Grain) (entry : Named) → entry.grain < length grains → entry_by (grains ++ more) entry ≡ entry_by grains entry
+same_entry grains more entry below =
+    ap (λ (g : Grain). record { grain = g; activation = record { silo = entry.silo; count = entry.count } }) (same_grain grains more entry.grain below)
+
 same_said : (grains more : List Grain) (from : Silo) (version : ℕ) (says : Says) → IsNumbered (length grains) says → said_by (grains ++ more) from version says ≡ said_by grains from version says
 same_said grains more from version (Register number hash entry) is =
-    ap (λ (g : Grain). request_by from version number hash (act.Register (record { grain = g; activation = entry.activation }) None)) (same_grain grains more entry.grain is)
+    ap (λ (e : Entry). request_by from version number hash (act.Register e None)) (same_entry grains more entry is)
 same_said grains more from version (Deregister number hash entry) is =
-    ap (λ (g : Grain). request_by from version number hash (act.Deregister (record { grain = g; activation = entry.activation }))) (same_grain grains more entry.grain is)
+    ap (λ (e : Entry). request_by from version number hash (act.Deregister e)) (same_entry grains more entry is)
 same_said grains more from version (Find number hash grain) is = ap (λ (g : Grain). request_by from version number hash (act.Find g)) (same_grain grains more grain is)
-same_said grains more from version (Registered number entry) is =
-    ap (λ (g : Grain). Reply_letter number (reply.Registered (record { grain = g; activation = entry.activation }))) (same_grain grains more entry.grain is)
-same_said grains more from version (Taken number entry) is =
-    ap (λ (g : Grain). Reply_letter number (reply.Taken (record { grain = g; activation = entry.activation }))) (same_grain grains more entry.grain is)
+same_said grains more from version (Registered number entry) is = ap (λ (e : Entry). Reply_letter number (reply.Registered e)) (same_entry grains more entry is)
+same_said grains more from version (Taken number entry) is = ap (λ (e : Entry). Reply_letter number (reply.Taken e)) (same_entry grains more entry is)
 same_said grains more from version (Removed number) is = refl
 same_said grains more from version (Absent number) is = refl
-same_said grains more from version (Found number entry) is =
-    ap (λ (g : Grain). Reply_letter number (reply.Found (record { grain = g; activation = entry.activation }))) (same_grain grains more entry.grain is)
+same_said grains more from version (Found number entry) is = ap (λ (e : Entry). Reply_letter number (reply.Found e)) (same_entry grains more entry is)
 same_said grains more from version (Nothing number) is = refl
-same_said grains more from version (Retry number why) is = refl
-same_said grains more from version (Ask range page) is = refl
-same_said grains more from version (Missing range) is = refl
-same_said grains more from version (Done range) is = refl
-same_said grains more from version (Query range) is = refl
-same_said grains more from version (Behind range) is = refl
-same_said grains more from version (Ahead range) is = refl
-same_said grains more from version (Offer entry) is =
-    ap (λ (g : Grain). Offer_letter (record { grain = g; activation = entry.activation })) (same_grain grains more entry.grain is)
-
-same_kept : (grains more : List Grain) (kept : Kept) → IsKept (length grains) kept → letter_kept (grains ++ more) kept ≡ letter_kept grains kept
-same_kept grains more (Brief brief) is =
-    ap (λ (b : Body). record { from = brief.from; to = brief.to; version = brief.version; body = b }) (same_said grains more brief.from brief.version brief.says is)
-same_kept grains more (Whole letter) is = refl
+same_said grains more from version (View number seen) is = refl
+same_said grains more from version (Unsettled number) is = refl
+same_said grains more from version (OldNumber number last) is = refl
+same_said grains more from version (NotOwner number) is = refl
+same_said grains more from version (Ask span page) is = refl
+same_said grains more from version (Missing span) is = refl
+same_said grains more from version (Done span) is = refl
+same_said grains more from version (Query span) is = refl
+same_said grains more from version (Behind span) is = refl
+same_said grains more from version (Ahead span) is = refl
+same_said grains more from version (Offer entry) is = ap (λ (e : Entry). Offer_letter e) (same_entry grains more entry is)
 
 same_in : (grains more : List Grain) (slot : Slot) → IsSlot (length grains) slot → posted_in (grains ++ more) slot ≡ posted_in grains slot
-same_in grains more (Fresh kept) is = ap (λ (l : Letter). Some (record { letter = l; fresh = true })) (same_kept grains more kept is)
-same_in grains more (Stale kept) is = ap (λ (l : Letter). Some (record { letter = l; fresh = false })) (same_kept grains more kept is)
+same_in grains more (Short fresh brief) is =
+    ap (λ (b : Body). Some (record { letter = record { from = brief.from; to = brief.to; version = brief.version; body = b }; fresh = fresh }))
+    (same_said grains more brief.from brief.version brief.says is)
+same_in grains more (Whole fresh letter) is = refl
 same_in grains more (Lost to) is = refl
 
 same_posted : (first : ℕ) (grains more : List Grain) (slots : List Slot) → AreKept (length grains) slots → posted_from first (grains ++ more) slots ≡ posted_from first grains slots
@@ -140,8 +139,8 @@ are_set count (s ∷ slots) zero slot is are = (is, are.1)
 are_set count (s ∷ slots) (suc index) slot is are = (are.0, are_set count slots index slot is are.1)
 
 pub still_slot : (count : ℕ) (slot : Slot) → IsSlot count slot → IsSlot count (stale_slot slot)
-still_slot count (Fresh kept) is = is
-still_slot count (Stale kept) is = is
+still_slot count (Short fresh brief) is = is
+still_slot count (Whole fresh letter) is = is
 still_slot count (Lost to) is = is
 
 -- ---- a grain that got its number
@@ -150,6 +149,11 @@ number_at [] zero grain there = absurd (cc (there))
 number_at [] (suc number) grain there = absurd (cc (there))
 number_at (g ∷ grains) zero grain there = (omega arith, same_Some g grain there)
 number_at (g ∷ grains) (suc number) grain there = let at = number_at grains number grain there in (omega (arith, at.0), at.1)
+
+-- what holds of a number holds of it where it is small
+pub small_has : (P : ℕ → Type 0) (small : Option ℕ) (number : ℕ) → MatchOption small (2 ^ 32 ≤ number) (λ few. few ≡ number) → P number → IfSome small P
+small_has P None number is has = tt
+small_has P (Some few) number is has = subst (λ n. P n) (sym is) has
 
 -- ---- a letter behind the slots
 pub some_slot : (slots : List Slot) → 0 < length slots → Slot

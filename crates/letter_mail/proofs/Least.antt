@@ -10,13 +10,12 @@ use Rattle.silo_address.specs.Silo.{Silo, silo_cmp}
 use Rattle.directory_rules.specs.World.{Posted}
 use Rattle.directory_rules.specs.Laws.{RiseBetween}
 use Rattle.letter_mail.specs.declared.slots.Slot.{Slot}
-use Rattle.letter_mail.specs.declared.slots.Slot.TheVariants.{Fresh, Stale, Lost}
-use Rattle.letter_mail.specs.Kept.{letter_kept, receiver_of}
+use Rattle.letter_mail.specs.declared.slots.Slot.TheVariants.{Short, Whole, Lost}
+use Rattle.letter_mail.specs.Kept.{letter_by}
 use Rattle.letter_mail.specs.Slots.{is_fresh, posted_from, posted_in, sent_from, slot_to}
 use Rattle.letter_mail.specs.Queues.{AreQueued, IsMarked, IsQueue, QueueValue, first_of, queue_of}
 use Rattle.letter_mail.specs.Mail.{HasRisingNumbers, MailValue, is_fresh_to, least_fresh, least_fresh_to, lesser}
 use Rattle.letter_mail.specs.MailModel.{mail_in}
-use Rattle.letter_mail.proofs.Posted.{receiver_is}
 use Rattle.letter_mail.proofs.Queued.{turned}
 
 -- ---- to one silo
@@ -33,27 +32,33 @@ first_sent first silo grains (s ∷ slots) = by s (first_sent (first + 1) silo g
     rest : List (ℕ × Posted)
     rest = posted_from (first + 1) grains slots
 
-    by : (slot : Slot) → first_part (find (is_for silo) (posted_from (first + 1) grains slots)) ≡ first_part (find (λ e. e.1) (sent_from (first + 1) silo slots))
-        → first_part (find (is_for silo) (cons_option (option_map (λ posted. (first, posted)) (posted_in grains slot)) (posted_from (first + 1) grains slots)))
-        ≡ first_part (find (λ e. e.1) (cons_option (cond (is_at (silo_cmp silo) (slot_to slot)) (Some (first, is_fresh slot)) None) (sent_from (first + 1) silo slots)))
-    by (Fresh kept) later =
-        ap (λ b. first_part (cond b (Some (first, record { letter = letter_kept grains kept; fresh = true })) (find (is_for silo) (posted_from (first + 1) grains slots))))
-        (ap (λ to. is_at (silo_cmp to) silo) (receiver_is grains kept) ∙ turned (receiver_of kept) silo)
-        ∙ fresh (is_at (silo_cmp silo) (receiver_of kept)) (record { letter = letter_kept grains kept; fresh = true }) later
+    own : List (ℕ × Bool)
+    own = sent_from (first + 1) silo slots
+
+    posted : (f b : Bool) (p : Posted) → p.fresh ≡ f → is_at (silo_cmp p.letter.to) silo ≡ b → first_part (find (is_for silo) rest) ≡ first_part (find (λ e. e.1) own)
+        → first_part (cond (p.fresh && is_at (silo_cmp p.letter.to) silo) (Some (first, p)) (find (is_for silo) rest))
+        ≡ first_part (find (λ e. e.1) (cons_option (cond b (Some (first, f)) None) own))
+    posted f b p fresh for later =
+        ap (λ c. first_part (cond (c && is_at (silo_cmp p.letter.to) silo) (Some (first, p)) (find (is_for silo) rest))) fresh
+        ∙ ap (λ c. first_part (cond (f && c) (Some (first, p)) (find (is_for silo) rest))) for
+        ∙ either f b
       where
-        fresh : (b : Bool) (posted : Posted) → first_part (find (is_for silo) (posted_from (first + 1) grains slots)) ≡ first_part (find (λ e. e.1) (sent_from (first + 1) silo slots))
-            → first_part (cond b (Some (first, posted)) (find (is_for silo) (posted_from (first + 1) grains slots)))
-            ≡ first_part (find (λ e. e.1) (cons_option (cond b (Some (first, true)) None) (sent_from (first + 1) silo slots)))
-        fresh true posted later = refl
-        fresh false posted later = later
-    by (Stale kept) later = later ∙ stale (is_at (silo_cmp silo) (receiver_of kept))
-      where
-        stale : (b : Bool) → first_part (find (λ e. e.1) (sent_from (first + 1) silo slots)) ≡ first_part (find (λ e. e.1) (cons_option (cond b (Some (first, false)) None) (sent_from (first + 1) silo slots)))
-        stale true = refl
-        stale false = refl
+        either : (f b : Bool) → first_part (cond (f && b) (Some (first, p)) (find (is_for silo) rest)) ≡ first_part (find (λ e. e.1) (cons_option (cond b (Some (first, f)) None) own))
+        either true true = refl
+        either true false = later
+        either false true = later
+        either false false = later
+
+    by : (slot : Slot) → first_part (find (is_for silo) rest) ≡ first_part (find (λ e. e.1) own)
+        → first_part (find (is_for silo) (cons_option (option_map (λ posted. (first, posted)) (posted_in grains slot)) rest))
+        ≡ first_part (find (λ e. e.1) (cons_option (cond (is_at (silo_cmp silo) (slot_to slot)) (Some (first, is_fresh slot)) None) own))
+    by (Short fresh brief) later =
+        posted fresh (is_at (silo_cmp silo) brief.to) (record { letter = letter_by grains brief; fresh = fresh }) refl (turned brief.to silo) later
+    by (Whole fresh letter) later =
+        posted fresh (is_at (silo_cmp silo) letter.value.to) (record { letter = letter.value; fresh = fresh }) refl (turned letter.value.to silo) later
     by (Lost to) later = later ∙ lost (is_at (silo_cmp silo) to)
       where
-        lost : (b : Bool) → first_part (find (λ e. e.1) (sent_from (first + 1) silo slots)) ≡ first_part (find (λ e. e.1) (cons_option (cond b (Some (first, false)) None) (sent_from (first + 1) silo slots)))
+        lost : (b : Bool) → first_part (find (λ e. e.1) own) ≡ first_part (find (λ e. e.1) (cons_option (cond b (Some (first, false)) None) own))
         lost true = refl
         lost false = refl
 

@@ -18,11 +18,9 @@ use Rattle.directory_rules.specs.Letter.{Letter}
 use Rattle.directory_rules.specs.World.{Posted}
 use Rattle.directory_rules.specs.Mail.{fresh_letter}
 use Rattle.letter_mail.specs.declared.slots.Slot.{Slot}
-use Rattle.letter_mail.specs.declared.slots.Slot.TheVariants.{Fresh, Stale, Lost}
-use Rattle.letter_mail.specs.declared.kept.Kept.{Kept}
-use Rattle.letter_mail.specs.declared.kept.Kept.TheVariants.{Brief, Whole}
-use Rattle.letter_mail.specs.Kept.{letter_kept, receiver_of}
-use Rattle.letter_mail.specs.Slots.{AreKept, lost_slot, posted_from, posted_in, slot_from, slot_to, stale_slot}
+use Rattle.letter_mail.specs.declared.slots.Slot.TheVariants.{Short, Whole, Lost}
+use Rattle.letter_mail.specs.Kept.{letter_by}
+use Rattle.letter_mail.specs.Slots.{AreKept, is_fresh, lost_slot, posted_from, posted_in, slot_from, slot_to, stale_slot}
 use Rattle.letter_mail.specs.Mail.{MailValue, has_fresh, letter_in, with_lost, with_posted, with_stale, without_last}
 use Rattle.letter_mail.specs.MailModel.{mail_in}
 use Rattle.letter_mail.specs.Queues.{fresh_at, is_fresh_in}
@@ -95,8 +93,8 @@ fresh_is grains slots number = ap (λ o. option_map_or (λ (p : Posted). p.fresh
   where
     by : (found : Option Slot) → option_map_or (λ (p : Posted). p.fresh) (in_slot grains found) false ≡ is_fresh_in found
     by None = refl
-    by (Some (Fresh letter)) = refl
-    by (Some (Stale letter)) = refl
+    by (Some (Short fresh brief)) = refl
+    by (Some (Whole fresh letter)) = refl
     by (Some (Lost to)) = refl
 
 abbrev letter_part : Option Posted → Option Letter
@@ -130,10 +128,6 @@ was_sent grains slots number there = (first number there, last)
     ]
 
 -- ---- letters sent
-pub receiver_is : (grains : List Grain) (kept : Kept) → (letter_kept grains kept).to ≡ receiver_of kept
-receiver_is grains (Brief brief) = refl
-receiver_is grains (Whole letter) = refl
-
 pub enumerate-append : {A : Type 0} (first : ℕ) (xs ys : List A) → enumerate_from first (xs ++ ys) ≡ enumerate_from first xs ++ enumerate_from (first + length xs) ys
 enumerate-append first [] ys = ap (λ n. enumerate_from n ys) (omega arith)
 enumerate-append {A} first (x ∷ xs) ys =
@@ -159,8 +153,13 @@ put_posted grains now slots after slot letter grown are is exact =
     ∙ ap (λ n. posted_from 1 grains slots ++ (n, fresh_letter letter) ∷ []) (omega arith))
     ∙ ap (λ n. record { letters = posted_from 1 grains slots ++ (length slots + 1, fresh_letter letter) ∷ []; sent = n }) (length-append slots (slot ∷ []))
 
-pub receiver_of_kept : (grains : List Grain) (kept : Kept) (letter : Letter) → letter_kept grains kept ≡ letter → receiver_of kept ≡ letter.to
-receiver_of_kept grains kept letter is = sym (receiver_is grains kept) ∙ ap (λ (l : Letter). l.to) is
+-- a slot with a letter that was just sent is fresh, and for whom the letter is
+pub put_slot : (grains : List Grain) (slot : Slot) (letter : Letter) → posted_in grains slot ≡ Some (fresh_letter letter) → (is_fresh slot ≡ true) × (slot_to slot ≡ letter.to)
+put_slot grains (Short fresh brief) letter is =
+    let same = same_Some (record { letter = letter_by grains brief; fresh = fresh }) (fresh_letter letter) is in (ap (λ (p : Posted). p.fresh) same, ap (λ (p : Posted). p.letter.to) same)
+put_slot grains (Whole fresh whole) letter is =
+    let same = same_Some (record { letter = whole.value; fresh = fresh }) (fresh_letter letter) is in (ap (λ (p : Posted). p.fresh) same, ap (λ (p : Posted). p.letter.to) same)
+put_slot grains (Lost to) letter is = absurd (cc (is))
 
 -- some, and then more
 pub posted_none : (mail : MailValue) → with_posted mail [] ≡ mail
@@ -208,8 +207,8 @@ there_in None there = absurd (cc (there))
 there_in (Some posted) there = refl
 
 stale_in : (grains : List Grain) (slot : Slot) (letter : Letter) → letter_part (posted_in grains slot) ≡ Some letter → posted_in grains (stale_slot slot) ≡ Some (record { letter = letter; fresh = false })
-stale_in grains (Fresh kept) letter found = ap (λ (l : Letter). Some (record { letter = l; fresh = false })) (same_Some (letter_kept grains kept) letter found)
-stale_in grains (Stale kept) letter found = ap (λ (l : Letter). Some (record { letter = l; fresh = false })) (same_Some (letter_kept grains kept) letter found)
+stale_in grains (Short fresh brief) letter found = ap (λ (l : Letter). Some (record { letter = l; fresh = false })) (same_Some (letter_by grains brief) letter found)
+stale_in grains (Whole fresh whole) letter found = ap (λ (l : Letter). Some (record { letter = l; fresh = false })) (same_Some whole.value letter found)
 stale_in grains (Lost to) letter found = absurd (cc (found))
 
 pub delivered_is : (grains : List Grain) (slots after : List Slot) (number : ℕ) (d : Slot) (letter : Letter) → 1 ≤ number → number ≤ length slots

@@ -12,7 +12,7 @@ use Rattle.std.proofs.lemmas.List.Elements.{filter_map-append}
 use Rattle.silo_address.specs.Silo.{Silo, silo_cmp}
 use Rattle.silo_address.proofs.Order.{silo_cmp_exact, silo_cmp_total}
 use Rattle.letter_mail.specs.declared.slots.Slot.{Slot}
-use Rattle.letter_mail.specs.declared.slots.Slot.TheVariants.{Fresh, Stale, Lost}
+use Rattle.letter_mail.specs.declared.slots.Slot.TheVariants.{Short, Whole, Lost}
 use Rattle.letter_mail.specs.Slots.{is_fresh, sent_from, slot_from, slot_to, stale_slot}
 use Rattle.letter_mail.specs.Queues.{AreQueued, IsMarked, IsQueue, Puts, QueueValue, advanced, fresh_at, is_fresh_in, queue_of, stale_count, with_number, without_number}
 use Rattle.letter_mail.proofs.Posted.{enumerate-append, further, slot_at, slot_none}
@@ -321,11 +321,11 @@ queued_passed slots after slot d to k queues now are below is same for stale non
 
 -- a delivered letter and a lost one are for whom they were
 pub stale_to : (slot : Slot) → slot_to (stale_slot slot) ≡ slot_to slot
-stale_to (Fresh kept) = refl
-stale_to (Stale kept) = refl
+stale_to (Short fresh brief) = refl
+stale_to (Whole fresh letter) = refl
 stale_to (Lost to) = refl
 
 pub stale_stale : (slot : Slot) → is_fresh (stale_slot slot) ≡ false
-stale_stale (Fresh kept) = refl
-stale_stale (Stale kept) = refl
+stale_stale (Short fresh brief) = refl
+stale_stale (Whole fresh letter) = refl
 stale_stale (Lost to) = refl

@@ -1,5 +1,5 @@
 -- The slots of the mail: one for each letter that was ever sent, in the order in which they were sent.
-use Rattle.std.specs.Prelude.{ℕ, Bool, true, false, if◌then◌else◌, List, Option, Some, None}
+use Rattle.std.specs.Prelude.{ℕ, Bool, false, if◌then◌else◌, List, Option, Some, None}
 use Rattle.std.specs.Option.{option_map}
 use Rattle.std.specs.List.{AllByRecursion, enumerate_from, filter_map}
 use Rattle.std.specs.Ordering.{nat_cmp}
@@ -9,31 +9,31 @@ use Rattle.silo_address.specs.Grain.{Grain}
 use Rattle.silo_address.specs.Silo.{Silo, silo_cmp}
 use Rattle.directory_rules.specs.World.{Posted}
 use Rattle.letter_mail.specs.declared.slots.Slot.{Slot}
-use Rattle.letter_mail.specs.declared.slots.Slot.TheVariants.{Fresh, Stale, Lost}
-use Rattle.letter_mail.specs.Kept.{IsKept, letter_kept, receiver_of}
+use Rattle.letter_mail.specs.declared.slots.Slot.TheVariants.{Short, Whole, Lost}
+use Rattle.letter_mail.specs.Kept.{IsNumbered, letter_by}
 
 -- whom the letter is for, or was for
 abbrev pub slot_to : Slot → Silo
-slot_to (Fresh kept) = receiver_of kept
-slot_to (Stale kept) = receiver_of kept
+slot_to (Short fresh brief) = brief.to
+slot_to (Whole fresh letter) = letter.value.to
 slot_to (Lost to) = to
 
 -- whether the letter was never delivered, and isn't lost
 abbrev pub is_fresh : Slot → Bool
-is_fresh (Fresh kept) = true
-is_fresh (Stale kept) = false
+is_fresh (Short fresh brief) = fresh
+is_fresh (Whole fresh letter) = fresh
 is_fresh (Lost to) = false
 
 -- the letter as it is in the mail, if it isn't lost
 abbrev pub posted_in : List Grain → Slot → Option Posted
-posted_in grains (Fresh kept) = Some (record { letter = letter_kept grains kept; fresh = true })
-posted_in grains (Stale kept) = Some (record { letter = letter_kept grains kept; fresh = false })
+posted_in grains (Short fresh brief) = Some (record { letter = letter_by grains brief; fresh = fresh })
+posted_in grains (Whole fresh letter) = Some (record { letter = letter.value; fresh = fresh })
 posted_in grains (Lost to) = None
 
 -- the slot once its letter was delivered
 abbrev pub stale_slot : Slot → Slot
-stale_slot (Fresh kept) = Stale kept
-stale_slot (Stale kept) = Stale kept
+stale_slot (Short fresh brief) = Short false brief
+stale_slot (Whole fresh letter) = Whole false letter
 stale_slot (Lost to) = Lost to
 
 -- the slot once its letter is lost
@@ -42,8 +42,8 @@ lost_slot slot = Lost (slot_to slot)
 
 -- where so many grains have numbers, what is kept has numbers of these
 abbrev pub IsSlot : ℕ → Slot → Type 0
-IsSlot count (Fresh kept) = IsKept count kept
-IsSlot count (Stale kept) = IsKept count kept
+IsSlot count (Short fresh brief) = IsNumbered count brief.says
+IsSlot count (Whole fresh letter) = Unit {0}
 IsSlot count (Lost to) = Unit {0}
 
 -- and so in all slots

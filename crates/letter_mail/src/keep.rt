@@ -1,30 +1,39 @@
-ghost use Rattle.std.specs.Prelude.{◌≡◌, ◌<◌, ℕ, IfOk, IfSome, length};
+ghost use Rattle.std.specs.Prelude.{◌≡◌, ◌<◌, ◌≤◌, ◌^◌, ℕ, List, Some, IfOk, IfSome, MatchOption, length};
 ghost use Rattle.directory_letters.specs.LetterModel.{body_of};
 ghost use Rattle.letter_mail.specs.Keeping.{Grows};
-ghost use Rattle.letter_mail.specs.Kept.{IsKept, IsNumbered, entry_by, grain_at, letter_by, letter_kept, said_by};
+ghost use Rattle.letter_mail.specs.Kept.{IsNumbered, entry_by, grain_at, letter_by, range_by, said_by};
+ghost use Rattle.letter_mail.specs.Slots.{IsSlot, posted_in};
 ghost use Rattle.directory_rules.specs.Letter.{Reply_letter, Request_letter};
+ghost use Rattle.directory_rules.specs.Mail.{fresh_letter};
+ghost use Rattle.silo_address.specs.Grain.{Grain};
 ghost use Rattle.silo_address.specs.Silo.{Silo};
 
-use crate::kept::{Brief, Kept, Named, Says};
+use crate::kept::{Brief, Named, Says, Span};
+use crate::slots::Slot;
 use directory_letters::{Body, Letter};
-use directory_rules::{Act, Reply, Request};
+use directory_rules::{Act, Reply, Request, Why};
 use indexmap::IndexSet;
+use ring_range::RingRange;
 use silo_address::{Entry, GrainId, SiloAddress};
 use std::alloc::{AllocError, Global};
 
-// A letter as it is kept; its grain gets a number where it has none yet.
+// A letter as it is kept, fresh; its grain gets a number where it has none yet.
 pub(crate) fn kept(
     alloc: Global,
     grains: &mut IndexSet<GrainId>,
     letter: Letter,
-) -> Result<Kept, AllocError>
+) -> Result<Slot, AllocError>
     ensures grown { Grows grains.old.keys grains.new.keys }
-    ensures numbered { IfOk result (λ kept. IsKept (length grains.new.keys) kept) }
-    ensures exact { IfOk result (λ kept. letter_kept grains.new.keys kept ≡ letter) }
+    ensures numbered { IfOk result (λ slot. IsSlot (length grains.new.keys) slot) }
+    ensures exact { IfOk result (λ slot. posted_in grains.new.keys slot ≡ Some (fresh_letter letter)) }
 {
+    let fresh = true;
     match brief(grains, &letter)? {
-        Some(brief) => Ok(Kept::Brief(brief)),
-        None => Ok(Kept::Whole(Box::new(alloc, letter)?)),
+        Some(brief) => Ok(Slot::Short { fresh, brief }),
+        None => {
+            let letter = Box::new(alloc, letter)?;
+            Ok(Slot::Whole { fresh, letter })
+        }
     }
 }
 
@@ -35,11 +44,14 @@ fn brief(grains: &mut IndexSet<GrainId>, letter: &Letter) -> Result<Option<Brief
     ensures exact { IfOk result (λ brief. IfSome brief (λ brief. letter_by grains.new.keys brief ≡ letter.now)) }
 {
     let from = letter.from();
-    let version = letter.version();
-    match says(grains, &from, version, letter.body())? {
+    let to = letter.to();
+    let Some(version) = small(letter.version()) else {
+        return Ok(None);
+    };
+    match says(grains, &from, letter.version(), letter.body())? {
         Some(says) => Ok(Some(Brief {
             from,
-            to: letter.to(),
+            to,
             version,
             says,
         })),
@@ -65,18 +77,35 @@ fn says(
             }
             asks(grains, request)
         }
-        Body::Reply { number, reply } => Ok(Some(replies(grains, *number, reply)?)),
-        Body::Ask { range, page } => Ok(Some(Says::Ask {
-            range: *range,
-            page: *page,
-        })),
-        Body::Page(_) | Body::Report(_) => Ok(None),
-        Body::Missing(range) => Ok(Some(Says::Missing(*range))),
-        Body::Done(range) => Ok(Some(Says::Done(*range))),
-        Body::Query(range) => Ok(Some(Says::Query(*range))),
-        Body::Behind(range) => Ok(Some(Says::Behind(*range))),
-        Body::Ahead(range) => Ok(Some(Says::Ahead(*range))),
-        Body::Offer(entry) => Ok(Some(Says::Offer(named(grains, entry)?))),
+        Body::Reply { number, reply } => match small(*number) {
+            Some(number) => replies(grains, number, reply),
+            None => Ok(None),
+        },
+        Body::Offer(entry) => match named(grains, entry)? {
+            Some(entry) => Ok(Some(Says::Offer(entry))),
+            None => Ok(None),
+        },
+        _ => Ok(tells(body)),
+    }
+}
+
+// What a letter about a range says, kept short.
+fn tells(body: &Body) -> Option<Says>
+    ensures numbered { IfSome result (λ says. (count : ℕ) → IsNumbered count says) }
+    ensures exact { IfSome result (λ says. (grains : List Grain) (from : Silo) (version : ℕ) → said_by grains from version says ≡ body_of body.now) }
+{
+    match body {
+        Body::Ask { range, page } => {
+            let span = span(range)?;
+            let page = small(*page)?;
+            Some(Says::Ask { span, page })
+        }
+        Body::Missing(range) => Some(Says::Missing(span(range)?)),
+        Body::Done(range) => Some(Says::Done(span(range)?)),
+        Body::Query(range) => Some(Says::Query(span(range)?)),
+        Body::Behind(range) => Some(Says::Behind(span(range)?)),
+        Body::Ahead(range) => Some(Says::Ahead(span(range)?)),
+        _ => None,
     }
 }
 
@@ -87,8 +116,10 @@ fn asks(grains: &mut IndexSet<GrainId>, request: &Request) -> Result<Option<Says
     ensures numbered { IfOk result (λ says. IfSome says (λ says. IsNumbered (length grains.new.keys) says)) }
     ensures exact { IfOk result (λ says. IfSome says (λ says. said_by grains.new.keys request.now.sender request.now.version says ≡ Request_letter request.now)) }
 {
-    let number = request.number;
     let hash = request.hash;
+    let Some(number) = small(request.number) else {
+        return Ok(None);
+    };
     match &request.act {
         Act::Register {
             previous: Some(_),
@@ -97,80 +128,122 @@ fn asks(grains: &mut IndexSet<GrainId>, request: &Request) -> Result<Option<Says
         Act::Register {
             entry,
             previous: None,
-        } => {
-            let entry = named(grains, entry)?;
-            Ok(Some(Says::Register {
+        } => match named(grains, entry)? {
+            Some(entry) => Ok(Some(Says::Register {
                 number,
                 hash,
                 entry,
-            }))
-        }
-        Act::Deregister { entry } => {
-            let entry = named(grains, entry)?;
-            Ok(Some(Says::Deregister {
+            })),
+            None => Ok(None),
+        },
+        Act::Deregister { entry } => match named(grains, entry)? {
+            Some(entry) => Ok(Some(Says::Deregister {
                 number,
                 hash,
                 entry,
-            }))
-        }
-        Act::Find { grain } => {
-            let grain = number_of(grains, grain)?;
-            Ok(Some(Says::Find {
+            })),
+            None => Ok(None),
+        },
+        Act::Find { grain } => match number_of(grains, grain)? {
+            Some(grain) => Ok(Some(Says::Find {
                 number,
                 hash,
                 grain,
-            }))
-        }
+            })),
+            None => Ok(None),
+        },
     }
 }
 
 // What a reply's letter says, kept short.
-fn replies(grains: &mut IndexSet<GrainId>, number: u64, reply: &Reply) -> Result<Says, AllocError>
+fn replies(
+    grains: &mut IndexSet<GrainId>,
+    number: u32,
+    reply: &Reply,
+) -> Result<Option<Says>, AllocError>
     ensures grown { Grows grains.old.keys grains.new.keys }
-    ensures numbered { IfOk result (λ says. IsNumbered (length grains.new.keys) says) }
-    ensures exact { IfOk result (λ says. (from : Silo) (version : ℕ) → said_by grains.new.keys from version says ≡ Reply_letter number reply.now) }
+    ensures numbered { IfOk result (λ says. IfSome says (λ says. IsNumbered (length grains.new.keys) says)) }
+    ensures exact { IfOk result (λ says. IfSome says (λ says. (from : Silo) (version : ℕ) → said_by grains.new.keys from version says ≡ Reply_letter number reply.now)) }
 {
     match reply {
-        Reply::Registered(entry) => {
-            let entry = named(grains, entry)?;
-            Ok(Says::Registered { number, entry })
+        Reply::Registered(entry) => match named(grains, entry)? {
+            Some(entry) => Ok(Some(Says::Registered { number, entry })),
+            None => Ok(None),
+        },
+        Reply::Taken(entry) => match named(grains, entry)? {
+            Some(entry) => Ok(Some(Says::Taken { number, entry })),
+            None => Ok(None),
+        },
+        Reply::Removed => Ok(Some(Says::Removed { number })),
+        Reply::Absent => Ok(Some(Says::Absent { number })),
+        Reply::Found(entry) => match named(grains, entry)? {
+            Some(entry) => Ok(Some(Says::Found { number, entry })),
+            None => Ok(None),
+        },
+        Reply::Nothing => Ok(Some(Says::Nothing { number })),
+        Reply::Retry(why) => Ok(retries(number, why)),
+    }
+}
+
+// What a reply's letter says by which a request has to be made again, kept short.
+fn retries(number: u32, why: &Why) -> Option<Says>
+    ensures numbered { IfSome result (λ says. (count : ℕ) → IsNumbered count says) }
+    ensures exact { IfSome result (λ says. (grains : List Grain) (from : Silo) (version : ℕ) → said_by grains from version says ≡ Reply_letter number (Reply.Retry why.now)) }
+{
+    match why {
+        Why::View { seen } => {
+            let seen = small(*seen)?;
+            Some(Says::View { number, seen })
         }
-        Reply::Taken(entry) => {
-            let entry = named(grains, entry)?;
-            Ok(Says::Taken { number, entry })
+        Why::Unsettled => Some(Says::Unsettled { number }),
+        Why::OldNumber { last } => {
+            let last = small(*last)?;
+            Some(Says::OldNumber { number, last })
         }
-        Reply::Removed => Ok(Says::Removed { number }),
-        Reply::Absent => Ok(Says::Absent { number }),
-        Reply::Found(entry) => {
-            let entry = named(grains, entry)?;
-            Ok(Says::Found { number, entry })
-        }
-        Reply::Nothing => Ok(Says::Nothing { number }),
-        Reply::Retry(why) => Ok(Says::Retry { number, why: *why }),
+        Why::NotOwner => Some(Says::NotOwner { number }),
     }
 }
 
 // The entry, its grain by number.
-fn named(grains: &mut IndexSet<GrainId>, entry: &Entry) -> Result<Named, AllocError>
+fn named(grains: &mut IndexSet<GrainId>, entry: &Entry) -> Result<Option<Named>, AllocError>
     ensures grown { Grows grains.old.keys grains.new.keys }
-    ensures numbered { IfOk result (λ named. named.grain < length grains.new.keys) }
-    ensures exact { IfOk result (λ named. entry_by grains.new.keys named ≡ entry.now) }
+    ensures numbered { IfOk result (λ named. IfSome named (λ named. named.grain < length grains.new.keys)) }
+    ensures exact { IfOk result (λ named. IfSome named (λ named. entry_by grains.new.keys named ≡ entry.now)) }
 {
-    let grain = number_of(grains, &entry.grain)?;
-    Ok(Named {
-        grain,
-        activation: entry.activation,
-    })
+    let silo = entry.activation.silo;
+    let Some(count) = small(entry.activation.count) else {
+        return Ok(None);
+    };
+    match number_of(grains, &entry.grain)? {
+        Some(grain) => Ok(Some(Named { grain, silo, count })),
+        None => Ok(None),
+    }
 }
 
 // The number of a grain, which gets the next one where it has none.
-fn number_of(grains: &mut IndexSet<GrainId>, grain: &GrainId) -> Result<usize, AllocError>
+fn number_of(grains: &mut IndexSet<GrainId>, grain: &GrainId) -> Result<Option<u32>, AllocError>
     ensures grown { Grows grains.old.keys grains.new.keys }
-    ensures numbered { IfOk result (λ number. number < length grains.new.keys) }
-    ensures exact { IfOk result (λ number. grain_at grains.new.keys number ≡ grain.now) }
+    ensures numbered { IfOk result (λ number. IfSome number (λ number. number < length grains.new.keys)) }
+    ensures exact { IfOk result (λ number. IfSome number (λ number. grain_at grains.new.keys number ≡ grain.now)) }
 {
     match grains.insert_full(*grain) {
-        Ok((number, _)) => Ok(number),
+        Ok((number, _)) => Ok(small(number as u64)),
         Err(_) => Err(AllocError),
     }
+}
+
+// The range, where it isn't the full circle.
+fn span(range: &RingRange) -> Option<Span>
+    ensures { IfSome result (λ span. range_by span ≡ range.now) }
+{
+    let start = range.start();
+    let size = small(range.size())?;
+    Some(Span { start, size })
+}
+
+// The number, where it has 32 bits at most.
+fn small(number: u64) -> Option<u32>
+    ensures { MatchOption result (2 ^ 32 ≤ number) (λ small. small ≡ number) }
+{
+    u32::try_from(number).ok()
 }

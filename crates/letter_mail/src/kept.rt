@@ -1,75 +1,94 @@
 ghost use Rattle.std.specs.Prelude.{◌≡◌, ◌<◌, None, length};
-ghost use Rattle.directory_rules.specs.Letter.{Offer_letter, Reply_letter};
+ghost use Rattle.directory_rules.specs.Letter.{Ask_letter, Offer_letter, Reply_letter};
 ghost use Rattle.directory_letters.specs.LetterModel.{body_of};
-ghost use Rattle.letter_mail.specs.Kept.{IsKept, IsNumbered, entry_by, grain_at, letter_by, letter_kept, receiver_of, request_by, said_by};
-ghost use Rattle.letter_mail.specs.MailedModel.{letter_seen};
+ghost use Rattle.letter_mail.specs.Kept.{IsNumbered, entry_by, grain_at, letter_by, range_by, request_by, said_by};
 
-use crate::MailedLetter;
 use directory_letters::{Body, Letter};
 use directory_rules::{Act, Reply, Request, Why};
 use indexmap::IndexSet;
 use ring_range::RingRange;
 use silo_address::{ActivationId, Entry, GrainId, SiloAddress};
 
+// What is kept of letters has numbers of 32 bits alone, so that it needs little room; a letter that has a larger one is kept
+// whole.
+
 // An entry, its grain by number.
 #[derive(Clone, Copy)]
 pub(crate) struct Named {
-    pub(crate) grain: usize,
-    pub(crate) activation: ActivationId,
+    pub(crate) grain: u32,
+    pub(crate) silo: SiloAddress,
+    pub(crate) count: u32,
+}
+
+// A range that isn't the full circle.
+#[derive(Clone, Copy)]
+pub(crate) struct Span {
+    pub(crate) start: u32,
+    pub(crate) size: u32,
 }
 
 // What a letter says, its grain by number. A request has the letter's sender and version, and names no previous activation.
 #[derive(Clone, Copy)]
 pub(crate) enum Says {
     Register {
-        number: u64,
+        number: u32,
         hash: u32,
         entry: Named,
     },
     Deregister {
-        number: u64,
+        number: u32,
         hash: u32,
         entry: Named,
     },
     Find {
-        number: u64,
+        number: u32,
         hash: u32,
-        grain: usize,
+        grain: u32,
     },
     Registered {
-        number: u64,
+        number: u32,
         entry: Named,
     },
     Taken {
-        number: u64,
+        number: u32,
         entry: Named,
     },
     Removed {
-        number: u64,
+        number: u32,
     },
     Absent {
-        number: u64,
+        number: u32,
     },
     Found {
-        number: u64,
+        number: u32,
         entry: Named,
     },
     Nothing {
-        number: u64,
+        number: u32,
     },
-    Retry {
-        number: u64,
-        why: Why,
+    View {
+        number: u32,
+        seen: u32,
+    },
+    Unsettled {
+        number: u32,
+    },
+    OldNumber {
+        number: u32,
+        last: u32,
+    },
+    NotOwner {
+        number: u32,
     },
     Ask {
-        range: RingRange,
-        page: u64,
+        span: Span,
+        page: u32,
     },
-    Missing(RingRange),
-    Done(RingRange),
-    Query(RingRange),
-    Behind(RingRange),
-    Ahead(RingRange),
+    Missing(Span),
+    Done(Span),
+    Query(Span),
+    Behind(Span),
+    Ahead(Span),
     Offer(Named),
 }
 
@@ -78,46 +97,17 @@ pub(crate) enum Says {
 pub(crate) struct Brief {
     pub(crate) from: SiloAddress,
     pub(crate) to: SiloAddress,
-    pub(crate) version: u64,
+    pub(crate) version: u32,
     pub(crate) says: Says,
 }
 
-// A letter as it is kept: short, or whole where it has a list or repeats less than others do.
-#[derive(Drop)]
-pub(crate) enum Kept {
-    Brief(Brief),
-    Whole(Box<Letter>),
-}
-
-impl Kept {
-    // Whom the letter is for.
-    pub(crate) fn to(&self) -> SiloAddress
-        ensures { result ≡ receiver_of self.now }
-    {
-        match self {
-            Kept::Brief(brief) => brief.to,
-            Kept::Whole(letter) => letter.to(),
-        }
-    }
-
-    // The letter.
-    pub(crate) fn letter(&self, grains: &IndexSet<GrainId>) -> MailedLetter<'_>
-        requires kept { IsKept (length grains.now.keys) self.now }
-        ensures { letter_seen result ≡ letter_kept grains.now.keys self.now }
-    {
-        match self {
-            Kept::Brief(brief) => MailedLetter::Made(letter_by(grains, brief)),
-            Kept::Whole(letter) => MailedLetter::Lent(letter),
-        }
-    }
-}
-
 // The letter that is kept short.
-fn letter_by(grains: &IndexSet<GrainId>, brief: &Brief) -> Letter
+pub(crate) fn letter_by(grains: &IndexSet<GrainId>, brief: &Brief) -> Letter
     requires numbered { IsNumbered (length grains.now.keys) brief.now.says }
     ensures { result ≡ letter_by grains.now.keys brief.now }
 {
-    Letter::new(brief.from, brief.to, brief.version, body_by(grains, brief))
+    let version = u64::from(brief.version);
+    Letter::new(brief.from, brief.to, version, body_by(grains, brief))
 }
 
 // What it says. Each arm is one call or has nothing large, since all that arms hold is cleared whichever one is taken.
@@ -147,26 +137,29 @@ fn body_by(grains: &IndexSet<GrainId>, brief: &Brief) -> Body
         Says::Absent { number } => absent(number),
         Says::Found { number, entry } => found(grains, number, entry),
         Says::Nothing { number } => nothing(number),
-        Says::Retry { number, why } => retry(number, why),
-        Says::Ask { range, page } => Body::Ask { range, page },
-        Says::Missing(range) => Body::Missing(range),
-        Says::Done(range) => Body::Done(range),
-        Says::Query(range) => Body::Query(range),
-        Says::Behind(range) => Body::Behind(range),
-        Says::Ahead(range) => Body::Ahead(range),
+        Says::View { number, seen } => view(number, seen),
+        Says::Unsettled { number } => retry(number, Why::Unsettled),
+        Says::OldNumber { number, last } => old_number(number, last),
+        Says::NotOwner { number } => retry(number, Why::NotOwner),
+        Says::Ask { span, page } => ask(span, page),
+        Says::Missing(span) => Body::Missing(range_by(span)),
+        Says::Done(span) => Body::Done(range_by(span)),
+        Says::Query(span) => Body::Query(range_by(span)),
+        Says::Behind(span) => Body::Behind(range_by(span)),
+        Says::Ahead(span) => Body::Ahead(range_by(span)),
         Says::Offer(entry) => offer(grains, entry),
     }
 }
 
 // A Register of the letter's own sender and version, in nobody's place.
-fn register(grains: &IndexSet<GrainId>, brief: &Brief, number: u64, hash: u32, entry: Named) -> Body
+fn register(grains: &IndexSet<GrainId>, brief: &Brief, number: u32, hash: u32, entry: Named) -> Body
     requires numbered { entry.grain < length grains.now.keys }
     ensures { body_of result ≡ request_by brief.now.from brief.now.version number hash (Act.Register (entry_by grains.now.keys entry) None) }
 {
     Body::Request(Request {
         sender: brief.from,
-        version: brief.version,
-        number,
+        version: u64::from(brief.version),
+        number: u64::from(number),
         hash,
         act: Act::Register {
             entry: entry_by(grains, entry),
@@ -179,7 +172,7 @@ fn register(grains: &IndexSet<GrainId>, brief: &Brief, number: u64, hash: u32, e
 fn deregister(
     grains: &IndexSet<GrainId>,
     brief: &Brief,
-    number: u64,
+    number: u32,
     hash: u32,
     entry: Named,
 ) -> Body
@@ -188,8 +181,8 @@ fn deregister(
 {
     Body::Request(Request {
         sender: brief.from,
-        version: brief.version,
-        number,
+        version: u64::from(brief.version),
+        number: u64::from(number),
         hash,
         act: Act::Deregister {
             entry: entry_by(grains, entry),
@@ -198,14 +191,14 @@ fn deregister(
 }
 
 // A Find of the letter's own sender and version.
-fn find(grains: &IndexSet<GrainId>, brief: &Brief, number: u64, hash: u32, grain: usize) -> Body
+fn find(grains: &IndexSet<GrainId>, brief: &Brief, number: u32, hash: u32, grain: u32) -> Body
     requires numbered { grain < length grains.now.keys }
     ensures { body_of result ≡ request_by brief.now.from brief.now.version number hash (Act.Find (grain_at grains.now.keys grain)) }
 {
     Body::Request(Request {
         sender: brief.from,
-        version: brief.version,
-        number,
+        version: u64::from(brief.version),
+        number: u64::from(number),
         hash,
         act: Act::Find {
             grain: grain_at(grains, grain),
@@ -214,75 +207,111 @@ fn find(grains: &IndexSet<GrainId>, brief: &Brief, number: u64, hash: u32, grain
 }
 
 // The reply that an entry was put in.
-fn registered(grains: &IndexSet<GrainId>, number: u64, entry: Named) -> Body
+fn registered(grains: &IndexSet<GrainId>, number: u32, entry: Named) -> Body
     requires numbered { entry.grain < length grains.now.keys }
     ensures { body_of result ≡ Reply_letter number (Reply.Registered (entry_by grains.now.keys entry)) }
 {
     Body::Reply {
-        number,
+        number: u64::from(number),
         reply: Reply::Registered(entry_by(grains, entry)),
     }
 }
 
 // The reply that another entry has the grain.
-fn taken(grains: &IndexSet<GrainId>, number: u64, entry: Named) -> Body
+fn taken(grains: &IndexSet<GrainId>, number: u32, entry: Named) -> Body
     requires numbered { entry.grain < length grains.now.keys }
     ensures { body_of result ≡ Reply_letter number (Reply.Taken (entry_by grains.now.keys entry)) }
 {
     Body::Reply {
-        number,
+        number: u64::from(number),
         reply: Reply::Taken(entry_by(grains, entry)),
     }
 }
 
 // The reply that an entry was found.
-fn found(grains: &IndexSet<GrainId>, number: u64, entry: Named) -> Body
+fn found(grains: &IndexSet<GrainId>, number: u32, entry: Named) -> Body
     requires numbered { entry.grain < length grains.now.keys }
     ensures { body_of result ≡ Reply_letter number (Reply.Found (entry_by grains.now.keys entry)) }
 {
     Body::Reply {
-        number,
+        number: u64::from(number),
         reply: Reply::Found(entry_by(grains, entry)),
     }
 }
 
 // The reply that an entry was taken out.
-fn removed(number: u64) -> Body
+fn removed(number: u32) -> Body
     ensures { body_of result ≡ Reply_letter number Reply.Removed }
 {
     Body::Reply {
-        number,
+        number: u64::from(number),
         reply: Reply::Removed,
     }
 }
 
 // The reply that there was no such entry.
-fn absent(number: u64) -> Body
+fn absent(number: u32) -> Body
     ensures { body_of result ≡ Reply_letter number Reply.Absent }
 {
     Body::Reply {
-        number,
+        number: u64::from(number),
         reply: Reply::Absent,
     }
 }
 
 // The reply that the grain has no entry.
-fn nothing(number: u64) -> Body
+fn nothing(number: u32) -> Body
     ensures { body_of result ≡ Reply_letter number Reply.Nothing }
 {
     Body::Reply {
-        number,
+        number: u64::from(number),
         reply: Reply::Nothing,
     }
 }
 
+// The reply that the asked silo has seen another version.
+fn view(number: u32, seen: u32) -> Body
+    ensures { body_of result ≡ Reply_letter number (Reply.Retry (Why.View seen)) }
+{
+    let seen = u64::from(seen);
+    retry(number, Why::View { seen })
+}
+
+// The reply that the request's number is too old.
+fn old_number(number: u32, last: u32) -> Body
+    ensures { body_of result ≡ Reply_letter number (Reply.Retry (Why.OldNumber last)) }
+{
+    let last = u64::from(last);
+    retry(number, Why::OldNumber { last })
+}
+
 // The reply that a request is to be asked again.
-fn retry(number: u64, why: Why) -> Body
+fn retry(number: u32, why: Why) -> Body
     ensures { body_of result ≡ Reply_letter number (Reply.Retry why) }
 {
     Body::Reply {
-        number,
+        number: u64::from(number),
         reply: Reply::Retry(why),
+    }
+}
+
+// An asking for a page.
+fn ask(span: Span, page: u32) -> Body
+    ensures { body_of result ≡ Ask_letter (range_by span) page }
+{
+    Body::Ask {
+        range: range_by(span),
+        page: u64::from(page),
+    }
+}
+
+// The range of so many hashes.
+fn range_by(span: Span) -> RingRange
+    ensures { result ≡ range_by span }
+{
+    match RingRange::new(span.start, u64::from(span.size)) {
+        Ok(range) => range,
+        Err(_) => unreachable!(),
     }
 }
 
@@ -301,16 +330,19 @@ fn entry_by(grains: &IndexSet<GrainId>, named: Named) -> Entry
 {
     Entry {
         grain: grain_at(grains, named.grain),
-        activation: named.activation,
+        activation: ActivationId {
+            silo: named.silo,
+            count: u64::from(named.count),
+        },
     }
 }
 
 // The grain of that number.
-fn grain_at(grains: &IndexSet<GrainId>, number: usize) -> GrainId
+fn grain_at(grains: &IndexSet<GrainId>, number: u32) -> GrainId
     requires numbered { number < length grains.now.keys }
     ensures { result ≡ grain_at grains.now.keys number }
 {
-    match grains.get_index(number) {
+    match grains.get_index(number as usize) {
         Some(grain) => *grain,
         None => unreachable!(),
     }

@@ -55,11 +55,11 @@ fn put(
     ensures put { OnOk result (mail_in grains.new.keys slots.new.items ≡ with_posted (mail_in grains.old.keys slots.old.items) (letter ∷ [])) }
 {
     let to = letter.to();
-    let kept = kept(alloc, grains, letter)?;
+    let slot = kept(alloc, grains, letter)?;
     slots.reserve(1)?;
     let number = slots.len() as u64 + 1;
     enqueue(alloc, queues, to, number)?;
-    slots.push(Slot::Fresh(kept)).unwrap();
+    slots.push(slot).unwrap();
     Ok(())
 }
 

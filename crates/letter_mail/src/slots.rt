@@ -7,18 +7,23 @@ ghost use Rattle.letter_mail.specs.MailedModel.{letter_seen};
 ghost use Rattle.letter_mail.specs.declared.slots.Slot.{Slot as SlotSeen};
 
 use crate::MailedLetter;
-use crate::kept::Kept;
+use crate::kept::{Brief, letter_by};
+use directory_letters::Letter;
 use indexmap::IndexSet;
 use silo_address::{GrainId, SiloAddress};
-use std::mem;
+use std::mem::size_of;
 
-// A letter that was sent; it is fresh until it was delivered. Of a lost one nothing is kept but whom it was for.
+// A letter that was sent; it is fresh until it was delivered. It is kept short, or whole where it has a list, repeats less than
+// others do, or has a large number. Of a lost one nothing is kept but whom it was for.
 #[derive(Drop)]
 pub(crate) enum Slot {
-    Fresh(Kept),
-    Stale(Kept),
+    Short { fresh: bool, brief: Brief },
+    Whole { fresh: bool, letter: Box<Letter> },
     Lost(SiloAddress),
 }
+
+// There is a slot for each letter that was ever sent.
+const _: () = prove!(size_of::<Slot>() == 64);
 
 impl Slot {
     // Whom the letter is for, or was for.
@@ -26,8 +31,8 @@ impl Slot {
         ensures { result ≡ slot_to self.now }
     {
         match self {
-            Slot::Fresh(kept) => kept.to(),
-            Slot::Stale(kept) => kept.to(),
+            Slot::Short { brief, .. } => brief.to,
+            Slot::Whole { letter, .. } => letter.to(),
             Slot::Lost(to) => *to,
         }
     }
@@ -37,8 +42,8 @@ impl Slot {
         ensures { result ≡ is_fresh self.now }
     {
         match self {
-            Slot::Fresh(_) => true,
-            Slot::Stale(_) => false,
+            Slot::Short { fresh, .. } => *fresh,
+            Slot::Whole { fresh, .. } => *fresh,
             Slot::Lost(_) => false,
         }
     }
@@ -49,8 +54,8 @@ impl Slot {
         ensures { option_map letter_seen result ≡ option_map (λ (posted : Posted). posted.letter) (posted_in grains.now.keys self.now) }
     {
         match self {
-            Slot::Fresh(kept) => Some(kept.letter(grains)),
-            Slot::Stale(kept) => Some(kept.letter(grains)),
+            Slot::Short { brief, .. } => Some(MailedLetter::Made(letter_by(grains, brief))),
+            Slot::Whole { letter, .. } => Some(MailedLetter::Lent(letter)),
             Slot::Lost(_) => None,
         }
     }
@@ -59,12 +64,11 @@ impl Slot {
     pub(crate) fn deliver(&mut self)
         ensures { self.new ≡ stale_slot self.old }
     {
-        let lost = Slot::Lost(self.to());
-        *self = match mem::replace(self, lost) {
-            Slot::Fresh(kept) => Slot::Stale(kept),
-            Slot::Stale(kept) => Slot::Stale(kept),
-            Slot::Lost(to) => Slot::Lost(to),
-        };
+        match self {
+            Slot::Short { fresh, .. } => *fresh = false,
+            Slot::Whole { fresh, .. } => *fresh = false,
+            Slot::Lost(_) => {}
+        }
     }
 
     // The letter is lost.

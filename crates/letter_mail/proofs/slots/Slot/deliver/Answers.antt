@@ -1,5 +1,0 @@
-use Rattle.std.proofs.Common.{rules}
-use Rattle.letter_mail.proofs.slots.Slot.deliver.Goals as goal
-
-pub returns : goal.returns
-returns c = search rules
