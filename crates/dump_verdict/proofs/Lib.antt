@@ -4,6 +4,7 @@ pub mod FirmOnTwo
 pub mod Grains
 pub mod HashesBelow
 pub mod HeldAsOwned
+pub mod LeastMoved
 pub mod LeastOf
 pub mod Listed
 pub mod ListedEntries

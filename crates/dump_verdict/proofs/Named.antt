@@ -1,12 +1,13 @@
 -- Entries in the order of their activations, found by halves.
-use Rattle.std.proofs.Common.{◌≡◌, ℕ, zero, suc, ◌+◌, ◌<◌, ◌≤◌, Bool, true, false, cond, List, [], ◌∷◌, length, get_or, count_by, refl, sym, ◌∙◌, ap, arith, inl, inr, Ordering, Less, Equal, Greater}
+use Rattle.std.proofs.Common.{◌≡◌, ℕ, zero, suc, ◌+◌, ◌-◌, ◌<◌, ◌≤◌, Bool, true, false, cond, List, [], ◌∷◌, length, get_or, count_by, refl, sym, ◌∙◌, ap, arith, inl, inr, Ordering, Less, Equal, Greater}
 use Rattle.std.specs.Prelude.{◌||◌}
 use Rattle.std.specs.BTreeMap.{is_at}
 use Rattle.std.specs.Cmp.{IsTotalOrder}
 use Rattle.std.specs.List.{list_any}
 use Rattle.std.specs.List.Sorted.{IsNonDecreasingBy, IsPartitionedBy, IsPartitionPoint, IsSorted}
-use Rattle.std.specs.Ordering.{is_eq, is_le, is_lt, ordering_index, ordering_reverse, ordering_then}
+use Rattle.std.specs.Ordering.{is_eq, is_gt, is_le, is_lt, ordering_index, ordering_reverse, ordering_then}
 use Rattle.std.proofs.lemmas.Bool.{cases_lt}
+use Rattle.std.proofs.lemmas.List.{get_or_default}
 use Rattle.std.proofs.lemmas.Cmp.{on_total, then_total}
 use Rattle.std.proofs.lemmas.List.Sorted.{searchable_from_sorted, list_any-IsPermutation, sum_by-IsPermutation}
 use Rattle.std.proofs.lemmas.List.Sums.{sum_by-cons}
@@ -18,6 +19,7 @@ use Rattle.rebuild_checker.proofs.Ties.{entry_tie}
 use Rattle.dump_rules.specs.Verdict.{is_entry_among}
 use Rattle.dump_verdict.specs.Named.{IsIndex, Named, entries_named, entry_named, named_cmp}
 use Rattle.dump_verdict.specs.Tallies.{count_of}
+use Rattle.dump_verdict.proofs.Counts.{count_split}
 
 named_total : IsTotalOrder named_cmp
 named_total = then_total (on_total (λ (n : Named). n.0) activation_cmp_total) (on_total (λ (n : Named). n.1.now) grain_cmp_total)
@@ -104,6 +106,35 @@ parted_le one names in_order i j d upto within = le_down (named_cmp (get_or name
 
 pub parted_lt : (one : Named) (names : List Named) → IsSorted named_cmp names → IsPartitionedBy (λ other. is_lt (named_cmp other one)) names
 parted_lt one names in_order i j d upto within = lt_down (named_cmp (get_or names i d) one) (named_cmp (get_or names j d) one) (rises one names in_order i j d upto within)
+
+-- where neighbours tell that they end
+above_ends : (o : Ordering) → is_gt o ≡ true → is_le o ≡ false
+above_ends Less is = absurd (cc)
+above_ends Equal is = absurd (cc)
+above_ends Greater is = refl
+
+pub ends_between : (one : Named) (names : List Named) (index : ℕ) → IsSorted named_cmp names → 0 < index → index < length names
+    → (before here : Named) → before ≡ get_or names (index - 1) before → here ≡ get_or names index here
+    → is_le (named_cmp before one) ≡ true → is_gt (named_cmp here one) ≡ true
+    → index ≡ count_by (λ other. is_le (named_cmp other one)) names
+ends_between one names index in_order past within before here is_before is_here not_above is_above =
+    count_split (λ other. is_le (named_cmp other one)) names index (omega (arith, within)) (below, above)
+  where
+    prior : (d : Named) → is_le (named_cmp (get_or names (index - 1) d) one) ≡ true
+    prior d = ap (λ n. is_le (named_cmp n one)) (get_or_default names (index - 1) d before (omega (arith, within, past)) ∙ sym is_before) ∙ not_above
+
+    next : (d : Named) → is_le (named_cmp (get_or names index d) one) ≡ false
+    next d = ap (λ n. is_le (named_cmp n one)) (get_or_default names index d here within ∙ sym is_here) ∙ above_ends (named_cmp here one) is_above
+
+    below : (k : ℕ) (d : Named) → 0 ≤ k → k < index → is_le (named_cmp (get_or names k d) one) ≡ true
+    below k d low first = parted_le one names in_order k (index - 1) d (omega (arith, first)) (omega (arith, within, past)) (prior d)
+
+    answered : (k : ℕ) (d : Named) → index ≤ k → k < length names → (b : Bool) → is_le (named_cmp (get_or names k d) one) ≡ b → b ≡ false
+    answered k d high low true is = absurd (let no : false ≡ true = sym (next d) ∙ parted_le one names in_order index k d high low is in cc)
+    answered k d high low false is = refl
+
+    above : (k : ℕ) (d : Named) → index ≤ k → k < length names → is_le (named_cmp (get_or names k d) one) ≡ false
+    above k d high low = answered k d high low (is_le (named_cmp (get_or names k d) one)) refl
 
 one_parted : (o : Ordering) → cond (is_le o) 1 0 ≡ cond (is_lt o) 1 0 + cond (is_eq o) 1 0
 one_parted Less = refl

@@ -1,11 +1,11 @@
 //! Entries in the order of their activations, found by halves. What is moved about is an activation and where its grain stands.
 
-ghost use Rattle.std.specs.Prelude.{◌≡◌, IfOk, map};
+ghost use Rattle.std.specs.Prelude.{◌≡◌, IfOk, IsTrue, map};
 ghost use Rattle.std.specs.List.Sorted.{IsSorted};
 ghost use Rattle.dump_rules.specs.Verdict as rule;
 ghost use Rattle.dump_verdict.specs.Lent.{entries_in, entries_lent, held_lent, held_on};
 ghost use Rattle.dump_verdict.specs.Named.{IsIndex, entries_named, entry_named, named_cmp};
-ghost use Rattle.dump_verdict.specs.Tallies.{count_of};
+ghost use Rattle.dump_verdict.specs.Tallies.{count_of, count_up_to};
 
 use rebuild_checker::{Held, Node, Piece};
 use silo_address::{ActivationId, Entry, GrainId};
@@ -92,12 +92,36 @@ pub(crate) fn is_named(names: &[Named], one: &Named) -> bool
     }
 }
 
-/// How many of them name the grain in the activation.
+/// How many of them name the grain in the activation. Where they begin is found by halves. Mostly one does, and they end behind it.
 pub(crate) fn count_named(names: &[Named], one: &Named) -> usize
     requires { IsSorted named_cmp names.now }
     ensures { result ≡ count_of (entry_named one.now) (entries_named names.now) }
 {
     let below = names.partition_point(|other| other.cmp(one).is_lt());
-    let up_to = names.partition_point(|other| other.cmp(one).is_le());
+    let up_to = end_of(names, below + 1, one);
     up_to - below
+}
+
+/// How many of them aren't above this one: at the guess they are looked for first.
+fn end_of(names: &[Named], guess: usize, one: &Named) -> usize
+    requires { IsSorted named_cmp names.now }
+    ensures { result ≡ count_up_to one.now names.now }
+{
+    if end_at(names, guess, one) {
+        return guess;
+    }
+    names.partition_point(|other| other.cmp(one).is_le())
+}
+
+/// Whether those before the index aren't above this one, and those from there on are, as far as its neighbours tell.
+fn end_at(names: &[Named], index: usize, one: &Named) -> bool
+    requires { IsSorted named_cmp names.now }
+    ensures { IsTrue result → index ≡ count_up_to one.now names.now }
+{
+    if index == 0 || names.len() <= index {
+        return false;
+    }
+    let before = names[index - 1].cmp(one);
+    let here = names[index].cmp(one);
+    before.is_le() && here.is_gt()
 }

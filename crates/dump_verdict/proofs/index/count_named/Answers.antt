@@ -1,9 +1,9 @@
 use Rattle.std.proofs.Common.{arith, rules}
-use Rattle.std.specs.Ordering.{is_le, is_lt}
+use Rattle.std.specs.Ordering.{is_lt}
 use Rattle.std.proofs.lemmas.List.Sorted.{IsPartitionPoint-from_clause}
 use Rattle.dump_verdict.specs.Named.{Named, named_cmp}
 use Rattle.dump_verdict.proofs.Counts.{count_split}
-use Rattle.dump_verdict.proofs.Named.{count_parted, parted_bound, parted_le, parted_lt}
+use Rattle.dump_verdict.proofs.Named.{count_parted, parted_bound, parted_lt}
 use Rattle.dump_verdict.proofs.index.count_named.Goals as goal
 
 pub overflow_sub-result : goal.overflow_sub-result
@@ -13,9 +13,7 @@ overflow_sub-result c =
     (count_split (λ (other : Named). is_lt (named_cmp other one)) c.args.names.now c.partition_point-below.result c.partition_point-below.ensures.bound
     (IsPartitionPoint-from_clause (λ (other : Named). is_lt (named_cmp other one)) c.args.names.now c.partition_point-below.result c.partition_point-below.ensures.partitioned
     (parted_lt one c.args.names.now c.requires) (search rules)))
-    (count_split (λ (other : Named). is_le (named_cmp other one)) c.args.names.now c.partition_point-up_to.result c.partition_point-up_to.ensures.bound
-    (IsPartitionPoint-from_clause (λ (other : Named). is_le (named_cmp other one)) c.args.names.now c.partition_point-up_to.result c.partition_point-up_to.ensures.partitioned
-    (parted_le one c.args.names.now c.requires) (search rules)))
+    c.end_of-up_to.ensures
 
 pub returns : goal.returns
 returns c =
@@ -23,8 +21,6 @@ returns c =
     let below = count_split (λ (other : Named). is_lt (named_cmp other one)) c.args.names.now c.partition_point-below.result c.partition_point-below.ensures.bound
     (IsPartitionPoint-from_clause (λ (other : Named). is_lt (named_cmp other one)) c.args.names.now c.partition_point-below.result c.partition_point-below.ensures.partitioned
     (parted_lt one c.args.names.now c.requires) (search rules)) in
-    let up_to = count_split (λ (other : Named). is_le (named_cmp other one)) c.args.names.now c.partition_point-up_to.result c.partition_point-up_to.ensures.bound
-    (IsPartitionPoint-from_clause (λ (other : Named). is_le (named_cmp other one)) c.args.names.now c.partition_point-up_to.result c.partition_point-up_to.ensures.partitioned
-    (parted_le one c.args.names.now c.requires) (search rules)) in
+    let up_to = c.end_of-up_to.ensures in
     let parted = count_parted one c.args.names.now in
     omega (arith, below, up_to, parted)
