@@ -63,12 +63,13 @@ impl Table {
     }
 }
 
-// Whether the first one stands at the end or behind it, or the last one before the first hash: then none is between.
+// Whether there is none, or the first one stands at the end or behind it, or the last one before the first hash: then none is
+// between.
 fn stands_apart(map: &HashedMap, first: u64, end: u64) -> bool
     ensures { OnTrue result (filter (λ e. is_between first end e.0.hash) map.now.entries ≡ []) }
 {
     let Some((lowest, _)) = map.first_key_value() else {
-        return false;
+        return true;
     };
     if u64::from(lowest.hash) >= end {
         return true;
