@@ -91,9 +91,6 @@ seeing =
     holds (λ w. (silo : Silo) (node : Node) → node_of w silo ≡ Some node → SeesItsVersion w.views w.places node)
     (λ settings events are named silo node there. nodes_see settings events are silo node there)
 
-pub ringed : (world : World) → IsWorld world → (silo : Silo) (node : Node) → node_of world silo ≡ Some node → node.ring ≡ ring_of node.view world.places
-ringed world is silo node there = (seeing world is silo node there).ring_is
-
 -- where that is the current version, it is the current ring
 pub current_seen : (world : World) → IsWorld world → (silo : Silo) (node : Node) → node_of world silo ≡ Some node → node.view.version ≡ world.views.version → node.ring.points ≡ current_ring world
 current_seen world is silo node there current =
