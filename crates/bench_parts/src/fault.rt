@@ -26,7 +26,7 @@ pub(crate) enum Fault {
     Cache(#[from] CacheError),
     #[error("{0}")]
     Page(#[from] GatheringError),
-    #[error("a view, a piece, a snapshot or a page is missing")]
+    #[error("settings, a view, a piece, a snapshot or a page are missing")]
     Missing,
 }
 

@@ -1,6 +1,7 @@
 use crate::entries::{entries, shuffled, silo};
 use crate::fault::Fault;
 use crate::stopwatch::Stopwatch;
+use directory_rules::Settings;
 use hash_ring::Hashing;
 use host_activations::Host;
 use ring_range::RingRange;
@@ -24,7 +25,8 @@ pub(crate) fn measure(rt: &HostRuntime) -> Result<(), Fault> {
     let alloc = rt.alloc();
     let silo = silo(alloc, 1)?;
     let entries = shuffled(alloc, &entries(alloc, silo, 0)?)?;
-    let mut host = Host::new(alloc, silo, Hashing::Stated);
+    let settings = Settings::of_directory(Hashing::Stated, 1, 0).ok_or(Fault::Missing)?;
+    let mut host = Host::new(alloc, silo, &settings);
     for entry in &entries {
         start(&mut host, entry.grain)?;
     }

@@ -7,9 +7,8 @@ ghost use Rattle.grain_partition.specs.Holding.{ArePieces};
 ghost use Rattle.directory_node.specs.Beginning.{is_awaiting};
 
 use crate::recoveries::is_recovering;
-use directory_rules::PieceState;
+use directory_rules::{PieceState, Settings};
 use grain_partition::Piece;
-use hash_ring::Hashing;
 use membership_view::View;
 use range_recovery::Recovery;
 use seal_snapshot::Gathering;
@@ -41,7 +40,7 @@ pub(crate) fn new_gatherings(
 /// The recoveries of the pieces that recover.
 pub(crate) fn new_recoveries(
     alloc: Global,
-    hashing: Hashing,
+    settings: &Settings,
     view: &View,
     pieces: &BTreeMap<u32, Piece>,
 ) -> Result<BTreeMap<u32, Recovery>, AllocError>
@@ -54,7 +53,7 @@ pub(crate) fn new_recoveries(
             put_recovery(
                 &mut recoveries,
                 *start,
-                Recovery::new(alloc, hashing, view, piece.range())?,
+                Recovery::new(alloc, settings, view, piece.range())?,
             )?;
         }
     }

@@ -70,8 +70,7 @@ impl Node {
         let range = recovery.range();
         self.recoveries.insert(range.start(), recovery)?;
         self.gatherings.remove(&range.start());
-        self.holding
-            .wait_for_reports(self.alloc, self.settings.hashing(), range);
+        self.holding.wait_for_reports(range);
         Ok(())
     }
 }

@@ -66,7 +66,7 @@ impl Node {
             shelf: Shelf::new(alloc),
             gatherings: BTreeMap::new(alloc),
             recoveries: BTreeMap::new(alloc),
-            host: Host::new(alloc, silo, settings.hashing()),
+            host: Host::new(alloc, silo, &settings),
             cache,
         })
     }

@@ -219,8 +219,8 @@ impl Sender<'_> {
         match self.recoveries.get(&range.start()) {
             Some(recovery) => recovery.awaiting(alloc),
             None => {
-                let hashing = self.node.settings().hashing();
-                Recovery::new(alloc, hashing, self.view, range)?.awaiting(alloc)
+                let settings = self.node.settings();
+                Recovery::new(alloc, &settings, self.view, range)?.awaiting(alloc)
             }
         }
     }

@@ -246,7 +246,7 @@ impl Node {
     {
         let sealed = self.sealed(alloc, next, view, transition.arcs())?;
         let gatherings = new_gatherings(alloc, view, pieces)?;
-        let recoveries = new_recoveries(alloc, self.settings.hashing(), view, pieces)?;
+        let recoveries = new_recoveries(alloc, &self.settings, view, pieces)?;
         let renewal = self.renewal(alloc)?;
         let seen = view.copy()?;
         let transition = transition.copy()?;

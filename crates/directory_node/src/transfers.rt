@@ -205,7 +205,7 @@ impl Node {
         if !self.awaits(letter.version(), range, letter.from()) {
             return Ok(Plan::idle(alloc, Effect::Ignored));
         }
-        let recovery = Recovery::new(alloc, self.settings.hashing(), &self.view, range)?;
+        let recovery = Recovery::new(alloc, &self.settings, &self.view, range)?;
         let letters = self.queries(alloc, range, &recovery.awaiting(alloc)?)?;
         Ok(Plan {
             letters,

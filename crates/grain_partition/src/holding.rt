@@ -297,12 +297,11 @@ impl Holding {
 
     /// The piece of just this range recovers from now on, without entries. Asks of its caller that there is such a piece
     /// (`docs/RULES.md#pieces`).
-    pub fn wait_for_reports(&mut self, alloc: Global, hashing: Hashing, range: RingRange)
+    pub fn wait_for_reports(&mut self, range: RingRange)
         requires { HasPiece range self.old.pieces }
         ensures { self.new ≡ record self.old { pieces = with_piece (record { range = range; state = Recovering; entries = [] }) self.old.pieces } }
     {
-        let piece = Piece::bare(alloc, hashing, range, PieceState::Recovering);
-        replace(&mut self.pieces, piece);
+        recover(&mut self.pieces, &range);
     }
 }
 
@@ -342,6 +341,15 @@ fn is_numbered(act: &Act) -> bool
 
 // The piece takes the place of the one that begins where it does.
 fn replace(pieces: &mut BTreeMap<u32, Piece>, piece: Piece)
+// The piece of just this range recovers, without entries.
+fn recover(pieces: &mut BTreeMap<u32, Piece>, range: &RingRange)
+    requires { HasPiece range.now pieces.old.entries }
+    ensures { pieces.new.entries ≡ with_piece (record { range = range.now; state = Recovering; entries = [] }) pieces.old.entries }
+{
+    let piece = pieces.get_mut(&range.start()).unwrap();
+    piece.recover();
+}
+
     requires { IsSome (lookup (is_at (nat_cmp piece.range.start)) pieces.old.entries) }
     ensures { pieces.new.entries ≡ with_piece piece pieces.old.entries }
 {

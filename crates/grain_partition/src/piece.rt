@@ -1,6 +1,6 @@
 ghost use Rattle.std.specs.Prelude.{◌≡◌, ◌↔◌, [], ◌∷◌, IsTrue, IfOk, OnOk, OnErr};
 ghost use Rattle.directory_rules.specs.Answer.{turned};
-ghost use Rattle.directory_rules.specs.declared.PieceState.TheVariants.{Settled};
+ghost use Rattle.directory_rules.specs.declared.PieceState.TheVariants.{Recovering, Settled};
 ghost use Rattle.directory_rules.specs.Sight.{is_settled};
 ghost use Rattle.directory_rules.specs.Table.{entries_of, entry_at, lie_in};
 ghost use Rattle.grain_partition.specs.Staying.{covers, left_of};
@@ -57,6 +57,14 @@ impl Piece {
             state,
             entries: Table::new(alloc, hashing),
         }
+    }
+
+    // The piece recovers from now on: it has no entries.
+    pub(crate) fn recover(&mut self)
+        ensures { self.new ≡ record self.old { state = Recovering; entries = [] } }
+    {
+        self.state = PieceState::Recovering;
+        self.entries.clear();
     }
 
     /// The hashes of the piece.

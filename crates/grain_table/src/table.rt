@@ -102,6 +102,14 @@ impl Table {
         self.take_out(&key);
     }
 
+    /// Takes every entry out.
+    pub fn clear(&mut self)
+        ensures { self.new ≡ record self.old { entries = [] } }
+    {
+        self.map.clear();
+        self.silos.clear();
+    }
+
     /// A law: the entries stand in the order of their grains, each grain once.
     pub fn whole(&self)
         ensures { IsStrictlySortedBy grain_cmp (keys_of self.now.entries) }

@@ -13,7 +13,7 @@ mod order;
 mod same;
 
 use crate::by_hash::{ByHash, HashedCount, key_of};
-use directory_rules::{Held, Phase};
+use directory_rules::{Held, Phase, Settings};
 pub use firm::entry_on;
 use hash_ring::Hashing;
 use indexmap::IndexMap;
@@ -48,15 +48,15 @@ impl Model for Activations {
 }
 
 impl Activations {
-    /// No activations; the first one will have the count 1. Those of a range of hashes are found fast where their grains are hashed
-    /// in this way; no answer depends on it.
-    pub fn new(alloc: Global, hashing: Hashing) -> Activations
+    /// No activations; the first one will have the count 1. Those of a range of hashes are found fast where grains are hashed as the
+    /// settings have it; no answer depends on it.
+    pub fn new(alloc: Global, settings: &Settings) -> Activations
         ensures { result ≡ record { next_count = 1; entries = [] } }
     {
         Activations {
             next_count: 1,
             map: IndexMap::new(alloc),
-            hashing,
+            hashing: settings.hashing(),
             by_hash: BTreeMap::new(alloc),
         }
     }

@@ -10,8 +10,7 @@ mod same;
 mod telling;
 
 use crate::asked::Asked;
-use directory_rules::Held;
-use hash_ring::Hashing;
+use directory_rules::{Held, Settings};
 use held_activations::Activations;
 pub use renewal::Renewal;
 use silo_address::{GrainId, SiloAddress};
@@ -45,15 +44,15 @@ impl Model for Host {
 }
 
 impl Host {
-    /// The host of a silo, which has nothing yet. It reports the firm activations of a range fast where grains are hashed in this
-    /// way.
-    pub fn new(alloc: Global, silo: SiloAddress, hashing: Hashing) -> Host
+    /// The host of a silo, which has nothing yet. It reports the firm activations of a range fast where grains are hashed as the
+    /// settings have it.
+    pub fn new(alloc: Global, silo: SiloAddress, settings: &Settings) -> Host
         ensures { result ≡ new_host silo }
     {
         Host {
             silo,
             next_number: 1,
-            held: Activations::new(alloc, hashing),
+            held: Activations::new(alloc, settings),
             outstanding: BTreeMap::new(alloc),
             find_count: 0,
         }

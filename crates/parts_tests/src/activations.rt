@@ -1,6 +1,6 @@
 //! A silo as the host of activations.
-use crate::samples::{grain, silo};
-use directory_rules::{Act, Phase, Settings};
+use crate::samples::{grain, settings, silo};
+use directory_rules::{Act, Phase};
 use hash_ring::Hashing;
 use host_activations::Host;
 use ring_range::RingRange;
@@ -18,7 +18,11 @@ const CID: &str = "user/cid";
 
 // A host on the first silo that holds nothing yet.
 fn new_host(rt: &impl Abort, alloc: Global) -> Host {
-    Host::new(alloc, silo(rt, "10.0.0.1:1000@1"), Hashing::Stated)
+    Host::new(
+        alloc,
+        silo(rt, "10.0.0.1:1000@1"),
+        &settings(rt, Hashing::Stated),
+    )
 }
 
 fn start(rt: &impl Abort, host: &mut Host, text: &str, previous: Option<ActivationId>) {
@@ -213,7 +217,7 @@ fn firm_activations_are_told_by_grain(rt: HostRuntime) {
 
 #[test]
 fn limits_are_those_of_the_settings(rt: HostRuntime) {
-    let settings = Settings::of_directory(Hashing::Sha256, 3, 0).expect(&rt, "settings");
+    let settings = settings(&rt, Hashing::Sha256);
     let host = three_requests(&rt, rt.alloc());
     assert!(rt; !host.is_full_of_activations(&settings) && !host.is_full_of_finds(&settings));
     assert!(rt; host.has_count(&settings));

@@ -1,5 +1,5 @@
 //! Calls on a host that may be refused memory: such a call has changed nothing, and is made again.
-use crate::samples::{A, grain, silo};
+use crate::samples::{A, grain, settings, silo};
 use directory_rules::Phase;
 use hash_ring::Hashing;
 use host_activations::Host;
@@ -11,7 +11,7 @@ const LAST: u64 = 1 << 60;
 
 // A host on the first silo that holds nothing yet.
 pub(crate) fn new_host(rt: &impl Abort, alloc: Global) -> Host {
-    Host::new(alloc, silo(rt, A), Hashing::Stated)
+    Host::new(alloc, silo(rt, A), &settings(rt, Hashing::Stated))
 }
 
 pub(crate) fn copy_of(rt: &impl Abort, host: &Host) -> Host {

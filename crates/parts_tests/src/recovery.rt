@@ -1,5 +1,5 @@
 //! A recovery of a range, and the reports that it takes.
-use crate::samples::{A, B, C, DEAD, declare_dead, entry, joined, range, silo, view};
+use crate::samples::{A, B, C, DEAD, declare_dead, entry, joined, range, settings, silo, view};
 use grain_table::Table;
 use hash_ring::Hashing;
 use range_recovery::{Progress, Recovery, RecoveryError, Report};
@@ -20,7 +20,12 @@ fn recovery(rt: &impl Abort, alloc: Global) -> Recovery {
     let mut views = joined(rt, alloc, &[C, DEAD, A, B]);
     declare_dead(rt, &mut views, DEAD);
     let seen = view(rt, alloc, &views, VERSION);
-    let made = Recovery::new(alloc, Hashing::Sha256, &seen, range(rt, UPPER_HALF));
+    let made = Recovery::new(
+        alloc,
+        &settings(rt, Hashing::Sha256),
+        &seen,
+        range(rt, UPPER_HALF),
+    );
     made.expect(rt, "memory")
 }
 

@@ -1,6 +1,6 @@
 //! Each call on a recovery that needs memory, in a form that any one refusal of an allocation leaves true: what is refused has
 //! changed nothing, and made again it gives its result. `rt try --test --fail-alloc N` refuses each test its Nth allocation.
-use crate::samples::{A, B, MANY, entry, joined, range, silo, view};
+use crate::samples::{A, B, MANY, entry, joined, range, settings, silo, view};
 use hash_ring::Hashing;
 use range_recovery::{Progress, Recovery, RecoveryError, Report};
 use silo_address::{Entry, SiloAddress};
@@ -12,10 +12,11 @@ const RANGE: &str = "0+1000";
 // Of A and B, who are those of version 2.
 fn recovery(rt: &impl Abort, alloc: Global) -> Recovery {
     let seen = view(rt, alloc, &joined(rt, alloc, &[B, A]), 2);
-    match Recovery::new(alloc, Hashing::Stated, &seen, range(rt, RANGE)) {
+    let settings = settings(rt, Hashing::Stated);
+    match Recovery::new(alloc, &settings, &seen, range(rt, RANGE)) {
         Ok(recovery) => recovery,
         Err(_) => {
-            let made = Recovery::new(alloc, Hashing::Stated, &seen, range(rt, RANGE));
+            let made = Recovery::new(alloc, &settings, &seen, range(rt, RANGE));
             made.expect(rt, "memory")
         }
     }

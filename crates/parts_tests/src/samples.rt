@@ -1,4 +1,6 @@
 //! Values by their texts, for the tests.
+use directory_rules::Settings;
+use hash_ring::Hashing;
 use membership_view::{View, Views};
 use ring_range::RingRange;
 use silo_address::{ActivationId, Entry, GrainId, SiloAddress};
@@ -31,6 +33,11 @@ pub(crate) fn entry(rt: &impl Abort, (of, on, count): (&str, &str, u64)) -> Entr
     let (grain, silo) = (grain(rt, of), silo(rt, on));
     let activation = ActivationId { silo, count };
     Entry { grain, activation }
+}
+
+// Settings of a directory that hashes in this way.
+pub(crate) fn settings(rt: &impl Abort, hashing: Hashing) -> Settings {
+    Settings::of_directory(hashing, 30, 0).expect(rt, "settings")
 }
 
 // The views in which these silos join one after another.

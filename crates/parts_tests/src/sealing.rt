@@ -200,7 +200,7 @@ fn a_piece_waits_for_reports(rt: HostRuntime) {
     let mut holding = settled_pieces(&rt, alloc);
     let range = range(&rt, "10+90");
     assert!(rt; holding.has_piece(&range));
-    holding.wait_for_reports(alloc, Hashing::Stated, range);
+    holding.wait_for_reports(range);
     let piece = holding.piece_with(50).expect(&rt, "a piece has 50");
     assert!(rt; piece.range() == range);
     assert!(rt; piece.state() == PieceState::Recovering);

@@ -8,8 +8,8 @@ ghost use Rattle.range_recovery.specs.Progress.{Reaches, Refuses, RefusesOrLacks
 use crate::gather::gather;
 use crate::silos::AwaitedSilos;
 use crate::{Progress, RecoveryError, Report};
+use directory_rules::Settings;
 use grain_table::Table;
-use hash_ring::Hashing;
 use membership_view::View;
 use ring_range::RingRange;
 use silo_address::SiloAddress;
@@ -35,11 +35,11 @@ impl Model for Recovery {
 }
 
 impl Recovery {
-    /// Awaits each silo of the view that isn't Dead there; nothing is reported yet, and what comes is kept by the cluster's
-    /// hashing. Fails only when memory runs out.
+    /// Awaits each silo of the view that isn't Dead there; nothing is reported yet, and what comes is kept under the hashes of the
+    /// settings. Fails only when memory runs out.
     pub fn new(
         alloc: Global,
-        hashing: Hashing,
+        settings: &Settings,
         view: &View,
         range: RingRange,
     ) -> Result<Recovery, AllocError>
@@ -51,7 +51,7 @@ impl Recovery {
             version: view.version(),
             range,
             silos,
-            gathered: Table::new(alloc, hashing),
+            gathered: Table::new(alloc, settings.hashing()),
         })
     }
 
