@@ -2,11 +2,11 @@ ghost use Rattle.std.specs.Prelude.{IfOk};
 ghost use Rattle.grain_partition.specs.Sight.{AreOfRings};
 
 use crate::fault::Fault;
-use grain_partition::Holding;
+use grain_partition::{ArcsBySilo, Holding};
 use grain_table::Table;
 use hash_ring::{Hashing, Places, Ring};
 use membership_view::{View, Views};
-use range_moves::{Arc, arcs};
+use range_moves::arcs;
 use ring_range::RingRange;
 use silo_address::SiloAddress;
 use std::alloc::Global;
@@ -41,12 +41,12 @@ impl Cluster {
     }
 
     /// The arcs from the ring of a version to that of another.
-    pub(crate) fn arcs(&self, old: u64, new: u64) -> Result<Vec<Arc>, Fault>
-        ensures { IfOk result (λ arcs. AreOfRings arcs.items) }
+    pub(crate) fn arcs(&self, old: u64, new: u64) -> Result<ArcsBySilo, Fault>
+        ensures { IfOk result (λ arcs. AreOfRings arcs) }
     {
         let old = Ring::anew(self.alloc, &self.view(old)?, &self.places)?;
         let new = Ring::anew(self.alloc, &self.view(new)?, &self.places)?;
-        Ok(arcs(self.alloc, &old, &new)?)
+        Ok(ArcsBySilo::of(self.alloc, arcs(self.alloc, &old, &new)?)?)
     }
 
     /// What the first silo keeps at version 1: each of its pieces settled, with those of the entries that are hashed into it.
@@ -54,7 +54,7 @@ impl Cluster {
         let (view, arcs) = (self.view(1)?, self.arcs(0, 1)?);
         let mut holding = Holding::new(self.alloc);
         holding.sight(self.alloc, true, Hashing::Stated, &view, silo, &arcs)?;
-        for arc in &arcs {
+        for arc in arcs.all() {
             install(self.alloc, &mut holding, arc.range, all)?;
         }
         Ok(holding)

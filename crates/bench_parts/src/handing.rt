@@ -2,10 +2,9 @@ use crate::cluster::Cluster;
 use crate::entries::{entries, silo, table};
 use crate::fault::Fault;
 use crate::stopwatch::Stopwatch;
-use grain_partition::Holding;
+use grain_partition::{ArcsBySilo, Holding};
 use hash_ring::Hashing;
 use membership_view::View;
-use range_moves::Arc;
 use seal_snapshot::{Gathering, Page, Progress, Snapshot};
 use silo_address::SiloAddress;
 use std::alloc::Global;
@@ -22,7 +21,7 @@ struct Owner {
     silo: SiloAddress,
     holding: Holding,
     view: View,
-    arcs: Vec<Arc>,
+    arcs: ArcsBySilo,
 }
 
 impl Owner {

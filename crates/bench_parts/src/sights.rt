@@ -4,10 +4,9 @@ use crate::cluster::Cluster;
 use crate::entries::{entries, silo, table};
 use crate::fault::Fault;
 use crate::stopwatch::Stopwatch;
-use grain_partition::Holding;
+use grain_partition::{ArcsBySilo, Holding};
 use hash_ring::Hashing;
 use membership_view::View;
-use range_moves::Arc;
 use silo_address::SiloAddress;
 use std::time::Instant;
 
@@ -49,7 +48,7 @@ fn measure_sight(
     holding: &Holding,
     view: &View,
     silo: &SiloAddress,
-    arcs: &[Arc],
+    arcs: &ArcsBySilo,
 ) -> Result<(), Fault>
     requires { AreOfRings arcs.now }
 {

@@ -6,7 +6,7 @@ use Rattle.directory_node.specs.Transition.{TransitionValue}
 use Rattle.directory_node.specs.declared.transition.Transition.TheInside.{Inside}
 
 abbrev pub transition_of : Inside → TransitionValue
-transition_of t = record { ring = arc_value t.ring; arcs = (arc_value t.arcs).items }
+transition_of t = record { ring = arc_value t.ring; arcs = arc_value t.arcs }
 
 -- what the fields keep
 abbrev pub IsWhole : Inside → Type 0

@@ -26,7 +26,7 @@ use crate::sending::Sender;
 use crate::{Change, Node, Plan, Sight, StepRefusal, Transition};
 use directory_letters::Letter;
 use directory_rules::{Act, Effect};
-use grain_partition::Piece;
+use grain_partition::{ArcsBySilo, Piece};
 use hash_ring::{Places, Ring, RingError};
 use host_activations::Renewal;
 use membership_view::View;
@@ -211,7 +211,7 @@ impl Node {
         alloc: Global,
         next: bool,
         view: &View,
-        arcs: &[Arc],
+        arcs: &ArcsBySilo,
     ) -> Result<BTreeMap<u32, Piece>, AllocError>
         requires { AreOfRings arcs.now }
         ensures exact { IfOk result (λ seen. seen.entries ≡ pieces_seen next self.now.settings.hashing view.now self.now.host.silo self.now.holding.pieces arcs.now) }
@@ -267,7 +267,7 @@ impl Node {
         alloc: Global,
         next: bool,
         view: &View,
-        arcs: &[Arc],
+        arcs: &ArcsBySilo,
     ) -> Result<Vec<Snapshot>, AllocError>
         ensures { IfOk result (λ snapshots. next ≡ true → snapshots.items ≡ sealed self.now.settings.hashing view.now self.now.host.silo self.now.holding.pieces arcs.now) }
     {

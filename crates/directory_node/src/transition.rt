@@ -3,6 +3,7 @@ ghost use Rattle.std.specs.Prelude.{◌≡◌, IfOk};
 ghost use Rattle.grain_partition.specs.Sight.{AreOfRings};
 ghost use Rattle.std.specs.Arc.{arc_value};
 
+use grain_partition::ArcsBySilo;
 use hash_ring::Ring;
 use range_moves::Arc;
 use std::alloc::{AllocError, Global};
@@ -14,7 +15,7 @@ use std::sync;
 #[derive(Drop)]
 pub struct Transition {
     ring: sync::Arc<Ring>,
-    arcs: sync::Arc<Vec<Arc>>,
+    arcs: sync::Arc<ArcsBySilo>,
 }
 
 impl Model for Transition {
@@ -36,7 +37,7 @@ impl Transition {
         ensures { IfOk result (λ transition. transition ≡ record { ring = ring; arcs = arcs.items }) }
     {
         let ring = sync::Arc::new(alloc, ring)?;
-        let arcs = sync::Arc::new(alloc, arcs)?;
+        let arcs = sync::Arc::new(alloc, ArcsBySilo::of(alloc, arcs)?)?;
         Ok(Transition { ring, arcs })
     }
 
@@ -47,12 +48,11 @@ impl Transition {
         &self.ring
     }
 
-    /// The arcs, by start.
-    pub fn arcs(&self) -> &[Arc]
+    /// The arcs, by start, and under the silos whose they are.
+    pub fn arcs(&self) -> &ArcsBySilo
         ensures { result.now ≡ self.now.arcs }
     {
-        let arcs: &Vec<Arc> = &self.arcs;
-        arcs
+        &self.arcs
     }
 
     // The ring, to be kept.

@@ -12,7 +12,7 @@ use Rattle.directory_rules.specs.Sight.{is_owner, kept_entries, missing_state, p
 use Rattle.directory_rules.proofs.Pieces.{piece_range}
 use Rattle.grain_partition.specs.Holding.{ArePieces}
 use Rattle.grain_partition.specs.Seen.{emptied, pieces_seen}
-use Rattle.grain_partition.specs.Sight.{AreOfRings}
+use Rattle.grain_partition.specs.Sight.{AreApart}
 use Rattle.grain_partition.proofs.FromArcs.{made, pieces-made}
 
 module _ (next : Bool) (hashing : Hashing) (view : ViewValue) (silo : Silo) (pieces : List (ℕ × Piece)) where
@@ -43,5 +43,5 @@ module _ (next : Bool) (hashing : Hashing) (view : ViewValue) (silo : Silo) (pie
       emptied_back [] = refl
       emptied_back (arc ∷ arcs) = ap (λ l. (arc.range.start, piece_seen arc) ∷ l) (emptied_back arcs)
 
-  pub seen_keep : (arcs : List Arc) → AreOfRings arcs → ArePieces (made piece_seen is_owned arcs)
-  seen_keep arcs of = pieces-made piece_seen is_owned same_range arcs of
+  pub seen_keep : (arcs : List Arc) → AreApart arcs → ArePieces (made piece_seen is_owned arcs)
+  seen_keep arcs apart = pieces-made piece_seen is_owned same_range arcs apart

@@ -11,10 +11,9 @@ use Rattle.std.proofs.lemmas.List.Elements.{All-head, All-tail, All-map, All-fil
 use Rattle.std.proofs.lemmas.List.Sums.{sum_by-cons}
 use Rattle.ring_range.specs.Range.{Range, IsRange, holds}
 use Rattle.range_moves.specs.declared.Arc.{Arc}
-use Rattle.range_moves.specs.Arcs.{all_places, arcs_per_hash}
 use Rattle.directory_rules.specs.Piece.{Piece}
 use Rattle.grain_partition.specs.Holding.{ArePieces}
-use Rattle.grain_partition.specs.Sight.{AreOfRings}
+use Rattle.grain_partition.specs.Sight.{AreApart}
 use Rattle.grain_partition.proofs.OnePiece.{passing}
 
 less : (a b : ℕ) → a < b → nat_cmp a b ≡ Less
@@ -28,10 +27,6 @@ rising_head arc arcs rise = λ k d lt. rise 0 (suc k) d (omega arith) (omega ari
 
 rising_tail : (arc : Arc) (arcs : List Arc) → Rising (arc ∷ arcs) → Rising arcs
 rising_tail arc arcs rise = λ i j d lt within. rise (suc i) (suc j) d (omega arith) (omega arith)
-
-one_at_most : (places : List ℕ) → arcs_per_hash places ≤ 1
-one_at_most [] = omega arith
-one_at_most (place ∷ places) = omega arith
 
 module _ (f : Arc → Piece) (q : Arc → Bool) where
   abbrev pub made : List Arc → List (ℕ × Piece)
@@ -79,11 +74,11 @@ module _ (f : Arc → Piece) (q : Arc → Bool) where
             omega (arith, one, counted)
         by false rest = omega (arith, counted)
 
-    pub pieces-made : (arcs : List Arc) → AreOfRings arcs → ArePieces (made arcs)
-    pieces-made arcs of = record {
-      in_order = sorted_made arcs of.are.in_order;
+    pub pieces-made : (arcs : List Arc) → AreApart arcs → ArePieces (made arcs)
+    pieces-made arcs apart = record {
+      in_order = sorted_made arcs apart.in_order;
       under_start = all_made (λ start range. range.start ≡ start) arcs (λ k d lt. refl);
-      ranges = all_made (λ start range. IsRange range) arcs of.are.ranges;
-      present = all_made (λ start range. 0 < range.size) arcs of.are.present;
-      once = λ hash below. let few = one_at_most (all_places of.old of.new) in omega (arith, count_made hash arcs, of.are.once hash below);
+      ranges = all_made (λ start range. IsRange range) arcs apart.ranges;
+      present = all_made (λ start range. 0 < range.size) arcs apart.present;
+      once = λ hash below. omega (arith, count_made hash arcs, apart.once hash below);
     }

@@ -16,3 +16,4 @@ pub mod StayedPieces
 pub mod Gathering
 pub mod Foreseen
 pub mod Listing
+pub mod BySilo

@@ -16,16 +16,16 @@ use Rattle.directory_rules.specs.declared.PieceState.TheVariants.{Settled}
 use Rattle.directory_rules.proofs.Cases.{on_bool}
 use Rattle.directory_rules.proofs.Pieces.{piece_range}
 use Rattle.grain_partition.specs.Holding.{ArePieces}
-use Rattle.grain_partition.specs.Sight.{AreOfRings}
+use Rattle.grain_partition.specs.Sight.{AreApart}
 use Rattle.grain_partition.specs.Staying.{piece_made, stays}
 use Rattle.grain_partition.proofs.FromArcs.{made, pieces-made, sorted_made}
 use Rattle.grain_partition.proofs.AtTheEnd.{insert_entry-end}
 
 -- what pieces keep
-pub pieces-after : (next : Bool) (hashing : Hashing) (view : ViewValue) (silo : Silo) (pieces : List (ℕ × Piece)) (arcs : List Arc) → AreOfRings arcs
+pub pieces-after : (next : Bool) (hashing : Hashing) (view : ViewValue) (silo : Silo) (pieces : List (ℕ × Piece)) (arcs : List Arc) → AreApart arcs
     → ArePieces (pieces_after next hashing view silo pieces arcs)
-pieces-after next hashing view silo pieces arcs of =
-    pieces-made (piece_of next hashing view silo pieces) (λ arc. is_owner silo arc.to) (piece_range next hashing view silo pieces) arcs of
+pieces-after next hashing view silo pieces arcs apart =
+    pieces-made (piece_of next hashing view silo pieces) (λ arc. is_owner silo arc.to) (piece_range next hashing view silo pieces) arcs apart
 
 -- the range of a piece that is made
 pub made_range : (tidy next : Bool) (hashing : Hashing) (view : ViewValue) (silo : Silo) (pieces : List (ℕ × Piece)) (arc : Arc)
@@ -42,7 +42,7 @@ module _ (f : Arc → Piece) (q : Arc → Bool) (same : (arc : Arc) → (f arc).
   owned_first : (arc : Arc) (rest : List Arc) → q arc ≡ true → made f q (arc ∷ rest) ≡ entry_of arc ∷ made f q rest
   owned_first arc rest owned = ap (λ b. map entry_of (cond b (arc ∷ filter q rest) (filter q rest))) owned
 
-  module _ (arcs : List Arc) (of : AreOfRings arcs) (i : ℕ) (arc : Arc) (below : i < length arcs) (item : arc ≡ get_or arcs i arc) (owned : q arc ≡ true)
+  module _ (arcs : List Arc) (apart : AreApart arcs) (i : ℕ) (arc : Arc) (below : i < length arcs) (item : arc ≡ get_or arcs i arc) (owned : q arc ≡ true)
       (front : List (ℕ × Piece)) (so_far : front ++ made f q (drop i arcs) ≡ made f q arcs) where
     whole : front ++ entry_of arc ∷ made f q (drop (i + 1) arcs) ≡ made f q arcs
     whole =
@@ -56,7 +56,7 @@ module _ (f : Arc → Piece) (q : Arc → Bool) (same : (arc : Arc) → (f arc).
         → new ++ made f q (drop (i + 1) arcs) ≡ made f q arcs
     one_more piece is new put =
         let sorted : IsStrictlySortedBy nat_cmp (keys_of (front ++ entry_of arc ∷ made f q (drop (i + 1) arcs))) =
-        subst (λ l. IsStrictlySortedBy nat_cmp (keys_of l)) (sym whole) (sorted_made f q arcs of.are.in_order) in
+        subst (λ l. IsStrictlySortedBy nat_cmp (keys_of l)) (sym whole) (sorted_made f q arcs apart.in_order) in
         let last : new ≡ front ++ entry_of arc ∷ [] =
         put ∙ ap (λ (p : Piece). insert_entry nat_cmp front p.range.start p) is
         ∙ ap (λ r. insert_entry nat_cmp front r.start (f arc)) (same arc)

@@ -26,7 +26,7 @@ use Rattle.directory_rules.specs.Sight.{is_owner, is_settled, kept_entries, miss
 use Rattle.directory_rules.specs.Table.{Table}
 use Rattle.directory_rules.proofs.Pieces.{piece_range}
 use Rattle.grain_partition.specs.Holding.{ArePieces}
-use Rattle.grain_partition.specs.Sight.{AreOfRings}
+use Rattle.grain_partition.specs.Sight.{AreApart}
 use Rattle.grain_partition.specs.Staying.{are_tidy, covers, left_of, piece_made, pieces_made, put_back, staying, stays_as, with_staying}
 use Rattle.grain_partition.proofs.Around.{below-holds, holds-below}
 use Rattle.grain_partition.proofs.FromArcs.{made, sorted_made}
@@ -193,13 +193,13 @@ module _ (next : Bool) (hashing : Hashing) (view : ViewValue) (silo : Silo) (pie
       by (Some piece) found = ap (λ p. Some p) (stayed piece found (covers arc.range piece) refl)
 
   -- so the pieces that stay, put back, make the pieces after
-  pub stayed_are_after : (arcs : List Arc) → AreOfRings arcs
+  pub stayed_are_after : (arcs : List Arc) → AreApart arcs
       → fold (with_staying hashing view) (pieces_made true next hashing view silo pieces arcs) pieces ≡ pieces_after next hashing view silo pieces arcs
-  stayed_are_after arcs of =
+  stayed_are_after arcs apart =
       same_entries nat_cmp_total exact_unsigned (fold (with_staying hashing view) (pieces_made true next hashing view silo pieces arcs) pieces) (pieces_after next hashing view silo pieces arcs)
       (subst (λ keys. IsStrictlySortedBy nat_cmp keys) (sym (keys-all_back hashing view pieces (pieces_made true next hashing view silo pieces arcs)))
-      (sorted_made (piece_made true next hashing view silo pieces) (λ arc. is_owner silo arc.to) arcs of.are.in_order))
-      (sorted_made after_of (λ arc. is_owner silo arc.to) arcs of.are.in_order)
+      (sorted_made (piece_made true next hashing view silo pieces) (λ arc. is_owner silo arc.to) arcs apart.in_order))
+      (sorted_made after_of (λ arc. is_owner silo arc.to) arcs apart.in_order)
       (λ k.
       found_all_back hashing view k pieces (pieces_made true next hashing view silo pieces arcs) are.in_order
       ∙ found_made k (λ arc. is_owner silo arc.to) (piece_made true next hashing view silo pieces) after_of (back_at hashing view (lookup (is_at (nat_cmp k)) pieces))

@@ -5,3 +5,4 @@ pub mod Settled
 pub mod Sight
 pub mod Staying
 pub mod Seen
+pub mod BySilo

@@ -15,7 +15,6 @@ ghost use Rattle.grain_partition.specs.Serving.{IsTurnOf};
 ghost use Rattle.grain_partition.specs.Settled.{LiesSettled};
 ghost use Rattle.grain_partition.specs.Sight.{AreOfRings};
 
-use crate::Piece;
 use crate::entries::entries_within;
 use crate::sealing::sealed;
 use crate::search::piece_with;
@@ -23,11 +22,11 @@ use crate::seen::pieces_seen;
 use crate::served::serve_numbered;
 use crate::settled::are_settled;
 use crate::sight::sight;
+use crate::{ArcsBySilo, Piece};
 use directory_rules::{Act, PieceState, Reply, Request, Why};
 use grain_table::Table;
 use hash_ring::Hashing;
 use membership_view::View;
-use range_moves::Arc;
 use ring_range::RingRange;
 use seal_snapshot::Snapshot;
 use silo_address::SiloAddress;
@@ -197,13 +196,14 @@ impl Holding {
         hashing: Hashing,
         view: &View,
         silo: &SiloAddress,
-        arcs: &[Arc],
+        arcs: &ArcsBySilo,
     ) -> Result<(), AllocError>
         requires { AreOfRings arcs.now }
         ensures seen { OnOk result (self.new ≡ record { seen = view.now.version; served = []; pieces = pieces_after next hashing view.now silo.now self.old.pieces arcs.now }) }
         ensures unchanged { OnErr result (self.new ≡ self.old) }
     {
-        sight(alloc, &mut self.pieces, next, hashing, view, silo, arcs)?;
+        let owned = arcs.owned_by(silo);
+        sight(alloc, &mut self.pieces, next, hashing, view, silo, owned)?;
         self.seen = view.version();
         self.served = BTreeMap::new(alloc);
         Ok(())
@@ -218,13 +218,14 @@ impl Holding {
         hashing: Hashing,
         view: &View,
         silo: &SiloAddress,
-        arcs: &[Arc],
+        arcs: &ArcsBySilo,
     ) -> Result<BTreeMap<u32, Piece>, AllocError>
         requires { AreOfRings arcs.now }
         ensures exact { IfOk result (λ seen. seen.entries ≡ pieces_seen next hashing view.now silo.now self.now.pieces arcs.now) }
         ensures pieces { IfOk result (λ seen. ArePieces seen.entries) }
     {
-        pieces_seen(alloc, &self.pieces, next, hashing, view, silo, arcs)
+        let owned = arcs.owned_by(silo);
+        pieces_seen(alloc, &self.pieces, next, hashing, view, silo, owned)
     }
 
     /// Whether every hash of the range is in a settled piece.
@@ -288,11 +289,12 @@ impl Holding {
         hashing: Hashing,
         view: &View,
         silo: &SiloAddress,
-        arcs: &[Arc],
+        arcs: &ArcsBySilo,
     ) -> Result<Vec<Snapshot>, AllocError>
         ensures { IfOk result (λ snapshots. snapshots.items ≡ sealed hashing view.now silo.now self.now.pieces arcs.now) }
     {
-        sealed(alloc, &self.pieces, hashing, view, silo, arcs)
+        let given = arcs.given_by(silo);
+        sealed(alloc, &self.pieces, hashing, view, silo, given)
     }
 
     /// The piece of just this range recovers from now on, without entries. Asks of its caller that there is such a piece
@@ -339,8 +341,6 @@ fn is_numbered(act: &Act) -> bool
     }
 }
 
-// The piece takes the place of the one that begins where it does.
-fn replace(pieces: &mut BTreeMap<u32, Piece>, piece: Piece)
 // The piece of just this range recovers, without entries.
 fn recover(pieces: &mut BTreeMap<u32, Piece>, range: &RingRange)
     requires { HasPiece range.now pieces.old.entries }
@@ -350,6 +350,8 @@ fn recover(pieces: &mut BTreeMap<u32, Piece>, range: &RingRange)
     piece.recover();
 }
 
+// The piece takes the place of the one that begins where it does.
+fn replace(pieces: &mut BTreeMap<u32, Piece>, piece: Piece)
     requires { IsSome (lookup (is_at (nat_cmp piece.range.start)) pieces.old.entries) }
     ensures { pieces.new.entries ≡ with_piece piece pieces.old.entries }
 {

@@ -2,9 +2,11 @@
 //! how requests are answered from them.
 #![tactic(auto)]
 
+mod by_silo;
 mod entries;
 mod holding;
 mod listed;
+mod own_arcs;
 mod piece;
 mod sealing;
 mod search;
@@ -14,5 +16,6 @@ mod settled;
 mod sight;
 mod staying;
 
+pub use by_silo::ArcsBySilo;
 pub use holding::Holding;
 pub use piece::Piece;

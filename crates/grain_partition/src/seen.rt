@@ -4,7 +4,7 @@ ghost use Rattle.directory_rules.specs.Sight.{missing_state, was_settled};
 ghost use Rattle.directory_rules.specs.declared.PieceState.TheVariants.{Settled};
 ghost use Rattle.grain_partition.specs.Holding.{ArePieces};
 ghost use Rattle.grain_partition.specs.Seen.{pieces_seen};
-ghost use Rattle.grain_partition.specs.Sight.{AreOfRings};
+ghost use Rattle.grain_partition.specs.Sight.{AreApart};
 
 use crate::Piece;
 use crate::settled::are_settled;
@@ -28,7 +28,7 @@ pub(crate) fn pieces_seen(
     arcs: &[Arc],
 ) -> Result<BTreeMap<u32, Piece>, AllocError>
     requires pieces { ArePieces pieces.now.entries }
-    requires arcs { AreOfRings arcs.now }
+    requires arcs { AreApart arcs.now }
     ensures exact { IfOk result (λ seen. seen.entries ≡ pieces_seen next hashing view.now silo.now pieces.now.entries arcs.now) }
     ensures pieces { IfOk result (λ seen. ArePieces seen.entries) }
 {

@@ -5,7 +5,7 @@ ghost use Rattle.std.specs.BTreeMap.{insert_entry};
 ghost use Rattle.std.specs.Ordering.{nat_cmp};
 ghost use Rattle.directory_rules.specs.Sight.{is_owner, missing_state, piece_of, pieces_after};
 ghost use Rattle.grain_partition.specs.Holding.{ArePieces};
-ghost use Rattle.grain_partition.specs.Sight.{AreOfRings};
+ghost use Rattle.grain_partition.specs.Sight.{AreApart};
 ghost use Rattle.grain_partition.specs.Staying.{are_tidy, piece_made, pieces_made};
 
 use crate::Piece;
@@ -34,7 +34,7 @@ pub(crate) fn sight(
     arcs: &[Arc],
 ) -> Result<(), AllocError>
     requires pieces { ArePieces pieces.old.entries }
-    requires arcs { AreOfRings arcs.now }
+    requires arcs { AreApart arcs.now }
     ensures after { OnOk result (pieces.new.entries ≡ pieces_after next hashing view.now silo.now pieces.old.entries arcs.now) }
     ensures unchanged { OnErr result (pieces.new.entries ≡ pieces.old.entries) }
 {
@@ -60,7 +60,7 @@ fn pieces_made(
 ) -> Result<BTreeMap<u32, Piece>, AllocError>
     requires pieces { ArePieces pieces.now.entries }
     requires tidy { tidy ≡ are_tidy hashing pieces.now.entries }
-    requires arcs { AreOfRings arcs.now }
+    requires arcs { AreApart arcs.now }
     ensures { IfOk result (λ made. made.entries ≡ pieces_made tidy next hashing view.now silo.now pieces.now.entries arcs.now) }
 {
     let mut made = BTreeMap::new(alloc);

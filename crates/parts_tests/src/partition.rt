@@ -1,11 +1,10 @@
 //! What a silo keeps for others: its pieces, and the requests that it serves from them.
-use crate::samples::{A, B, C, declare_dead, entry, grain, joined, range, silo, view};
+use crate::samples::{A, B, C, between, declare_dead, entry, grain, joined, range, silo, view};
 use directory_rules::{Act, PieceState, Reply, Request, Why};
 use grain_partition::Holding;
 use grain_table::Table;
 use hash_ring::{Hashing, Places, Ring};
 use membership_view::Views;
-use range_moves::arcs;
 use std::alloc::Global;
 use std::process::Abort;
 
@@ -44,7 +43,7 @@ fn sees(
     let seen = view(rt, alloc, &views, to);
     let old = Ring::anew(alloc, &view(rt, alloc, &views, from), &places).expect(rt, "a ring");
     let new = Ring::anew(alloc, &seen, &places).expect(rt, "a ring");
-    let between = arcs(alloc, &old, &new).expect(rt, "memory");
+    let between = between(alloc, &old, &new).expect(rt, "memory");
     let next = to.saturating_sub(from) == 1;
     let silo = silo(rt, who);
     let mut after = holding.copy().expect(rt, "memory");

@@ -3,13 +3,14 @@
 //! `sealing`. `rt try --test --fail-alloc N` refuses each test its Nth allocation.
 ghost use Rattle.grain_partition.specs.Sight.{AreOfRings};
 
-use crate::samples::{A, B, C, MANY, declare_dead, entry, join, joined, range, silo, view};
+use crate::samples::{
+    A, B, C, MANY, between, declare_dead, entry, join, joined, range, silo, view,
+};
 use directory_rules::{Act, PieceState, Reply, Request};
-use grain_partition::{Holding, Piece};
+use grain_partition::{ArcsBySilo, Holding, Piece};
 use grain_table::Table;
 use hash_ring::{Hashing, Places, Ring};
 use membership_view::View;
-use range_moves::{Arc, arcs};
 use silo_address::Entry;
 use std::alloc::Global;
 use std::collections::BTreeMap;
@@ -44,14 +45,14 @@ fn ring(rt: &impl Abort, alloc: Global, version: u64) -> Ring {
 }
 
 // The arcs from the ring of the version before to that of this one.
-fn arcs_to(rt: &impl Abort, alloc: Global, version: u64) -> Vec<Arc>
-    ensures { AreOfRings result.items }
+fn arcs_to(rt: &impl Abort, alloc: Global, version: u64) -> ArcsBySilo
+    ensures { AreOfRings result }
 {
     let before = version.saturating_sub(1);
     let (old, new) = (ring(rt, alloc, before), ring(rt, alloc, version));
-    match arcs(alloc, &old, &new) {
+    match between(alloc, &old, &new) {
         Ok(arcs) => arcs,
-        Err(_) => arcs(alloc, &old, &new).expect(rt, "memory"),
+        Err(_) => between(alloc, &old, &new).expect(rt, "memory"),
     }
 }
 

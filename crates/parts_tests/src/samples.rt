@@ -1,10 +1,15 @@
 //! Values by their texts, for the tests.
+ghost use Rattle.std.specs.Prelude.{IfOk};
+ghost use Rattle.grain_partition.specs.Sight.{AreOfRings};
+
 use directory_rules::Settings;
-use hash_ring::Hashing;
+use grain_partition::ArcsBySilo;
+use hash_ring::{Hashing, Ring};
 use membership_view::{View, Views};
+use range_moves::arcs;
 use ring_range::RingRange;
 use silo_address::{ActivationId, Entry, GrainId, SiloAddress};
-use std::alloc::Global;
+use std::alloc::{AllocError, Global};
 use std::process::Abort;
 
 // Silos, by address.
@@ -33,6 +38,14 @@ pub(crate) fn entry(rt: &impl Abort, (of, on, count): (&str, &str, u64)) -> Entr
     let (grain, silo) = (grain(rt, of), silo(rt, on));
     let activation = ActivationId { silo, count };
     Entry { grain, activation }
+}
+
+// The arcs from one ring to another.
+pub(crate) fn between(alloc: Global, old: &Ring, new: &Ring) -> Result<ArcsBySilo, AllocError>
+    ensures { IfOk result (λ between. AreOfRings between) }
+{
+    let between = arcs(alloc, old, new)?;
+    ArcsBySilo::of(alloc, between)
 }
 
 // Settings of a directory that hashes in this way.

@@ -2,16 +2,17 @@
 //! leaves true: a call that is refused is made again. `rt try --test --fail-alloc N` refuses each test its Nth allocation.
 ghost use Rattle.grain_partition.specs.Sight.{AreOfRings};
 
+use crate::samples::between;
 use directory_rules::PieceState;
-use grain_partition::Holding;
+use grain_partition::{ArcsBySilo, Holding};
 use grain_table::Table;
 use hash_ring::{Hashing, Places, Ring};
 use membership_view::{View, Views};
-use range_moves::{Arc, arcs};
+use range_moves::Arc;
 use ring_range::RingRange;
 use seal_snapshot::Snapshot;
 use silo_address::{ActivationId, Entry, GrainId, SiloAddress};
-use std::alloc::Global;
+use std::alloc::{AllocError, Global};
 use std::process::Abort;
 
 // Texts of silos, by address.
@@ -89,19 +90,19 @@ fn ring(rt: &impl Abort, alloc: Global, version: u64) -> Ring {
 }
 
 // The arcs from the ring of one version to that of another.
-fn between(rt: &impl Abort, alloc: Global, old: u64, new: u64) -> Vec<Arc>
-    ensures { AreOfRings result.items }
+fn arcs_between(rt: &impl Abort, alloc: Global, old: u64, new: u64) -> ArcsBySilo
+    ensures { AreOfRings result }
 {
     let (old, new) = (ring(rt, alloc, old), ring(rt, alloc, new));
-    match arcs(alloc, &old, &new) {
-        Ok(between) => between,
-        Err(_) => arcs(alloc, &old, &new).expect(rt, "memory"),
+    match between(alloc, &old, &new) {
+        Ok(arcs) => arcs,
+        Err(_) => between(alloc, &old, &new).expect(rt, "memory"),
     }
 }
 
 // What A has after its first sight, at version 2: the piece 10+90.
 fn first_pieces(rt: &impl Abort, alloc: Global) -> Holding {
-    let between = between(rt, alloc, 0, 2);
+    let between = arcs_between(rt, alloc, 0, 2);
     let (view, silo) = (view(rt, alloc, 2), silo(rt, A));
     let mut holding = Holding::new(alloc);
     let sighted = holding.sight(alloc, false, Hashing::Stated, &view, &silo, &between);
@@ -132,7 +133,7 @@ fn settled_pieces(rt: &impl Abort, alloc: Global) -> Holding {
 }
 
 // What A seals when it sees version 4.
-fn sealed(rt: &impl Abort, alloc: Global, holding: &Holding, arcs: &[Arc]) -> Vec<Snapshot> {
+fn sealed(rt: &impl Abort, alloc: Global, holding: &Holding, arcs: &ArcsBySilo) -> Vec<Snapshot> {
     let (view, silo) = (view(rt, alloc, 4), silo(rt, A));
     match holding.seal(alloc, Hashing::Stated, &view, &silo, arcs) {
         Ok(sealed) => sealed,
@@ -141,6 +142,19 @@ fn sealed(rt: &impl Abort, alloc: Global, holding: &Holding, arcs: &[Arc]) -> Ve
             sealed.expect(rt, "memory")
         }
     }
+}
+
+// Arcs by hand.
+fn listed(rt: &impl Abort, alloc: Global, arcs: &[Arc]) -> ArcsBySilo {
+    match try_listed(alloc, arcs) {
+        Ok(listed) => listed,
+        Err(_) => try_listed(alloc, arcs).expect(rt, "memory"),
+    }
+}
+
+fn try_listed(alloc: Global, arcs: &[Arc]) -> Result<ArcsBySilo, AllocError> {
+    let arcs: Vec<Arc> = arcs.iter().copied().collect(alloc)?;
+    ArcsBySilo::of(alloc, arcs)
 }
 
 fn arc(rt: &impl Abort, text: &str, from: &str, to: &str) -> Arc {
@@ -159,7 +173,7 @@ fn a_sight_seals(rt: HostRuntime) {
     let stays = arc(&rt, "10+50", A, A);
     let goes = arc(&rt, "60+40", A, C);
     let others = arc(&rt, "100+4294967206", B, C);
-    let arcs = [stays, goes, others];
+    let arcs = listed(&rt, alloc, &[stays, goes, others]);
     let sealed = sealed(&rt, alloc, &holding, &arcs);
     assert!(rt; sealed.len() == 1);
     let snapshot = sealed.first().expect(&rt, "a snapshot");
@@ -183,7 +197,7 @@ fn check_piece(rt: &impl Abort, holding: &Holding, (seen, text): (u64, &str), en
 fn a_piece_is_cut(rt: HostRuntime) {
     let alloc = rt.alloc();
     let mut holding = settled_pieces(&rt, alloc);
-    let between = between(&rt, alloc, 2, 3);
+    let between = arcs_between(&rt, alloc, 2, 3);
     let (view, silo) = (view(&rt, alloc, 3), silo(&rt, A));
     let sighted = holding.sight(alloc, true, Hashing::Stated, &view, &silo, &between);
     if sighted.is_err() {
