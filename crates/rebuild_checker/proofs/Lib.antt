@@ -3,6 +3,7 @@ pub mod InOrder
 pub mod Joined
 pub mod ReadLists
 pub mod ReadValues
+pub mod Rising
 pub mod SetsMade
 pub mod Shaped
 pub mod Tests

@@ -1,6 +1,6 @@
 //! Lists in order, lists without an item that stands twice, and sets of their items.
 
-ghost use Rattle.std.specs.Prelude.{◌≡◌, IfOk};
+ghost use Rattle.std.specs.Prelude.{◌≡◌, IfOk, IsTrue};
 ghost use Rattle.std.specs.BTreeMap.{is_at};
 ghost use Rattle.std.specs.List.{list_all};
 ghost use Rattle.dump_rules.specs.DumpShape.{are_distinct_by, are_in_order as in_order};
@@ -16,8 +16,25 @@ pub(crate) fn are_in_order<T: Ord>(items: &[T]) -> bool
     items.is_sorted()
 }
 
-/// Whether no two items are the same.
+/// Whether no two items are the same. Where each is above the one before it, that tells; else a set of them does.
 pub(crate) fn are_distinct<T: Ord + Copy>(alloc: Global, items: &[T]) -> Result<bool, AllocError>
+    ensures { IfOk result (λ answer. answer ≡ are_distinct_by (λ one. is_at (T.cmp one)) items.now) }
+{
+    if is_rising(items) {
+        return Ok(true);
+    }
+    are_new(alloc, items)
+}
+
+/// Whether each item is above the one before it.
+fn is_rising<T: Ord>(items: &[T]) -> bool
+    ensures { IsTrue result → IsTrue (are_distinct_by (λ one. is_at (T.cmp one)) items.now) }
+{
+    items.is_sorted_by(|one, next| one.cmp(next).is_lt())
+}
+
+/// Whether no item is among those before it.
+fn are_new<T: Ord + Copy>(alloc: Global, items: &[T]) -> Result<bool, AllocError>
     ensures { IfOk result (λ answer. answer ≡ are_distinct_by (λ one. is_at (T.cmp one)) items.now) }
 {
     let mut found = BTreeSet::new(alloc);

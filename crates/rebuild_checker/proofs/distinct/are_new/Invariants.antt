@@ -2,7 +2,7 @@ use Rattle.std.proofs.Common.{◌≡◌, true, take}
 use Rattle.std.specs.BTreeMap.{is_at}
 use Rattle.dump_rules.specs.DumpShape.{are_distinct_by}
 use Rattle.rebuild_checker.specs.Sets.{HasItems}
-use Rattle.rebuild_checker.proofs.distinct.are_distinct.Given as goal
+use Rattle.rebuild_checker.proofs.distinct.are_new.Given as goal
 
 abbrev pub invariant-loop-item : goal.invariant-loop-item
 invariant-loop-item g l = record {
