@@ -1,16 +1,12 @@
 -- Numbers mixed from the texts of grains.
-use Rattle.std.specs.Prelude.{ℕ, ◌+◌, ◌*◌, ◌^◌, ◌%◌, ◌<◌, List, get_or, length, map}
+use Rattle.std.specs.Prelude.{ℕ, ◌+◌, ◌<◌, List, get_or, length, map}
 use Rattle.std.specs.Borrow.{Bor}
-use Rattle.std.specs.List.{fold}
+use Rattle.std.specs.Hash.FoldHasher as folding
 use Rattle.silo_address.specs.Grain.{Grain, grain_text}
 
--- a number with a byte more
-abbrev pub mixed_with : ℕ → ℕ → ℕ
-mixed_with number byte = ((number * 6364136223846793005) % 2 ^ 64 + byte) % 2 ^ 64
-
--- the number of a grain; other grains may have it too
+-- the number of a grain, folded from its text, several bytes at once; other grains may have it too
 unfoldable pub mixed : Grain → ℕ
-mixed grain = fold mixed_with 0 (grain_text grain)
+mixed grain = folding.finish (folding.write folding.initial (grain_text grain))
 
 -- what stands behind references
 abbrev pub grains_lent : List (Bor Grain) → List Grain

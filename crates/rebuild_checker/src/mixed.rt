@@ -3,14 +3,12 @@
 ghost use Rattle.std.specs.Prelude.{◌≡◌, IfOk, IsTrue, map};
 ghost use Rattle.silo_address.specs.Grain.{grain_eq};
 ghost use Rattle.dump_rules.specs.DumpShape.{are_distinct_by};
-ghost use Rattle.rebuild_checker.specs.Mixed.{Rises, grains_lent, mixed, mixed_with};
+ghost use Rattle.rebuild_checker.specs.Mixed.{Rises, grains_lent, mixed};
 
 use crate::distinct::are_distinct;
 use silo_address::GrainId;
 use std::alloc::{AllocError, Global};
-
-/// By what a number is multiplied before the next byte is added: an odd number without a pattern.
-const FACTOR: u64 = 6_364_136_223_846_793_005;
+use std::hash::{FoldHasher, Hasher};
 
 /// Whether no two of the grains are the same. Mostly numbers tell that are mixed from their texts, each of which is read once, in order;
 /// only where two have one number, a set of the grains does. Costs a logarithm for each grain. Fails only when memory runs out.
@@ -45,17 +43,9 @@ fn numbers_of(alloc: Global, grains: &[&GrainId]) -> Result<Vec<u64>, AllocError
 fn mixed(grain: &GrainId) -> u64
     ensures { result ≡ mixed grain.now }
 {
-    grain
-        .as_bytes()
-        .iter()
-        .fold(0, |number, byte| with_byte(number, *byte))
-}
-
-/// The number with a byte more.
-fn with_byte(number: u64, byte: u8) -> u64
-    ensures { result ≡ mixed_with number byte }
-{
-    number.wrapping_mul(FACTOR).wrapping_add(u64::from(byte))
+    let mut hasher = FoldHasher::default();
+    hasher.write(grain.as_bytes());
+    hasher.finish()
 }
 
 /// Whether each number is above the one before it.
