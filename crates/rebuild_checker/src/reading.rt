@@ -16,6 +16,7 @@ use crate::values::{
 use crate::{Dump, Held, ListedPoint, Node, Piece, ReadError, Row};
 use serde_json::Value;
 use silo_address::Entry;
+use simdutf8::basic::from_utf8;
 use std::alloc::Global;
 
 /// Reads the dump that bytes tell: they have to be UTF-8 and one JSON value, nested at most 127 deep, else they are
@@ -35,7 +36,7 @@ pub fn read_dump(alloc: Global, bytes: &[u8]) -> Result<Dump, ReadError>
 fn straight(alloc: Global, bytes: &[u8]) -> Result<Dump, ReadError>
     ensures { IfOk result (λ dump. told bytes.now ≡ Ok dump) }
 {
-    match str::from_utf8(bytes) {
+    match from_utf8(bytes) {
         Ok(text) => read_straight(alloc, text),
         Err(_) => Err(ReadError::NotJson),
     }
