@@ -1,9 +1,11 @@
+pub mod Apart
 pub mod Counts
 pub mod Covered
 pub mod FirmOnTwo
 pub mod Grains
 pub mod HashesBelow
 pub mod HeldAsOwned
+pub mod Kept
 pub mod LeastMoved
 pub mod LeastOf
 pub mod Listed

@@ -5,7 +5,7 @@ use Rattle.std.specs.BTreeMap.{is_at}
 use Rattle.std.specs.Cmp.{IsTotalOrder}
 use Rattle.std.specs.List.{list_any}
 use Rattle.std.specs.List.Sorted.{IsNonDecreasingBy, IsPartitionedBy, IsPartitionPoint, IsSorted}
-use Rattle.std.specs.Ordering.{is_eq, is_gt, is_le, is_lt, ordering_index, ordering_reverse, ordering_then}
+use Rattle.std.specs.Ordering.{is_eq, is_ge, is_gt, is_le, is_lt, ordering_index, ordering_reverse, ordering_then}
 use Rattle.std.proofs.lemmas.Bool.{cases_lt}
 use Rattle.std.proofs.lemmas.List.{get_or_default}
 use Rattle.std.proofs.lemmas.Cmp.{on_total, then_total}
@@ -70,6 +70,16 @@ pub named_hit : (one : Named) (names : List Named) (index : ℕ) → index < len
 named_hit one names index within hit =
     sym (some_at (λ other. is_eq (named_cmp other one)) names index within (λ d. ap is_eq (hit d))) ∙ among_alike one names
 
+tied : (o : Ordering) → is_eq o ≡ true → o ≡ Equal
+tied Less is = absurd (cc)
+tied Equal is = refl
+tied Greater is = absurd (cc)
+
+pub named_at : (one : Named) (names : List Named) (index : ℕ) → index < length names → (here : Named) → here ≡ get_or names index here
+    → is_eq (named_cmp here one) ≡ true → is_entry_among (entries_named names) (entry_named one) ≡ true
+named_at one names index within here is_here ties =
+    sym (named_hit one names index within (λ d. ap (λ n. named_cmp n one) (get_or_default names index d here within ∙ sym is_here) ∙ tied (named_cmp here one) ties))
+
 rises : (one : Named) (names : List Named) → IsSorted named_cmp names → IsNonDecreasingBy (λ other. ordering_index (named_cmp other one)) names
 rises one names in_order = searchable_from_sorted named_total (λ (n : Named). n) names one in_order
 
@@ -107,7 +117,29 @@ parted_le one names in_order i j d upto within = le_down (named_cmp (get_or name
 pub parted_lt : (one : Named) (names : List Named) → IsSorted named_cmp names → IsPartitionedBy (λ other. is_lt (named_cmp other one)) names
 parted_lt one names in_order i j d upto within = lt_down (named_cmp (get_or names i d) one) (named_cmp (get_or names j d) one) (rises one names in_order i j d upto within)
 
--- where neighbours tell that they end
+-- where neighbours tell that those which pass a test end
+split_between : {X : Type 0} (p : X → Bool) (xs : List X) (index : ℕ) → IsPartitionedBy p xs → 0 < index → index < length xs
+    → (before here : X) → before ≡ get_or xs (index - 1) before → here ≡ get_or xs index here → p before ≡ true → p here ≡ false
+    → index ≡ count_by p xs
+split_between {X} p xs index parted past within before here is_before is_here passes fails =
+    count_split p xs index (omega (arith, within)) (below, above)
+  where
+    prior : (d : X) → p (get_or xs (index - 1) d) ≡ true
+    prior d = ap p (get_or_default xs (index - 1) d before (omega (arith, within, past)) ∙ sym is_before) ∙ passes
+
+    next : (d : X) → p (get_or xs index d) ≡ false
+    next d = ap p (get_or_default xs index d here within ∙ sym is_here) ∙ fails
+
+    below : (k : ℕ) (d : X) → 0 ≤ k → k < index → p (get_or xs k d) ≡ true
+    below k d low first = parted k (index - 1) d (omega (arith, first)) (omega (arith, within, past)) (prior d)
+
+    answered : (k : ℕ) (d : X) → index ≤ k → k < length xs → (b : Bool) → p (get_or xs k d) ≡ b → b ≡ false
+    answered k d high low true is = absurd (let no : false ≡ true = sym (next d) ∙ parted index k d high low is in cc)
+    answered k d high low false is = refl
+
+    above : (k : ℕ) (d : X) → index ≤ k → k < length xs → p (get_or xs k d) ≡ false
+    above k d high low = answered k d high low (p (get_or xs k d)) refl
+
 above_ends : (o : Ordering) → is_gt o ≡ true → is_le o ≡ false
 above_ends Less is = absurd (cc)
 above_ends Equal is = absurd (cc)
@@ -118,23 +150,21 @@ pub ends_between : (one : Named) (names : List Named) (index : ℕ) → IsSorted
     → is_le (named_cmp before one) ≡ true → is_gt (named_cmp here one) ≡ true
     → index ≡ count_by (λ other. is_le (named_cmp other one)) names
 ends_between one names index in_order past within before here is_before is_here not_above is_above =
-    count_split (λ other. is_le (named_cmp other one)) names index (omega (arith, within)) (below, above)
-  where
-    prior : (d : Named) → is_le (named_cmp (get_or names (index - 1) d) one) ≡ true
-    prior d = ap (λ n. is_le (named_cmp n one)) (get_or_default names (index - 1) d before (omega (arith, within, past)) ∙ sym is_before) ∙ not_above
+    split_between (λ other. is_le (named_cmp other one)) names index (parted_le one names in_order) past within before here is_before is_here not_above
+    (above_ends (named_cmp here one) is_above)
 
-    next : (d : Named) → is_le (named_cmp (get_or names index d) one) ≡ false
-    next d = ap (λ n. is_le (named_cmp n one)) (get_or_default names index d here within ∙ sym is_here) ∙ above_ends (named_cmp here one) is_above
+not_below : (o : Ordering) → is_ge o ≡ true → is_lt o ≡ false
+not_below Less is = absurd (cc)
+not_below Equal is = refl
+not_below Greater is = refl
 
-    below : (k : ℕ) (d : Named) → 0 ≤ k → k < index → is_le (named_cmp (get_or names k d) one) ≡ true
-    below k d low first = parted_le one names in_order k (index - 1) d (omega (arith, first)) (omega (arith, within, past)) (prior d)
-
-    answered : (k : ℕ) (d : Named) → index ≤ k → k < length names → (b : Bool) → is_le (named_cmp (get_or names k d) one) ≡ b → b ≡ false
-    answered k d high low true is = absurd (let no : false ≡ true = sym (next d) ∙ parted_le one names in_order index k d high low is in cc)
-    answered k d high low false is = refl
-
-    above : (k : ℕ) (d : Named) → index ≤ k → k < length names → is_le (named_cmp (get_or names k d) one) ≡ false
-    above k d high low = answered k d high low (is_le (named_cmp (get_or names k d) one)) refl
+pub begins_between : (one : Named) (names : List Named) (index : ℕ) → IsSorted named_cmp names → 0 < index → index < length names
+    → (before here : Named) → before ≡ get_or names (index - 1) before → here ≡ get_or names index here
+    → is_lt (named_cmp before one) ≡ true → is_ge (named_cmp here one) ≡ true
+    → index ≡ count_by (λ other. is_lt (named_cmp other one)) names
+begins_between one names index in_order past within before here is_before is_here is_below is_not =
+    split_between (λ other. is_lt (named_cmp other one)) names index (parted_lt one names in_order) past within before here is_before is_here is_below
+    (not_below (named_cmp here one) is_not)
 
 one_parted : (o : Ordering) → cond (is_le o) 1 0 ≡ cond (is_lt o) 1 0 + cond (is_eq o) 1 0
 one_parted Less = refl
@@ -154,6 +184,18 @@ count_parted one (other ∷ names) =
   where
     joined : (a b d h p q A B D : ℕ) → a ≡ h + A → b ≡ p + B → d ≡ q + D → h ≡ p + q → A ≡ B + D → a ≡ b + d
     joined a b d h p q A B D ia ib id here rest = omega arith
+
+pub below_bound : (one : Named) (names : List Named) → count_by (λ other. is_lt (named_cmp other one)) names ≤ length names
+below_bound one [] = omega arith
+below_bound one (other ∷ names) =
+    let rest = below_bound one names in
+    let whole = sum_by-cons (λ (n : Named). cond (is_lt (named_cmp n one)) 1 0) other names in
+    let here = one_at_most (is_lt (named_cmp other one)) in
+    omega (arith, rest, whole, here)
+  where
+    one_at_most : (t : Bool) → cond t 1 0 ≤ 1
+    one_at_most true = omega arith
+    one_at_most false = omega arith
 
 pub parted_bound : (one : Named) (names : List Named) (below up_to : ℕ) → below ≡ count_by (λ other. is_lt (named_cmp other one)) names
     → up_to ≡ count_by (λ other. is_le (named_cmp other one)) names → below ≤ up_to

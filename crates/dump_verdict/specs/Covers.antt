@@ -1,5 +1,5 @@
 -- Ranges told by where they begin and where they end.
-use Rattle.std.specs.Prelude.{ℕ, ◌+◌, ◌-◌, List, All, map, length, count_by, nat_le}
+use Rattle.std.specs.Prelude.{ℕ, ◌+◌, ◌-◌, ◌<◌, ◌≤◌, List, All, map, length, get_or, count_by, nat_le}
 use Rattle.std.specs.List.Sorted.{IsNonDecreasing, IsPermutation}
 use Rattle.ring_range.specs.Range.{Range, IsRange, circle}
 use Rattle.dump_verdict.specs.declared.cover.Cover.{Cover}
@@ -30,3 +30,13 @@ covering cover hash =
     (((count_by (λ start. nat_le start hash) cover.starts.items + length cover.ends.items)
     - count_by (λ end. nat_le end hash) cover.ends.items)
     - count_by (λ end. nat_le end (hash + circle)) cover.ends.items)
+
+-- no hash is in two of its ranges
+abbrev pub IsApart : Cover → Type 0
+IsApart cover = (hash : ℕ) → hash < circle → covering cover hash ≤ 1
+
+-- ranges that begin and end there, in order, come one after another: each begins where the one before it has ended or behind that, and
+-- the last one ends at most where the first begins a turn later
+pub record AreInTurn (starts ends : List ℕ) : Type 0 where
+  pub follow : (index d : ℕ) → index + 1 < length starts → get_or ends index d ≤ get_or starts (index + 1) d
+  pub around : (d : ℕ) → 0 < length ends → get_or ends (length ends - 1) d ≤ get_or starts 0 d + circle

@@ -1,9 +1,9 @@
 //! How many pieces hold a hash, told at the cost of a logarithm of how many there are.
 
-ghost use Rattle.std.specs.Prelude.{◌≡◌, ◌<◌, List, All, IfOk, map};
+ghost use Rattle.std.specs.Prelude.{◌≡◌, ◌<◌, List, All, IfOk, IsTrue, length, map};
 ghost use Rattle.std.specs.List.Sorted.{IsNonDecreasing, IsPermutation};
 ghost use Rattle.ring_range.specs.Range.{IsRange, Range, circle};
-ghost use Rattle.dump_verdict.specs.Covers.{IsCover, count_up_to, covering, range_start, range_end};
+ghost use Rattle.dump_verdict.specs.Covers.{AreInTurn, IsApart, IsCover, count_up_to, covering, range_start, range_end};
 
 use ring_range::RingRange;
 use std::alloc::{AllocError, Global};
@@ -39,6 +39,32 @@ pub(crate) fn count_holding(cover: &Cover, hash: u64) -> usize
     let ended = count_up_to(&cover.ends, hash);
     let ended_beyond = count_up_to(&cover.ends, hash + CIRCLE);
     begun + cover.ends.len() - ended - ended_beyond
+}
+
+/// Whether the bounds tell that no two of the ranges have a hash in common. Goes over them once.
+pub(crate) fn is_apart(cover: &Cover) -> bool
+    requires { (ranges : List Range) × IsCover ranges cover.now }
+    ensures { IsTrue result → IsApart cover.now }
+{
+    are_in_turn(&cover.starts, &cover.ends)
+}
+
+/// Whether each range begins where the one before it has ended or behind that, and the last one ends at most where the first begins a
+/// turn later.
+fn are_in_turn(starts: &[u64], ends: &[u64]) -> bool
+    requires { length starts.now ≡ length ends.now }
+    ensures { IsTrue result → AreInTurn starts.now ends.now }
+{
+    if starts.is_empty() {
+        return true;
+    }
+    let last = starts.len() - 1;
+    for index in 0..last {
+        if starts[index + 1] < ends[index] {
+            return false;
+        }
+    }
+    ends[last].saturating_sub(CIRCLE) <= starts[0]
 }
 
 /// How many of some numbers in order aren't above one, found by halves.

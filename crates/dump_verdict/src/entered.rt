@@ -1,21 +1,23 @@
 //! Whether each firm activation is entered where it has to be.
 
-ghost use Rattle.std.specs.Prelude.{◌≡◌, List, All, IfOk, IsTrue, map, filter};
+ghost use Rattle.std.specs.Prelude.{◌≡◌, List, All, IfOk, IsTrue, map, filter, nat_lt};
 ghost use Rattle.std.specs.List.{list_all};
 ghost use Rattle.std.specs.List.Sorted.{IsSorted};
 ghost use Rattle.ring_range.specs.Range.{IsRange, Range};
+ghost use Rattle.hash_ring.specs.Hash.{hash_grain};
 ghost use Rattle.dump_rules.specs.DumpShape.{is_dump};
 ghost use Rattle.dump_rules.specs.Verdict as rule;
-ghost use Rattle.dump_verdict.specs.Covers.{IsCover};
+ghost use Rattle.dump_verdict.specs.Covers.{IsApart, IsCover, covering};
 ghost use Rattle.dump_verdict.specs.Lent.{entries_in, held_on, nodes_lent, pieces_lent};
 ghost use Rattle.dump_verdict.specs.Named.{IsIndex, named_cmp};
 ghost use Rattle.dump_verdict.specs.Tallies.{is_lacking};
 
-use crate::cover::{Cover, count_holding, cover_of};
+use crate::cover::{Cover, count_holding, cover_of, is_apart};
+use crate::firm::firm_on;
 use crate::index::{Named, count_named};
 use crate::least::least_of;
 use hash_ring::Hashing;
-use rebuild_checker::{Dump, Held, Node, Phase, Piece};
+use rebuild_checker::{Dump, Held, Node, Piece};
 use ring_range::RingRange;
 use silo_address::GrainId;
 use std::alloc::{AllocError, Global};
@@ -75,23 +77,45 @@ fn missing_grains(
     requires entered { IsSorted named_cmp entered.now }
     ensures { IfOk result (λ grains. grains.items ≡ map (λ held. held.grain) (filter (λ held. is_lacking hashing cover.now entered.now (rule.entry_of_held held)) (filter (λ held. rule.is_firm_phase held.phase) (held_on nodes.now)))) }
 {
-    nodes
-        .iter()
-        .copied()
-        .flat_map(|node| node.held.iter())
-        .filter(|held| held.phase == Phase::Firm)
-        .filter(|held| is_missing(hashing, cover, entered, held))
-        .map(|held| held.grain)
-        .collect(alloc)
+    let firm = firm_on(alloc, nodes)?;
+    lacking_grains(alloc, hashing, cover, entered, &firm)
 }
 
-/// Whether more pieces have an activation's hash than have its entry.
-fn is_missing(hashing: Hashing, cover: &Cover, entered: &[Named], held: &Held) -> bool
+/// The grains of those activations whose hashes more pieces have than have their entries. They stand nearly in the order of the index,
+/// so each is looked for behind the one before it.
+fn lacking_grains(
+    alloc: Global,
+    hashing: Hashing,
+    cover: &Cover,
+    entered: &[Named],
+    activations: &[&Held],
+) -> Result<Vec<GrainId>, AllocError>
     requires cover { (ranges : List Range) × IsCover ranges cover.now }
     requires entered { IsSorted named_cmp entered.now }
-    ensures { result ≡ is_lacking hashing cover.now entered.now (rule.entry_of_held held.now) }
+    ensures { IfOk result (λ grains. grains.items ≡ map (λ one. one.now.grain) (filter (λ one. is_lacking hashing cover.now entered.now (rule.entry_of_held one.now)) activations.now)) }
 {
-    let hash = hashing.hash_grain(&held.grain);
-    let times = count_named(entered, &(held.activation, &held.grain));
+    let apart = is_apart(cover);
+    let mut grains = Vec::new(alloc);
+    let mut guess = 0;
+    for held in activations {
+        let (times, next) = count_named(entered, guess, &(held.activation, &held.grain));
+        if is_lacking(hashing, cover, apart, &held.grain, times) {
+            grains.push(held.grain)?;
+        }
+        guess = next;
+    }
+    Ok(grains)
+}
+
+/// Whether more pieces have the grain's hash than so many. Where no two have a hash in common, it is hashed only if there are none.
+fn is_lacking(hashing: Hashing, cover: &Cover, apart: bool, grain: &GrainId, times: usize) -> bool
+    requires cover { (ranges : List Range) × IsCover ranges cover.now }
+    requires apart { IsTrue apart → IsApart cover.now }
+    ensures { result ≡ nat_lt times (covering cover.now (hash_grain hashing grain.now)) }
+{
+    if apart && times > 0 {
+        return false;
+    }
+    let hash = hashing.hash_grain(grain);
     times < count_holding(cover, u64::from(hash))
 }

@@ -27,7 +27,7 @@ pub(crate) fn twice_firm(alloc: Global, nodes: &[&Node]) -> Result<Option<GrainI
 }
 
 /// The firm activations on the nodes.
-fn firm_on<'a>(alloc: Global, nodes: &[&'a Node]) -> Result<Vec<&'a Held>, AllocError>
+pub(crate) fn firm_on<'a>(alloc: Global, nodes: &[&'a Node]) -> Result<Vec<&'a Held>, AllocError>
     ensures { IfOk result (λ held. held_lent held.items ≡ filter (λ held. rule.is_firm_phase held.phase) (held_on nodes.now)) }
 {
     nodes

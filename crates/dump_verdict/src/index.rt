@@ -1,11 +1,11 @@
 //! Entries in the order of their activations, found by halves. What is moved about is an activation and where its grain stands.
 
-ghost use Rattle.std.specs.Prelude.{◌≡◌, IfOk, IsTrue, map};
+ghost use Rattle.std.specs.Prelude.{◌≡◌, ◌<◌, ◌≤◌, IfOk, IsTrue, length, map};
 ghost use Rattle.std.specs.List.Sorted.{IsSorted};
 ghost use Rattle.dump_rules.specs.Verdict as rule;
 ghost use Rattle.dump_verdict.specs.Lent.{entries_in, entries_lent, held_lent, held_on};
 ghost use Rattle.dump_verdict.specs.Named.{IsIndex, entries_named, entry_named, named_cmp};
-ghost use Rattle.dump_verdict.specs.Tallies.{count_of, count_up_to};
+ghost use Rattle.dump_verdict.specs.Tallies.{count_below, count_of, count_up_to};
 
 use rebuild_checker::{Held, Node, Piece};
 use silo_address::{ActivationId, Entry, GrainId};
@@ -81,34 +81,78 @@ fn named_by_held<'a>(alloc: Global, held: &[&'a Held]) -> Result<Vec<Named<'a>>,
         .collect(alloc)
 }
 
-/// Whether one of them names the grain in the activation.
-pub(crate) fn is_named(names: &[Named], one: &Named) -> bool
+/// Whether one of them names the grain in the activation, and where the next one in order is best looked for. At the guess they are
+/// looked for first, else by halves.
+pub(crate) fn find_named(names: &[Named], guess: usize, one: &Named) -> (bool, usize)
     requires { IsSorted named_cmp names.now }
-    ensures { result ≡ rule.is_entry_among (entries_named names.now) (entry_named one.now) }
+    ensures { result.0 ≡ rule.is_entry_among (entries_named names.now) (entry_named one.now) }
 {
+    if stands_at(names, guess, one) {
+        return (true, guess + 1);
+    }
     match names.binary_search(one) {
-        Ok(_) => true,
-        Err(_) => false,
+        Ok(index) => (true, index + 1),
+        Err(index) => (false, index),
     }
 }
 
-/// How many of them name the grain in the activation. Where they begin is found by halves. Mostly one does, and they end behind it.
-pub(crate) fn count_named(names: &[Named], one: &Named) -> usize
-    requires { IsSorted named_cmp names.now }
-    ensures { result ≡ count_of (entry_named one.now) (entries_named names.now) }
+/// Whether the one at the index names the grain in the activation.
+fn stands_at(names: &[Named], index: usize, one: &Named) -> bool
+    ensures within { IsTrue result → index < length names.now }
+    ensures named { IsTrue result → IsTrue (rule.is_entry_among (entries_named names.now) (entry_named one.now)) }
 {
-    let below = names.partition_point(|other| other.cmp(one).is_lt());
-    let up_to = end_of(names, below + 1, one);
-    up_to - below
+    if names.len() <= index {
+        return false;
+    }
+    names[index].cmp(one).is_eq()
 }
 
-/// How many of them aren't above this one: at the guess they are looked for first.
-fn end_of(names: &[Named], guess: usize, one: &Named) -> usize
+/// How many of them name the grain in the activation, and where the next one in order is best looked for. At the guess they are looked
+/// for first, else by halves; and mostly one does, so that they end behind it.
+pub(crate) fn count_named(names: &[Named], guess: usize, one: &Named) -> (usize, usize)
     requires { IsSorted named_cmp names.now }
+    ensures { result.0 ≡ count_of (entry_named one.now) (entries_named names.now) }
+{
+    let below = start_of(names, guess, one);
+    let up_to = end_of(names, below, one);
+    (up_to - below, up_to)
+}
+
+/// How many of them are below this one: at the guess they are looked for first.
+fn start_of(names: &[Named], guess: usize, one: &Named) -> usize
+    requires { IsSorted named_cmp names.now }
+    ensures { result ≡ count_below one.now names.now }
+{
+    if start_at(names, guess, one) {
+        return guess;
+    }
+    names.partition_point(|other| other.cmp(one).is_lt())
+}
+
+/// Whether those before the index are below this one, and those from there on aren't, as far as its neighbours tell.
+fn start_at(names: &[Named], index: usize, one: &Named) -> bool
+    requires { IsSorted named_cmp names.now }
+    ensures { IsTrue result → index ≡ count_below one.now names.now }
+{
+    if index == 0 || names.len() <= index {
+        return false;
+    }
+    let before = names[index - 1].cmp(one);
+    let here = names[index].cmp(one);
+    before.is_lt() && here.is_ge()
+}
+
+/// How many of them aren't above this one: first it is seen whether just the one behind those below it isn't, then whether none is.
+fn end_of(names: &[Named], below: usize, one: &Named) -> usize
+    requires in_order { IsSorted named_cmp names.now }
+    requires below { below ≤ length names.now }
     ensures { result ≡ count_up_to one.now names.now }
 {
-    if end_at(names, guess, one) {
-        return guess;
+    if end_at(names, below + 1, one) {
+        return below + 1;
+    }
+    if end_at(names, below, one) {
+        return below;
     }
     names.partition_point(|other| other.cmp(one).is_le())
 }

@@ -6,15 +6,15 @@ ghost use Rattle.dump_rules.specs.Verdict as rule;
 ghost use Rattle.dump_verdict.specs.Lent.{entries_in, nodes_lent, pieces_lent};
 ghost use Rattle.dump_verdict.specs.Named.{IsIndex, entries_named, entry_named, named_cmp};
 
-use crate::index::{Named, index_of_held, is_named};
+use crate::index::{Named, find_named, index_of_held};
 use crate::least::least_of;
 use rebuild_checker::{Dump, Node, Piece};
 use silo_address::GrainId;
 use std::alloc::{AllocError, Global};
 
 /// The least grain of an entry that has to name an activation which a silo holds for the grain, in whatever phase, and doesn't: 975.
-/// Given are the pieces whose entries have to, and an index of these: they are looked for in its order, so that what is held is read
-/// from its beginning to its end. Costs a logarithm for each activation that is held and for each entry.
+/// Given are the pieces whose entries have to, and an index of these: what is held is put into the same
+/// order, and both are gone through together. Costs a logarithm for each activation that is held and for each entry.
 pub(crate) fn stranger(
     alloc: Global,
     dump: &Dump,
@@ -41,17 +41,14 @@ fn strange_grains(
     requires { IsSorted named_cmp held.now }
     ensures { IfOk result (λ grains. grains.items ≡ map (λ one. one.1.now) (filter (λ one. not (rule.is_entry_among (entries_named held.now) (entry_named one))) entered.now)) }
 {
-    entered
-        .iter()
-        .filter(|one| is_strange(held, one))
-        .map(|one| *one.1)
-        .collect(alloc)
-}
-
-/// Whether one isn't among those of what is held.
-fn is_strange(held: &[Named], one: &Named) -> bool
-    requires { IsSorted named_cmp held.now }
-    ensures { result ≡ not (rule.is_entry_among (entries_named held.now) (entry_named one.now)) }
-{
-    !is_named(held, one)
+    let mut grains = Vec::new(alloc);
+    let mut guess = 0;
+    for one in entered {
+        let (is_held, next) = find_named(held, guess, one);
+        if !is_held {
+            grains.push(*one.1)?;
+        }
+        guess = next;
+    }
+    Ok(grains)
 }

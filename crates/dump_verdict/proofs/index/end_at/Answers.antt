@@ -1,6 +1,5 @@
-use Rattle.std.proofs.Common.{◌≡◌, ◌<◌, ◌∙◌, length, sym, ap, arith, true}
+use Rattle.std.proofs.Common.{◌<◌, ◌∙◌, length, sym, ap, arith}
 use Rattle.std.specs.Ordering.{is_gt, is_le}
-use Rattle.dump_verdict.specs.Named.{named_cmp}
 use Rattle.dump_verdict.proofs.Named.{ends_between}
 use Rattle.dump_verdict.proofs.index.end_at.Goals as goal
 
