@@ -21,3 +21,4 @@ pub mod RightPieces
 pub mod Rows
 pub mod Tested
 pub mod ViewRings
+pub mod Walked

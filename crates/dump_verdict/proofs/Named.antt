@@ -15,11 +15,12 @@ use Rattle.silo_address.specs.Activation.{activation_cmp, entry_cmp, entry_eq}
 use Rattle.silo_address.specs.Grain.{grain_cmp}
 use Rattle.silo_address.specs.declared.Entry.{Entry}
 use Rattle.silo_address.proofs.Order.{activation_cmp_total, grain_cmp_total}
+use Rattle.silo_address.proofs.Same.{Decides-entry}
 use Rattle.rebuild_checker.proofs.Ties.{entry_tie}
 use Rattle.dump_rules.specs.Verdict.{is_entry_among}
 use Rattle.dump_verdict.specs.Named.{IsIndex, Named, entries_named, entry_named, named_cmp}
 use Rattle.dump_verdict.specs.Tallies.{count_of}
-use Rattle.dump_verdict.proofs.Counts.{count_split}
+use Rattle.dump_verdict.proofs.Counts.{count_split, split_at_count}
 
 named_total : IsTotalOrder named_cmp
 named_total = then_total (on_total (λ (n : Named). n.0) activation_cmp_total) (on_total (λ (n : Named). n.1.now) grain_cmp_total)
@@ -44,6 +45,9 @@ turned Greater = refl
 tied_as_entry : (one other : Named) → is_eq (named_cmp other one) ≡ is_at (entry_cmp (entry_named one)) (entry_named other)
 tied_as_entry one other =
     ap is_eq (named_total.antisymm other one) ∙ turned (named_cmp one other) ∙ either_way (activation_cmp one.0 other.0) (grain_cmp one.1.now other.1.now)
+
+pub named_alike : (one other : Named) → is_eq (named_cmp other one) ≡ true → entry_named one ≡ entry_named other
+named_alike one other ties = (Decides-entry (entry_named one) (entry_named other)).0 (sym (tied_as_entry one other ∙ entry_tie (entry_named one) (entry_named other)) ∙ ties)
 
 -- ---- Whether one is among them.
 or_so : (b t : Bool) → t ≡ true → (b || t) ≡ true
@@ -200,6 +204,25 @@ below_bound one (other ∷ names) =
 pub parted_bound : (one : Named) (names : List Named) (below up_to : ℕ) → below ≡ count_by (λ other. is_lt (named_cmp other one)) names
     → up_to ≡ count_by (λ other. is_le (named_cmp other one)) names → below ≤ up_to
 parted_bound one names below up_to below_is up_to_is = let parted = count_parted one names in omega (arith, below_is, up_to_is, parted)
+
+-- those between the two counts name it
+tied_between : (o : Ordering) → is_lt o ≡ false → is_le o ≡ true → is_eq o ≡ true
+tied_between Less above upto = absurd (cc)
+tied_between Equal above upto = refl
+tied_between Greater above upto = absurd (cc)
+
+pub alike_between : (one : Named) (names : List Named) (from to k : ℕ) (d : Named) → IsSorted named_cmp names
+    → from ≡ count_by (λ other. is_lt (named_cmp other one)) names → to ≡ count_by (λ other. is_le (named_cmp other one)) names
+    → from ≤ k → k < to → k < length names → entry_named one ≡ entry_named (get_or names k d)
+alike_between one names from to k d in_order from_is to_is low high within =
+    named_alike one (get_or names k d) (tied_between (named_cmp (get_or names k d) one)
+    ((split_at_count (λ other. is_lt (named_cmp other one)) names (parted_lt one names in_order)).1 k d (omega (arith, low, from_is)) within)
+    ((split_at_count (λ other. is_le (named_cmp other one)) names (parted_le one names in_order)).0 k d (omega arith) (omega (arith, high, to_is))))
+
+pub times_told : (one : Named) (names : List Named) (from to : ℕ)
+    → from ≡ count_by (λ other. is_lt (named_cmp other one)) names → to ≡ count_by (λ other. is_le (named_cmp other one)) names
+    → to - from ≡ count_of (entry_named one) (entries_named names)
+times_told one names from to from_is to_is = let parted = count_parted one names in omega (arith, from_is, to_is, parted)
 
 -- ---- By an index of entries.
 pub among_index : (entries : List Entry) (names : List Named) → IsIndex entries names → (entry : Entry)

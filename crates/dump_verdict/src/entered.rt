@@ -1,6 +1,6 @@
 //! Whether each firm activation is entered where it has to be.
 
-ghost use Rattle.std.specs.Prelude.{◌≡◌, List, All, IfOk, IsTrue, map, filter, nat_lt};
+ghost use Rattle.std.specs.Prelude.{◌≡◌, ◌≤◌, ◌++◌, List, All, IfOk, IsTrue, OnOk, drop, filter, length, map, nat_lt, take};
 ghost use Rattle.std.specs.List.{list_all};
 ghost use Rattle.std.specs.List.Sorted.{IsSorted};
 ghost use Rattle.ring_range.specs.Range.{IsRange, Range};
@@ -8,41 +8,52 @@ ghost use Rattle.hash_ring.specs.Hash.{hash_grain};
 ghost use Rattle.dump_rules.specs.DumpShape.{is_dump};
 ghost use Rattle.dump_rules.specs.Verdict as rule;
 ghost use Rattle.dump_verdict.specs.Covers.{IsApart, IsCover, covering};
-ghost use Rattle.dump_verdict.specs.Lent.{entries_in, held_on, nodes_lent, pieces_lent};
-ghost use Rattle.dump_verdict.specs.Named.{IsIndex, named_cmp};
+ghost use Rattle.dump_verdict.specs.Lent.{entries_in, held_lent, held_on, nodes_lent, pieces_lent};
+ghost use Rattle.dump_verdict.specs.Named.{IsIndex, named_apart_from, named_cmp};
 ghost use Rattle.dump_verdict.specs.Tallies.{is_lacking};
 
 use crate::cover::{Cover, count_holding, cover_of, is_apart};
 use crate::firm::firm_on;
-use crate::index::{Named, count_named};
-use crate::least::least_of;
+use crate::index::{Named, places_of};
 use hash_ring::Hashing;
 use rebuild_checker::{Dump, Held, Node, Piece};
 use ring_range::RingRange;
 use silo_address::GrainId;
 use std::alloc::{AllocError, Global};
 
-/// The least grain with a firm activation whose hash lies in a settled piece of a silo that has seen the current version, and which
-/// has no entry there: 974. Given are those pieces and an index of their entries. The pieces of the live nodes have been judged
-/// right: so a piece has an entry only where it has the entry's hash, and once, and an activation is missing where fewer pieces have
-/// its entry than have its hash. Costs a logarithm for each piece, each entry and each firm activation.
-pub(crate) fn missing_firm(
+/// What is found where the firm activations and the entries are gone through together.
+#[derive(Drop)]
+pub(crate) struct Walked<'a> {
+    /// The grains of the activations that are missing where they have to be entered.
+    pub(crate) missing: Vec<GrainId>,
+    /// The entries that were passed over, in order. Those that no firm activation has are among them.
+    pub(crate) passed: Vec<Named<'a>>,
+}
+
+/// The grains with firm activations whose hashes lie in settled pieces of silos that have seen the current version, and which have
+/// no entry there: 974, and the entries that no such activation has, among which a stranger's is. Given are those pieces and an index
+/// of their entries. The pieces of the live nodes have been judged right: so a piece has an entry only where it has the entry's hash,
+/// and once, and an activation is missing where fewer pieces have its entry than have its hash. Costs a logarithm for each piece,
+/// each entry and each firm activation.
+pub(crate) fn walk<'a>(
     alloc: Global,
     dump: &Dump,
     nodes: &[&Node],
     pieces: &[&Piece],
-    entered: &[Named],
-) -> Result<Option<GrainId>, AllocError>
+    entered: &[Named<'a>],
+) -> Result<Walked<'a>, AllocError>
     requires is_dump { IsTrue (is_dump dump.now) }
     requires live { nodes_lent nodes.now ≡ rule.live_nodes dump.now }
     requires right { IsTrue (list_all (rule.has_right_pieces dump.now) (rule.live_nodes dump.now)) }
     requires pieces { pieces_lent pieces.now ≡ rule.current_pieces dump.now }
     requires entered { IsIndex (entries_in pieces.now) entered.now }
-    ensures { IfOk result (λ found. found ≡ rule.least_grain (map (λ entry. entry.grain) (rule.missing_firm dump.now))) }
+    ensures missing { IfOk result (λ walked. walked.missing.items ≡ map (λ entry. entry.grain) (rule.missing_firm dump.now)) }
+    ensures passed { IfOk result (λ walked. named_apart_from (map rule.entry_of_held (held_on nodes.now)) walked.passed.items
+        ≡ named_apart_from (map rule.entry_of_held (held_on nodes.now)) entered.now) }
 {
     let cover = cover_of_pieces(alloc, pieces)?;
-    let grains = missing_grains(alloc, dump.hashing, &cover, entered, nodes)?;
-    Ok(least_of(&grains))
+    let firm = firm_on(alloc, nodes)?;
+    walk_along(alloc, dump.hashing, &cover, entered, &firm)
 }
 
 /// The cover of the ranges of some pieces.
@@ -65,46 +76,51 @@ fn ranges_of(alloc: Global, pieces: &[&Piece]) -> Result<Vec<RingRange>, AllocEr
         .collect(alloc)
 }
 
-/// The grains of firm activations whose hashes more pieces have than have their entries.
-fn missing_grains(
+/// What is found where these activations and an index of entries are gone through together. The activations stand nearly in the
+/// order of the index, so each is looked for behind the one before it.
+fn walk_along<'a>(
     alloc: Global,
     hashing: Hashing,
     cover: &Cover,
-    entered: &[Named],
-    nodes: &[&Node],
-) -> Result<Vec<GrainId>, AllocError>
-    requires cover { (ranges : List Range) × IsCover ranges cover.now }
-    requires entered { IsSorted named_cmp entered.now }
-    ensures { IfOk result (λ grains. grains.items ≡ map (λ held. held.grain) (filter (λ held. is_lacking hashing cover.now entered.now (rule.entry_of_held held)) (filter (λ held. rule.is_firm_phase held.phase) (held_on nodes.now)))) }
-{
-    let firm = firm_on(alloc, nodes)?;
-    lacking_grains(alloc, hashing, cover, entered, &firm)
-}
-
-/// The grains of those activations whose hashes more pieces have than have their entries. They stand nearly in the order of the index,
-/// so each is looked for behind the one before it.
-fn lacking_grains(
-    alloc: Global,
-    hashing: Hashing,
-    cover: &Cover,
-    entered: &[Named],
+    entered: &[Named<'a>],
     activations: &[&Held],
-) -> Result<Vec<GrainId>, AllocError>
+) -> Result<Walked<'a>, AllocError>
     requires cover { (ranges : List Range) × IsCover ranges cover.now }
     requires entered { IsSorted named_cmp entered.now }
-    ensures { IfOk result (λ grains. grains.items ≡ map (λ one. one.now.grain) (filter (λ one. is_lacking hashing cover.now entered.now (rule.entry_of_held one.now)) activations.now)) }
+    ensures missing { IfOk result (λ walked. walked.missing.items ≡ map (λ one. one.now.grain) (filter (λ one. is_lacking hashing cover.now entered.now (rule.entry_of_held one.now)) activations.now)) }
+    ensures passed { IfOk result (λ walked. named_apart_from (map rule.entry_of_held (held_lent activations.now)) walked.passed.items
+        ≡ named_apart_from (map rule.entry_of_held (held_lent activations.now)) entered.now) }
 {
     let apart = is_apart(cover);
-    let mut grains = Vec::new(alloc);
-    let mut guess = 0;
+    let mut missing = Vec::new(alloc);
+    let mut passed = Vec::new(alloc);
+    let mut done = 0;
     for held in activations {
-        let (times, next) = count_named(entered, guess, &(held.activation, &held.grain));
-        if is_lacking(hashing, cover, apart, &held.grain, times) {
-            grains.push(held.grain)?;
+        let (from, to) = places_of(entered, done, &(held.activation, &held.grain));
+        if is_lacking(hashing, cover, apart, &held.grain, to - from) {
+            missing.push(held.grain)?;
         }
-        guess = next;
+        pass(&mut passed, entered, done, from)?;
+        done = done.max(to);
     }
-    Ok(grains)
+    pass(&mut passed, entered, done, entered.len())?;
+    Ok(Walked { missing, passed })
+}
+
+/// Puts aside the entries from one place up to another, if there are any.
+fn pass<'a>(
+    passed: &mut Vec<Named<'a>>,
+    entered: &[Named<'a>],
+    from: usize,
+    to: usize,
+) -> Result<(), AllocError>
+    requires { to ≤ length entered.now }
+    ensures { OnOk result (passed.new.items ≡ passed.old.items ++ drop from (take to entered.now)) }
+{
+    if to <= from {
+        return Ok(());
+    }
+    passed.extend_from_slice(&entered[from..to])
 }
 
 /// Whether more pieces have the grain's hash than so many. Where no two have a hash in common, it is hashed only if there are none.

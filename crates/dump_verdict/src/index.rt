@@ -5,7 +5,7 @@ ghost use Rattle.std.specs.List.Sorted.{IsSorted};
 ghost use Rattle.dump_rules.specs.Verdict as rule;
 ghost use Rattle.dump_verdict.specs.Lent.{entries_in, entries_lent, held_lent, held_on};
 ghost use Rattle.dump_verdict.specs.Named.{IsIndex, entries_named, entry_named, named_cmp};
-ghost use Rattle.dump_verdict.specs.Tallies.{count_below, count_of, count_up_to};
+ghost use Rattle.dump_verdict.specs.Tallies.{count_below, count_up_to};
 
 use rebuild_checker::{Held, Node, Piece};
 use silo_address::{ActivationId, Entry, GrainId};
@@ -107,15 +107,16 @@ fn stands_at(names: &[Named], index: usize, one: &Named) -> bool
     names[index].cmp(one).is_eq()
 }
 
-/// How many of them name the grain in the activation, and where the next one in order is best looked for. At the guess they are looked
-/// for first, else by halves; and mostly one does, so that they end behind it.
-pub(crate) fn count_named(names: &[Named], guess: usize, one: &Named) -> (usize, usize)
+/// Where those that name the grain in the activation begin, and where they end. At the guess they are looked for first, else by halves;
+/// and mostly one does, so that they end behind it.
+pub(crate) fn places_of(names: &[Named], guess: usize, one: &Named) -> (usize, usize)
     requires { IsSorted named_cmp names.now }
-    ensures { result.0 ≡ count_of (entry_named one.now) (entries_named names.now) }
+    ensures from { result.0 ≡ count_below one.now names.now }
+    ensures to { result.1 ≡ count_up_to one.now names.now }
 {
     let below = start_of(names, guess, one);
     let up_to = end_of(names, below, one);
-    (up_to - below, up_to)
+    (below, up_to)
 }
 
 /// How many of them are below this one: at the guess they are looked for first.

@@ -9,9 +9,10 @@ ghost use Rattle.dump_verdict.specs.Lent.{nodes_lent};
 
 use crate::Fault;
 use crate::current::current_pieces;
-use crate::entered::missing_firm;
+use crate::entered::walk;
 use crate::firm::twice_firm;
 use crate::index::index_of_entries;
+use crate::least::least_of;
 use crate::nodes::live_nodes;
 use crate::ranges::wrong_pieces;
 use crate::rings::wrong_ring;
@@ -67,9 +68,10 @@ fn entries_fault(alloc: Global, dump: &Dump, nodes: &[&Node]) -> Result<Option<F
 {
     let pieces = current_pieces(alloc, dump, nodes)?;
     let entered = index_of_entries(alloc, &pieces)?;
-    if let Some(grain) = missing_firm(alloc, dump, nodes, &pieces, &entered)? {
+    let walked = walk(alloc, dump, nodes, &pieces, &entered)?;
+    if let Some(grain) = least_of(&walked.missing) {
         return Ok(Some(Fault::MissingFirm(grain)));
     }
-    let strange = stranger(alloc, dump, nodes, &pieces, &entered)?;
+    let strange = stranger(alloc, nodes, &walked.passed)?;
     Ok(strange.map(|grain| Fault::Stranger(grain)))
 }
