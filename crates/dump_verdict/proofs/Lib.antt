@@ -13,6 +13,7 @@ pub mod ListedEntries
 pub mod Missing
 pub mod Named
 pub mod NoneFailing
+pub mod OneAGrain
 pub mod OwnerFound
 pub mod Passing
 pub mod Points

@@ -23,12 +23,13 @@ use Rattle.dump_verdict.specs.Named.{IsIndex, Named, entries_named}
 use Rattle.dump_verdict.specs.Tallies.{count_of, is_lacking}
 use Rattle.dump_verdict.specs.Covers.{IsCover, covering}
 use Rattle.dump_verdict.specs.Lent.{entries_in, held_on, nodes_lent, pieces_lent}
+use Rattle.dump_verdict.specs.Ready.{is_by_grain}
 use Rattle.dump_verdict.specs.declared.cover.Cover.{Cover}
 use Rattle.dump_verdict.proofs.Covered.{covering_is_count}
 use Rattle.dump_verdict.proofs.HashesBelow.{hash_is_below}
 use Rattle.dump_verdict.proofs.Listed.{filter-flat_map, filter-map, map-flat_map, map-map}
 use Rattle.dump_verdict.proofs.Named.{count_index}
-use Rattle.dump_verdict.proofs.RightPieces.{is_by_grain, is_right}
+use Rattle.dump_verdict.proofs.RightPieces.{is_right}
 
 -- an entry that is listed, and its grain
 first_part : (a b : Bool) → (a && b) ≡ true → a ≡ true

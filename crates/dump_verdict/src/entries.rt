@@ -1,11 +1,12 @@
 //! Whether entries lie in their pieces, one a grain.
 
-ghost use Rattle.std.specs.Prelude.{◌≡◌, IfOk, map};
+ghost use Rattle.std.specs.Prelude.{◌≡◌, IfOk, IsTrue, map};
 ghost use Rattle.std.specs.List.{list_all};
 ghost use Rattle.ring_range.specs.Range.{holds};
 ghost use Rattle.hash_ring.specs.Hash.{hash_grain};
 ghost use Rattle.dump_rules.specs.Verdict.{has_entries_inside, has_one_entry_a_grain, node_entries};
 ghost use Rattle.dump_verdict.specs.Lent.{entries_lent};
+ghost use Rattle.dump_verdict.specs.Ready.{is_by_grain};
 ghost use Rattle.rebuild_checker.specs.Mixed.{grains_lent};
 
 use rebuild_checker::{Dump, Node, Piece, are_distinct_grains};
@@ -36,6 +37,27 @@ fn is_inside(dump: &Dump, piece: &Piece, entry: &Entry) -> bool
     ensures { result ≡ holds piece.now.range (hash_grain dump.now.hashing entry.now.grain) }
 {
     piece.range.contains(dump.hashing.hash_grain(&entry.grain))
+}
+
+/// Whether in each piece of the node each entry's grain is above the one before it, so that no two are of one grain.
+pub(crate) fn have_rising_entries(node: &Node) -> bool
+    ensures { IsTrue result → IsTrue (list_all is_by_grain node.now.pieces) }
+{
+    for piece in &node.pieces {
+        if !has_rising_entries(piece) {
+            return false;
+        }
+    }
+    true
+}
+
+/// Whether each entry's grain is above the one before it.
+fn has_rising_entries(piece: &Piece) -> bool
+    ensures { IsTrue result → IsTrue (is_by_grain piece.now) }
+{
+    piece
+        .entries
+        .is_sorted_by(|one, next| one.grain.cmp(&next.grain).is_lt())
 }
 
 /// Whether the node has no two entries of one grain. Fails only when memory runs out.

@@ -9,8 +9,8 @@ ghost use Rattle.dump_verdict.specs.Covers.{IsCover};
 ghost use Rattle.dump_verdict.specs.Lent.{nodes_lent};
 ghost use Rattle.dump_verdict.specs.Ready.{IsReady, is_right_at_bounds, ranges_of};
 
-use crate::cover::{CIRCLE, Cover, count_holding, cover_of};
-use crate::entries::{has_one_entry_a_grain, have_entries_inside};
+use crate::cover::{CIRCLE, Cover, count_holding, cover_of, is_apart};
+use crate::entries::{has_one_entry_a_grain, have_entries_inside, have_rising_entries};
 use crate::owners::owns;
 use rebuild_checker::{Dump, Node};
 use ring_range::RingRange;
@@ -38,7 +38,8 @@ pub(crate) fn wrong_pieces(
     Ok(None)
 }
 
-/// Whether pieces and entries are as they must be.
+/// Whether pieces and entries are as they must be. Where no two pieces have a hash in common, two entries of one grain could only stand
+/// in one piece, where their order mostly tells that they don't.
 fn has_right_pieces(alloc: Global, dump: &Dump, node: &Node) -> Result<bool, AllocError>
     requires { IsReady node.now }
     ensures { IfOk result (λ answer. answer ≡ has_right_pieces dump.now node.now) }
@@ -50,6 +51,9 @@ fn has_right_pieces(alloc: Global, dump: &Dump, node: &Node) -> Result<bool, All
     }
     if !have_entries_inside(dump, node) {
         return Ok(false);
+    }
+    if is_apart(&cover) && have_rising_entries(node) {
+        return Ok(true);
     }
     has_one_entry_a_grain(alloc, node)
 }

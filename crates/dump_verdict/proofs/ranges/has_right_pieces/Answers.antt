@@ -1,10 +1,26 @@
-use Rattle.std.proofs.Common.{List, All, sym, ◌∙◌, subst}
+use Rattle.std.proofs.Common.{◌≡◌, List, All, true, ap, sym, ◌∙◌, subst}
+use Rattle.std.specs.Prelude.{◌&&◌}
+use Rattle.std.specs.List.{list_all}
 use Rattle.std.proofs.lemmas.List.Elements.{All-map}
 use Rattle.ring_range.specs.Range.{IsRange, Range}
 use Rattle.dump_rules.specs.Dump.{DumpPiece}
+use Rattle.dump_rules.specs.Verdict.{has_entries_inside, has_its_ranges, has_one_entry_a_grain}
+use Rattle.dump_verdict.specs.Covers.{IsCover}
+use Rattle.dump_verdict.specs.Ready.{ranges_of}
+use Rattle.dump_verdict.proofs.OneAGrain.{one_a_grain}
 use Rattle.dump_verdict.proofs.ranges.has_right_pieces.Goals as goal
 
 pub cover_of-requires : goal.cover_of-requires
 cover_of-requires c =
     subst (λ (l : List Range). All IsRange l) (sym (c.deref.ensures.value ∙ c.in_ok-ranges.ensures))
     (All-map IsRange (λ (piece : DumpPiece). piece.range) c.args.node.now.pieces c.requires.hashes.ranges)
+
+pub returns-then-have_rising_entries : goal.returns-then-have_rising_entries
+returns-then-have_rising_entries c =
+    let dump = c.args.dump.now in
+    let node = c.args.node.now in
+    let covers : IsCover (ranges_of node) c.in_ok-cover.cover = subst (λ (ranges : List Range). IsCover ranges c.in_ok-cover.cover) (c.deref.ensures.value ∙ c.in_ok-ranges.ensures) c.in_ok-cover.ensures in
+    let its : has_its_ranges node ≡ true = sym c.has_its_ranges.ensures ∙ c.if-not-has_its_ranges.false in
+    let inside : list_all (has_entries_inside dump) node.pieces ≡ true = sym c.have_entries_inside.ensures ∙ c.if-not-have_entries_inside.false in
+    let one = one_a_grain dump node c.in_ok-cover.cover covers (c.is_apart.ensures c.if-is_apart.true) inside (c.have_rising_entries.ensures c.if-have_rising_entries.true) in
+    sym (ap (λ b. b && list_all (has_entries_inside dump) node.pieces && has_one_entry_a_grain node) its ∙ (ap (λ b. b && has_one_entry_a_grain node) inside ∙ one))
