@@ -1,6 +1,5 @@
 -- How the fields of a transition mean what is shared.
 use Rattle.std.specs.Arc.{arc_value}
-use Rattle.hash_ring.specs.Ring.{RingValue}
 use Rattle.grain_partition.specs.Sight.{AreOfRings}
 use Rattle.directory_node.specs.Transition.{TransitionValue}
 use Rattle.directory_node.specs.declared.transition.Transition.TheInside.{Inside}

@@ -2,8 +2,8 @@
 ghost use Rattle.std.specs.Prelude.{◌≡◌, ◌&&◌, ◌==◌, ◌<◌, ◌+◌, ◌++◌, if◌then◌else◌, IfErr, IfOk, IsOk, OnOk, flat_map, length, true};
 ghost use Rattle.directory_rules.specs.Host.{has_numbers, outstanding, renewed};
 ghost use Rattle.directory_rules.specs.Node.{Node as NodeValue};
-ghost use Rattle.directory_rules.specs.Sending.{all_requests, all_wants, request_letters};
-ghost use Rattle.directory_rules.specs.Sight.{is_next, pieces_after, sealed};
+ghost use Rattle.directory_rules.specs.Sending.{all_wants, request_letters};
+ghost use Rattle.directory_rules.specs.Sight.{is_next, sealed};
 ghost use Rattle.directory_rules.specs.Step.{compared_points, having_nudged, new_gatherings, new_recoveries, nudge, see, sight};
 ghost use Rattle.directory_rules.specs.declared.Effect.TheVariants.{Next, Skip};
 ghost use Rattle.grain_partition.specs.Holding.{ArePieces};

@@ -1,5 +1,5 @@
 -- Arcs under their silos, and that a sight needs no others.
-use Rattle.std.proofs.Common.{arith, ◌≡◌, refl, sym, ap, ◌∙◌, subst, ℕ, List, [], ◌∷◌, ◌++◌, ◌+◌, ◌<◌, ◌≤◌, append-nil}
+use Rattle.std.proofs.Common.{arith, ◌≡◌, refl, sym, ap, ◌∙◌, ℕ, List, [], ◌∷◌, ◌++◌, ◌+◌, ◌<◌, ◌≤◌, append-nil}
 use Rattle.std.specs.Prelude.{Bool, true, false, not, ◌&&◌, cond, filter, flat_map, map, is_some, count_by, Option, Some, None}
 use Rattle.std.specs.Ordering.{is_eq}
 use Rattle.std.specs.BTreeMap.{is_at}

@@ -1,5 +1,5 @@
 -- Arcs under the silos whose they are.
-use Rattle.std.specs.Prelude.{◌≡◌, ◌++◌, List, [], ◌∷◌, Option, Some, None, cond, filter}
+use Rattle.std.specs.Prelude.{◌≡◌, List, [], Option, Some, None, cond, filter}
 use Rattle.std.specs.Map.{lookup}
 use Rattle.std.specs.BTreeMap.{is_at}
 use Rattle.silo_address.specs.Silo.{Silo, silo_cmp}

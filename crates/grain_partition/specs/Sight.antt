@@ -1,5 +1,5 @@
 -- What a sight asks of its arcs.
-use Rattle.std.specs.Prelude.{ℕ, ◌<◌, ◌≤◌, List, All, AllPairs, count_by}
+use Rattle.std.specs.Prelude.{◌<◌, ◌≤◌, List, All, AllPairs, count_by}
 use Rattle.ring_range.specs.Range.{IsRange, EachHash, holds}
 use Rattle.hash_ring.specs.declared.Point.{Point}
 use Rattle.range_moves.specs.declared.Arc.{Arc}

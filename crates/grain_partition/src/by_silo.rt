@@ -3,7 +3,7 @@ ghost use Rattle.std.specs.Prelude.{◌≡◌, ◌++◌, List, [], ◌∷◌, So
 ghost use Rattle.range_moves.specs.declared.Arc.{Arc};
 ghost use Rattle.silo_address.specs.Silo.{Silo};
 ghost use Rattle.directory_rules.specs.Sight.{is_owner};
-ghost use Rattle.grain_partition.specs.BySilo.{Puts, all_of, arcs_under, giver_of, given_by, owned_by, stands_under};
+ghost use Rattle.grain_partition.specs.BySilo.{Puts, arcs_under, giver_of, given_by, owned_by, stands_under};
 
 use crate::own_arcs::OwnArcs;
 use range_moves::Arc;

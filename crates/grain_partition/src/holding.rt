@@ -23,7 +23,7 @@ use crate::served::serve_numbered;
 use crate::settled::are_settled;
 use crate::sight::sight;
 use crate::{ArcsBySilo, Piece};
-use directory_rules::{Act, PieceState, Reply, Request, Why};
+use directory_rules::{Act, Reply, Request, Why};
 use grain_table::Table;
 use hash_ring::Hashing;
 use membership_view::View;

@@ -1,9 +1,9 @@
-use Rattle.std.proofs.Common.{◌≡◌, ap, ◌∙◌, ◌++◌}
+use Rattle.std.proofs.Common.{ap, ◌∙◌, ◌++◌}
 use Rattle.std.specs.Prelude.{flat_map}
 use Rattle.hash_ring.specs.Ring.{RingValue}
 use Rattle.directory_rules.specs.Node.{Node}
 use Rattle.directory_rules.specs.Sending.{request_letters}
-use Rattle.directory_node.specs.Sender.{ahead, wants_of}
+use Rattle.directory_node.specs.Sender.{wants_of}
 use Rattle.directory_node.proofs.node.Node.letters_after.Goals as goal
 
 pub returns : goal.returns

@@ -1,6 +1,5 @@
 use Rattle.std.proofs.Common.{◌≡◌, sym, ap, ◌∙◌, ◌++◌}
 use Rattle.std.specs.Prelude.{cond, flat_map}
-use Rattle.range_moves.specs.declared.Arc.{Arc}
 use Rattle.range_moves.specs.Arcs.{arcs_of}
 use Rattle.hash_ring.specs.Ring.{RingValue, ring_of}
 use Rattle.directory_rules.specs.Host.{outstanding, renewed}
