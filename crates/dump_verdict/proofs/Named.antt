@@ -170,6 +170,17 @@ begins_between one names index in_order past within before here is_before is_her
     split_between (λ other. is_lt (named_cmp other one)) names index (parted_lt one names in_order) past within before here is_before is_here is_below
     (not_below (named_cmp here one) is_not)
 
+-- what ties is neither above nor below
+pub equal_is_ge : (o : Ordering) → is_eq o ≡ true → is_ge o ≡ true
+equal_is_ge Less is = absurd (cc)
+equal_is_ge Equal is = refl
+equal_is_ge Greater is = absurd (cc)
+
+pub equal_is_le : (o : Ordering) → is_eq o ≡ true → is_le o ≡ true
+equal_is_le Less is = absurd (cc)
+equal_is_le Equal is = refl
+equal_is_le Greater is = absurd (cc)
+
 one_parted : (o : Ordering) → cond (is_le o) 1 0 ≡ cond (is_lt o) 1 0 + cond (is_eq o) 1 0
 one_parted Less = refl
 one_parted Equal = refl

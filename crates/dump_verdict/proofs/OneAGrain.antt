@@ -1,9 +1,9 @@
 -- Where no two pieces have a hash in common, and each has its entries' hashes, grains that are distinct in each are distinct in all.
-use Rattle.std.proofs.Common.{◌≡◌, ℕ, ◌+◌, ◌≤◌, Bool, true, false, not, cond, List, [], ◌∷◌, ◌++◌, map, flat_map, count_by, refl, sym, ◌∙◌, ap, arith}
+use Rattle.std.proofs.Common.{◌≡◌, ℕ, zero, suc, ◌+◌, ◌<◌, ◌≤◌, Bool, true, false, not, cond, List, [], ◌∷◌, ◌++◌, length, get_or, map, flat_map, count_by, refl, sym, ◌∙◌, ap, subst, arith, Ordering, Less, Equal, Greater, is_eq}
 use Rattle.std.specs.Prelude.{◌&&◌, ◌||◌}
 use Rattle.std.specs.BTreeMap.{is_at}
 use Rattle.std.specs.List.{IsAllAdjacentAnswer, list_all, list_any}
-use Rattle.std.specs.Ordering.{is_lt}
+use Rattle.std.specs.Ordering.{is_lt, ordering_reverse}
 use Rattle.std.proofs.lemmas.Cmp.{on_total}
 use Rattle.std.proofs.lemmas.List.{map-append}
 use Rattle.std.proofs.lemmas.List.Folds.{fold-map, list_any-append}
@@ -18,7 +18,7 @@ use Rattle.hash_ring.specs.Hash.{hash_grain}
 use Rattle.rebuild_checker.proofs.Rising.{rising_told}
 use Rattle.rebuild_checker.proofs.Ties.{grain_tie, list_any_alike}
 use Rattle.dump_rules.specs.Dump.{DumpNode, DumpPiece, DumpValue}
-use Rattle.dump_rules.specs.DumpShape.{are_distinct_by}
+use Rattle.dump_rules.specs.DumpShape.{are_distinct_by, are_in_order}
 use Rattle.dump_rules.specs.Verdict.{are_distinct, has_entries_inside, has_one_entry_a_grain}
 use Rattle.dump_verdict.specs.Covers.{IsApart, IsCover}
 use Rattle.dump_verdict.specs.Ready.{is_by_grain, ranges_of}
@@ -40,11 +40,43 @@ by_entries (one ∷ entries) =
     mapped [] = refl
     mapped (e ∷ es) = ap (λ b. grain_eq one.grain e.grain || b) (mapped es)
 
-pub rising_by_grain : (entries : List Entry) (answer : Bool)
-    → IsAllAdjacentAnswer (λ (one next : Entry) b. b ≡ is_lt (grain_cmp one.grain next.grain)) entries answer → answer ≡ true
+-- of two grains in order that differ, the second is above the first
+above : (one next : Grain) → not (is_lt (grain_cmp next one)) ≡ true → true ≡ not (grain_eq one next) → true ≡ is_lt (grain_cmp one next)
+above one next ordered differ =
+    by (grain_cmp one next) (grain_cmp next one) (grain_cmp_total.antisymm next one) ordered (differ ∙ ap not (sym (grain_tie one next)))
+  where
+    by : (o p : Ordering) → p ≡ ordering_reverse o → not (is_lt p) ≡ true → true ≡ not (is_eq o) → true ≡ is_lt o
+    by Less p reversed ordered differ = refl
+    by Equal p reversed ordered differ = absurd (cc)
+    by Greater p reversed ordered differ = absurd (let no : not true ≡ true = ap (λ q. not (is_lt q)) (sym reversed) ∙ ordered in cc)
+
+rises : (entries : List Entry) → are_in_order grain_cmp (map (λ (one : Entry). one.grain) entries) ≡ true
+    → ((k : ℕ) (d : Entry) → k + 1 < length entries → true ≡ not (grain_eq (get_or entries k d).grain (get_or entries (k + 1) d).grain))
+    → (k : ℕ) (d : Entry) → k + 1 < length entries → true ≡ is_lt (grain_cmp (get_or entries k d).grain (get_or entries (k + 1) d).grain)
+rises [] ordered differ k d within = absurd (omega (arith, within))
+rises (one ∷ []) ordered differ k d within = absurd (omega (arith, within))
+rises (one ∷ next ∷ rest) ordered differ zero d within =
+    above one.grain next.grain (both (not (is_lt (grain_cmp next.grain one.grain))) (are_in_order grain_cmp (map (λ (e : Entry). e.grain) (next ∷ rest))) ordered).0
+    (differ 0 d within)
+rises (one ∷ next ∷ rest) ordered differ (suc k) d within =
+    let later = (both (not (is_lt (grain_cmp next.grain one.grain))) (are_in_order grain_cmp (map (λ (e : Entry). e.grain) (next ∷ rest))) ordered).1 in
+    let e : suc (k + 1) ≡ suc k + 1 = omega arith in
+    subst (λ (n : ℕ). true ≡ is_lt (grain_cmp (get_or (next ∷ rest) k d).grain (get_or (one ∷ next ∷ rest) n d).grain)) e
+    (rises (next ∷ rest) later behind k d (omega (arith, within)))
+  where
+    behind : (j : ℕ) (a : Entry) → j + 1 < length (next ∷ rest) → true ≡ not (grain_eq (get_or (next ∷ rest) j a).grain (get_or (next ∷ rest) (j + 1) a).grain)
+    behind j a low =
+        let e : suc j + 1 ≡ suc (j + 1) = omega arith in
+        subst (λ (n : ℕ). true ≡ not (grain_eq (get_or (next ∷ rest) j a).grain (get_or (one ∷ next ∷ rest) n a).grain)) e (differ (suc j) a (omega (arith, low)))
+
+-- entries that stand by grain, each of another grain than the one before it
+pub rising_by_grain : (entries : List Entry) (answer : Bool) → are_in_order grain_cmp (map (λ (one : Entry). one.grain) entries) ≡ true
+    → IsAllAdjacentAnswer (λ (one next : Entry) b. b ≡ not (grain_eq one.grain next.grain)) entries answer → answer ≡ true
     → are_distinct (map (λ (one : Entry). one.grain) entries) ≡ true
-rising_by_grain entries answer each is =
-    sym (by_entries entries) ∙ rising_told (λ (one other : Entry). grain_cmp one.grain other.grain) (on_total (λ (one : Entry). one.grain) grain_cmp_total) entries answer each is
+rising_by_grain entries true ordered each is =
+    sym (by_entries entries)
+    ∙ rising_told (λ (one other : Entry). grain_cmp one.grain other.grain) (on_total (λ (one : Entry). one.grain) grain_cmp_total) entries true (rises entries ordered each) refl
+rising_by_grain entries false ordered each is = absurd (cc)
 
 -- ---- An entry's grain is hashed into its piece.
 inside_by_grain : (range : Range) (hash : Grain → ℕ) (grain : Grain) (entries : List Entry) → list_all (λ (one : Entry). holds range (hash one.grain)) entries ≡ true

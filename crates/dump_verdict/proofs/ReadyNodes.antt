@@ -1,6 +1,7 @@
 -- Where all rings are right, each live node has its ring in order; what a dump says of its hashes.
 use Rattle.std.proofs.Common.{◌≡◌, inl, inr, ℕ, ◌<◌, ◌∙◌, Bool, true, not, List, [], ◌∷◌, length, get_or, refl, sym, ap, subst}
 use Rattle.std.specs.Borrow.{Bor}
+use Rattle.std.specs.Prelude.{◌&&◌}
 use Rattle.std.specs.List.{list_all}
 use Rattle.std.specs.List.Sorted.{IsStrictlySortedBy}
 use Rattle.std.proofs.lemmas.Slice.Eq.{slice_eq-Decides}
@@ -12,8 +13,9 @@ use Rattle.hash_ring.specs.Ring.{points_of, sorted_ring}
 use Rattle.hash_ring.proofs.Members.{In, In-from_place, In-from_filter, In-map, All-of}
 use Rattle.hash_ring.proofs.Order.{Decides-point, point_cmp_total}
 use Rattle.hash_ring.proofs.Rising.{Rising-inserted, sorted-from_Rising}
-use Rattle.dump_rules.specs.Dump.{DumpNode, DumpValue}
-use Rattle.dump_rules.specs.DumpShape.{is_dump}
+use Rattle.dump_rules.specs.Dump.{DumpNode, DumpPiece, DumpValue}
+use Rattle.dump_rules.specs.DumpShape as shape
+use Rattle.dump_rules.specs.DumpShape.{has_entries_if_settled, has_entries_in_order, has_from_if_awaiting, has_known_silos, has_numbers, has_pieces_in_order, has_seen_a_version, has_shape, has_silos_in_order, has_silos_once, holds_activations_once, holds_grains_once, holds_its_own, is_dump, is_node_of, is_piece, is_row_of}
 use Rattle.dump_rules.specs.RightShape.{HasNodeNumbers}
 use Rattle.dump_rules.specs.Verdict.{dump_places, dump_view, has_its_ring, live_nodes}
 use Rattle.dump_verdict.specs.Lent.{nodes_lent}
@@ -34,6 +36,25 @@ in_order dump node right =
     subst (λ l. IsStrictlySortedBy point_cmp l) (sym same)
     (sorted-from_Rising point_cmp ring (Rising-inserted point_cmp_total (points_of (dump_view dump node.seen) (dump_places dump)) [] tt))
 
+-- its entries stand by grain, since each piece is one
+each_stands : (pieces : List DumpPiece) → list_all is_piece pieces ≡ true → list_all has_entries_in_order pieces ≡ true
+each_stands [] all = refl
+each_stands (piece ∷ pieces) all =
+    let parts = both (is_piece piece) (list_all is_piece pieces) all in
+    ap (λ b. b && list_all has_entries_in_order pieces)
+    (both (has_entries_if_settled piece && has_from_if_awaiting piece) (has_entries_in_order piece) parts.0).1
+    ∙ each_stands pieces parts.1
+
+stand_by_grain : (dump : DumpValue) → is_dump dump ≡ true → (node : DumpNode) → In node dump.nodes → list_all has_entries_in_order node.pieces ≡ true
+unfolding shape.is_dump
+stand_by_grain dump is node there =
+    let nodes = (both (has_silos_once dump && has_silos_in_order dump && list_all (is_row_of dump) dump.rows) (list_all (is_node_of dump) dump.nodes)
+    (both (has_numbers dump) (has_shape dump) is).1).1 in
+    let whole = each_passes (is_node_of dump) dump.nodes nodes node there in
+    each_stands node.pieces
+    (both (has_known_silos dump node && holds_its_own node && holds_activations_once node && holds_grains_once node && has_seen_a_version dump node && has_pieces_in_order node)
+    (list_all is_piece node.pieces) whole).1
+
 pub is_ready : (dump : DumpValue) → is_dump dump ≡ true → list_all (has_its_ring dump) (live_nodes dump) ≡ true → (nodes : List (Bor DumpNode)) → nodes_lent nodes ≡ live_nodes dump
     → (index : ℕ) (node : Bor DumpNode) → index < length nodes → node ≡ get_or nodes index node → IsReady node.now
 is_ready dump is right nodes live index node within at =
@@ -44,4 +65,5 @@ is_ready dump is right nodes live index node within at =
     record {
       in_order = in_order dump node.now (each_passes (has_its_ring dump) (live_nodes dump) right node.now standing);
       hashes = record { places = λ k d low. (numbers.ring k d low).place; ranges = numbers.pieces };
+      by_grain = stand_by_grain dump is node.now there;
     }

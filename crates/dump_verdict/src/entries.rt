@@ -4,6 +4,7 @@ ghost use Rattle.std.specs.Prelude.{◌≡◌, IfOk, IsTrue, map};
 ghost use Rattle.std.specs.List.{list_all};
 ghost use Rattle.ring_range.specs.Range.{holds};
 ghost use Rattle.hash_ring.specs.Hash.{hash_grain};
+ghost use Rattle.dump_rules.specs.DumpShape.{has_entries_in_order};
 ghost use Rattle.dump_rules.specs.Verdict.{has_entries_inside, has_one_entry_a_grain, node_entries};
 ghost use Rattle.dump_verdict.specs.Lent.{entries_lent};
 ghost use Rattle.dump_verdict.specs.Ready.{is_by_grain};
@@ -39,8 +40,10 @@ fn is_inside(dump: &Dump, piece: &Piece, entry: &Entry) -> bool
     piece.range.contains(dump.hashing.hash_grain(&entry.grain))
 }
 
-/// Whether in each piece of the node each entry's grain is above the one before it, so that no two are of one grain.
+/// Whether in each piece of the node no entry is of the grain of the one before it. They stand by grain, so no two in a piece are of one
+/// grain then.
 pub(crate) fn have_rising_entries(node: &Node) -> bool
+    requires { IsTrue (list_all has_entries_in_order node.now.pieces) }
     ensures { IsTrue result → IsTrue (list_all is_by_grain node.now.pieces) }
 {
     for piece in &node.pieces {
@@ -51,13 +54,14 @@ pub(crate) fn have_rising_entries(node: &Node) -> bool
     true
 }
 
-/// Whether each entry's grain is above the one before it.
+/// Whether no entry is of the grain of the one before it. They stand by grain, so each rises above the one before it then.
 fn has_rising_entries(piece: &Piece) -> bool
+    requires { IsTrue (has_entries_in_order piece.now) }
     ensures { IsTrue result → IsTrue (is_by_grain piece.now) }
 {
     piece
         .entries
-        .is_sorted_by(|one, next| one.grain.cmp(&next.grain).is_lt())
+        .is_sorted_by(|one, next| one.grain != next.grain)
 }
 
 /// Whether the node has no two entries of one grain. Fails only when memory runs out.

@@ -1,6 +1,6 @@
 //! Entries in the order of their activations, found by halves. What is moved about is an activation and where its grain stands.
 
-ghost use Rattle.std.specs.Prelude.{◌≡◌, ◌<◌, ◌≤◌, IfOk, IsTrue, length, map};
+ghost use Rattle.std.specs.Prelude.{◌≡◌, ◌+◌, ◌<◌, ◌≤◌, IfOk, IsTrue, length, map};
 ghost use Rattle.std.specs.List.Sorted.{IsSorted};
 ghost use Rattle.dump_rules.specs.Verdict as rule;
 ghost use Rattle.dump_verdict.specs.Lent.{entries_in, entries_lent, held_lent, held_on};
@@ -107,16 +107,37 @@ fn stands_at(names: &[Named], index: usize, one: &Named) -> bool
     names[index].cmp(one).is_eq()
 }
 
-/// Where those that name the grain in the activation begin, and where they end. At the guess they are looked for first, else by halves;
-/// and mostly one does, so that they end behind it.
+/// Where those that name the grain in the activation begin, and where they end. Mostly just the one at the guess does, and then its
+/// grain is looked at once; else they are looked for by halves.
 pub(crate) fn places_of(names: &[Named], guess: usize, one: &Named) -> (usize, usize)
     requires { IsSorted named_cmp names.now }
     ensures from { result.0 ≡ count_below one.now names.now }
     ensures to { result.1 ≡ count_up_to one.now names.now }
 {
+    if stands_alone_at(names, guess, one) {
+        return (guess, guess + 1);
+    }
     let below = start_of(names, guess, one);
     let up_to = end_of(names, below, one);
     (below, up_to)
+}
+
+/// Whether just the one at the index names the grain in the activation, as far as its neighbours tell.
+fn stands_alone_at(names: &[Named], index: usize, one: &Named) -> bool
+    requires { IsSorted named_cmp names.now }
+    ensures within { IsTrue result → index < length names.now }
+    ensures below { IsTrue result → index ≡ count_below one.now names.now }
+    ensures up_to { IsTrue result → index + 1 ≡ count_up_to one.now names.now }
+{
+    if index == 0 || names.len() <= index || names.len() - index == 1 {
+        return false;
+    }
+    let before = names[index - 1].cmp(one);
+    if !before.is_lt() {
+        return false;
+    }
+    let behind = names[index + 1].cmp(one);
+    behind.is_gt() && names[index].cmp(one).is_eq()
 }
 
 /// How many of them are below this one: at the guess they are looked for first.
