@@ -1,6 +1,5 @@
 -- What is told of names is told of the grains.
 use Rattle.std.proofs.Common.{◌≡◌, refl, sym, ap, subst, ◌∙◌, ℕ, List, [], ◌∷◌, ◌++◌, zero, suc, cond, Bool, true, false, Option, Some, None}
-use Rattle.std.specs.List.{AllByRecursion}
 use Rattle.std.specs.Str.{bytes_eq}
 use Rattle.std.specs.Map.{lookup, lookup_key}
 use Rattle.std.specs.Option.{option_map}

@@ -1,4 +1,4 @@
-use Rattle.std.proofs.Common.{◌≡◌, ap, ◌∙◌, ◌++◌, [], ◌∷◌, None, subst}
+use Rattle.std.proofs.Common.{ap, ◌∙◌, ◌++◌, [], ◌∷◌}
 use Rattle.std.specs.Box.{boxed_str_bytes}
 use Rattle.std.specs.Map.{lookup}
 use Rattle.silo_address.specs.Grain.{grain_eq}
