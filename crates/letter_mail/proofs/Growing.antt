@@ -2,10 +2,11 @@
 use Rattle.std.proofs.Common.{◌≡◌, ℕ, zero, suc, ◌+◌, ◌-◌, ◌<◌, ◌≤◌, List, [], ◌∷◌, ◌++◌, length, get_or, set, take, Option, Some, None, refl, sym, ◌∙◌, ap, subst, arith}
 use Rattle.std.specs.Prelude.{IfSome, MatchOption, ◌^◌, slice_get}
 use Rattle.std.specs.List.{cons_option}
+use Rattle.std.specs.Map.{keys_of}
 use Rattle.std.specs.Option.{option_map}
 use Rattle.std.proofs.Math.ListN.{get_or-append}
-use Rattle.std.proofs.lemmas.List.{append-nil, append_assoc, length-append, take_at}
-use Rattle.std.proofs.lemmas.Option.{same_Some}
+use Rattle.std.proofs.lemmas.List.{append-nil, append_assoc, length-append, length-map, map-append, take_at}
+use Rattle.std.proofs.lemmas.Option.{same_Some, slice_get-map}
 use Rattle.silo_address.specs.Grain.{Grain}
 use Rattle.silo_address.specs.Silo.{Silo}
 use Rattle.directory_rules.specs.Letter.{Body, Reply_letter, Offer_letter}
@@ -149,6 +150,22 @@ number_at [] zero grain there = absurd (cc (there))
 number_at [] (suc number) grain there = absurd (cc (there))
 number_at (g ∷ grains) zero grain there = (omega arith, same_Some g grain there)
 number_at (g ∷ grains) (suc number) grain there = let at = number_at grains number grain there in (omega (arith, at.0), at.1)
+
+-- a grain that stands under a number, with whatever value
+pub key_at : {V : Type 0} (es : List (Grain × V)) (number : ℕ) (grain : Grain) (value : V) → slice_get es number ≡ Some (grain, value) → slice_get (keys_of es) number ≡ Some grain
+key_at es number grain value there = slice_get-map (λ e. e.0) es number ∙ ap (option_map (λ e. e.0)) there
+
+-- a grain gets the next number
+pub keys_put : {V : Type 0} (es new : List (Grain × V)) (grain : Grain) (value : V) → new ≡ es ++ (grain, value) ∷ [] → keys_of new ≡ keys_of es ++ grain ∷ []
+keys_put es new grain value put = ap keys_of put ∙ map-append (λ e. e.0) es ((grain, value) ∷ [])
+
+next_at : (grains : List Grain) (grain : Grain) → slice_get (grains ++ grain ∷ []) (length grains) ≡ Some grain
+next_at [] grain = refl
+next_at (g ∷ grains) grain = next_at grains grain
+
+pub put_at : {V : Type 0} (es new : List (Grain × V)) (grain : Grain) (value : V) (number : ℕ) → number ≡ length es → new ≡ es ++ (grain, value) ∷ [] → slice_get (keys_of new) number ≡ Some grain
+put_at es new grain value number last put =
+    (λ i. slice_get (keys_put es new grain value put i) ((last ∙ sym (length-map es (λ e. e.0))) i)) ∙ next_at (keys_of es) grain
 
 -- what holds of a number holds of it where it is small
 pub small_has : (P : ℕ → Type 0) (small : Option ℕ) (number : ℕ) → MatchOption small (2 ^ 32 ≤ number) (λ few. few ≡ number) → P number → IfSome small P

@@ -1,5 +1,6 @@
 -- How what the mail keeps is the rule's mail: letter n stands in the n-th slot.
 use Rattle.std.specs.Prelude.{List, length}
+use Rattle.std.specs.Map.{keys_of}
 use Rattle.silo_address.specs.Grain.{Grain}
 use Rattle.letter_mail.specs.declared.slots.Slot.{Slot}
 use Rattle.letter_mail.specs.declared.mail.Mail.TheInside.{Inside}
@@ -13,9 +14,9 @@ mail_in grains slots = record { letters = posted_from 1 grains slots; sent = len
 
 -- the rule's mail
 abbrev pub mail_of : Inside → MailValue
-mail_of m = mail_in m.grains.keys m.slots.items
+mail_of m = mail_in (keys_of m.grains) m.slots.items
 
 -- what the fields keep
 pub record IsMail (m : Inside) : Type 0 where
-  pub numbered : AreKept (length m.grains.keys) m.slots.items
+  pub numbered : AreKept (length (keys_of m.grains)) m.slots.items
   pub queued : AreQueued m.slots.items m.queues.entries

@@ -1,4 +1,5 @@
 ghost use Rattle.std.specs.Prelude.{◌≡◌, ◌<◌, ◌≤◌, ◌^◌, ℕ, List, Some, IfOk, IfSome, MatchOption, length};
+ghost use Rattle.std.specs.Map.{keys_of};
 ghost use Rattle.directory_letters.specs.LetterModel.{body_of};
 ghost use Rattle.letter_mail.specs.Keeping.{Grows};
 ghost use Rattle.letter_mail.specs.Kept.{IsNumbered, entry_by, grain_at, letter_by, range_by, said_by};
@@ -12,7 +13,7 @@ use crate::kept::{Brief, Named, Says, Span};
 use crate::slots::Slot;
 use directory_letters::{Body, Letter};
 use directory_rules::{Act, Reply, Request, Why};
-use indexmap::IndexSet;
+use grain_names::GrainMap;
 use ring_range::RingRange;
 use silo_address::{Entry, GrainId, SiloAddress};
 use std::alloc::{AllocError, Global};
@@ -20,12 +21,12 @@ use std::alloc::{AllocError, Global};
 // A letter as it is kept, fresh; its grain gets a number where it has none yet.
 pub(crate) fn kept(
     alloc: Global,
-    grains: &mut IndexSet<GrainId>,
+    grains: &mut GrainMap<()>,
     letter: Letter,
 ) -> Result<Slot, AllocError>
-    ensures grown { Grows grains.old.keys grains.new.keys }
-    ensures numbered { IfOk result (λ slot. IsSlot (length grains.new.keys) slot) }
-    ensures exact { IfOk result (λ slot. posted_in grains.new.keys slot ≡ Some (fresh_letter letter)) }
+    ensures grown { Grows (keys_of grains.old) (keys_of grains.new) }
+    ensures numbered { IfOk result (λ slot. IsSlot (length (keys_of grains.new)) slot) }
+    ensures exact { IfOk result (λ slot. posted_in (keys_of grains.new) slot ≡ Some (fresh_letter letter)) }
 {
     let fresh = true;
     match brief(grains, &letter)? {
@@ -38,10 +39,10 @@ pub(crate) fn kept(
 }
 
 // The letter kept short, where it can be.
-fn brief(grains: &mut IndexSet<GrainId>, letter: &Letter) -> Result<Option<Brief>, AllocError>
-    ensures grown { Grows grains.old.keys grains.new.keys }
-    ensures numbered { IfOk result (λ brief. IfSome brief (λ brief. IsNumbered (length grains.new.keys) brief.says)) }
-    ensures exact { IfOk result (λ brief. IfSome brief (λ brief. letter_by grains.new.keys brief ≡ letter.now)) }
+fn brief(grains: &mut GrainMap<()>, letter: &Letter) -> Result<Option<Brief>, AllocError>
+    ensures grown { Grows (keys_of grains.old) (keys_of grains.new) }
+    ensures numbered { IfOk result (λ brief. IfSome brief (λ brief. IsNumbered (length (keys_of grains.new)) brief.says)) }
+    ensures exact { IfOk result (λ brief. IfSome brief (λ brief. letter_by (keys_of grains.new) brief ≡ letter.now)) }
 {
     let from = letter.from();
     let to = letter.to();
@@ -61,14 +62,14 @@ fn brief(grains: &mut IndexSet<GrainId>, letter: &Letter) -> Result<Option<Brief
 
 // What a letter of this sender and version says, kept short.
 fn says(
-    grains: &mut IndexSet<GrainId>,
+    grains: &mut GrainMap<()>,
     from: &SiloAddress,
     version: u64,
     body: &Body,
 ) -> Result<Option<Says>, AllocError>
-    ensures grown { Grows grains.old.keys grains.new.keys }
-    ensures numbered { IfOk result (λ says. IfSome says (λ says. IsNumbered (length grains.new.keys) says)) }
-    ensures exact { IfOk result (λ says. IfSome says (λ says. said_by grains.new.keys from.now version says ≡ body_of body.now)) }
+    ensures grown { Grows (keys_of grains.old) (keys_of grains.new) }
+    ensures numbered { IfOk result (λ says. IfSome says (λ says. IsNumbered (length (keys_of grains.new)) says)) }
+    ensures exact { IfOk result (λ says. IfSome says (λ says. said_by (keys_of grains.new) from.now version says ≡ body_of body.now)) }
 {
     match body {
         Body::Request(request) => {
@@ -111,10 +112,10 @@ fn tells(body: &Body) -> Option<Says>
 
 // What a letter says that has its sender's request of its version, kept short. A Register in the place of a previous activation
 // isn't.
-fn asks(grains: &mut IndexSet<GrainId>, request: &Request) -> Result<Option<Says>, AllocError>
-    ensures grown { Grows grains.old.keys grains.new.keys }
-    ensures numbered { IfOk result (λ says. IfSome says (λ says. IsNumbered (length grains.new.keys) says)) }
-    ensures exact { IfOk result (λ says. IfSome says (λ says. said_by grains.new.keys request.now.sender request.now.version says ≡ Request_letter request.now)) }
+fn asks(grains: &mut GrainMap<()>, request: &Request) -> Result<Option<Says>, AllocError>
+    ensures grown { Grows (keys_of grains.old) (keys_of grains.new) }
+    ensures numbered { IfOk result (λ says. IfSome says (λ says. IsNumbered (length (keys_of grains.new)) says)) }
+    ensures exact { IfOk result (λ says. IfSome says (λ says. said_by (keys_of grains.new) request.now.sender request.now.version says ≡ Request_letter request.now)) }
 {
     let hash = request.hash;
     let Some(number) = small(request.number) else {
@@ -157,13 +158,13 @@ fn asks(grains: &mut IndexSet<GrainId>, request: &Request) -> Result<Option<Says
 
 // What a reply's letter says, kept short.
 fn replies(
-    grains: &mut IndexSet<GrainId>,
+    grains: &mut GrainMap<()>,
     number: u32,
     reply: &Reply,
 ) -> Result<Option<Says>, AllocError>
-    ensures grown { Grows grains.old.keys grains.new.keys }
-    ensures numbered { IfOk result (λ says. IfSome says (λ says. IsNumbered (length grains.new.keys) says)) }
-    ensures exact { IfOk result (λ says. IfSome says (λ says. (from : Silo) (version : ℕ) → said_by grains.new.keys from version says ≡ Reply_letter number reply.now)) }
+    ensures grown { Grows (keys_of grains.old) (keys_of grains.new) }
+    ensures numbered { IfOk result (λ says. IfSome says (λ says. IsNumbered (length (keys_of grains.new)) says)) }
+    ensures exact { IfOk result (λ says. IfSome says (λ says. (from : Silo) (version : ℕ) → said_by (keys_of grains.new) from version says ≡ Reply_letter number reply.now)) }
 {
     match reply {
         Reply::Registered(entry) => match named(grains, entry)? {
@@ -205,10 +206,10 @@ fn retries(number: u32, why: &Why) -> Option<Says>
 }
 
 // The entry, its grain by number.
-fn named(grains: &mut IndexSet<GrainId>, entry: &Entry) -> Result<Option<Named>, AllocError>
-    ensures grown { Grows grains.old.keys grains.new.keys }
-    ensures numbered { IfOk result (λ named. IfSome named (λ named. named.grain < length grains.new.keys)) }
-    ensures exact { IfOk result (λ named. IfSome named (λ named. entry_by grains.new.keys named ≡ entry.now)) }
+fn named(grains: &mut GrainMap<()>, entry: &Entry) -> Result<Option<Named>, AllocError>
+    ensures grown { Grows (keys_of grains.old) (keys_of grains.new) }
+    ensures numbered { IfOk result (λ named. IfSome named (λ named. named.grain < length (keys_of grains.new))) }
+    ensures exact { IfOk result (λ named. IfSome named (λ named. entry_by (keys_of grains.new) named ≡ entry.now)) }
 {
     let silo = entry.activation.silo;
     let Some(count) = small(entry.activation.count) else {
@@ -221,15 +222,17 @@ fn named(grains: &mut IndexSet<GrainId>, entry: &Entry) -> Result<Option<Named>,
 }
 
 // The number of a grain, which gets the next one where it has none.
-fn number_of(grains: &mut IndexSet<GrainId>, grain: &GrainId) -> Result<Option<u32>, AllocError>
-    ensures grown { Grows grains.old.keys grains.new.keys }
-    ensures numbered { IfOk result (λ number. IfSome number (λ number. number < length grains.new.keys)) }
-    ensures exact { IfOk result (λ number. IfSome number (λ number. grain_at grains.new.keys number ≡ grain.now)) }
+fn number_of(grains: &mut GrainMap<()>, grain: &GrainId) -> Result<Option<u32>, AllocError>
+    ensures grown { Grows (keys_of grains.old) (keys_of grains.new) }
+    ensures numbered { IfOk result (λ number. IfSome number (λ number. number < length (keys_of grains.new))) }
+    ensures exact { IfOk result (λ number. IfSome number (λ number. grain_at (keys_of grains.new) number ≡ grain.now)) }
 {
-    match grains.insert_full(*grain) {
-        Ok((number, _)) => Ok(small(number as u64)),
-        Err(_) => Err(AllocError),
+    if let Some((number, _)) = grains.find(grain) {
+        return Ok(small(number as u64));
     }
+    let number = grains.len();
+    grains.put(grain, ())?;
+    Ok(small(number as u64))
 }
 
 // The range, where it isn't the full circle.

@@ -1,11 +1,12 @@
 ghost use Rattle.std.specs.Prelude.{◌≡◌, ◌<◌, None, length};
+ghost use Rattle.std.specs.Map.{keys_of};
 ghost use Rattle.directory_rules.specs.Letter.{Ask_letter, Offer_letter, Reply_letter};
 ghost use Rattle.directory_letters.specs.LetterModel.{body_of};
 ghost use Rattle.letter_mail.specs.Kept.{IsNumbered, entry_by, grain_at, letter_by, range_by, request_by, said_by};
 
 use directory_letters::{Body, Letter};
 use directory_rules::{Act, Reply, Request, Why};
-use indexmap::IndexSet;
+use grain_names::GrainMap;
 use ring_range::RingRange;
 use silo_address::{ActivationId, Entry, GrainId, SiloAddress};
 
@@ -102,18 +103,18 @@ pub(crate) struct Brief {
 }
 
 // The letter that is kept short.
-pub(crate) fn letter_by(grains: &IndexSet<GrainId>, brief: &Brief) -> Letter
-    requires numbered { IsNumbered (length grains.now.keys) brief.now.says }
-    ensures { result ≡ letter_by grains.now.keys brief.now }
+pub(crate) fn letter_by(grains: &GrainMap<()>, brief: &Brief) -> Letter
+    requires numbered { IsNumbered (length (keys_of grains.now)) brief.now.says }
+    ensures { result ≡ letter_by (keys_of grains.now) brief.now }
 {
     let version = u64::from(brief.version);
     Letter::new(brief.from, brief.to, version, body_by(grains, brief))
 }
 
 // What it says. Each arm is one call or has nothing large, since all that arms hold is cleared whichever one is taken.
-fn body_by(grains: &IndexSet<GrainId>, brief: &Brief) -> Body
-    requires numbered { IsNumbered (length grains.now.keys) brief.now.says }
-    ensures { body_of result ≡ said_by grains.now.keys brief.now.from brief.now.version brief.now.says }
+fn body_by(grains: &GrainMap<()>, brief: &Brief) -> Body
+    requires numbered { IsNumbered (length (keys_of grains.now)) brief.now.says }
+    ensures { body_of result ≡ said_by (keys_of grains.now) brief.now.from brief.now.version brief.now.says }
 {
     match brief.says {
         Says::Register {
@@ -152,9 +153,9 @@ fn body_by(grains: &IndexSet<GrainId>, brief: &Brief) -> Body
 }
 
 // A Register of the letter's own sender and version, in nobody's place.
-fn register(grains: &IndexSet<GrainId>, brief: &Brief, number: u32, hash: u32, entry: Named) -> Body
-    requires numbered { entry.grain < length grains.now.keys }
-    ensures { body_of result ≡ request_by brief.now.from brief.now.version number hash (Act.Register (entry_by grains.now.keys entry) None) }
+fn register(grains: &GrainMap<()>, brief: &Brief, number: u32, hash: u32, entry: Named) -> Body
+    requires numbered { entry.grain < length (keys_of grains.now) }
+    ensures { body_of result ≡ request_by brief.now.from brief.now.version number hash (Act.Register (entry_by (keys_of grains.now) entry) None) }
 {
     Body::Request(Request {
         sender: brief.from,
@@ -169,15 +170,9 @@ fn register(grains: &IndexSet<GrainId>, brief: &Brief, number: u32, hash: u32, e
 }
 
 // A Deregister of the letter's own sender and version.
-fn deregister(
-    grains: &IndexSet<GrainId>,
-    brief: &Brief,
-    number: u32,
-    hash: u32,
-    entry: Named,
-) -> Body
-    requires numbered { entry.grain < length grains.now.keys }
-    ensures { body_of result ≡ request_by brief.now.from brief.now.version number hash (Act.Deregister (entry_by grains.now.keys entry)) }
+fn deregister(grains: &GrainMap<()>, brief: &Brief, number: u32, hash: u32, entry: Named) -> Body
+    requires numbered { entry.grain < length (keys_of grains.now) }
+    ensures { body_of result ≡ request_by brief.now.from brief.now.version number hash (Act.Deregister (entry_by (keys_of grains.now) entry)) }
 {
     Body::Request(Request {
         sender: brief.from,
@@ -191,9 +186,9 @@ fn deregister(
 }
 
 // A Find of the letter's own sender and version.
-fn find(grains: &IndexSet<GrainId>, brief: &Brief, number: u32, hash: u32, grain: u32) -> Body
-    requires numbered { grain < length grains.now.keys }
-    ensures { body_of result ≡ request_by brief.now.from brief.now.version number hash (Act.Find (grain_at grains.now.keys grain)) }
+fn find(grains: &GrainMap<()>, brief: &Brief, number: u32, hash: u32, grain: u32) -> Body
+    requires numbered { grain < length (keys_of grains.now) }
+    ensures { body_of result ≡ request_by brief.now.from brief.now.version number hash (Act.Find (grain_at (keys_of grains.now) grain)) }
 {
     Body::Request(Request {
         sender: brief.from,
@@ -207,9 +202,9 @@ fn find(grains: &IndexSet<GrainId>, brief: &Brief, number: u32, hash: u32, grain
 }
 
 // The reply that an entry was put in.
-fn registered(grains: &IndexSet<GrainId>, number: u32, entry: Named) -> Body
-    requires numbered { entry.grain < length grains.now.keys }
-    ensures { body_of result ≡ Reply_letter number (Reply.Registered (entry_by grains.now.keys entry)) }
+fn registered(grains: &GrainMap<()>, number: u32, entry: Named) -> Body
+    requires numbered { entry.grain < length (keys_of grains.now) }
+    ensures { body_of result ≡ Reply_letter number (Reply.Registered (entry_by (keys_of grains.now) entry)) }
 {
     Body::Reply {
         number: u64::from(number),
@@ -218,9 +213,9 @@ fn registered(grains: &IndexSet<GrainId>, number: u32, entry: Named) -> Body
 }
 
 // The reply that another entry has the grain.
-fn taken(grains: &IndexSet<GrainId>, number: u32, entry: Named) -> Body
-    requires numbered { entry.grain < length grains.now.keys }
-    ensures { body_of result ≡ Reply_letter number (Reply.Taken (entry_by grains.now.keys entry)) }
+fn taken(grains: &GrainMap<()>, number: u32, entry: Named) -> Body
+    requires numbered { entry.grain < length (keys_of grains.now) }
+    ensures { body_of result ≡ Reply_letter number (Reply.Taken (entry_by (keys_of grains.now) entry)) }
 {
     Body::Reply {
         number: u64::from(number),
@@ -229,9 +224,9 @@ fn taken(grains: &IndexSet<GrainId>, number: u32, entry: Named) -> Body
 }
 
 // The reply that an entry was found.
-fn found(grains: &IndexSet<GrainId>, number: u32, entry: Named) -> Body
-    requires numbered { entry.grain < length grains.now.keys }
-    ensures { body_of result ≡ Reply_letter number (Reply.Found (entry_by grains.now.keys entry)) }
+fn found(grains: &GrainMap<()>, number: u32, entry: Named) -> Body
+    requires numbered { entry.grain < length (keys_of grains.now) }
+    ensures { body_of result ≡ Reply_letter number (Reply.Found (entry_by (keys_of grains.now) entry)) }
 {
     Body::Reply {
         number: u64::from(number),
@@ -316,17 +311,17 @@ fn range_by(span: Span) -> RingRange
 }
 
 // An offer.
-fn offer(grains: &IndexSet<GrainId>, entry: Named) -> Body
-    requires numbered { entry.grain < length grains.now.keys }
-    ensures { body_of result ≡ Offer_letter (entry_by grains.now.keys entry) }
+fn offer(grains: &GrainMap<()>, entry: Named) -> Body
+    requires numbered { entry.grain < length (keys_of grains.now) }
+    ensures { body_of result ≡ Offer_letter (entry_by (keys_of grains.now) entry) }
 {
     Body::Offer(entry_by(grains, entry))
 }
 
 // The entry whose grain has the number.
-fn entry_by(grains: &IndexSet<GrainId>, named: Named) -> Entry
-    requires numbered { named.grain < length grains.now.keys }
-    ensures { result ≡ entry_by grains.now.keys named }
+fn entry_by(grains: &GrainMap<()>, named: Named) -> Entry
+    requires numbered { named.grain < length (keys_of grains.now) }
+    ensures { result ≡ entry_by (keys_of grains.now) named }
 {
     Entry {
         grain: grain_at(grains, named.grain),
@@ -338,12 +333,12 @@ fn entry_by(grains: &IndexSet<GrainId>, named: Named) -> Entry
 }
 
 // The grain of that number.
-fn grain_at(grains: &IndexSet<GrainId>, number: u32) -> GrainId
-    requires numbered { number < length grains.now.keys }
-    ensures { result ≡ grain_at grains.now.keys number }
+fn grain_at(grains: &GrainMap<()>, number: u32) -> GrainId
+    requires numbered { number < length (keys_of grains.now) }
+    ensures { result ≡ grain_at (keys_of grains.now) number }
 {
-    match grains.get_index(number as usize) {
-        Some(grain) => *grain,
+    match grains.at(number as usize) {
+        Some((grain, _)) => grain,
         None => unreachable!(),
     }
 }

@@ -11,8 +11,8 @@ use crate::queue::Queue;
 use crate::queues::first_at;
 use crate::slots::{Slot, index_of, is_fresh_at};
 use directory_letters::Letter;
-use indexmap::IndexSet;
-use silo_address::{GrainId, SiloAddress};
+use grain_names::GrainMap;
+use silo_address::SiloAddress;
 use std::alloc::{AllocError, Global};
 use std::collections::BTreeMap;
 use std::marker::Model;
@@ -25,7 +25,7 @@ use std::marker::Model;
 pub struct Mail {
     alloc: Global,
     // The grains that letters named, under their numbers.
-    grains: IndexSet<GrainId>,
+    grains: GrainMap<()>,
     slots: Vec<Slot>,
     queues: BTreeMap<SiloAddress, Queue>,
 }
@@ -49,7 +49,7 @@ impl Mail {
     {
         Mail {
             alloc,
-            grains: IndexSet::new(alloc),
+            grains: GrainMap::new(alloc),
             slots: Vec::new(alloc),
             queues: BTreeMap::new(alloc),
         }

@@ -1,5 +1,6 @@
 //! Letters put behind the slots, and taken away there.
 ghost use Rattle.std.specs.Prelude.{◌≡◌, ◌∷◌, [], ◌-◌, ◌<◌, ◌≤◌, OnOk, length, take};
+ghost use Rattle.std.specs.Map.{keys_of};
 ghost use Rattle.letter_mail.specs.Keeping.{Grows};
 ghost use Rattle.letter_mail.specs.Slots.{AreKept};
 ghost use Rattle.letter_mail.specs.Queues.{AreQueued};
@@ -11,26 +12,26 @@ use crate::queue::Queue;
 use crate::queues::{dequeue, enqueue};
 use crate::slots::Slot;
 use directory_letters::Letter;
-use indexmap::IndexSet;
-use silo_address::{GrainId, SiloAddress};
+use grain_names::GrainMap;
+use silo_address::SiloAddress;
 use std::alloc::{AllocError, Global};
 use std::collections::BTreeMap;
 
 // Letters go behind the slots, each of them fresh. Where memory runs out those before it stand there.
 pub(crate) fn put_all(
     alloc: Global,
-    grains: &mut IndexSet<GrainId>,
+    grains: &mut GrainMap<()>,
     slots: &mut Vec<Slot>,
     queues: &mut BTreeMap<SiloAddress, Queue>,
     letters: Vec<Letter>,
 ) -> Result<(), AllocError>
-    requires numbered { AreKept (length grains.old.keys) slots.old.items }
+    requires numbered { AreKept (length (keys_of grains.old)) slots.old.items }
     requires queued { AreQueued slots.old.items queues.old.entries }
-    ensures numbered { AreKept (length grains.new.keys) slots.new.items }
+    ensures numbered { AreKept (length (keys_of grains.new)) slots.new.items }
     ensures queued { AreQueued slots.new.items queues.new.entries }
     ensures behind { Grows slots.old.items slots.new.items }
-    ensures grown { Grows grains.old.keys grains.new.keys }
-    ensures put { OnOk result (mail_in grains.new.keys slots.new.items ≡ with_posted (mail_in grains.old.keys slots.old.items) letters.items) }
+    ensures grown { Grows (keys_of grains.old) (keys_of grains.new) }
+    ensures put { OnOk result (mail_in (keys_of grains.new) slots.new.items ≡ with_posted (mail_in (keys_of grains.old) slots.old.items) letters.items) }
 {
     for letter in letters {
         put(alloc, grains, slots, queues, letter)?;
@@ -41,18 +42,18 @@ pub(crate) fn put_all(
 // A letter goes behind the slots, and is fresh: it is kept, and there is room for it, before anything changes.
 fn put(
     alloc: Global,
-    grains: &mut IndexSet<GrainId>,
+    grains: &mut GrainMap<()>,
     slots: &mut Vec<Slot>,
     queues: &mut BTreeMap<SiloAddress, Queue>,
     letter: Letter,
 ) -> Result<(), AllocError>
-    requires numbered { AreKept (length grains.old.keys) slots.old.items }
+    requires numbered { AreKept (length (keys_of grains.old)) slots.old.items }
     requires queued { AreQueued slots.old.items queues.old.entries }
-    ensures numbered { AreKept (length grains.new.keys) slots.new.items }
+    ensures numbered { AreKept (length (keys_of grains.new)) slots.new.items }
     ensures queued { AreQueued slots.new.items queues.new.entries }
     ensures behind { Grows slots.old.items slots.new.items }
-    ensures grown { Grows grains.old.keys grains.new.keys }
-    ensures put { OnOk result (mail_in grains.new.keys slots.new.items ≡ with_posted (mail_in grains.old.keys slots.old.items) (letter ∷ [])) }
+    ensures grown { Grows (keys_of grains.old) (keys_of grains.new) }
+    ensures put { OnOk result (mail_in (keys_of grains.new) slots.new.items ≡ with_posted (mail_in (keys_of grains.old) slots.old.items) (letter ∷ [])) }
 {
     let to = letter.to();
     let slot = kept(alloc, grains, letter)?;

@@ -1,4 +1,5 @@
 ghost use Rattle.std.specs.Prelude.{◌≡◌, ◌⊎◌, ◌+◌, ◌<◌, ◌≤◌, MatchOption, length, slice_index_or, set};
+ghost use Rattle.std.specs.Map.{keys_of};
 ghost use Rattle.std.specs.Option.{option_map};
 ghost use Rattle.directory_rules.specs.World.{Posted};
 ghost use Rattle.letter_mail.specs.Slots.{IsSlot, is_fresh, lost_slot, posted_in, slot_to, stale_slot};
@@ -9,8 +10,8 @@ ghost use Rattle.letter_mail.specs.declared.slots.Slot.{Slot as SlotSeen};
 use crate::MailedLetter;
 use crate::kept::{Brief, letter_by};
 use directory_letters::Letter;
-use indexmap::IndexSet;
-use silo_address::{GrainId, SiloAddress};
+use grain_names::GrainMap;
+use silo_address::SiloAddress;
 use std::mem::size_of;
 
 // A letter that was sent; it is fresh until it was delivered. It is kept short, or whole where it has a list, repeats less than
@@ -49,9 +50,9 @@ impl Slot {
     }
 
     // The letter, if it isn't lost.
-    pub(crate) fn letter(&self, grains: &IndexSet<GrainId>) -> Option<MailedLetter<'_>>
-        requires kept { IsSlot (length grains.now.keys) self.now }
-        ensures { option_map letter_seen result ≡ option_map (λ (posted : Posted). posted.letter) (posted_in grains.now.keys self.now) }
+    pub(crate) fn letter(&self, grains: &GrainMap<()>) -> Option<MailedLetter<'_>>
+        requires kept { IsSlot (length (keys_of grains.now)) self.now }
+        ensures { option_map letter_seen result ≡ option_map (λ (posted : Posted). posted.letter) (posted_in (keys_of grains.now) self.now) }
     {
         match self {
             Slot::Short { brief, .. } => Some(MailedLetter::Made(letter_by(grains, brief))),

@@ -1,4 +1,5 @@
 use Rattle.std.proofs.Common.{◌≡◌, length}
+use Rattle.std.specs.Map.{keys_of}
 use Rattle.letter_mail.specs.Keeping.{Grows}
 use Rattle.letter_mail.specs.Slots.{AreKept}
 use Rattle.letter_mail.specs.Queues.{AreQueued}
@@ -9,9 +10,9 @@ use Rattle.letter_mail.proofs.putting.put_all.Given as goal
 -- the letters that are left belong behind those that are put
 abbrev pub invariant-loop-letter : goal.invariant-loop-letter
 invariant-loop-letter l = record {
-  numbered : AreKept (length l.grains.keys) l.slots.items;
+  numbered : AreKept (length (keys_of l.grains)) l.slots.items;
   queued : AreQueued l.slots.items l.queues.entries;
   behind : Grows l.fn.slots.items l.slots.items;
-  grown : Grows l.fn.grains.keys l.grains.keys;
-  put : with_posted (mail_in l.grains.keys l.slots.items) l.letter-iterator.rest.items ≡ with_posted (mail_in l.fn.grains.keys l.fn.slots.items) l.fn.letters.items;
+  grown : Grows (keys_of l.fn.grains) (keys_of l.grains);
+  put : with_posted (mail_in (keys_of l.grains) l.slots.items) l.letter-iterator.rest.items ≡ with_posted (mail_in (keys_of l.fn.grains) l.fn.slots.items) l.fn.letters.items;
 }

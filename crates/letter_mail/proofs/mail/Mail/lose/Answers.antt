@@ -1,4 +1,5 @@
 use Rattle.std.proofs.Common.{IsSome, ◌-◌, ◌<◌, List, length, sym, ◌∙◌, ap, subst, arith}
+use Rattle.std.specs.Map.{keys_of}
 use Rattle.letter_mail.specs.declared.slots.Slot.{Slot}
 use Rattle.letter_mail.specs.Slots.{AreKept}
 use Rattle.letter_mail.specs.Mail.{MailValue, letter_in, with_lost}
@@ -8,15 +9,15 @@ use Rattle.letter_mail.proofs.mail.Mail.lose.Goals as goal
 
 pub lose_in-requires-clause-sent : goal.lose_in-requires-clause-sent
 lose_in-requires-clause-sent c =
-    (was_sent c.self.inside.grains.keys c.self.inside.slots.items c.args.number (subst (λ (m : MailValue). IsSome (letter_in m c.args.number)) (sym c.self.view_is) c.requires.there)).0
+    (was_sent (keys_of c.self.inside.grains) c.self.inside.slots.items c.args.number (subst (λ (m : MailValue). IsSome (letter_in m c.args.number)) (sym c.self.view_is) c.requires.there)).0
 
 pub lose_in-requires-clause-within : goal.lose_in-requires-clause-within
 lose_in-requires-clause-within c =
-    (was_sent c.self.inside.grains.keys c.self.inside.slots.items c.args.number (subst (λ (m : MailValue). IsSome (letter_in m c.args.number)) (sym c.self.view_is) c.requires.there)).1
+    (was_sent (keys_of c.self.inside.grains) c.self.inside.slots.items c.args.number (subst (λ (m : MailValue). IsSome (letter_in m c.args.number)) (sym c.self.view_is) c.requires.there)).1
 
 pub invariant_of-self : goal.invariant_of-self
 invariant_of-self c =
-    let grains = c.self.inside.grains.keys in
+    let grains = (keys_of c.self.inside.grains) in
     let slots = c.self.inside.slots.items in
     let sent = was_sent grains slots c.args.number (subst (λ (m : MailValue). IsSome (letter_in m c.args.number)) (sym c.self.view_is) c.requires.there) in
     let below : c.args.number - 1 < length slots = omega (arith, sent.0, sent.1) in
@@ -29,7 +30,7 @@ invariant_of-self c =
 
 pub returns : goal.returns
 returns c =
-    let grains = c.self.inside.grains.keys in
+    let grains = (keys_of c.self.inside.grains) in
     let slots = c.self.inside.slots.items in
     let there = subst (λ (m : MailValue). IsSome (letter_in m c.args.number)) (sym c.self.view_is) c.requires.there in
     let sent = was_sent grains slots c.args.number there in
