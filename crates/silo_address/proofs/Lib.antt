@@ -8,3 +8,4 @@ pub mod StatedLaws
 pub mod ActivationLaws
 pub mod Order
 mod TextOrder
+mod VisibleTexts

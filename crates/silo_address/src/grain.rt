@@ -200,11 +200,21 @@ fn kind_end(text: &[u8]) -> Option<usize>
     Some(end)
 }
 
-/// Whether each byte is visible ASCII.
+/// Whether each byte is visible ASCII. Looks at all of them, whatever it finds, so that many can be looked at at once.
 fn are_visible(text: &[u8]) -> bool
     ensures { IsTrue result ↔ All IsVisible text.now }
 {
-    text.iter().all(|byte| 33 <= *byte && *byte <= 126)
+    let mut all = true;
+    for byte in text {
+        all &= is_visible(*byte);
+    }
+    all
+}
+
+fn is_visible(byte: u8) -> bool
+    ensures { IsTrue result ↔ IsVisible byte }
+{
+    33 <= byte && byte <= 126
 }
 
 /// The text at the front of an array, with zeros behind it.
