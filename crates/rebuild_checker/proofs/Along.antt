@@ -1,6 +1,5 @@
 -- Values that are read from tokens, one after another.
 use Rattle.std.proofs.Common.{◌≡◌, ℕ, suc, ◌-◌, ◌<◌, ◌≤◌, List, [], ◌∷◌, ◌++◌, length, Option, Some, None, option_map, option_and_then, refl, sym, ◌∙◌, ap, append_assoc, append-nil, arith, get_or, eqb, false, ◌≢◌, ◌^◌, ne_eqb, lt-ltb}
-use Rattle.fast_float.specs.Text.{Parts, scan, digits_of, IsInteger}
 use Rattle.std.specs.Prelude.{SomeIff, IfSome, IfOk, Result, Ok, Err}
 use Rattle.json.specs.Token.{Token}
 use Rattle.json.specs.Lex.{tokens}
@@ -146,21 +145,7 @@ pub straight_told : {X : Type 0} (reads : Data → Option X) (deep : ℕ) (text 
     → (told : Data) × (read text ≡ Some told) × (reads told ≡ Some x)
 straight_told reads deep text ts r x low is over one = (one.0, read_whole text deep one.0 low (λ depth h. rw (is, over) at (one.1 depth h)), one.2)
 
--- digits without a sign
-not_minus : (digits : List ℕ) → get_or digits 0 0 ≢ 45 → eqb (get_or digits 0 0) 45 ≡ false
-not_minus digits apart = ne_eqb (get_or digits 0 0) 45 apart
-
-pub plain_told : (digits : List ℕ) (n : ℕ) → get_or digits 0 0 ≢ 45 → (IsInteger (scan digits) × (digits_of (scan digits) < 2 ^ 64)) × (n ≡ digits_of (scan digits)) → number_of digits ≡ Some (unsigned n)
-unfolding number_of
-plain_told digits n apart fits =
-    let whole = fits.0.0 in
-    rw (not_minus digits apart, lt-ltb _ _ whole.0, whole.1, whole.2, lt-ltb _ _ fits.0.1) (ap (λ m. Some (unsigned m)) (sym fits.1))
-
-pub plain_if : (digits : List ℕ) (parts : Parts) (found : Option ℕ) → get_or digits 0 0 ≢ 45 → parts ≡ scan digits
-    → SomeIff found (IsInteger parts × (digits_of parts < 2 ^ 64)) (digits_of parts) → IfSome found (λ n. number_of digits ≡ Some (unsigned n))
-plain_if digits parts None apart is found = tt
-plain_if digits parts (Some n) apart is found = plain_told digits n apart (rw is at found)
-
+-- a number
 pub number_told : (ts : List Token) (s : List ℕ) (r : List Token) (n : ℕ) → ts ≡ Token.number s ∷ r → number_of s ≡ Some (unsigned n) → Tells number_in 0 ts n r
 number_told ts s r n is told = (number (unsigned n), number_at ts s r n is told, refl)
 

@@ -1,5 +1,6 @@
 pub mod DumpModel
 pub mod Mixed
+pub mod PlainText
 pub mod ReadNumbers
 pub mod Reading
 pub mod Sets

@@ -10,6 +10,7 @@ mod named;
 mod node_shape;
 mod numbers;
 mod piece_shape;
+mod plain_text;
 mod reading;
 mod shape;
 mod straight;

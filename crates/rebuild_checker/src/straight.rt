@@ -2,19 +2,16 @@
 //! in the order of their names, each once, as the program writes them. A refusal from here other than want of memory says only
 //! that the text isn't written so.
 
-ghost use Rattle.std.specs.Prelude.{◌≡◌, ℕ, suc, ◌∷◌, Option, Some, IfOk, IfSome, OnOk};
-ghost use Rattle.serde_json.specs.Data.{Data, unsigned};
-ghost use Rattle.serde_json.specs.Read.{number_of, read as read_json};
-ghost use Rattle.json.specs.Token.{begin_array, begin_object, end_array, end_object, key, string};
-ghost use Rattle.json.specs.Json.{after_end_array};
+ghost use Rattle.std.specs.Prelude.{◌≡◌, ℕ, suc, Option, Some, IfOk};
+ghost use Rattle.serde_json.specs.Data.{Data};
+ghost use Rattle.serde_json.specs.Read.{read as read_json};
 ghost use Rattle.dump_rules.specs.DumpIn.{dump_in, entry_in, held_in, node_in, piece_in, point_in, row_in};
 ghost use Rattle.dump_rules.specs.Values.{list_in, number_in};
 ghost use Rattle.rebuild_checker.specs.Straight.{TellItems, Tells};
 
 use crate::named::{activation, from, grain, hashing, phase, range, silo, state};
+use crate::plain_text::PlainText;
 use crate::{Dump, Held, ListedPoint, Node, Piece, ReadError, Row};
-use fast_float::Numeral;
-use json::{Reader, Scratch, Token};
 use silo_address::Entry;
 use std::alloc::Global;
 
@@ -22,10 +19,9 @@ use std::alloc::Global;
 pub(crate) fn read_straight(alloc: Global, text: &str) -> Result<Dump, ReadError>
     ensures { IfOk result (λ dump. (value : Data) × (read_json text.now ≡ Some value) × (dump_in value ≡ Some dump)) }
 {
-    let mut scratch = Scratch::new(alloc);
-    let mut reader = Reader::new(text, &mut scratch)?;
+    let mut reader = PlainText::new(text);
     let dump = dump(alloc, &mut reader)?;
-    if reader.next().is_some() {
+    if !reader.is_over() {
         return Err(ReadError::NotADump);
     }
     Ok(dump)
@@ -38,26 +34,26 @@ trait ReadText: Drop {
     ghost deep: { ℕ };
 
     /// What the next value tells.
-    fn read_text(alloc: Global, reader: &mut Reader<'_>) -> Result<Self, ReadError>
+    fn read_text(alloc: Global, reader: &mut PlainText<'_>) -> Result<Self, ReadError>
         ensures { IfOk result (λ read. Tells tells deep reader.old read reader.new) };
 }
 
 /// The dump that comes next.
-fn dump(alloc: Global, reader: &mut Reader<'_>) -> Result<Dump, ReadError>
+fn dump(alloc: Global, reader: &mut PlainText<'_>) -> Result<Dump, ReadError>
     ensures { IfOk result (λ dump. Tells dump_in 7 reader.old dump reader.new) }
 {
-    begin_members(reader)?;
-    name(reader, "current")?;
-    let current = number(reader)?;
-    name(reader, "hashing")?;
-    let hashing = hashing(text(reader)?)?;
-    name(reader, "nodes")?;
+    reader.begin_members()?;
+    reader.name("current")?;
+    let current = reader.number()?;
+    reader.name("hashing")?;
+    let hashing = hashing(reader.text()?)?;
+    reader.name("nodes")?;
     let nodes = list(alloc, reader)?;
-    name(reader, "points")?;
-    let points = number(reader)?;
-    name(reader, "rows")?;
+    reader.name("points")?;
+    let points = reader.number()?;
+    reader.name("rows")?;
     let rows = list(alloc, reader)?;
-    end_members(reader)?;
+    reader.end_members()?;
     Ok(Dump {
         current,
         hashing,
@@ -72,19 +68,19 @@ impl ReadText for Row {
 
     ghost deep = { 2 };
 
-    fn read_text(alloc: Global, reader: &mut Reader<'_>) -> Result<Row, ReadError> {
-        begin_members(reader)?;
-        name(reader, "dead")?;
-        let dead = number(reader)?;
-        name(reader, "joined")?;
-        let joined = number(reader)?;
-        name(reader, "left")?;
-        let left = number(reader)?;
-        name(reader, "places")?;
+    fn read_text(alloc: Global, reader: &mut PlainText<'_>) -> Result<Row, ReadError> {
+        reader.begin_members()?;
+        reader.name("dead")?;
+        let dead = reader.number()?;
+        reader.name("joined")?;
+        let joined = reader.number()?;
+        reader.name("left")?;
+        let left = reader.number()?;
+        reader.name("places")?;
         let places = list(alloc, reader)?;
-        name(reader, "silo")?;
-        let silo = silo(text(reader)?)?;
-        end_members(reader)?;
+        reader.name("silo")?;
+        let silo = silo(reader.text()?)?;
+        reader.end_members()?;
         Ok(Row {
             dead,
             joined,
@@ -100,19 +96,19 @@ impl ReadText for Node {
 
     ghost deep = { 5 };
 
-    fn read_text(alloc: Global, reader: &mut Reader<'_>) -> Result<Node, ReadError> {
-        begin_members(reader)?;
-        name(reader, "held")?;
+    fn read_text(alloc: Global, reader: &mut PlainText<'_>) -> Result<Node, ReadError> {
+        reader.begin_members()?;
+        reader.name("held")?;
         let held = list(alloc, reader)?;
-        name(reader, "pieces")?;
+        reader.name("pieces")?;
         let pieces = list(alloc, reader)?;
-        name(reader, "ring")?;
+        reader.name("ring")?;
         let ring = list(alloc, reader)?;
-        name(reader, "seen")?;
-        let seen = number(reader)?;
-        name(reader, "silo")?;
-        let silo = silo(text(reader)?)?;
-        end_members(reader)?;
+        reader.name("seen")?;
+        let seen = reader.number()?;
+        reader.name("silo")?;
+        let silo = silo(reader.text()?)?;
+        reader.end_members()?;
         Ok(Node {
             held,
             pieces,
@@ -128,17 +124,17 @@ impl ReadText for Piece {
 
     ghost deep = { 3 };
 
-    fn read_text(alloc: Global, reader: &mut Reader<'_>) -> Result<Piece, ReadError> {
-        begin_members(reader)?;
-        name(reader, "entries")?;
+    fn read_text(alloc: Global, reader: &mut PlainText<'_>) -> Result<Piece, ReadError> {
+        reader.begin_members()?;
+        reader.name("entries")?;
         let entries = list(alloc, reader)?;
-        name(reader, "from")?;
-        let from = from(text(reader)?)?;
-        name(reader, "range")?;
-        let range = range(text(reader)?)?;
-        name(reader, "state")?;
-        let state = state(text(reader)?)?;
-        end_members(reader)?;
+        reader.name("from")?;
+        let from = from(reader.text()?)?;
+        reader.name("range")?;
+        let range = range(reader.text()?)?;
+        reader.name("state")?;
+        let state = state(reader.text()?)?;
+        reader.end_members()?;
         Ok(Piece {
             entries,
             from,
@@ -153,15 +149,15 @@ impl ReadText for Held {
 
     ghost deep = { 1 };
 
-    fn read_text(_alloc: Global, reader: &mut Reader<'_>) -> Result<Held, ReadError> {
-        begin_members(reader)?;
-        name(reader, "activation")?;
-        let activation = activation(text(reader)?)?;
-        name(reader, "grain")?;
-        let grain = grain(text(reader)?)?;
-        name(reader, "phase")?;
-        let phase = phase(text(reader)?)?;
-        end_members(reader)?;
+    fn read_text(_alloc: Global, reader: &mut PlainText<'_>) -> Result<Held, ReadError> {
+        reader.begin_members()?;
+        reader.name("activation")?;
+        let activation = activation(reader.text()?)?;
+        reader.name("grain")?;
+        let grain = grain(reader.text()?)?;
+        reader.name("phase")?;
+        let phase = phase(reader.text()?)?;
+        reader.end_members()?;
         Ok(Held {
             activation,
             grain,
@@ -175,12 +171,12 @@ impl ReadText for ListedPoint {
 
     ghost deep = { 1 };
 
-    fn read_text(_alloc: Global, reader: &mut Reader<'_>) -> Result<ListedPoint, ReadError> {
-        begin_items(reader)?;
-        let place = number(reader)?;
-        let silo = silo(text(reader)?)?;
-        let index = number(reader)?;
-        end_items(reader)?;
+    fn read_text(_alloc: Global, reader: &mut PlainText<'_>) -> Result<ListedPoint, ReadError> {
+        reader.begin_items()?;
+        let place = reader.number()?;
+        let silo = silo(reader.text()?)?;
+        let index = reader.number()?;
+        reader.end_items()?;
         Ok(ListedPoint { place, silo, index })
     }
 }
@@ -190,11 +186,11 @@ impl ReadText for Entry {
 
     ghost deep = { 1 };
 
-    fn read_text(_alloc: Global, reader: &mut Reader<'_>) -> Result<Entry, ReadError> {
-        begin_items(reader)?;
-        let grain = grain(text(reader)?)?;
-        let activation = activation(text(reader)?)?;
-        end_items(reader)?;
+    fn read_text(_alloc: Global, reader: &mut PlainText<'_>) -> Result<Entry, ReadError> {
+        reader.begin_items()?;
+        let grain = grain(reader.text()?)?;
+        let activation = activation(reader.text()?)?;
+        reader.end_items()?;
         Ok(Entry { grain, activation })
     }
 }
@@ -204,21 +200,21 @@ impl ReadText for u64 {
 
     ghost deep = { 0 };
 
-    fn read_text(_alloc: Global, reader: &mut Reader<'_>) -> Result<u64, ReadError> {
-        number(reader)
+    fn read_text(_alloc: Global, reader: &mut PlainText<'_>) -> Result<u64, ReadError> {
+        reader.number()
     }
 }
 
 /// The list that comes next.
-fn list<T: ReadText>(alloc: Global, reader: &mut Reader<'_>) -> Result<Vec<T>, ReadError>
+fn list<T: ReadText>(alloc: Global, reader: &mut PlainText<'_>) -> Result<Vec<T>, ReadError>
     ensures { IfOk result (λ list. Tells (list_in T.tells) (suc T.deep) reader.old list.items reader.new) }
 {
-    begin_items(reader)?;
+    reader.begin_items()?;
     items(alloc, reader)
 }
 
 /// The items up to the bracket that closes their list.
-fn items<T: ReadText>(alloc: Global, reader: &mut Reader<'_>) -> Result<Vec<T>, ReadError>
+fn items<T: ReadText>(alloc: Global, reader: &mut PlainText<'_>) -> Result<Vec<T>, ReadError>
     ensures { IfOk result (λ list. TellItems T.tells T.deep reader.old list.items reader.new) }
 {
     let mut list = Vec::new(alloc);
@@ -227,88 +223,4 @@ fn items<T: ReadText>(alloc: Global, reader: &mut Reader<'_>) -> Result<Vec<T>, 
         list.push(item)?;
     }
     Ok(list)
-}
-
-/// A text.
-fn text<'a>(reader: &mut Reader<'a>) -> Result<&'a [u8], ReadError>
-    ensures { IfOk result (λ text. reader.old ≡ string text.now ∷ reader.new) }
-{
-    match reader.next() {
-        Some(Token::String(text)) => Ok(text.as_bytes()),
-        _ => Err(ReadError::NotADump),
-    }
-}
-
-/// A number.
-fn number(reader: &mut Reader<'_>) -> Result<u64, ReadError>
-    ensures { IfOk result (λ number. Tells number_in 0 reader.old number reader.new) }
-{
-    let Some(Token::Number(digits)) = reader.next() else {
-        return Err(ReadError::NotADump);
-    };
-    match plain_number(digits.as_bytes()) {
-        Some(number) => Ok(number),
-        None => Err(ReadError::NotADump),
-    }
-}
-
-/// The number that is written with no sign, point or exponent, if it fits.
-fn plain_number(digits: &[u8]) -> Option<u64>
-    ensures { IfSome result (λ number. number_of digits.now ≡ Some (unsigned number)) }
-{
-    if digits.is_empty() || digits[0] == b'-' {
-        return None;
-    }
-    Numeral::scan(digits).to_u64()
-}
-
-/// The name of a member.
-fn name(reader: &mut Reader<'_>, name: &str) -> Result<(), ReadError>
-    ensures { OnOk result (reader.old ≡ key name.now ∷ reader.new) }
-{
-    match reader.next() {
-        Some(Token::Key(found)) if found == name => Ok(()),
-        _ => Err(ReadError::NotADump),
-    }
-}
-
-/// The brace that opens an object.
-fn begin_members(reader: &mut Reader<'_>) -> Result<(), ReadError>
-    ensures { OnOk result (reader.old ≡ begin_object ∷ reader.new) }
-{
-    match reader.next() {
-        Some(Token::BeginObject) => Ok(()),
-        _ => Err(ReadError::NotADump),
-    }
-}
-
-/// The brace that closes an object.
-fn end_members(reader: &mut Reader<'_>) -> Result<(), ReadError>
-    ensures { OnOk result (reader.old ≡ end_object ∷ reader.new) }
-{
-    match reader.next() {
-        Some(Token::EndObject) => Ok(()),
-        _ => Err(ReadError::NotADump),
-    }
-}
-
-/// The bracket that opens a list.
-fn begin_items(reader: &mut Reader<'_>) -> Result<(), ReadError>
-    ensures { OnOk result (reader.old ≡ begin_array ∷ reader.new) }
-{
-    match reader.next() {
-        Some(Token::BeginArray) => Ok(()),
-        _ => Err(ReadError::NotADump),
-    }
-}
-
-/// The bracket that closes a list.
-fn end_items(reader: &mut Reader<'_>) -> Result<(), ReadError>
-    ensures { OnOk result (after_end_array reader.old ≡ Some reader.new) }
-{
-    if reader.take_end_array() {
-        Ok(())
-    } else {
-        Err(ReadError::NotADump)
-    }
 }

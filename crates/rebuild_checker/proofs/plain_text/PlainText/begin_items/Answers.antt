@@ -1,0 +1,8 @@
+use Rattle.std.proofs.Common.{◌≡◌, ◌∷◌, ◌++◌, ap, sym, ◌∙◌}
+use Rattle.json.specs.Lex.{lex, between, punctuate}
+use Rattle.rebuild_checker.specs.PlainText.{begun_at, tokens_at}
+use Rattle.rebuild_checker.proofs.PlainTexts.{array_opened}
+use Rattle.rebuild_checker.proofs.plain_text.PlainText.begin_items.Goals as goal
+
+pub returns : goal.returns
+returns c = sym c.self.view_is ∙ c.in_ok-rest.ensures ∙ array_opened c.self.inside.place c.in_ok-rest.rest.now
