@@ -1,7 +1,8 @@
 pub mod Same
 pub mod SiloLaws
-pub mod SiloNumbers
 pub mod SiloCases
+pub mod FrontLaws
+pub mod SpelledLaws
 pub mod GrainCases
 pub mod GrainStored
 pub mod StatedLaws

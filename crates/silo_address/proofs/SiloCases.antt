@@ -82,6 +82,16 @@ silo_out_of_range text = read_silo_cases text (λ r. IsErrOf r OutOfRange ↔ Is
   silo = λ words has _ silo. (λ e. cc, λ some. absurd (some.3 (subst (λ (w : Words). IsSilo (silo_of w)) (one_words text words some.0 has some.1) silo)));
 })
 
+-- What the reading answers where the text is no silo's.
+pub read_silo_outside : (text : List ℕ) (words : Words) → silo_words text ≡ Some words → AreNumerals words → ((silo : Silo) → IsSilo silo → ¬ (text ≡ silo_text silo)) → read_silo text ≡ Err OutOfRange
+read_silo_outside text words is numerals none =
+    let has = silo_words_takes text words is in
+    read_silo_words text words has
+    ∙ silo_by_words_large words numerals (λ silo. none (silo_of words) silo (has.text ∙ ap words_text (sym (words_of-silo_of words numerals silo))))
+
+pub read_silo_other : (text : List ℕ) (words : Words) → silo_words text ≡ Some words → ¬ (AreNumerals words) → read_silo text ≡ Err NotANumber
+read_silo_other text words is other = read_silo_words text words (silo_words_takes text words is) ∙ silo_by_words_other words other
+
 -- All the clauses of a result that is the reading.
 pub record SiloClauses (text : List ℕ) (result : Result Silo SiloError) : Type 0 where
   pub found : IfOk result (λ silo. text ≡ silo_text silo)

@@ -1,8 +1,7 @@
 -- The reading of a silo's text is exact: it finds the silo that the text spells, and each fault where it is the first.
-use Rattle.std.proofs.Common.{◌≡◌, inl, inr, lit<, eqb, ◌≤◌, refl, ap, sym, ◌∙◌, subst, ℕ, ◌<◌, ◌^◌, ◌++◌, ◌∷◌, [], true, Option, Some, None, Ok, Err, List, length, arith, get_or}
+use Rattle.std.proofs.Common.{◌≡◌, inl, inr, lit<, eqb, ◌≤◌, refl, ap, ◌∙◌, subst, ℕ, ◌<◌, ◌^◌, ◌++◌, ◌∷◌, [], true, Option, Some, None, Ok, Err, List, length, arith, get_or}
 use Rattle.std.specs.Prelude.{All, nat_lt, slice_index}
 use Rattle.std.specs.Bool.{Decides}
-use Rattle.std.specs.Option.{SomeIff, ok_or}
 use Rattle.std.specs.List.{list_all, position_or_len, before_first, after_first}
 use Rattle.std.proofs.lemmas.Bool.Decides.{Decides-like, Decides-and, Decides-ltb, Decides-eqb, Decides-by_and, nat_tests}
 use Rattle.std.proofs.Math.Seq.{get_or-append_seam}
@@ -173,10 +172,6 @@ silo_by_words_silo words numerals silo =
     let also = (Decides-is_silo (silo_of words)).1 silo in
     rw (yes, also) refl
 
-pub silo_by_numerals : (words : Words) (found : Option Silo) → AreNumerals words → SomeIff found (IsSilo (silo_of words)) (silo_of words) → ok_or found OutOfRange ≡ silo_by_words (Some words)
-silo_by_numerals words None numerals exact = sym (silo_by_words_large words numerals exact)
-silo_by_numerals words (Some silo) numerals exact = ap Ok exact.1 ∙ sym (silo_by_words_silo words numerals exact.0)
-
 -- What each answer of the reading says of the text.
 pub read_silo_words : (text : List ℕ) (words : Words) → HasWords text words → read_silo text ≡ silo_by_words (Some words)
 unfolding read_silo
@@ -193,7 +188,7 @@ has_no_words text words none has = let some : silo_words text ≡ Some words = a
 numeral_is_word : (word : List ℕ) → IsNumeral word → IsWord word
 numeral_is_word word numeral = record { some = numeral.some; no_mark = λ k d below. let digit = numeral.digits k d below in grind (arith, nat_tests) }
 
-four : (ip : List ℕ) → length ip ≡ 4 → slice_index ip 0 ∷ slice_index ip 1 ∷ slice_index ip 2 ∷ slice_index ip 3 ∷ [] ≡ ip
+pub four : (ip : List ℕ) → length ip ≡ 4 → slice_index ip 0 ∷ slice_index ip 1 ∷ slice_index ip 2 ∷ slice_index ip 3 ∷ [] ≡ ip
 four [] none = absurd (omega arith)
 four (a ∷ []) one = absurd (omega arith)
 four (a ∷ b ∷ []) two = absurd (omega arith)

@@ -4,6 +4,7 @@ pub mod Silo
 pub mod SiloText
 pub mod SiloReading
 pub mod WordsModel
+pub mod FrontNumber
 pub mod Grain
 pub mod GrainFields
 pub mod GrainLaws

@@ -6,6 +6,7 @@ mod entry;
 mod grain;
 pub mod laws;
 mod silo;
+mod spelled;
 mod words;
 
 pub use activation::{ActivationError, ActivationId};

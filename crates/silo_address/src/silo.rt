@@ -1,16 +1,15 @@
 ghost use Rattle.std.specs.Option.{SomeIff};
-ghost use Rattle.std.specs.Prelude.{◌≡◌, ◌↔◌, Some, IfOk, IsErrOf, IsTrue, string_bytes};
+ghost use Rattle.std.specs.Prelude.{◌≡◌, ◌↔◌, Some, Err, IfOk, IsErrOf, IsTrue, string_bytes};
 ghost use Rattle.silo_address.specs.Numbers.{silo_error_number};
 ghost use Rattle.silo_address.specs.Silo.{IsSameEndpoint, IsSilo, Silo};
-ghost use Rattle.silo_address.specs.SiloReading.{read_silo, silo_by_words};
+ghost use Rattle.silo_address.specs.SiloReading.{read_silo};
 ghost use Rattle.silo_address.specs.SiloText.{AreNumerals, HasSiloShape, HasWords, Words, silo_of, silo_text};
-ghost use Rattle.silo_address.specs.WordsModel.{words_view};
 
-use crate::words::{SiloWords, words};
+use crate::spelled::spelled;
+use crate::words::words;
 use std::alloc::{AllocError, Global};
 use std::fmt;
 use std::marker::Model;
-use texts::value_up_to;
 use thiserror::Error;
 
 /// Why a text is no silo: the first fault, in this order (`docs/RULES.md#refusals-and-their-numbers`).
@@ -73,41 +72,23 @@ impl SiloAddress {
         ensures not_a_number { IsErrOf result SiloError.NotANumber ↔ ((words : Words) × HasWords text.now words × ¬ (AreNumerals words)) }
         ensures out_of_range { IsErrOf result SiloError.OutOfRange ↔ ((words : Words) × HasWords text.now words × AreNumerals words × ¬ (IsSilo (silo_of words))) }
     {
-        match words(text) {
-            Some(words) => SiloAddress::from_words(&words),
-            None => Err(SiloError::Shape),
+        match spelled(text) {
+            Some(silo) => Ok(silo),
+            None => Err(fault_of(text)),
         }
     }
 
-    fn from_words(words: &SiloWords<'_>) -> Result<SiloAddress, SiloError>
-        ensures { result ≡ silo_by_words (Some (words_view words.now)) }
+    /// The silo of these parts, if they are in range.
+    pub(crate) fn from_parts(ip: [u8; 4], port: u16, generation: u32) -> Option<SiloAddress>
+        ensures { SomeIff result (IsSilo (record { ip = ip; port = port; generation = generation })) (record { ip = ip; port = port; generation = generation }) }
     {
-        if words.are_numerals() {
-            SiloAddress::from_numerals(words).ok_or(SiloError::OutOfRange)
-        } else {
-            Err(SiloError::NotANumber)
-        }
-    }
-
-    /// The silo of these numerals, if they are in range.
-    fn from_numerals(words: &SiloWords<'_>) -> Option<SiloAddress>
-        requires { AreNumerals (words_view words.now) }
-        ensures { SomeIff result (IsSilo (silo_of (words_view words.now))) (silo_of (words_view words.now)) }
-    {
-        let first = value_up_to(words.first, 255)?;
-        let second = value_up_to(words.second, 255)?;
-        let third = value_up_to(words.third, 255)?;
-        let fourth = value_up_to(words.fourth, 255)?;
-        let port = value_up_to(words.port, 65_535)?;
-        let generation = value_up_to(words.generation, 2_147_483_647)?;
-        if port == 0 || generation == 0 {
+        if port == 0 || generation == 0 || generation > 2_147_483_647 {
             return None;
         }
-        let ip = [first as u8, second as u8, third as u8, fourth as u8];
         Some(SiloAddress {
             ip,
-            port: port as u16,
-            generation: generation as u32,
+            port,
+            generation,
         })
     }
 
@@ -165,6 +146,25 @@ impl SiloAddress {
         ensures { IsSilo self.now }
     {
         let _port = self.port;
+    }
+}
+
+/// Why a text is no silo's.
+#[cold]
+#[inline(never)]
+fn fault_of(text: &[u8]) -> SiloError
+    requires { (silo : Silo) → IsSilo silo → ¬ (text.now ≡ silo_text silo) }
+    ensures { Err result ≡ read_silo text.now }
+{
+    match words(text) {
+        Some(words) => {
+            if words.are_numerals() {
+                SiloError::OutOfRange
+            } else {
+                SiloError::NotANumber
+            }
+        }
+        None => SiloError::Shape,
     }
 }
 

@@ -8,7 +8,7 @@ ghost use Rattle.silo_address.specs.SiloText.{AreNumerals, is_mark};
 ghost use Rattle.silo_address.specs.SiloReading.{only_word, silo_words, word_before};
 ghost use Rattle.silo_address.specs.WordsModel.{cut_view, slice_view, words_view};
 
-use texts::{is_numeral, value_up_to};
+use texts::is_numeral;
 
 #[derive(Clone, Copy)]
 pub(crate) struct SiloWords<'a> {
