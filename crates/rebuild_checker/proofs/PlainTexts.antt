@@ -1,30 +1,39 @@
 -- What bytes without spaces and escapes begin with, as tokens.
-use Rattle.std.proofs.Common.{arith, ◌≡◌, ℕ, ◌<◌, ◌^◌, List, [], ◌∷◌, ◌++◌, decimal, Some, refl, sym, ap, ap₂, ◌∙◌, subst, inl, inr, ◌⊎◌}
+use Rattle.std.proofs.Common.{◌≡◌, ℕ, ◌<◌, ◌^◌, List, [], ◌∷◌, ◌++◌, decimal, Some, refl, sym, ap, ap₂, ◌∙◌, subst, inl, inr, ◌⊎◌}
 use Rattle.std.specs.Bool.{OnTrue}
 use Rattle.std.specs.Borrow.{Bor}
-use Rattle.std.specs.Prelude.{Option, None, IfSome, Bool, true, false, ◌==◌, ◌||◌, All}
-use Rattle.std.proofs.lemmas.Bool.{eqb-true, or_cases}
-use Rattle.std.proofs.lemmas.List.Elements.{All-head, All-tail}
+use Rattle.std.specs.Prelude.{Option, None, IfSome, Bool, true, false, not, nat_le, ◌≢◌, ◌==◌, ◌&&◌, ◌||◌}
+use Rattle.std.specs.List.{list_all}
+use Rattle.std.proofs.lemmas.Bool.{and_parts, eqb-false, eqb-true, leb-true, or_cases}
 use Rattle.json.specs.Token.{Token, begin_object, end_object, begin_array, end_array, key, string, number}
 use Rattle.json.specs.Text.{content, plain}
 use Rattle.json.specs.Word.{ends_word}
 use Rattle.json.specs.Lex.{Lexeme, token, string_token, lex, between, in_string, begins_colon, punctuate}
-use Rattle.json.specs.Print.{escape, escape_byte}
+use Rattle.json.specs.Print.{escape}
 use Rattle.json.proofs.Printed.Strings.{escape_byte_plain, content-escape, lex-escape}
 use Rattle.json.proofs.Printed.Numbers.{lex-number}
 use Rattle.json.proofs.Printed.Decimals.{IsNumber-decimal}
 use Rattle.rebuild_checker.specs.declared.plain_text.Place.{Place}
 use Rattle.rebuild_checker.specs.declared.plain_text.Place.TheVariants.{Fresh, AfterValue}
-use Rattle.rebuild_checker.specs.PlainText.{IsBegun, IsCut, IsPlainByte, begun_at, ends_value, place_of, tokens_at}
+use Rattle.rebuild_checker.specs.PlainText.{IsBegun, begun_at, ends_value, is_plain_byte, place_of, tokens_at}
 
 -- ---- strings
-escape_plain : (s : List ℕ) → All IsPlainByte s → escape s ≡ s
+apart : (x y : ℕ) → not (x == y) ≡ true → x ≢ y
+apart x y is = eqb-false x y (false_of (x == y) is)
+  where
+    false_of : (b : Bool) → not b ≡ true → b ≡ false
+    false_of true e = absurd (cc)
+    false_of false e = refl
+
+escape_plain : (s : List ℕ) → list_all is_plain_byte s ≡ true → escape s ≡ s
 escape_plain [] are = refl
 escape_plain (x ∷ s) are =
-    let first = All-head IsPlainByte x s are in
-    ap₂ (λ one rest. one ++ rest) (escape_byte_plain x first.no_quote first.no_escape first.above) (escape_plain s (All-tail IsPlainByte x s are))
+    let parts = and_parts (is_plain_byte x) (list_all is_plain_byte s) are in
+    let first = and_parts (nat_le 32 x && not (x == 34)) (not (x == 92)) parts.0 in
+    let front = and_parts (nat_le 32 x) (not (x == 34)) first.0 in
+    ap₂ (λ one rest. one ++ rest) (escape_byte_plain x (apart x 34 front.1) (apart x 92 first.1) (leb-true 32 x front.0)) (escape_plain s parts.1)
 
-string_lexed : (s r : List ℕ) → All IsPlainByte s → lex between (34 ∷ (s ++ 34 ∷ r)) ≡ token (string s) ∷ lex between r
+string_lexed : (s r : List ℕ) → list_all is_plain_byte s ≡ true → lex between (34 ∷ (s ++ 34 ∷ r)) ≡ token (string s) ∷ lex between r
 unfolding lex
 string_lexed s r are =
     let same = sym (escape_plain s are) in
@@ -84,7 +93,7 @@ unfolding lex punctuate
 named Fresh s bytes = refl
 named AfterValue s bytes = refl
 
-pub key_taken : (place : Place) (s bytes : List ℕ) → All IsPlainByte s → punctuate (begun_at place) (lex between (34 ∷ (s ++ 34 ∷ 58 ∷ bytes))) ≡ key s ∷ tokens_at Fresh bytes
+pub key_taken : (place : Place) (s bytes : List ℕ) → list_all is_plain_byte s ≡ true → punctuate (begun_at place) (lex between (34 ∷ (s ++ 34 ∷ 58 ∷ bytes))) ≡ key s ∷ tokens_at Fresh bytes
 key_taken place s bytes are = ap (punctuate (begun_at place)) (string_lexed s (58 ∷ bytes) are) ∙ named place s bytes
 
 valued : (place : Place) (s : List ℕ) (ls : List Lexeme) → begins_colon ls ≡ false → punctuate (begun_at place) (token (string s) ∷ ls) ≡ string s ∷ punctuate (place_of AfterValue) ls
@@ -92,7 +101,7 @@ unfolding punctuate
 valued Fresh s ls apart = rw apart refl
 valued AfterValue s ls apart = rw apart refl
 
-pub string_taken : (place : Place) (s bytes : List ℕ) → All IsPlainByte s → ends_value bytes ≡ true → punctuate (begun_at place) (lex between (34 ∷ (s ++ 34 ∷ bytes))) ≡ string s ∷ tokens_at AfterValue bytes
+pub string_taken : (place : Place) (s bytes : List ℕ) → list_all is_plain_byte s ≡ true → ends_value bytes ≡ true → punctuate (begun_at place) (lex between (34 ∷ (s ++ 34 ∷ bytes))) ≡ string s ∷ tokens_at AfterValue bytes
 string_taken place s bytes are ended = ap (punctuate (begun_at place)) (string_lexed s bytes are) ∙ valued place s (lex between bytes) (no_colon bytes ended)
 
 counted : (place : Place) (s : List ℕ) (ls : List Lexeme) → punctuate (begun_at place) (token (number s) ∷ ls) ≡ number s ∷ punctuate (place_of AfterValue) ls
@@ -124,3 +133,8 @@ pub number_if : (place : Place) (bytes begun front back : List ℕ) (n : ℕ) �
     → tokens_at place bytes ≡ number (decimal n) ∷ tokens_at AfterValue back
 number_if place bytes begun front back n is parts spelt fits ended =
     is ∙ ap (λ b. punctuate (begun_at place) (lex between b)) (parts ∙ ap (λ f. f ++ back) spelt) ∙ number_taken place n back fits ended
+
+pub unnamed_if : (bytes name unnamed unquoted : List ℕ) (found : Option (Bor (List ℕ))) → bytes ≡ name ++ unnamed → unnamed ≡ 34 ∷ unquoted
+    → IfSome found (λ rest. unquoted ≡ 58 ∷ rest.now) → IfSome found (λ rest. bytes ≡ name ++ 34 ∷ 58 ∷ rest.now)
+unnamed_if bytes name unnamed unquoted None begun marked found = tt
+unnamed_if bytes name unnamed unquoted (Some rest) begun marked found = begun ∙ ap (λ b. name ++ b) (marked ∙ ap (λ b. 34 ∷ b) found)

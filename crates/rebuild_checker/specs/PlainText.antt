@@ -1,5 +1,6 @@
 -- JSON without spaces and escapes, read from bytes.
-use Rattle.std.specs.Prelude.{◌≡◌, ◌≢◌, ℕ, ◌≤◌, ◌||◌, ◌==◌, Bool, false, true, List, [], ◌∷◌, ◌++◌, All}
+use Rattle.std.specs.Prelude.{◌≡◌, ℕ, ◌&&◌, ◌||◌, ◌==◌, nat_le, not, Bool, false, true, List, [], ◌∷◌, ◌++◌}
+use Rattle.std.specs.List.{list_all}
 use Rattle.json.specs.Token.{Token}
 use Rattle.json.specs.Lex as json
 use Rattle.json.specs.Lex.{lex, between, punctuate, may_begin}
@@ -25,15 +26,13 @@ abbrev pub IsBegun : Place → List ℕ → List ℕ → Type 0
 IsBegun place bytes begun = tokens_at place bytes ≡ punctuate (begun_at place) (lex between begun)
 
 -- a byte that stands for itself in a string: no mark of the end, no escape, no control
-pub record IsPlainByte (byte : ℕ) : Type 0 where
-  pub above : 32 ≤ byte
-  pub no_quote : byte ≢ 34
-  pub no_escape : byte ≢ 92
+abbrev pub is_plain_byte : ℕ → Bool
+is_plain_byte byte = nat_le 32 byte && not (byte == 34) && not (byte == 92)
 
 -- a string without escapes, and what comes behind its last quotation mark
 pub record IsCut (bytes text rest : List ℕ) : Type 0 where
   pub is : bytes ≡ text ++ 34 ∷ rest
-  pub plain : All IsPlainByte text
+  pub plain : list_all is_plain_byte text ≡ true
 
 -- a value ends before these bytes: a comma or a bracket comes
 abbrev pub ends_value : List ℕ → Bool

@@ -30,7 +30,7 @@ pub(crate) fn is_node(
     let grains_once = holds_grains_once(alloc, node)?;
     let in_order = has_pieces_in_order(alloc, node)?;
     Ok(all_hold(&[
-        has_known_silos(silos, node),
+        names_known_silos(silos, node),
         holds_its_own(node),
         activations_once,
         grains_once,
@@ -40,29 +40,19 @@ pub(crate) fn is_node(
     ]))
 }
 
-/// Whether the node's silo is among those that have rows, and so is that of each activation there.
-fn has_known_silos(silos: &BTreeSet<SiloAddress>, node: &Node) -> bool
-    ensures { result ≡ (contains silo_cmp silos.now node.now.silo && list_all (contains silo_cmp silos.now) (rule.activation_silos node.now)) }
+/// Whether the node's silo is among those that have rows, and so is that of each activation that is entered there. What is held there
+/// needs no look: it is the silo's own.
+fn names_known_silos(silos: &BTreeSet<SiloAddress>, node: &Node) -> bool
+    ensures { result ≡ (contains silo_cmp silos.now node.now.silo
+        && list_all (λ piece. list_all (λ entry. contains silo_cmp silos.now entry.activation.silo) piece.entries) node.now.pieces) }
 {
-    all_hold(&[
-        is_known(silos, node),
-        holds_known_silos(silos, node),
-        enters_known_silos(silos, node),
-    ])
+    is_known(silos, node) && enters_known_silos(silos, node)
 }
 
 fn is_known(silos: &BTreeSet<SiloAddress>, node: &Node) -> bool
     ensures { result ≡ contains silo_cmp silos.now node.now.silo }
 {
     silos.contains(&node.silo)
-}
-
-fn holds_known_silos(silos: &BTreeSet<SiloAddress>, node: &Node) -> bool
-    ensures { result ≡ list_all (λ held. contains silo_cmp silos.now held.activation.silo) node.now.held }
-{
-    node.held
-        .iter()
-        .all(|held| silos.contains(&held.activation.silo))
 }
 
 fn enters_known_silos(silos: &BTreeSet<SiloAddress>, node: &Node) -> bool

@@ -1,16 +1,18 @@
 //! JSON as the program writes dumps, without spaces and escapes, read token by token. What is written otherwise is refused here,
 //! which says nothing of it.
 
-ghost use Rattle.std.specs.Prelude.{◌≡◌, ◌≤◌, ◌⊎◌, [], ◌∷◌, All, IfOk, IfSome, IsTrue, OnOk, Some, length, take};
+ghost use Rattle.std.specs.Prelude.{◌≡◌, ◌≤◌, ◌⊎◌, ◌++◌, [], ◌∷◌, IfOk, IfSome, OnOk, Some, length, true};
 ghost use Rattle.std.specs.Bool.{OnFalse, OnTrue};
+ghost use Rattle.std.specs.List.{list_all};
 ghost use Rattle.json.specs.Json.{after_end_array};
 ghost use Rattle.json.specs.Lex.{tokens};
 ghost use Rattle.json.specs.Token.{begin_array, begin_object, end_array, end_object, key, string};
 ghost use Rattle.dump_rules.specs.Values.{number_in};
 ghost use Rattle.rebuild_checker.specs.Straight.{Tells};
-ghost use Rattle.rebuild_checker.specs.PlainText.{IsBegun, IsCut, IsPlainByte, ends_value};
+ghost use Rattle.rebuild_checker.specs.PlainText.{IsBegun, IsCut, ends_value, is_plain_byte};
 
 use crate::ReadError;
+use memchr::memchr;
 use std::marker::Model;
 use texts::number_up_to;
 
@@ -108,30 +110,18 @@ impl<'a> PlainText<'a> {
         }
     }
 
-    /// Takes the name of a member, with its colon.
+    /// Takes the name of a member, with its colon. Each byte of the name stands for itself.
     pub(crate) fn name(&mut self, name: &str) -> Result<(), ReadError>
+        requires { list_all is_plain_byte name.now ≡ true }
         ensures { OnOk result (self.old ≡ key name.now ∷ self.new) }
     {
-        let found = self.key()?;
-        if found == name.as_bytes() {
-            Ok(())
-        } else {
-            Err(ReadError::NotADump)
-        }
-    }
-
-    // Takes any name of a member, with its colon.
-    fn key(&mut self) -> Result<&'a [u8], ReadError>
-        ensures { IfOk result (λ name. self.old ≡ key name.now ∷ self.new) }
-    {
         let quoted = opened(self.rest, self.place, b'"')?;
-        let (name, rest) = cut(quoted)?;
-        let Some(rest) = behind(rest, b':') else {
+        let Some(rest) = behind_name(quoted, name.as_bytes()) else {
             return Err(ReadError::NotADump);
         };
         self.rest = rest;
         self.place = Place::Fresh;
-        Ok(name)
+        Ok(())
     }
 
     /// Takes a string.
@@ -207,32 +197,43 @@ fn behind(bytes: &[u8], mark: u8) -> Option<&[u8]>
     if *first == mark { Some(rest) } else { None }
 }
 
+/// The bytes behind a name, its quotation mark and its colon, if these come first.
+fn behind_name<'a>(bytes: &'a [u8], name: &[u8]) -> Option<&'a [u8]>
+    ensures { IfSome result (λ rest. bytes.now ≡ name.now ++ 34 ∷ 58 ∷ rest.now) }
+{
+    let unnamed = bytes.strip_prefix(name)?;
+    let unquoted = behind(unnamed, b'"')?;
+    behind(unquoted, b':')
+}
+
 /// A string without escapes, and the bytes behind its last quotation mark.
 fn cut(bytes: &[u8]) -> Result<(&[u8], &[u8]), ReadError>
     ensures { IfOk result (λ parts. IsCut bytes.now parts.0.now parts.1.now) }
 {
-    let end = plain_end(bytes);
-    match behind(&bytes[end..], b'"') {
-        Some(rest) => Ok((&bytes[..end], rest)),
-        None => Err(ReadError::NotADump),
+    let Some(end) = memchr(b'"', bytes) else {
+        return Err(ReadError::NotADump);
+    };
+    let text = &bytes[..end];
+    if !are_plain(text) {
+        return Err(ReadError::NotADump);
     }
+    Ok((text, &bytes[end + 1..]))
 }
 
-/// The position of the first byte that does not stand for itself in a string, or the length.
-fn plain_end(bytes: &[u8]) -> usize
-    ensures within { result ≤ length bytes.now }
-    ensures plain { All IsPlainByte (take result bytes.now) }
+/// Whether each byte stands for itself in a string. Looks at all of them, whatever it finds, so that many can be looked at at
+/// once.
+fn are_plain(text: &[u8]) -> bool
+    ensures { result ≡ list_all is_plain_byte text.now }
 {
-    for (position, byte) in bytes.iter().enumerate() {
-        if !is_plain(*byte) {
-            return position;
-        }
+    let mut all = true;
+    for byte in text {
+        all &= is_plain(*byte);
     }
-    bytes.len()
+    all
 }
 
 fn is_plain(byte: u8) -> bool
-    ensures { IsTrue result → IsPlainByte byte }
+    ensures { result ≡ is_plain_byte byte }
 {
     32 <= byte && byte != b'"' && byte != b'\\'
 }

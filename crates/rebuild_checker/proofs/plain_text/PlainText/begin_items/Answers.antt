@@ -1,6 +1,4 @@
-use Rattle.std.proofs.Common.{◌≡◌, ◌∷◌, ◌++◌, ap, sym, ◌∙◌}
-use Rattle.json.specs.Lex.{lex, between, punctuate}
-use Rattle.rebuild_checker.specs.PlainText.{begun_at, tokens_at}
+use Rattle.std.proofs.Common.{sym, ◌∙◌}
 use Rattle.rebuild_checker.proofs.PlainTexts.{array_opened}
 use Rattle.rebuild_checker.proofs.plain_text.PlainText.begin_items.Goals as goal
 

@@ -1,6 +1,3 @@
-use Rattle.std.proofs.Common.{◌≡◌, ◌∷◌, ◌++◌, ap, sym, ◌∙◌}
-use Rattle.json.specs.Lex.{lex, between, punctuate}
-use Rattle.rebuild_checker.specs.PlainText.{begun_at, tokens_at}
 use Rattle.rebuild_checker.proofs.PlainTexts.{over_if}
 use Rattle.rebuild_checker.proofs.plain_text.PlainText.is_over.Goals as goal
 

@@ -1,6 +1,4 @@
-use Rattle.std.proofs.Common.{arith, ◌≡◌, ◌∷◌, ◌++◌, ap, sym, ◌∙◌, take, drop, length, ◌-◌}
-use Rattle.json.specs.Lex.{lex, between, punctuate}
-use Rattle.rebuild_checker.specs.PlainText.{begun_at, tokens_at}
+use Rattle.std.proofs.Common.{arith, ◌++◌, ap, sym, ◌∙◌, take, drop, length, ◌-◌}
 use Rattle.rebuild_checker.proofs.PlainTexts.{number_if}
 use Rattle.texts.proofs.Cuts.{rest_from}
 use Rattle.std.proofs.lemmas.List.{take-append-drop}

@@ -1,6 +1,5 @@
-use Rattle.std.proofs.Common.{◌≡◌, ◌∷◌, ◌++◌, ap, sym, ◌∙◌}
-use Rattle.json.specs.Lex.{lex, between, punctuate}
-use Rattle.rebuild_checker.specs.PlainText.{begun_at, tokens_at}
+use Rattle.std.proofs.Common.{ap, sym, ◌∙◌}
+use Rattle.rebuild_checker.specs.PlainText.{tokens_at}
 use Rattle.json.specs.Json.{after_end_array}
 use Rattle.rebuild_checker.proofs.PlainTexts.{array_closed}
 use Rattle.rebuild_checker.proofs.plain_text.PlainText.take_end_array.Goals as goal

@@ -1,6 +1,6 @@
-use Rattle.std.proofs.Common.{arith, ◌≡◌, ◌∷◌, ◌++◌, ap, sym, ◌∙◌, take, drop, length, ◌-◌}
+use Rattle.std.proofs.Common.{◌∷◌, ap, sym, ◌∙◌}
 use Rattle.json.specs.Lex.{lex, between, punctuate}
-use Rattle.rebuild_checker.specs.PlainText.{begun_at, tokens_at}
+use Rattle.rebuild_checker.specs.PlainText.{begun_at}
 use Rattle.rebuild_checker.proofs.PlainTexts.{string_taken}
 use Rattle.rebuild_checker.proofs.plain_text.PlainText.text.Goals as goal
 
