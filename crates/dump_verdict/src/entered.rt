@@ -13,7 +13,6 @@ ghost use Rattle.dump_verdict.specs.Named.{IsIndex, named_apart_from, named_cmp}
 ghost use Rattle.dump_verdict.specs.Tallies.{is_lacking};
 
 use crate::cover::{Cover, count_holding, cover_of, is_apart};
-use crate::firm::firm_on;
 use crate::index::{Named, places_of};
 use hash_ring::Hashing;
 use rebuild_checker::{Dump, Held, Node, Piece};
@@ -31,8 +30,8 @@ pub(crate) struct Walked<'a> {
 }
 
 /// The grains with firm activations whose hashes lie in settled pieces of silos that have seen the current version, and which have
-/// no entry there: 974, and the entries that no such activation has, among which a stranger's is. Given are those pieces and an index
-/// of their entries. The pieces of the live nodes have been judged right: so a piece has an entry only where it has the entry's hash,
+/// no entry there: 974, and the entries that no such activation has, among which a stranger's is. Given are those pieces, an index of
+/// their entries, and the firm activations. The pieces of the live nodes have been judged right: so a piece has an entry only where it has the entry's hash,
 /// and once, and an activation is missing where fewer pieces have its entry than have its hash. Costs a logarithm for each piece,
 /// each entry and each firm activation.
 pub(crate) fn walk<'a>(
@@ -41,19 +40,20 @@ pub(crate) fn walk<'a>(
     nodes: &[&Node],
     pieces: &[&Piece],
     entered: &[Named<'a>],
+    firm: &[&Held],
 ) -> Result<Walked<'a>, AllocError>
     requires is_dump { IsTrue (is_dump dump.now) }
     requires live { nodes_lent nodes.now ≡ rule.live_nodes dump.now }
     requires right { IsTrue (list_all (rule.has_right_pieces dump.now) (rule.live_nodes dump.now)) }
     requires pieces { pieces_lent pieces.now ≡ rule.current_pieces dump.now }
     requires entered { IsIndex (entries_in pieces.now) entered.now }
+    requires firm { held_lent firm.now ≡ filter (λ held. rule.is_firm_phase held.phase) (held_on nodes.now) }
     ensures missing { IfOk result (λ walked. walked.missing.items ≡ map (λ entry. entry.grain) (rule.missing_firm dump.now)) }
     ensures passed { IfOk result (λ walked. named_apart_from (map rule.entry_of_held (held_on nodes.now)) walked.passed.items
         ≡ named_apart_from (map rule.entry_of_held (held_on nodes.now)) entered.now) }
 {
     let cover = cover_of_pieces(alloc, pieces)?;
-    let firm = firm_on(alloc, nodes)?;
-    walk_along(alloc, dump.hashing, &cover, entered, &firm)
+    walk_along(alloc, dump.hashing, &cover, entered, firm)
 }
 
 /// The cover of the ranges of some pieces.

@@ -13,13 +13,17 @@ use silo_address::GrainId;
 use std::alloc::{AllocError, Global};
 use std::collections::BTreeSet;
 
-/// The least grain that is firm on two of the nodes: 976. Where the firm grains are distinct there is none; else it is looked for in
-/// sets. Costs a logarithm for each firm activation.
-pub(crate) fn twice_firm(alloc: Global, nodes: &[&Node]) -> Result<Option<GrainId>, AllocError>
+/// The least grain that is firm on two of the nodes: 976. Given are the firm activations there. Where their grains are distinct there is
+/// none; else it is looked for in sets. Costs a logarithm for each of them.
+pub(crate) fn twice_firm(
+    alloc: Global,
+    nodes: &[&Node],
+    firm: &[&Held],
+) -> Result<Option<GrainId>, AllocError>
+    requires { held_lent firm.now ≡ filter (λ held. rule.is_firm_phase held.phase) (held_on nodes.now) }
     ensures { IfOk result (λ found. found ≡ rule.least_grain (rule.firm_on_two (nodes_lent nodes.now))) }
 {
-    let firm = firm_on(alloc, nodes)?;
-    let grains = grains_of(alloc, &firm)?;
+    let grains = grains_of(alloc, firm)?;
     if are_distinct_grains(alloc, &grains)? {
         return Ok(None);
     }
