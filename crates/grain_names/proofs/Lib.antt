@@ -1,1 +1,3 @@
 pub mod Named
+pub mod Changed
+pub mod Equal

@@ -1,8 +1,9 @@
-ghost use Rattle.std.specs.Map.{lookup};
-ghost use Rattle.std.specs.Option.{option_map};
-ghost use Rattle.std.specs.Prelude.{◌≡◌, ◌++◌, [], ◌∷◌, None, Some, IfSome, OnErr, OnOk, length, slice_get};
+ghost use Rattle.std.specs.List.{AllZip, IsDistinct, swap_remove};
+ghost use Rattle.std.specs.Map.{keys_of, lookup};
+ghost use Rattle.std.specs.Option.{option_eq, option_map};
+ghost use Rattle.std.specs.Prelude.{◌≡◌, ◌↔◌, ◌++◌, [], ◌∷◌, None, Some, IfOk, IfSome, IsTrue, MatchOption, OnErr, OnOk, length, set, slice_get};
 ghost use Rattle.std.specs.Box.{boxed_str_bytes};
-ghost use Rattle.silo_address.specs.Grain.{grain_eq};
+ghost use Rattle.silo_address.specs.Grain.{Grain, grain_eq};
 ghost use Rattle.silo_address.specs.GrainReading.{grain_at_slash};
 ghost use Rattle.grain_names.specs.Names.{IsName};
 
@@ -12,7 +13,7 @@ use std::alloc::{AllocError, Global};
 use std::boxed::BoxedStr;
 use std::marker::Model;
 
-/// Grains, each once and with a value, in the order in which they were put in.
+/// Grains, each once and with a value, in the order in which they were put in; the last one takes the room of one that goes.
 /// A grain takes as much memory as its name is long, and not as much as the longest could be; it is read from its name whenever
 /// it is asked for.
 #[derive(Drop)]
@@ -84,6 +85,51 @@ impl<V: Copy> GrainMap<V> {
         let name = BoxedStr::from_str(self.alloc, grain.as_str())?;
         self.map.insert(name, value)?;
         Ok(())
+    }
+
+    /// The value at the index is this one from now on, if the index is below the number of grains; otherwise nothing changes.
+    pub fn set_at(&mut self, index: usize, value: V)
+        ensures { MatchOption (slice_get self.old index) (self.new ≡ self.old) (λ e. self.new ≡ set self.old index (e.0, value)) }
+    {
+        let Some(there) = self.map.get_index_mut(index) else {
+            return;
+        };
+        *there = value;
+    }
+
+    /// The grain at the index goes, and the last one takes its room, if the index is below the number of grains; otherwise nothing
+    /// changes.
+    pub fn swap_remove(&mut self, index: usize)
+        ensures { MatchOption (slice_get self.old index) (self.new ≡ self.old) (λ e. self.new ≡ swap_remove self.old index e) }
+    {
+        self.map.swap_remove_index(index);
+    }
+
+    /// The same grains in the same order, with copies of their values. Fails only when memory runs out.
+    pub fn copy(&self) -> Result<GrainMap<V>, AllocError>
+        ensures { IfOk result (λ map. AllZip (λ e f. (f.0 ≡ e.0) × V.is_clone e.1 f.1) self.now map) }
+    {
+        let map = self.map.clone()?;
+        Ok(GrainMap {
+            alloc: self.alloc,
+            map,
+        })
+    }
+
+    /// A law: each grain is there once.
+    pub fn apart(&self)
+        ensures { IsDistinct grain_eq (keys_of self.now) }
+    {
+        let _len = self.map.len();
+    }
+}
+
+impl<V: Copy + PartialEq> GrainMap<V> {
+    /// Whether both have the same grains, with equal values, in whatever order.
+    pub fn same(&self, other: &GrainMap<V>) -> bool
+        ensures { IsTrue result ↔ ((grain : Grain) → IsTrue (option_eq V.eq (lookup (grain_eq grain) self.now) (lookup (grain_eq grain) other.now))) }
+    {
+        self.map == other.map
     }
 }
 
