@@ -26,37 +26,37 @@ use Rattle.directory_rules.specs.declared.Held.{Held}
 use Rattle.directory_rules.specs.Host.{entry_on, is_firm}
 use Rattle.directory_rules.specs.Table.{entries_of, entry_at, table_of}
 use Rattle.held_activations.specs.Begun.{AreApart}
-use Rattle.held_activations.specs.Firm.{AreByGrain, AreFirm, counted, entry_counted, firm_among, firm_count}
+use Rattle.held_activations.specs.Firm.{AreByGrain, AreFirm, entry_counted, firm_among, firm_count}
 use Rattle.held_activations.specs.InOrder.{in_order}
 use Rattle.held_activations.proofs.Grains.{by_order, on_grain}
 use Rattle.held_activations.proofs.Tables.{firm_in_order, told}
 
--- ---- What a sort of lent grains gives.
+-- ---- What a sort of lent activations gives.
 first_decides : (o p : Ordering) → is_lt (ordering_then o p) ≡ false → is_lt o ≡ false
 first_decides Less p not = not
 first_decides Equal p not = refl
 first_decides Greater p not = refl
 
-abbrev counted_cmp : Bor Grain × ℕ → Bor Grain × ℕ → Ordering
-counted_cmp x y = ordering_then (grain_cmp x.0.now y.0.now) (nat_cmp x.1 y.1)
+abbrev lent_cmp : Bor (Grain × ℕ) → Bor (Grain × ℕ) → Ordering
+lent_cmp x y = ordering_then (grain_cmp x.now.0 y.now.0) (nat_cmp x.now.1 y.now.1)
 
 module _ (silo : Silo) where
-  entries_again : (firm : List (Bor Grain × ℕ)) → map (entry_counted silo) (map counted firm) ≡ map (λ x. entry_counted silo (counted x)) firm
+  entries_again : (lent : List (Bor (Grain × ℕ))) → map (entry_counted silo) (map (λ x. x.now) lent) ≡ map (λ x. entry_counted silo x.now) lent
   entries_again [] = refl
-  entries_again (x ∷ firm) = ap (λ l. entry_counted silo (counted x) ∷ l) (entries_again firm)
+  entries_again (x ∷ lent) = ap (λ l. entry_counted silo x.now ∷ l) (entries_again lent)
 
-  entries_sorted : (sorted : List (Bor Grain × ℕ)) → IsSorted counted_cmp sorted → IsSortedByKey (λ (e : Entry). e.grain) grain_cmp (map (λ x. entry_counted silo (counted x)) sorted)
+  entries_sorted : (sorted : List (Bor (Grain × ℕ))) → IsSorted lent_cmp sorted → IsSortedByKey (λ (e : Entry). e.grain) grain_cmp (map (λ x. entry_counted silo x.now) sorted)
   entries_sorted [] is = λ k d low within. absurd (omega arith)
   entries_sorted (x ∷ sorted) is = λ k d low within.
-      let next : k + 1 < length (x ∷ sorted) = subst (λ n. k + 1 < n) (length-map (x ∷ sorted) (λ y. entry_counted silo (counted y))) within in
-      (λ i. is_lt (grain_cmp (get_or-map (λ y. entry_counted silo (counted y)) (x ∷ sorted) (k + 1) x d next i).grain (get_or-map (λ y. entry_counted silo (counted y)) (x ∷ sorted) k x d (omega (arith, next)) i).grain))
-      ∙ first_decides (grain_cmp (get_or (x ∷ sorted) (k + 1) x).0.now (get_or (x ∷ sorted) k x).0.now) (nat_cmp (get_or (x ∷ sorted) (k + 1) x).1 (get_or (x ∷ sorted) k x).1) (is k x low next)
+      let next : k + 1 < length (x ∷ sorted) = subst (λ n. k + 1 < n) (length-map (x ∷ sorted) (λ y. entry_counted silo y.now)) within in
+      (λ i. is_lt (grain_cmp (get_or-map (λ y. entry_counted silo y.now) (x ∷ sorted) (k + 1) x d next i).grain (get_or-map (λ y. entry_counted silo y.now) (x ∷ sorted) k x d (omega (arith, next)) i).grain))
+      ∙ first_decides (grain_cmp (get_or (x ∷ sorted) (k + 1) x).now.0 (get_or (x ∷ sorted) k x).now.0) (nat_cmp (get_or (x ∷ sorted) (k + 1) x).now.1 (get_or (x ∷ sorted) k x).now.1) (is k x low next)
 
-  pub listed_by_grain : (firm sorted : List (Bor Grain × ℕ)) → IsPermutation firm sorted → IsSorted counted_cmp sorted → (entries : List Entry) → entries ≡ map (λ x. entry_counted silo (counted x)) sorted
-      → AreByGrain silo (map counted firm) entries
-  listed_by_grain firm sorted moved is entries are =
-      subst (λ l. AreByGrain silo (map counted firm) l) (sym are) (record {
-        same = subst (λ l. IsPermutation l (map (λ x. entry_counted silo (counted x)) sorted)) (sym (entries_again firm)) (IsPermutation-map (λ x. entry_counted silo (counted x)) firm sorted moved);
+  pub listed_by_grain : (firm : List (Grain × ℕ)) (lent sorted : List (Bor (Grain × ℕ))) → map (λ x. x.now) lent ≡ firm → IsPermutation lent sorted → IsSorted lent_cmp sorted
+      → (entries : List Entry) → entries ≡ map (λ x. entry_counted silo x.now) sorted → AreByGrain silo firm entries
+  listed_by_grain firm lent sorted of moved is entries are =
+      subst (λ l. AreByGrain silo firm l) (sym are) (record {
+        same = subst (λ l. IsPermutation l (map (λ x. entry_counted silo x.now) sorted)) (sym (ap (map (entry_counted silo)) (sym of) ∙ entries_again lent)) (IsPermutation-map (λ x. entry_counted silo x.now) lent sorted moved);
         in_order = entries_sorted sorted is;
       })
 

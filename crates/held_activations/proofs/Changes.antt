@@ -1,13 +1,18 @@
 -- Where an activation begins, changes or ends, the others stay, and what all keep is kept.
-use Rattle.std.proofs.Common.{◌≡◌, refl, sym, ap, subst, ◌∙◌, ℕ, ◌+◌, ◌^◌, ◌<◌, ◌≤◌, List, [], ◌∷◌, ◌++◌, cond, true, Option, Some, None, is_some, arith}
+use Rattle.std.proofs.Common.{◌≡◌, refl, sym, ap, subst, ◌∙◌, ℕ, zero, suc, set, swap_remove, slice_get, Bool, false, ◌+◌, ◌^◌, ◌<◌, ◌≤◌, List, [], ◌∷◌, ◌++◌, cond, true, Option, Some, None, is_some, arith}
 use Rattle.std.specs.Prelude.{MatchOption}
-use Rattle.std.specs.List.{IsDistinct}
+use Rattle.std.specs.List.{AllByRecursion, IsDistinct}
+use Rattle.std.specs.List.Sorted.{IsPermutation}
+use Rattle.std.specs.Ordering.{eq_by_cmp}
 use Rattle.std.specs.Map.{lookup, set_value, remove_entry, keys_of}
 use Rattle.std.specs.BTreeMap.{is_at}
 use Rattle.std.proofs.lemmas.Cmp.{eq_by_cmp_equiv}
 use Rattle.std.proofs.lemmas.List.Sums.{fold-append}
 use Rattle.std.proofs.lemmas.Map.{lookup-set_value, lookup-remove_entry, keys-set_value}
-use Rattle.std.proofs.lemmas.Option.{same_Some}
+use Rattle.std.proofs.lemmas.List.Sorted.{IsPermutation-map, IsPermutation-swap_remove}
+use Rattle.std.proofs.lemmas.Map.Keys.{IsDistinct-IsPermutation, IsDistinct-head, IsDistinct-tail}
+use Rattle.std.proofs.lemmas.Option.{get_or_from_slice_get, same_Some, slice_get_within}
+use Rattle.indexmap.proofs.MapLemmas.{lookup_permutation}
 use Rattle.silo_address.specs.Grain.{Grain, grain_cmp, grain_eq}
 use Rattle.silo_address.specs.declared.ActivationId.{ActivationId}
 use Rattle.silo_address.proofs.Order.{grain_cmp_total}
@@ -16,7 +21,8 @@ use Rattle.directory_rules.specs.declared.Phase.{Phase}
 use Rattle.held_activations.specs.Activations.{ActivationsValue}
 use Rattle.held_activations.specs.Begun.{AreApart, AreBegun}
 use Rattle.held_activations.specs.InOrder.{in_order, placed}
-use Rattle.held_activations.proofs.Grains.{IsFoundIn, all_map, at_itself, by_order, each_found, either, either_none, lookup_append, not_at, on_grain, other_grain}
+use Rattle.held_activations.proofs.Grains.{IsFoundIn, all_map, at_itself, by_order, each_found, either, either_none, lookup_append, not_at, not_equal, on_grain, other_grain, same_test, tests_alike}
+use Rattle.held_activations.proofs.FirmCounts.{gone_behind}
 use Rattle.held_activations.proofs.Rows.{HasCount, IsRow, all_spread, placed_last, row_removed, row_set}
 use Rattle.held_activations.proofs.Unique.{row_distinct, unique}
 use Rattle.held_activations.proofs.Ordered.{lookup_in_order, row_in_order}
@@ -65,6 +71,23 @@ below_with old new g h next then gives more here below q k is =
 below_without : (old new : List (Grain × Held)) (g : Grain) (next : ℕ) → Gives g None old new → AreBelow next old → AreBelow next new
 below_without old new g next gives below q k is =
     on_grain (λ t. cond t None (at q old) ≡ Some k → k.count < next) g q (λ same e. cc) (λ other e. below q k e) (sym (gives q) ∙ is)
+
+-- ---- None is there.
+none_apart : IsDistinct grain_eq []
+unfolding IsDistinct
+none_apart = tt
+
+pub none_are : AreBegun 1 []
+none_are = record {
+  next = record { above = omega arith; within = omega arith };
+  apart = record { grains = none_apart; counts = λ g q h k is_h is_k same. cc };
+  below = λ grain held is. cc;
+}
+
+-- ---- What is found.
+pub found_told : (next : ℕ) (es : List (Grain × Held)) → AreBegun next es → (g : Grain) (found : Option Held) → found ≡ lookup (grain_eq g) es → (told : ActivationsValue) → value next es ≡ told → found ≡ at g told.entries
+found_told next es are g found is told is_told =
+    is ∙ ap (λ test. lookup test es) (tests_alike g) ∙ sym (lookup_in_order g es are.apart) ∙ ap (λ (v : ActivationsValue). at g v.entries) is_told
 
 -- ---- One begins.
 pub gives_more : (es : List (Grain × Held)) (g : Grain) (h : Held) → at g es ≡ None → Gives g (Some h) es (es ++ (g, h) ∷ [])
@@ -133,9 +156,40 @@ module _ (next : ℕ) (es : List (Grain × Held)) (are : AreBegun next es) (g : 
           (λ other no. cc))
           (each_found (in_order es) (row_distinct (in_order es) row))
 
+-- what is written at an index is written under its grain
+pub set_at : (es : List (Grain × Held)) → IsDistinct grain_eq (keys_of es) → (index : ℕ) (g : Grain) (was h : Held) → slice_get es index ≡ Some (g, was) → set es index (g, h) ≡ set_value (is_at (grain_cmp g)) es h
+set_at [] apart index g was h there = cc
+set_at (e ∷ es) apart zero g was h there =
+    let same : e.0 ≡ g = ap (λ (x : Grain × Held). x.0) (same_Some e (g, was) there) in
+    ap (λ (q : Grain). (q, h) ∷ es) (sym same)
+    ∙ sym (ap (λ b. cond b ((e.0, h) ∷ es) (e ∷ set_value (is_at (grain_cmp g)) es h)) (ap (λ (q : Grain). is_at (grain_cmp g) q) same ∙ at_itself g))
+set_at (e ∷ es) apart (suc index) g was h there =
+    ap (λ l. e ∷ l) (set_at es (IsDistinct-tail grain_eq e.0 (keys_of es) apart) index g was h there)
+    ∙ sym (ap (λ b. cond b ((e.0, h) ∷ es) (e ∷ set_value (is_at (grain_cmp g)) es h))
+    (not_at g e.0 (λ same. not_equal e.0 g (apart_at es index (IsDistinct-head grain_eq e.0 (keys_of es) apart) there) (sym same))))
+  where
+    apart_at : (xs : List (Grain × Held)) (i : ℕ) → AllByRecursion (λ q. grain_eq e.0 q ≡ false) (keys_of xs) → slice_get xs i ≡ Some (g, was) → grain_eq e.0 g ≡ false
+    apart_at [] i all there = cc
+    apart_at (x ∷ xs) zero all there = subst (λ (y : Grain × Held). grain_eq e.0 y.0 ≡ false) (same_Some x (g, was) there) all.0
+    apart_at (x ∷ xs) (suc i) all there = apart_at xs i all.1 there
+
 -- what is there is written, or nothing is
 abbrev pub with_parts : Held → Phase → Option ActivationId → Held
 with_parts held phase previous = record held { phase = phase; previous = previous }
+
+-- and it is where it is written at the index at which it is found
+pub written_at : (es : List (Grain × Held)) → IsDistinct grain_eq (keys_of es) → (g : Grain) (phase : Phase) (previous : Option ActivationId) (new : List (Grain × Held)) (index : ℕ) (was : Held)
+    → slice_get es index ≡ Some (g, was) → Some was ≡ lookup (grain_eq g) es → MatchOption (slice_get es index) (new ≡ es) (λ e. new ≡ set es index (e.0, with_parts was phase previous))
+    → MatchOption (at g es) (new ≡ es) (λ held. new ≡ set_value (is_at (grain_cmp g)) es (with_parts held phase previous))
+written_at es apart g phase previous new index was there found given =
+    subst (λ (o : Option Held). MatchOption o (new ≡ es) (λ held. new ≡ set_value (is_at (grain_cmp g)) es (with_parts held phase previous))) (found ∙ ap (λ test. lookup test es) (tests_alike g))
+    (subst (λ (o : Option (Grain × Held)). MatchOption o (new ≡ es) (λ e. new ≡ set es index (e.0, with_parts was phase previous))) there given
+    ∙ set_at es apart index g was (with_parts was phase previous) there)
+
+pub unwritten : (es : List (Grain × Held)) (g : Grain) (phase : Phase) (previous : Option ActivationId) → None ≡ lookup (grain_eq g) es
+    → MatchOption (at g es) (es ≡ es) (λ held. es ≡ set_value (is_at (grain_cmp g)) es (with_parts held phase previous))
+unwritten es g phase previous none =
+    subst (λ (o : Option Held). MatchOption o (es ≡ es) (λ held. es ≡ set_value (is_at (grain_cmp g)) es (with_parts held phase previous))) (none ∙ ap (λ test. lookup test es) (tests_alike g)) refl
 
 pub written_are : (next : ℕ) (es : List (Grain × Held)) → AreBegun next es → (g : Grain) (phase : Phase) (previous : Option ActivationId) (new : List (Grain × Held))
     → MatchOption (at g es) (new ≡ es) (λ held. new ≡ set_value (is_at (grain_cmp g)) es (with_parts held phase previous)) → AreBegun next new
@@ -163,6 +217,18 @@ written_told next es are g phase previous new written old is_old =
         (λ i. record { next_count = next; entries = set_told next es are g was (with_parts was phase previous) there refl new is i })
 
 -- ---- One ends.
+-- what goes from an index goes from under its grain, where the last one takes its room
+pub gives_out : (es : List (Grain × Held)) → IsDistinct grain_eq (keys_of es) → (index : ℕ) (e : Grain × Held) → slice_get es index ≡ Some e → Gives e.0 None es (swap_remove es index e)
+gives_out es apart index e there q =
+    let new = swap_remove es index e in
+    let moved : IsPermutation es (e ∷ new) = IsPermutation-swap_remove es index e (slice_get_within es index e there) (sym (get_or_from_slice_get es index e e there)) in
+    let distinct : IsDistinct (eq_by_cmp grain_cmp) (keys_of (e ∷ new)) =
+    IsDistinct-IsPermutation (eq_by_cmp grain_cmp) (eq_by_cmp_equiv grain_cmp_total).symm (keys_of es) (keys_of (e ∷ new)) (IsPermutation-map (λ x. x.0) es (e ∷ new) moved) (by_order (keys_of es) apart) in
+    let found : at q (e ∷ new) ≡ at q es = lookup_permutation (eq_by_cmp_equiv grain_cmp_total) es (e ∷ new) moved distinct (is_at (grain_cmp q)) ((eq_by_cmp_equiv grain_cmp_total).congr q) in
+    on_grain (λ b. at q new ≡ cond b None (at q es)) e.0 q
+    (λ same. gone_behind q e new (subst (λ (test : Grain → Grain → Bool). IsDistinct test (keys_of (e ∷ new))) (λ i a b. sym (same_test a b) i) distinct) (sym same))
+    (λ other. sym (ap (λ b. cond b (Some e.1) (at q new)) (not_at q e.0 (λ same. other_grain e.0 q other (sym same)))) ∙ found)
+
 module _ (next : ℕ) (es : List (Grain × Held)) (are : AreBegun next es) (g : Grain) (new : List (Grain × Held)) (gives : Gives g None es new) (apart : IsDistinct grain_eq (keys_of new)) where
   pub ended_are : AreBegun next new
   ended_are = record { next = are.next; apart = apart_without es new g are.apart apart gives; below = below_without es new g next gives are.below }

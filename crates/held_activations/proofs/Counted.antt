@@ -1,6 +1,6 @@
 -- The activations under their counts, put in one after another, come in the order in which they began.
-use Rattle.std.proofs.Common.{◌≡◌, refl, sym, ap, subst, ◌∙◌, ℕ, ◌<◌, List, [], ◌∷◌, cond, true, false, arith}
-use Rattle.std.specs.Prelude.{nat_lt}
+use Rattle.std.proofs.Common.{◌≡◌, refl, sym, ap, subst, ◌∙◌, ℕ, ◌+◌, ◌<◌, List, [], ◌∷◌, drop, slice_get, Some, cond, true, false, arith}
+use Rattle.std.specs.Prelude.{fold, nat_lt}
 use Rattle.std.specs.List.{AllByRecursion}
 use Rattle.std.specs.Map.{values_of}
 use Rattle.std.specs.BTreeMap.{insert_entry}
@@ -11,9 +11,10 @@ use Rattle.std.proofs.lemmas.Bool.Decides.{nat_tests}
 use Rattle.std.proofs.lemmas.Cmp.{ranked}
 use Rattle.silo_address.specs.Grain.{Grain}
 use Rattle.directory_rules.specs.declared.Held.{Held}
-use Rattle.held_activations.specs.InOrder.{placed}
+use Rattle.held_activations.specs.InOrder.{in_order, placed}
 use Rattle.held_activations.proofs.Ordered.{fresh_to_none}
-use Rattle.held_activations.proofs.Rows.{Apart, all_placed, flip}
+use Rattle.held_activations.proofs.Rows.{AllApart, Apart, all_placed, flip}
+use Rattle.held_activations.proofs.Steps.{left_from}
 
 -- each stands under its count
 abbrev pub AreUnder : List (ℕ × (Grain × Held)) → Type 0
@@ -72,3 +73,17 @@ left_on es x left are apart new is = record {
   fresh = subst (λ l. AllByRecursion (λ y. AllByRecursion (Apart y) l) left) (sym (ap values_of is ∙ put_in_place es x are.under are.fresh.0))
       (others_fresh (values_of es) x left apart are.fresh.1);
 }
+
+-- one more is put in of those that are left at an index
+pub counted_on : (es : List (Grain × Held)) (index : ℕ) (e : Grain × Held) → slice_get es index ≡ Some e → (counted new : List (ℕ × (Grain × Held))) → new ≡ insert_entry nat_cmp counted e.1.count e
+    → fold placed (values_of counted) (drop index es) ≡ in_order es → AllApart (drop index es) → AreLeft counted (drop index es)
+    → (fold placed (values_of new) (drop (index + 1) es) ≡ in_order es) × AllApart (drop (index + 1) es) × AreLeft new (drop (index + 1) es)
+counted_on es index e there counted new is so_far apart left =
+    let rest = drop (index + 1) es in
+    let taken : drop index es ≡ e ∷ rest = left_from es index e there in
+    let are : AreLeft counted (e ∷ rest) = subst (λ l. AreLeft counted l) taken left in
+    let others : AllApart (e ∷ rest) = subst AllApart taken apart in (
+      ap (λ l. fold placed l rest) (ap values_of is ∙ put_in_place counted e are.under are.fresh.0) ∙ ap (λ l. fold placed (values_of counted) l) (sym taken) ∙ so_far,
+      others.1,
+      left_on counted e rest are others.0 new is,
+    )

@@ -1,5 +1,5 @@
 -- The grains and counts of firm activations: each grain once, and its count is found.
-use Rattle.std.proofs.Common.{◌≡◌, refl, sym, ap, ◌∙◌, ℕ, List, [], ◌∷◌, ◌++◌, cond, Bool, true, false, filter, map, Option, Some, None}
+use Rattle.std.proofs.Common.{◌≡◌, refl, sym, ap, ◌∙◌, ℕ, ◌+◌, List, [], ◌∷◌, ◌++◌, drop, slice_get, cond, ◌&&◌, Bool, true, false, filter, map, Option, Some, None}
 use Rattle.std.specs.BTreeMap.{is_at}
 use Rattle.std.specs.List.{AllByRecursion, IsDistinct}
 use Rattle.std.specs.Map.{lookup, keys_of}
@@ -9,12 +9,15 @@ use Rattle.std.proofs.lemmas.List.Elements.{filter-append}
 use Rattle.std.proofs.lemmas.Map.{lookup-none}
 use Rattle.std.proofs.lemmas.Map.Keys.{IsDistinct-head, IsDistinct-tail}
 use Rattle.silo_address.specs.Grain.{Grain, grain_cmp, grain_eq}
-use Rattle.ring_range.specs.Range.{Range}
+use Rattle.ring_range.specs.Range.{Range, holds}
 use Rattle.hash_ring.specs.declared.Hashing.{Hashing}
+use Rattle.hash_ring.specs.Hash.{hash_grain}
 use Rattle.directory_rules.specs.declared.Held.{Held}
+use Rattle.directory_rules.specs.Host.{is_firm}
 use Rattle.held_activations.specs.Begun.{AreApart}
 use Rattle.held_activations.specs.Firm.{AreFirm, firm_count, firm_counts, is_told}
 use Rattle.held_activations.proofs.Grains.{on_grain, same_test}
+use Rattle.held_activations.proofs.Steps.{left_from}
 
 -- none of its grain is behind the first
 pub gone_behind : (q : Grain) (e : Grain × Held) (es : List (Grain × Held)) → IsDistinct grain_eq (keys_of (e ∷ es)) → q ≡ e.0 → lookup (is_at (grain_cmp q)) es ≡ None
@@ -83,3 +86,13 @@ module _ (hashing : Hashing) (range : Range) where
           ≡ firm ++ map (λ x. (x.0, x.1.count)) (cond b (e ∷ filter (is_told hashing range) es) (filter (is_told hashing range) es))
       by true = append_assoc firm ((e.0, e.1.count) ∷ []) (firm_counts hashing range es)
       by false = append_assoc firm [] (firm_counts hashing range es)
+
+  -- what is listed with those that are left is all, where one more is listed, or not
+  pub counts_on : (es : List (Grain × Held)) (index : ℕ) (e : Grain × Held) → slice_get es index ≡ Some e → (hash : ℕ) → hash ≡ hash_grain hashing e.0 → (firm new : List (Grain × ℕ))
+      → new ≡ firm ++ cond (is_firm e.1.phase && holds range hash) ((e.0, e.1.count) ∷ []) [] → firm ++ firm_counts hashing range (drop index es) ≡ firm_counts hashing range es
+      → new ++ firm_counts hashing range (drop (index + 1) es) ≡ firm_counts hashing range es
+  counts_on es index e there hash is_hash firm new is before =
+      ap (λ l. l ++ firm_counts hashing range (drop (index + 1) es)) (is ∙ ap (λ (n : ℕ). firm ++ cond (is_firm e.1.phase && holds range n) ((e.0, e.1.count) ∷ []) []) is_hash)
+      ∙ counts_more firm e (drop (index + 1) es)
+      ∙ ap (λ l. firm ++ firm_counts hashing range l) (sym (left_from es index e there))
+      ∙ before

@@ -1,22 +1,23 @@
 -- Each activation stands under its hashed count again where one begins, changes or ends.
-use Rattle.std.proofs.Common.{◌≡◌, refl, sym, ap, subst, ◌∙◌, ℕ, zero, suc, ◌-◌, ◌<◌, ◌↔◌, List, [], ◌∷◌, ◌++◌, length, take, set, swap_remove, slice_get, get_or, cond, Bool, true, false, nat_eq, nat_lt, Option, Some, None, IsSome, is_some, Result, Ok, Err, OnErr, IsOk, IfSome, true≢false, arith}
+use Rattle.std.proofs.Common.{◌≡◌, refl, sym, ap, subst, ◌∙◌, ℕ, zero, suc, ◌-◌, ◌<◌, ◌↔◌, List, [], ◌∷◌, ◌++◌, length, take, set, swap_remove, slice_get, get_or, cond, Bool, true, false, nat_eq, nat_lt, Option, Some, None, IsSome, is_some, Result, Ok, Err, OnErr, IsOk, true≢false, arith}
 use Rattle.std.specs.Prelude.{⊤, MatchOption}
 use Rattle.std.specs.Option.{option_map}
 use Rattle.std.specs.Cmp.{IsTotalOrder}
-use Rattle.std.specs.Map.{lookup, lookup_key, keys_of, set_value}
+use Rattle.std.specs.Map.{lookup, keys_of, set_value}
 use Rattle.std.specs.List.{IsDistinct}
 use Rattle.std.specs.BTreeMap.{is_at}
 use Rattle.std.specs.Ordering.{is_eq, nat_cmp}
 use Rattle.std.proofs.lemmas.Bool.Decides.{nat_tests}
 use Rattle.std.proofs.lemmas.Cmp.{eq_by_cmp_equiv, then_total, on_total, nat_cmp_total, tied_itself}
-use Rattle.std.proofs.lemmas.List.{length-take}
+use Rattle.std.proofs.lemmas.List.{length-append, length-take}
+use Rattle.std.proofs.Math.Seq.{take-append_seam}
 use Rattle.std.proofs.lemmas.Map.Entries.{lookup_from_place}
 use Rattle.std.proofs.lemmas.Map.Lookups.{CmpEqualImpliesEq, exact_unsigned}
 use Rattle.std.proofs.lemmas.Option.{none-some, same_Some, slice_get_past, slice_get_within, slice_get-get_or}
+use Rattle.indexmap.proofs.MapLemmas.{swap_remove_last}
 use Rattle.silo_address.specs.Grain.{Grain, grain_cmp, grain_eq}
 use Rattle.silo_address.specs.declared.ActivationId.{ActivationId}
 use Rattle.silo_address.proofs.Order.{both_tie, grain_cmp_total}
-use Rattle.silo_address.proofs.Same.{Decides-grain}
 use Rattle.membership_view.proofs.Entries.{Equal-from}
 use Rattle.hash_ring.specs.declared.Hashing.{Hashing}
 use Rattle.hash_ring.specs.Hash.{hash_grain}
@@ -26,7 +27,7 @@ use Rattle.held_activations.specs.Begun.{AreBegun}
 use Rattle.held_activations.specs.ByHash.{AreByHash, hashed_count_cmp, key_of}
 use Rattle.held_activations.specs.declared.by_hash.HashedCount.{HashedCount}
 use Rattle.held_activations.proofs.Changes.{at, with_parts}
-use Rattle.held_activations.proofs.Grains.{IsFoundIn, by_order, on_grain, on_test, same_test, tests_alike}
+use Rattle.held_activations.proofs.Grains.{IsFoundIn, by_order, on_grain, on_test, tests_alike}
 
 -- ---- The order of hashed counts.
 pub hashed_count_cmp_total : IsTotalOrder hashed_count_cmp
@@ -311,27 +312,19 @@ there_is_put o (Ok x) absent there = refl
 there_is_put o (Err e) absent there = absurd (true≢false (sym there ∙ ap is_some absent))
 
 -- ---- What a call says of a map.
-pub at_some : {X : Type 0} (P : X → Type 0) (o : Option X) (x : X) → o ≡ Some x → IfSome o P → P x
-at_some P None x some given = absurd (none-some x some)
-at_some P (Some y) x some given = subst P (same_Some y x some) given
+pub at_some : {X : Type 0} (A : Type 0) (P : X → Type 0) (o : Option X) (x : X) → o ≡ Some x → MatchOption o A P → P x
+at_some {X = X} A P o x some given = subst (λ (o : Option X). MatchOption o A P) some given
 
--- the key that is found is the one that is looked for
-pub key_found : (g k : Grain) (es : List (Grain × Held)) → Some k ≡ lookup_key (grain_eq g) es → k ≡ g
-key_found g k [] found = absurd (none-some k (sym found))
-key_found g k (e ∷ es) found = by (grain_eq g e.0) refl found (key_found g k es)
-  where
-    by : (b : Bool) → grain_eq g e.0 ≡ b → Some k ≡ cond b (Some e.0) (lookup_key (grain_eq g) es) → (Some k ≡ lookup_key (grain_eq g) es → k ≡ g) → k ≡ g
-    by true same found later = same_Some k e.0 found ∙ sym ((Decides-grain g e.0).0 same)
-    by false other found later = later found
-
--- what a map by equality lost is what the rule takes out by order
-pub gone_by_order : (es new : List (Grain × Held)) (g k : Grain) → k ≡ g → ((q : Grain) → lookup (grain_eq q) new ≡ cond (grain_eq k q) None (lookup (grain_eq q) es))
-    → (q : Grain) → lookup (is_at (grain_cmp q)) new ≡ cond (is_at (grain_cmp g) q) None (lookup (is_at (grain_cmp q)) es)
-gone_by_order es new g k same gone q =
-    ap (λ test. lookup test new) (sym (tests_alike q))
-    ∙ gone q
-    ∙ ap (λ (x : Grain). cond (grain_eq x q) None (lookup (grain_eq q) es)) same
-    ∙ (λ i. cond (same_test g q i) None (lookup (tests_alike q i) es))
+-- one that was put in goes again
+pub undone : {X : Type 0} (old put new : List X) (x : X) (index : ℕ) → index ≡ length old → put ≡ old ++ x ∷ [] → MatchOption (slice_get put index) (new ≡ put) (λ e. new ≡ swap_remove put index e) → new ≡ old
+undone old put new x index last is given =
+    let short : length (old ++ x ∷ []) - 1 ≡ length old = omega (arith, length-append old (x ∷ [])) in
+    at_some (new ≡ put) (λ e. new ≡ swap_remove put index e) (slice_get put index) x ((λ i. slice_get (is i) (last i)) ∙ push_here old x) given
+    ∙ (λ i. swap_remove (is i) (last i) x)
+    ∙ ap (λ n. swap_remove (old ++ x ∷ []) n x) (sym short)
+    ∙ swap_remove_last (old ++ x ∷ []) x
+    ∙ ap (λ n. take n (old ++ x ∷ [])) short
+    ∙ take-append_seam old (x ∷ [])
 
 -- nothing goes where there is nothing
 pub none_gone : (es : List (Grain × Held)) (g : Grain) → lookup (grain_eq g) es ≡ None

@@ -1,3 +1,4 @@
+pub mod Steps
 pub mod Grains
 pub mod Rows
 pub mod Unique

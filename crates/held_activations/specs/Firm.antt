@@ -1,6 +1,5 @@
 -- What is told of the activations that are firm.
 use Rattle.std.specs.Prelude.{◌≡◌, ◌&&◌, Bool, ℕ, List, [], Option, Some, None, filter, fold, map, if◌then◌else◌}
-use Rattle.std.specs.Borrow.{Bor}
 use Rattle.std.specs.BTreeMap.{is_at}
 use Rattle.std.specs.List.{IsDistinct}
 use Rattle.std.specs.List.Sorted.{IsPermutation, IsSortedByKey}
@@ -40,10 +39,6 @@ firm_count hashing range grain held = if is_told hashing range (grain, held) the
 pub record AreFirm (hashing : Hashing) (range : Range) (es : List (Grain × Held)) (firm : List (Grain × ℕ)) : Type 0 where
   pub once : IsDistinct grain_eq (keys_of firm)
   pub counts : (grain : Grain) → lookup (is_at (grain_cmp grain)) firm ≡ option_and_then (firm_count hashing range grain) (lookup (is_at (grain_cmp grain)) es)
-
--- a grain and a count, where the grain is lent
-abbrev pub counted : Bor Grain × ℕ → Grain × ℕ
-counted x = (x.0.now, x.1)
 
 -- the entry of an activation on the silo
 abbrev pub entry_counted : Silo → Grain × ℕ → Entry

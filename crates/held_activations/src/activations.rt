@@ -1,9 +1,8 @@
 ghost use Rattle.std.specs.BTreeMap.{is_at};
 ghost use Rattle.std.specs.List.{IsDistinct};
 ghost use Rattle.std.specs.Map.{keys_of, lookup, remove_entry, set_value};
-ghost use Rattle.std.specs.Prelude.{⊤, ◌≡◌, ◌<◌, ◌+◌, ◌≤◌, ◌^◌, ◌++◌, [], ◌∷◌, if◌then◌else◌, None, Some, IfOk, IsOk, IsSome, MatchOption, OnOk, OnErr, length, slice_get};
+ghost use Rattle.std.specs.Prelude.{⊤, ◌≡◌, ◌+◌, ◌≤◌, ◌^◌, ◌++◌, [], ◌∷◌, if◌then◌else◌, None, Some, IfOk, IsSome, MatchOption, OnOk, OnErr, length, slice_get};
 ghost use Rattle.directory_rules.specs.declared.Phase.TheVariants.{Asking};
-ghost use Rattle.indexmap.specs.IndexMap.{spare};
 ghost use Rattle.silo_address.specs.Grain.{Grain, grain_cmp, grain_eq};
 ghost use Rattle.held_activations.specs.Begun.{IsNext};
 ghost use Rattle.held_activations.specs.ByHash.{AreByHash, hashed_count_cmp, key_of};
@@ -13,10 +12,11 @@ mod order;
 mod same;
 
 use crate::by_hash::{ByHash, HashedCount, key_of};
+use crate::kept::{Kept, held_at, held_of};
 use directory_rules::{Held, Phase, Settings};
 pub use firm::entry_on;
+use grain_names::GrainMap;
 use hash_ring::Hashing;
-use indexmap::IndexMap;
 use silo_address::{ActivationId, GrainId};
 use std::alloc::{AllocError, Global};
 use std::collections::BTreeMap;
@@ -29,7 +29,7 @@ use std::marker::Model;
 #[derive(Drop)]
 pub struct Activations {
     next_count: u64,
-    map: IndexMap<GrainId, Held>,
+    map: GrainMap<Kept>,
     hashing: Hashing,
     by_hash: ByHash,
 }
@@ -42,9 +42,9 @@ impl Model for Activations {
     ghost use Rattle.held_activations.specs.ByHash.{AreKept};
     ghost use Rattle.held_activations.specs.InOrder.{in_order};
 
-    ghost view = { λ a. record { next_count = a.next_count; entries = in_order a.map.entries } };
+    ghost view = { λ a. record { next_count = a.next_count; entries = in_order a.map } };
 
-    ghost invariant = { λ a. AreKept a.hashing a.next_count a.map.entries a.by_hash.entries };
+    ghost invariant = { λ a. AreKept a.hashing a.next_count a.map a.by_hash.entries };
 }
 
 impl Activations {
@@ -55,7 +55,7 @@ impl Activations {
     {
         Activations {
             next_count: 1,
-            map: IndexMap::new(alloc),
+            map: GrainMap::new(alloc),
             hashing: settings.hashing(),
             by_hash: BTreeMap::new(alloc),
         }
@@ -79,7 +79,8 @@ impl Activations {
     pub fn get(&self, grain: &GrainId) -> Option<Held>
         ensures { result ≡ lookup (is_at (grain_cmp grain.now)) self.now.entries }
     {
-        self.map.get(grain).copied()
+        let (_, held) = held_of(&self.map, grain)?;
+        Some(held)
     }
 
     /// An activation begins, with the next count, and asks to be entered under the number, in the place of a previous one if one
@@ -107,10 +108,11 @@ impl Activations {
             &mut self.map,
             &mut self.by_hash,
             key,
-            grain,
+            &grain,
             asking,
             previous,
         )?;
+        self.map.apart();
         self.next_count += 1;
         Ok(())
     }
@@ -129,6 +131,7 @@ impl Activations {
         ensures { self.new ≡ record self.old { entries = remove_entry (is_at (grain_cmp grain.now)) self.old.entries } }
     {
         take_out(self.hashing, &mut self.map, &mut self.by_hash, grain);
+        self.map.apart();
     }
 
     /// A law: each grain has one activation, and the next count is one that may be the next.
@@ -143,7 +146,7 @@ impl Activations {
     pub fn copy(&self) -> Result<Activations, AllocError>
         ensures { IfOk result (λ activations. activations ≡ self.now) }
     {
-        let map = self.map.clone()?;
+        let map = self.map.copy()?;
         let by_hash = self.by_hash.clone()?;
         Ok(Activations {
             next_count: self.next_count,
@@ -155,100 +158,81 @@ impl Activations {
 }
 
 // What is held of the grain, if anything, is in this phase, and in the place of this previous one.
-fn write(
-    map: &mut IndexMap<GrainId, Held>,
-    grain: &GrainId,
-    phase: Phase,
-    previous: Option<ActivationId>,
-)
-    ensures written { MatchOption (lookup (is_at (grain_cmp grain.now)) map.old.entries) (map.new.entries ≡ map.old.entries)
-        (λ held. map.new.entries ≡ set_value (is_at (grain_cmp grain.now)) map.old.entries (record held { phase = phase; previous = previous })) }
-    ensures apart { IsDistinct grain_eq (keys_of map.old.entries) }
+fn write(map: &mut GrainMap<Kept>, grain: &GrainId, phase: Phase, previous: Option<ActivationId>)
+    ensures written { MatchOption (lookup (is_at (grain_cmp grain.now)) map.old) (map.new ≡ map.old)
+        (λ held. map.new ≡ set_value (is_at (grain_cmp grain.now)) map.old (record held { phase = phase; previous = previous })) }
 {
-    if let Some(held) = map.get_mut(grain) {
-        *held = Held {
+    map.apart();
+    let Some((index, held)) = held_of(map, grain) else {
+        return;
+    };
+    map.set_at(
+        index,
+        Kept::of(&Held {
             count: held.count,
             phase,
             previous,
-        };
-    }
+        }),
+    );
 }
 
 // An activation of a grain without one is put in, with the count in its key, as the last one, and its index under the key. Fails
 // only when memory runs out, and then changes nothing.
 fn put_in(
-    map: &mut IndexMap<GrainId, Held>,
+    map: &mut GrainMap<Kept>,
     by_hash: &mut ByHash,
     key: HashedCount,
-    grain: GrainId,
+    grain: &GrainId,
     phase: Phase,
     previous: Option<ActivationId>,
 ) -> Result<(), AllocError>
-    requires { lookup (is_at (grain_cmp grain)) map.old.entries ≡ None }
-    ensures map { OnOk result (map.new.entries ≡ map.old.entries ++ (grain, record { count = key.count; phase = phase; previous = previous }) ∷ []) }
-    ensures apart { IsDistinct grain_eq (keys_of map.new.entries) }
+    requires { lookup (is_at (grain_cmp grain.now)) map.old ≡ None }
+    ensures map { OnOk result (map.new ≡ map.old ++ (grain.now, record { count = key.count; phase = phase; previous = previous }) ∷ []) }
     ensures by_hash { OnOk result ((q : HashedCount) → lookup (is_at (hashed_count_cmp q)) by_hash.new.entries
-        ≡ (if is_at (hashed_count_cmp key) q then Some (length map.old.entries) else lookup (is_at (hashed_count_cmp q)) by_hash.old.entries)) }
-    ensures same_map { OnErr result (map.new.entries ≡ map.old.entries) }
+        ≡ (if is_at (hashed_count_cmp key) q then Some (length map.old) else lookup (is_at (hashed_count_cmp q)) by_hash.old.entries)) }
+    ensures same_map { OnErr result (map.new ≡ map.old) }
     ensures same_by_hash { OnErr result (by_hash.new.entries ≡ by_hash.old.entries) }
 {
-    map.reserve(1)?;
-    by_hash.insert(key, map.len())?;
-    put_last(map, grain, key.count, phase, previous)
-}
-
-// An activation of a grain without one is put in, as the last one. Where there is room it does not fail.
-fn put_last(
-    map: &mut IndexMap<GrainId, Held>,
-    grain: GrainId,
-    count: u64,
-    phase: Phase,
-    previous: Option<ActivationId>,
-) -> Result<(), AllocError>
-    requires { lookup (is_at (grain_cmp grain)) map.old.entries ≡ None }
-    ensures put { OnOk result (map.new.entries ≡ map.old.entries ++ (grain, record { count = count; phase = phase; previous = previous }) ∷ []) }
-    ensures apart { IsDistinct grain_eq (keys_of map.new.entries) }
-    ensures room { 0 < spare map.old → IsOk result }
-{
+    let last = map.len();
     let held = Held {
-        count,
+        count: key.count,
         phase,
         previous,
     };
-    map.insert(grain, held)?;
-    Ok(())
+    map.put(grain, Kept::of(&held))?;
+    match by_hash.insert(key, last) {
+        Ok(_) => Ok(()),
+        Err(_) => {
+            map.swap_remove(last);
+            Err(AllocError)
+        }
+    }
 }
 
 // What is held of the grain, if anything, goes; the last one takes its room.
-fn take_out(
-    hashing: Hashing,
-    map: &mut IndexMap<GrainId, Held>,
-    by_hash: &mut ByHash,
-    grain: &GrainId,
-)
-    requires apart { IsDistinct grain_eq (keys_of map.old.entries) }
-    requires by_hash { AreByHash hashing map.old.entries by_hash.old.entries }
-    ensures gone { (q : Grain) → lookup (is_at (grain_cmp q)) map.new.entries ≡ (if is_at (grain_cmp grain.now) q then None else lookup (is_at (grain_cmp q)) map.old.entries) }
-    ensures apart { IsDistinct grain_eq (keys_of map.new.entries) }
-    ensures by_hash { AreByHash hashing map.new.entries by_hash.new.entries }
+fn take_out(hashing: Hashing, map: &mut GrainMap<Kept>, by_hash: &mut ByHash, grain: &GrainId)
+    requires { AreByHash hashing map.old by_hash.old.entries }
+    ensures gone { (q : Grain) → lookup (is_at (grain_cmp q)) map.new ≡ (if is_at (grain_cmp grain.now) q then None else lookup (is_at (grain_cmp q)) map.old) }
+    ensures by_hash { AreByHash hashing map.new by_hash.new.entries }
 {
-    let Some((index, grain, held)) = map.get_full(grain) else {
+    map.apart();
+    let Some((index, held)) = held_of(map, grain) else {
         return;
     };
-    let key = key_of(hashing, grain, held);
-    map.swap_remove_index(index);
+    let key = key_of(hashing, grain, &held);
+    map.swap_remove(index);
     by_hash.remove(&key);
     note_index(hashing, map, by_hash, index);
 }
 
 // The activation that stands at the index now, if there is one, is found there by its hash.
-fn note_index(hashing: Hashing, map: &IndexMap<GrainId, Held>, by_hash: &mut ByHash, index: usize)
-    requires { MatchOption (slice_get map.now.entries index) ⊤ (λ e. IsSome (lookup (is_at (hashed_count_cmp (key_of hashing e))) by_hash.old.entries)) }
-    ensures { MatchOption (slice_get map.now.entries index) (by_hash.new.entries ≡ by_hash.old.entries) (λ e. (q : HashedCount) → lookup (is_at (hashed_count_cmp q)) by_hash.new.entries
+fn note_index(hashing: Hashing, map: &GrainMap<Kept>, by_hash: &mut ByHash, index: usize)
+    requires { MatchOption (slice_get map.now index) ⊤ (λ e. IsSome (lookup (is_at (hashed_count_cmp (key_of hashing e))) by_hash.old.entries)) }
+    ensures { MatchOption (slice_get map.now index) (by_hash.new.entries ≡ by_hash.old.entries) (λ e. (q : HashedCount) → lookup (is_at (hashed_count_cmp q)) by_hash.new.entries
         ≡ (if is_at (hashed_count_cmp (key_of hashing e)) q then Some index else lookup (is_at (hashed_count_cmp q)) by_hash.old.entries)) }
 {
-    if let Some((grain, held)) = map.get_index(index) {
-        let key = key_of(hashing, grain, held);
+    if let Some((grain, held)) = held_at(map, index) {
+        let key = key_of(hashing, &grain, &held);
         let put: Result<_, _> = by_hash.insert(key, index);
         put.unwrap();
     }

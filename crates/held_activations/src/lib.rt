@@ -3,5 +3,6 @@
 
 mod activations;
 mod by_hash;
+mod kept;
 
 pub use activations::{Activations, entry_on};

@@ -4,23 +4,24 @@ ghost use Rattle.std.specs.Prelude.{◌≡◌, ◌&&◌, ◌++◌, ◌∷◌, []
 ghost use Rattle.directory_rules.specs.Host.{entry_on, is_firm};
 ghost use Rattle.held_activations.specs.Begun.{AreApart};
 ghost use Rattle.held_activations.specs.ByHash.{AreByHash, IsUnder};
-ghost use Rattle.held_activations.specs.Firm.{AreByGrain, AreFirm, counted, entry_counted, firm_among, firm_counts};
+ghost use Rattle.held_activations.specs.Firm.{AreByGrain, AreFirm, entry_counted, firm_among, firm_counts};
 ghost use Rattle.held_activations.specs.Stretch.{standing_at};
 ghost use Rattle.ring_range.specs.Range.{circle, holds};
 
 use super::Activations;
 use crate::by_hash::{ByHash, CIRCLE, HashedCount, end_at, first_at};
+use crate::kept::{Kept, held_at};
 use directory_rules::{Held, Phase};
+use grain_names::GrainMap;
 use hash_ring::Hashing;
-use indexmap::IndexMap;
 use ring_range::RingRange;
 use silo_address::{ActivationId, Entry, GrainId, SiloAddress};
 use std::alloc::{AllocError, Global};
 use std::collections::btree_map::Range;
 use std::ops::Bound;
 
-/// A firm activation: its grain and its count. In the order of these, grains are compared and never moved.
-type Counted<'a> = (&'a GrainId, u64);
+/// A firm activation: its grain and its count.
+type Counted = (GrainId, u64);
 
 impl Activations {
     /// The entries of those activations on the silo that are firm and hashed into the range, in the order of their grains. Looks
@@ -37,10 +38,10 @@ impl Activations {
     {
         if self.hashing.same(&hashing) {
             let firm = firm_by_hash(alloc, &self.map, &self.by_hash, hashing, range)?;
-            return by_grain(alloc, silo, firm);
+            return by_grain(alloc, silo, &firm);
         }
         let firm = firm_among_all(alloc, &self.map, hashing, range)?;
-        by_grain(alloc, silo, firm)
+        by_grain(alloc, silo, &firm)
     }
 }
 
@@ -59,59 +60,62 @@ fn entry_counted(silo: SiloAddress, grain: GrainId, count: u64) -> Entry
     Entry { grain, activation }
 }
 
-// The entries of activations of different grains, in the order of the grains.
-fn by_grain(
-    alloc: Global,
-    silo: SiloAddress,
-    mut firm: Vec<Counted<'_>>,
-) -> Result<Vec<Entry>, AllocError>
-    ensures { IfOk result (λ entries. AreByGrain silo (map counted firm.entry.items) entries.items) }
+// The entries of activations of different grains, in the order of the grains. They are lent to be sorted, so that none is moved for it.
+fn by_grain(alloc: Global, silo: SiloAddress, firm: &[Counted]) -> Result<Vec<Entry>, AllocError>
+    ensures { IfOk result (λ entries. AreByGrain silo firm.now entries.items) }
 {
-    firm.sort_unstable();
-    entries_of(alloc, silo, &firm)
+    let mut lent = lent_of(alloc, firm)?;
+    lent.sort_unstable();
+    entries_of(alloc, silo, &lent)
+}
+
+fn lent_of<'a>(alloc: Global, firm: &'a [Counted]) -> Result<Vec<&'a Counted>, AllocError>
+    ensures { IfOk result (λ lent. map (λ one. one.now) lent.items ≡ firm.now) }
+{
+    firm.iter().collect(alloc)
 }
 
 // Their entries, as they stand.
-fn entries_of(
-    alloc: Global,
-    silo: SiloAddress,
-    firm: &[Counted<'_>],
-) -> Result<Vec<Entry>, AllocError>
-    ensures { IfOk result (λ entries. entries.items ≡ map (λ x. entry_counted silo (counted x)) firm.now) }
+fn entries_of(alloc: Global, silo: SiloAddress, firm: &[&Counted]) -> Result<Vec<Entry>, AllocError>
+    ensures { IfOk result (λ entries. entries.items ≡ map (λ one. entry_counted silo one.now) firm.now) }
 {
     firm.iter()
-        .map(|(grain, count)| entry_counted(silo, **grain, *count))
+        .copied()
+        .map(|one| entry_counted(silo, one.0, one.1))
         .collect(alloc)
 }
 
 // The firm activations that are hashed into the range: each activation is looked at.
-fn firm_among_all<'a>(
+fn firm_among_all(
     alloc: Global,
-    held: &'a IndexMap<GrainId, Held>,
+    held: &GrainMap<Kept>,
     hashing: Hashing,
     range: &RingRange,
-) -> Result<Vec<Counted<'a>>, AllocError>
-    ensures { IfOk result (λ firm. map counted firm.items ≡ firm_counts hashing range.now held.now.entries) }
+) -> Result<Vec<Counted>, AllocError>
+    ensures { IfOk result (λ firm. firm.items ≡ firm_counts hashing range.now held.now) }
 {
     let mut firm = Vec::new(alloc);
-    for (grain, held) in held {
-        let hash = hashing.hash_grain(grain);
-        list_firm(&mut firm, range, hash, grain, held)?;
+    for index in 0..held.len() {
+        let Some((grain, held)) = held_at(held, index) else {
+            unreachable!();
+        };
+        let hash = hashing.hash_grain(&grain);
+        list_firm(&mut firm, range, hash, grain, &held)?;
     }
     Ok(firm)
 }
 
 // The same, by the order of their hashes: they stand in at most two stretches of it.
-fn firm_by_hash<'a>(
+fn firm_by_hash(
     alloc: Global,
-    held: &'a IndexMap<GrainId, Held>,
+    held: &GrainMap<Kept>,
     by_hash: &ByHash,
     hashing: Hashing,
     range: &RingRange,
-) -> Result<Vec<Counted<'a>>, AllocError>
-    requires apart { AreApart held.now.entries }
-    requires by_hash { AreByHash hashing held.now.entries by_hash.now.entries }
-    ensures { IfOk result (λ firm. AreFirm hashing range.now held.now.entries (map counted firm.items)) }
+) -> Result<Vec<Counted>, AllocError>
+    requires apart { AreApart held.now }
+    requires by_hash { AreByHash hashing held.now by_hash.now.entries }
+    ensures { IfOk result (λ firm. AreFirm hashing range.now held.now firm.items) }
 {
     range.in_range();
     let firm = Vec::new(alloc);
@@ -128,34 +132,34 @@ fn firm_by_hash<'a>(
 }
 
 // The list with those of a stretch that are firm and hashed into the range.
-fn list_stretch<'a>(
-    mut firm: Vec<Counted<'a>>,
-    held: &'a IndexMap<GrainId, Held>,
+fn list_stretch(
+    mut firm: Vec<Counted>,
+    held: &GrainMap<Kept>,
     stretch: Range<'_, HashedCount, usize>,
     hashing: Hashing,
     range: &RingRange,
-) -> Result<Vec<Counted<'a>>, AllocError>
-    requires { AllByRecursion (IsUnder hashing held.now.entries) stretch }
-    ensures { IfOk result (λ new. map counted new.items ≡ map counted firm.entry.items ++ firm_counts hashing range.now (standing_at held.now.entries stretch.entry)) }
+) -> Result<Vec<Counted>, AllocError>
+    requires { AllByRecursion (IsUnder hashing held.now) stretch }
+    ensures { IfOk result (λ new. new.items ≡ firm.items ++ firm_counts hashing range.now (standing_at held.now stretch.entry)) }
 {
     'stretch: for (key, index) in stretch {
-        if let Some((grain, held)) = held.get_index(*index) {
-            list_firm(&mut firm, range, key.hash, grain, held)?;
+        if let Some((grain, held)) = held_at(held, *index) {
+            list_firm(&mut firm, range, key.hash, grain, &held)?;
         }
     }
     Ok(firm)
 }
 
 // The list with the activation, if it is firm and hashed into the range.
-fn list_firm<'a>(
-    firm: &mut Vec<Counted<'a>>,
+fn list_firm(
+    firm: &mut Vec<Counted>,
     range: &RingRange,
     hash: u32,
-    grain: &'a GrainId,
+    grain: GrainId,
     held: &Held,
 ) -> Result<(), AllocError>
-    ensures { OnOk result (map counted firm.new.items
-        ≡ map counted firm.old.items ++ (if is_firm held.now.phase && holds range.now hash then (grain.now, held.now.count) ∷ [] else [])) }
+    ensures { OnOk result (firm.new.items
+        ≡ firm.old.items ++ (if is_firm held.now.phase && holds range.now hash then (grain, held.now.count) ∷ [] else [])) }
 {
     if is_firm(&held.phase) && range.contains(hash) {
         firm.push((grain, held.count))?;

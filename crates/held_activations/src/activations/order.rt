@@ -5,8 +5,9 @@ ghost use Rattle.held_activations.specs.Begun.{AreApart};
 ghost use Rattle.held_activations.specs.InOrder.{in_order};
 
 use super::Activations;
+use crate::kept::{Kept, held_at};
 use directory_rules::Held;
-use indexmap::IndexMap;
+use grain_names::GrainMap;
 use silo_address::GrainId;
 use std::alloc::{AllocError, Global};
 use std::collections::BTreeMap;
@@ -25,14 +26,18 @@ impl Activations {
 // The activations under their counts.
 fn by_count(
     alloc: Global,
-    map: &IndexMap<GrainId, Held>,
+    map: &GrainMap<Kept>,
 ) -> Result<BTreeMap<u64, (GrainId, Held)>, AllocError>
-    requires { AreApart map.now.entries }
-    ensures { IfOk result (λ counted. values_of counted.entries ≡ in_order map.now.entries) }
+    requires { AreApart map.now }
+    ensures { IfOk result (λ counted. values_of counted.entries ≡ in_order map.now) }
 {
     let mut counted = BTreeMap::new(alloc);
-    for (grain, held) in map {
-        counted.insert(held.count, (*grain, *held))?;
+    for index in 0..map.len() {
+        let Some((grain, held)) = held_at(map, index) else {
+            unreachable!();
+        };
+        let count = held.count;
+        counted.insert(count, (grain, held))?;
     }
     Ok(counted)
 }

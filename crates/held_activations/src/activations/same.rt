@@ -1,12 +1,11 @@
 //! Whether two hosts' activations are the same.
+ghost use Rattle.std.specs.Map.{lookup};
 ghost use Rattle.std.specs.Prelude.{◌≡◌, ◌↔◌, IsTrue};
 ghost use Rattle.silo_address.specs.Grain.{Grain, grain_eq};
-ghost use Rattle.indexmap.specs.IndexMap.{get};
 
 use super::Activations;
-use directory_rules::Held;
-use indexmap::IndexMap;
-use silo_address::GrainId;
+use crate::kept::Kept;
+use grain_names::GrainMap;
 
 impl Activations {
     /// Whether both have the same activations, which began in the same order, and count on alike.
@@ -18,8 +17,8 @@ impl Activations {
 }
 
 // Whether both have the same under each grain, in whatever order they keep it.
-fn same_map(one: &IndexMap<GrainId, Held>, other: &IndexMap<GrainId, Held>) -> bool
-    ensures { IsTrue result ↔ ((grain : Grain) → get grain_eq one.now grain ≡ get grain_eq other.now grain) }
+fn same_map(one: &GrainMap<Kept>, other: &GrainMap<Kept>) -> bool
+    ensures { IsTrue result ↔ ((grain : Grain) → lookup (grain_eq grain) one.now ≡ lookup (grain_eq grain) other.now) }
 {
-    *one == *other
+    one.same(other)
 }

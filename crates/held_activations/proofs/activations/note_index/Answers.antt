@@ -10,5 +10,5 @@ pub unwrap-requires : goal.unwrap-requires
 unwrap-requires c =
     let there : IsSome (lookup (is_at (hashed_count_cmp c.key_of-key.result)) c.args.by_hash.now.entries) =
     subst (λ k. IsSome (lookup (is_at (hashed_count_cmp k)) c.args.by_hash.now.entries)) (sym c.key_of-key.ensures)
-    (subst (λ o. MatchOption o ⊤ (λ e. IsSome (lookup (is_at (hashed_count_cmp (key_of c.args.hashing e))) c.args.by_hash.now.entries))) (sym c.in-Some.ensures.entry) c.requires) in
+    (subst (λ o. MatchOption o ⊤ (λ e. IsSome (lookup (is_at (hashed_count_cmp (key_of c.args.hashing e))) c.args.by_hash.now.entries))) (sym c.in-Some.ensures) c.requires) in
     there_is_put _ c.insert-put.result c.insert-put.ensures.absent there

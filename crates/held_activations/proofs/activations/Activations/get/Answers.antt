@@ -1,15 +1,10 @@
-use Rattle.std.proofs.Common.{sym, ap, ◌∙◌}
-use Rattle.std.specs.Map.{lookup}
-use Rattle.held_activations.specs.Activations.{ActivationsValue}
-use Rattle.held_activations.proofs.Changes.{at}
-use Rattle.held_activations.proofs.Grains.{tests_alike}
-use Rattle.held_activations.proofs.Ordered.{lookup_in_order}
+use Rattle.std.proofs.Common.{◌∙◌, None, Some}
+use Rattle.held_activations.proofs.Changes.{found_told}
 use Rattle.held_activations.proofs.activations.Activations.get.Goals as goal
 
+pub returns-in_err-held : goal.returns-in_err-held
+returns-in_err-held c =
+    c.from_residual.ensures ∙ found_told c.self.inside.next_count c.self.inside.map c.self.invariant.begun c.args.grain.now None c.in_err-held.ensures.value c.args.self.now c.self.view_is
+
 pub returns : goal.returns
-returns c =
-    c.copied.ensures
-    ∙ c.get.ensures.value
-    ∙ ap (λ test. lookup test c.self.inside.map.entries) (tests_alike c.args.grain.now)
-    ∙ sym (lookup_in_order c.args.grain.now c.self.inside.map.entries c.self.invariant.begun.apart)
-    ∙ ap (λ (v : ActivationsValue). at c.args.grain.now v.entries) c.self.view_is
+returns c = found_told c.self.inside.next_count c.self.inside.map c.self.invariant.begun c.args.grain.now (Some c.in_ok-held.held) c.in_ok-held.ensures.value c.args.self.now c.self.view_is

@@ -11,4 +11,4 @@ use Rattle.held_activations.proofs.activations.Activations.whole.Goals as goal
 pub returns-clause-grains : goal.returns-clause-grains
 returns-clause-grains c =
     subst (λ (v : ActivationsValue). IsDistinct grain_eq (keys_of v.entries)) c.self.view_is
-    (row_distinct (in_order c.self.inside.map.entries) (row_in_order c.self.inside.map.entries c.self.invariant.begun.apart))
+    (row_distinct (in_order c.self.inside.map) (row_in_order c.self.inside.map c.self.invariant.begun.apart))

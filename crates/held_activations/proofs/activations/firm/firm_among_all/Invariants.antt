@@ -1,8 +1,7 @@
-use Rattle.std.proofs.Common.{◌≡◌, ◌++◌}
-use Rattle.std.specs.Prelude.{map}
-use Rattle.held_activations.specs.Firm.{counted, firm_counts}
+use Rattle.std.proofs.Common.{drop, ◌≡◌, ◌++◌}
+use Rattle.held_activations.specs.Firm.{firm_counts}
 use Rattle.held_activations.proofs.activations.firm.firm_among_all.Given as goal
 
 -- with those that are left, all are listed
-abbrev pub invariant-loop-grain : goal.invariant-loop-grain
-invariant-loop-grain l = map counted l.firm.items ++ firm_counts l.hashing l.range l.grain-iterator ≡ firm_counts l.hashing l.range l.held.entries
+abbrev pub invariant-loop-index : goal.invariant-loop-index
+invariant-loop-index l = l.firm.items ++ firm_counts l.hashing l.range (drop l.index l.held) ≡ firm_counts l.hashing l.range l.held

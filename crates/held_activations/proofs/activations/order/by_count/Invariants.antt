@@ -1,4 +1,4 @@
-use Rattle.std.proofs.Common.{◌≡◌}
+use Rattle.std.proofs.Common.{drop, ◌≡◌}
 use Rattle.std.specs.Prelude.{fold}
 use Rattle.std.specs.Map.{values_of}
 use Rattle.held_activations.specs.InOrder.{in_order, placed}
@@ -7,9 +7,9 @@ use Rattle.held_activations.proofs.Rows.{AllApart}
 use Rattle.held_activations.proofs.activations.order.by_count.Given as goal
 
 -- with those that are left, it is all, in order
-abbrev pub invariant-loop-grain : goal.invariant-loop-grain
-invariant-loop-grain l = record {
-  so_far : fold placed (values_of l.counted.entries) l.grain-iterator ≡ in_order l.map.entries;
-  apart : AllApart l.grain-iterator;
-  left : AreLeft l.counted.entries l.grain-iterator;
+abbrev pub invariant-loop-index : goal.invariant-loop-index
+invariant-loop-index l = record {
+  so_far : fold placed (values_of l.counted.entries) (drop l.index l.map) ≡ in_order l.map;
+  apart : AllApart (drop l.index l.map);
+  left : AreLeft l.counted.entries (drop l.index l.map);
 }

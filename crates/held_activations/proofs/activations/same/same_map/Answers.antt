@@ -1,6 +1,12 @@
-use Rattle.std.proofs.lemmas.Map.Lookups.{hash_map_eq-Decides}
-use Rattle.held_activations.proofs.Same.{Decides-held, grain_eq_laws}
+use Rattle.std.specs.Map.{lookup}
+use Rattle.std.proofs.lemmas.Bool.Decides.{Decides-like}
+use Rattle.silo_address.specs.Grain.{grain_eq}
+use Rattle.held_activations.proofs.Same.{Decides-kept, Decides-option}
 use Rattle.held_activations.proofs.activations.same.same_map.Goals as goal
 
 pub returns : goal.returns
-returns c = hash_map_eq-Decides grain_eq_laws Decides-held c.args.one.now c.args.other.now c.eq.result c.eq.ensures
+returns c =
+    Decides-like c.same.result
+    (λ agree grain. (Decides-option _ Decides-kept (lookup (grain_eq grain) c.args.one.now) (lookup (grain_eq grain) c.args.other.now)).0 (agree grain))
+    (λ same grain. (Decides-option _ Decides-kept (lookup (grain_eq grain) c.args.one.now) (lookup (grain_eq grain) c.args.other.now)).1 (same grain))
+    c.same.ensures
