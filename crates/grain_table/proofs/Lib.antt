@@ -15,3 +15,7 @@ pub mod Ends
 pub mod OnSilos
 pub mod Sorting
 pub mod Listed
+pub mod Joined
+pub mod KeyOrder
+pub mod KeysRead
+pub mod KeyEnds

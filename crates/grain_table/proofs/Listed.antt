@@ -10,6 +10,7 @@ use Rattle.std.specs.declared.cmp.Ordering.TheVariants.{Less, Equal, Greater}
 use Rattle.std.proofs.lemmas.List.Elements.{filter-append}
 use Rattle.std.proofs.lemmas.List.Sorted.{IsPermutation-append_right, IsPermutation-cons, IsPermutation-middle, IsPermutation-refl, IsPermutation-trans}
 use Rattle.silo_address.specs.Grain.{Grain, grain_cmp}
+use Rattle.silo_address.specs.declared.ActivationId.{ActivationId}
 use Rattle.silo_address.specs.declared.Entry.{Entry}
 use Rattle.membership_view.specs.View.{ViewValue}
 use Rattle.ring_range.specs.Range.{Range, IsRange, circle, holds}
@@ -17,6 +18,7 @@ use Rattle.hash_ring.specs.declared.Hashing.{Hashing}
 use Rattle.directory_rules.specs.Membership.{is_dead_in}
 use Rattle.directory_rules.specs.Sight.{is_kept}
 use Rattle.directory_rules.specs.Table.{Table, entries_of, entry_at}
+use Rattle.grain_table.specs.declared.hashed_grain.HashedGrain.{HashedGrain}
 use Rattle.grain_table.specs.Hashed.{AreHashed, Hashed, by_grain, entry_under}
 use Rattle.grain_table.specs.Stretch.{is_between}
 use Rattle.grain_table.proofs.ByGrain.{by_grain_is_table}
@@ -85,6 +87,15 @@ module _ (view : ViewValue) where
   -- the list with what is living of that
   abbrev pub with_living : List Entry → Hashed → List Entry
   with_living entries es = entries ++ entries_under (living_of es)
+
+  -- one that is living goes behind the list
+  pub one_listed : (entries new : List Entry) (e : HashedGrain × ActivationId) (all rest : Hashed) → is_dead_in view e.1.silo ≡ false → all ≡ e ∷ rest → new ≡ entries ++ entry_under e ∷ []
+      → with_living new rest ≡ with_living entries all
+  one_listed entries new e all rest living first pushed =
+      ap (λ l. l ++ entries_under (living_of rest)) pushed
+      ∙ append_assoc entries (entry_under e ∷ []) (entries_under (living_of rest))
+      ∙ ap (λ b. entries ++ entries_under (cond (not b) (e ∷ living_of rest) (living_of rest))) (sym living)
+      ∙ ap (with_living entries) (sym first)
 
   with_both : (entries : List Entry) (es others : Hashed) → with_living (with_living entries es) others ≡ with_living entries (es ++ others)
   with_both entries es others =

@@ -1,7 +1,7 @@
 -- Whether entries lie in a range is told by the stretches of hashes outside it.
 use Rattle.std.proofs.Common.{arith, ◌≡◌, refl, sym, ap, ◌∙◌, ℕ, ◌+◌, ◌<◌, ◌≤◌, List, [], ◌∷◌}
 use Rattle.std.proofs.lemmas.Bool.Decides.{nat_tests}
-use Rattle.std.specs.Prelude.{Bool, true, false, cond, filter, not, ◌&&◌, Some, None}
+use Rattle.std.specs.Prelude.{Bool, true, false, cond, filter, not, ◌&&◌, Option, Some, None, MatchOption, is_some}
 use Rattle.std.specs.List.{AllByRecursion, list_all}
 use Rattle.std.specs.Map.{lookup}
 use Rattle.std.specs.BTreeMap.{insert_entry, is_at}
@@ -67,35 +67,27 @@ all_lie hashing range (e ∷ es) under lie =
     ∙ ap (λ l. e ∷ l) (all_lie hashing range es under.1 so.1)
 
 -- ---- What stands in a stretch.
-module _ (hashing : Hashing) (first end : ℕ) (es : Hashed) (are : AreHashed hashing es) where
-  abbrev outside : Entry → Bool
-  outside e = not (is_between first end (hash_grain hashing e.grain))
-
-  pub none_there : passed (is_between first end) es ≡ [] → list_all outside (entries_of (by_grain es)) ≡ true
-  none_there none = each_by_grain hashing (λ h. not (is_between first end h)) es are ∙ each es none
+module _ {X : Type 0} (p : X → Bool) where
+  pub none_passes : (xs : List X) → filter p xs ≡ [] → list_all (λ x. not (p x)) xs ≡ true
+  none_passes [] none = refl
+  none_passes (x ∷ xs) none = by (p x) none (none_passes xs)
     where
-      each : (es : Hashed) → passed (is_between first end) es ≡ [] → list_all (λ e. not (is_between first end e.0.hash)) es ≡ true
-      each [] none = refl
-      each (e ∷ es) none = by (is_between first end e.0.hash) none (each es)
-        where
-          by : (b : Bool) → cond b (e ∷ passed (is_between first end) es) (passed (is_between first end) es) ≡ []
-              → (passed (is_between first end) es ≡ [] → list_all (λ e. not (is_between first end e.0.hash)) es ≡ true)
-              → (not b && list_all (λ e. not (is_between first end e.0.hash)) es) ≡ true
-          by true none rest = absurd (let no : e ∷ passed (is_between first end) es ≡ [] = none in cc)
-          by false none rest = rest none
+      by : (b : Bool) → cond b (x ∷ filter p xs) (filter p xs) ≡ [] → (filter p xs ≡ [] → list_all (λ x. not (p x)) xs ≡ true) → (not b && list_all (λ x. not (p x)) xs) ≡ true
+      by true none rest = absurd (let no : x ∷ filter p xs ≡ [] = none in cc)
+      by false none rest = rest none
 
-  pub some_there : (one : HashedGrain × ActivationId) (more : Hashed) → passed (is_between first end) es ≡ one ∷ more → list_all outside (entries_of (by_grain es)) ≡ false
-  some_there one more some = each_by_grain hashing (λ h. not (is_between first end h)) es are ∙ each es some
+  pub one_passes : (one : X) (more xs : List X) → filter p xs ≡ one ∷ more → list_all (λ x. not (p x)) xs ≡ false
+  one_passes one more [] some = absurd (let no : [] ≡ one ∷ more = some in cc)
+  one_passes one more (x ∷ xs) some = by (p x) some (one_passes one more xs)
     where
-      each : (es : Hashed) → passed (is_between first end) es ≡ one ∷ more → list_all (λ e. not (is_between first end e.0.hash)) es ≡ false
-      each [] some = absurd (let no : [] ≡ one ∷ more = some in cc)
-      each (e ∷ es) some = by (is_between first end e.0.hash) some (each es)
-        where
-          by : (b : Bool) → cond b (e ∷ passed (is_between first end) es) (passed (is_between first end) es) ≡ one ∷ more
-              → (passed (is_between first end) es ≡ one ∷ more → list_all (λ e. not (is_between first end e.0.hash)) es ≡ false)
-              → (not b && list_all (λ e. not (is_between first end e.0.hash)) es) ≡ false
-          by true some rest = refl
-          by false some rest = rest some
+      by : (b : Bool) → cond b (x ∷ filter p xs) (filter p xs) ≡ one ∷ more → (filter p xs ≡ one ∷ more → list_all (λ x. not (p x)) xs ≡ false)
+          → (not b && list_all (λ x. not (p x)) xs) ≡ false
+      by true some rest = refl
+      by false some rest = rest some
+
+pub none_there : (hashing : Hashing) (first end : ℕ) (es : Hashed) → AreHashed hashing es → passed (is_between first end) es ≡ []
+    → list_all (λ e. not (is_between first end (hash_grain hashing e.grain))) (entries_of (by_grain es)) ≡ true
+none_there hashing first end es are none = each_by_grain hashing (λ h. not (is_between first end h)) es are ∙ none_passes (λ (e : HashedGrain × ActivationId). is_between first end e.0.hash) es none
 
 -- ---- What stands outside a range.
 all_true : (p : Entry → Bool) → ((e : Entry) → p e ≡ true) → (entries : List Entry) → list_all p entries ≡ true
@@ -146,3 +138,11 @@ module _ (hashing : Hashing) (entries : List Entry) where
         ap (none low) starts
         ∙ all_same (λ e. not (is_between low range.start (hash_grain hashing e.grain))) (λ e. holds range (hash_grain hashing e.grain))
         (λ e. tests_one range low (hash_grain hashing e.grain) is (omega (arith, ends, lower)) (grain_below hashing e.grain)) entries
+
+-- the first that passes tells whether any does
+pub told_by_first : {X : Type 0} (p : X → Bool) (xs passing rest : List X) (one : Option X) (none : Bool) → is_some one ≡ not none → passing ≡ filter p xs
+    → MatchOption one ((passing ≡ []) × (rest ≡ [])) (λ x. passing ≡ x ∷ rest) → none ≡ list_all (λ x. not (p x)) xs
+told_by_first p xs passing rest None true tells is taken = sym (none_passes p xs (sym is ∙ taken.0))
+told_by_first p xs passing rest None false tells is taken = cc
+told_by_first p xs passing rest (Some x) false tells is taken = sym (one_passes p x rest xs (sym is ∙ taken))
+told_by_first p xs passing rest (Some x) true tells is taken = cc

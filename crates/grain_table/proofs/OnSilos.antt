@@ -12,7 +12,7 @@ use Rattle.std.proofs.lemmas.Cmp.{tied_itself}
 use Rattle.silo_address.specs.Silo.{Silo, silo_cmp}
 use Rattle.silo_address.specs.declared.ActivationId.{ActivationId}
 use Rattle.silo_address.proofs.Order.{silo_cmp_exact, silo_cmp_total}
-use Rattle.membership_view.proofs.Entries.{Equal-from}
+use Rattle.membership_view.proofs.Entries.{Equal-from, sorted-nil}
 use Rattle.hash_ring.specs.declared.Hashing.{Hashing}
 use Rattle.grain_table.specs.declared.hashed_grain.HashedGrain.{HashedGrain}
 use Rattle.grain_table.specs.Hashed.{AreKept, Hashed, IsKeyOf, hashed_cmp, is_among}
@@ -128,3 +128,7 @@ module _ (dead : Silo → Bool) where
   all_living silos none (e ∷ es) on =
       ap (λ l. e ∷ l) (all_living silos none es on.1)
       ∙ sym (ap (λ b. cond (not b) (e ∷ filter (λ e. not (dead e.1.silo)) es) (filter (λ e. not (dead e.1.silo)) es)) (none_among silos e.1.silo none on.0))
+
+-- ---- Nothing yet.
+pub kept_nothing : (hashing : Hashing) (silos : List Silo) → AreKept hashing silos []
+kept_nothing hashing silos = record { are = record { in_order = sorted-nil hashed_cmp; keys = tt }; on = tt }

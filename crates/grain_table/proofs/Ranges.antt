@@ -9,12 +9,11 @@ use Rattle.std.specs.declared.cmp.Ordering.{Ordering}
 use Rattle.std.specs.declared.cmp.Ordering.TheVariants.{Less, Equal, Greater}
 use Rattle.std.proofs.lemmas.Cmp.{ranked}
 use Rattle.std.proofs.lemmas.Map.Keys.{sorted_head}
-use Rattle.silo_address.specs.Grain.{grain_cmp}
 use Rattle.ring_range.specs.Range.{Range, IsRange, circle, holds}
 use Rattle.hash_ring.specs.declared.Hashing.{Hashing}
 use Rattle.directory_rules.specs.Table.{Table, with_entry}
 use Rattle.grain_table.specs.declared.hashed_grain.HashedGrain.{HashedGrain}
-use Rattle.grain_table.specs.Hashed.{AreHashed, Hashed, IsKeyOf, entry_under, hashed_cmp}
+use Rattle.grain_table.specs.Hashed.{AreHashed, Hashed, IsKeyOf, entry_under, hashed_cmp, text_cmp}
 use Rattle.grain_table.specs.Stretch.{is_between}
 use Rattle.grain_table.proofs.Count.{are_behind}
 use Rattle.grain_table.proofs.Filters.{same_passed}
@@ -57,7 +56,7 @@ module _ (range : Range) (low : ℕ) (is : IsRange range) (ends : range.start + 
   none_later : (key : HashedGrain) → low ≤ key.hash → (es : Hashed) → AllByRecursion (λ k. hashed_cmp key k ≡ Less) (keys_of es) → passed first es ≡ []
   none_later key le [] above = refl
   none_later key le (e ∷ es) above =
-      let later = not_less key.hash e.0.hash (grain_cmp key.grain e.0.grain) above.0 in
+      let later = not_less key.hash e.0.hash (text_cmp key.grain e.0.grain) above.0 in
       let not : first e.0.hash ≡ false = grind (arith, nat_tests) in
       ap (λ b. cond b (e ∷ passed first es) (passed first es)) not ∙ none_later key le es above.1
 

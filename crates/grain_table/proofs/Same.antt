@@ -1,12 +1,10 @@
 -- Two tables have the same entries exactly where each has all of the other's.
 use Rattle.std.proofs.Common.{◌≡◌, refl, sym, ap, ◌∙◌, [], ◌∷◌}
 use Rattle.std.specs.Prelude.{Bool, true, false, cond, Option, Some, None}
-use Rattle.std.specs.Option.{option_map}
 use Rattle.std.specs.List.{AllByRecursion}
-use Rattle.std.specs.Map.{lookup, keys_of}
-use Rattle.std.specs.BTreeMap.{BTreeMap, is_at}
-use Rattle.std.proofs.lemmas.List.Elements.{recursion_from_All}
-use Rattle.std.proofs.lemmas.Map.Views.{All-found}
+use Rattle.std.specs.BTreeMap.{is_at}
+use Rattle.std.specs.Ordering.{is_eq}
+use Rattle.std.proofs.lemmas.Cmp.{tied_itself}
 use Rattle.silo_address.specs.Grain.{Grain, grain_cmp}
 use Rattle.silo_address.specs.declared.ActivationId.{ActivationId}
 use Rattle.silo_address.specs.declared.Entry.{Entry}
@@ -15,9 +13,9 @@ use Rattle.membership_view.proofs.Entries.{lookup-insert_entry, Equal-from}
 use Rattle.hash_ring.specs.declared.Hashing.{Hashing}
 use Rattle.directory_rules.specs.Table.{Table, entry_at}
 use Rattle.grain_table.specs.declared.hashed_grain.HashedGrain.{HashedGrain}
-use Rattle.grain_table.specs.Hashed.{AreHashed, Hashed, IsKeyOf, by_grain, entry_under, hashed_cmp}
-use Rattle.grain_table.proofs.Order.{hashed_cmp_total}
-use Rattle.grain_table.proofs.ByGrain.{by_grain_is_table, entry_of, found_at, same_tables}
+use Rattle.grain_table.specs.Hashed.{AreHashed, Hashed, by_grain, entry_under}
+use Rattle.grain_table.proofs.Count.{are_behind, none_behind}
+use Rattle.grain_table.proofs.ByGrain.{by_grain_is_table, same_tables}
 
 -- a table has each entry of a map
 abbrev pub HasAll : Table → Hashed → Type 0
@@ -45,10 +43,24 @@ same_from es fs there back =
     (λ grain. same_found (entry_at grain (by_grain es)) (entry_at grain (by_grain fs)) (found_there (by_grain fs) es there grain) (found_there (by_grain es) fs back grain))
 
 -- a table has what stands in it
-pub has_own : (hashing : Hashing) (m : BTreeMap HashedGrain ActivationId) → AreHashed hashing m.entries → HasAll (by_grain m.entries) m.entries
-has_own hashing m are =
-    each m.entries (recursion_from_All (λ e. lookup (is_at (hashed_cmp e.0)) m.entries ≡ Some e.1) m.entries (All-found hashed_cmp_total m are.in_order)) are.keys
+pub has_own : (hashing : Hashing) (es : Hashed) → AreHashed hashing es → HasAll (by_grain es) es
+has_own hashing [] are = tt
+has_own hashing (e ∷ es) are = (
+  lookup-insert_entry grain_cmp_total e.0.grain (entry_under e) e.0.grain (by_grain es)
+      ∙ ap (λ b. cond b (Some (entry_under e)) (entry_at e.0.grain (by_grain es))) (ap is_eq (tied_itself grain_cmp_total e.0.grain)),
+  each es (has_own hashing es (are_behind hashing e es are)),
+)
   where
-    each : (fs : Hashed) → AllByRecursion (λ e. lookup (is_at (hashed_cmp e.0)) m.entries ≡ Some e.1) fs → AllByRecursion (IsKeyOf hashing) (keys_of fs) → HasAll (by_grain m.entries) fs
-    each [] all keys = tt
-    each (e ∷ fs) all keys = (sym (found_at hashing e.0 m.entries keys.0 are.keys) ∙ ap (option_map (entry_of e.0.grain)) all.0, each fs all.1 keys.1)
+    still : (f : HashedGrain × ActivationId) → entry_at f.0.grain (by_grain es) ≡ Some (entry_under f) → entry_at f.0.grain (by_grain (e ∷ es)) ≡ Some (entry_under f)
+    still f is = lookup-insert_entry grain_cmp_total e.0.grain (entry_under e) f.0.grain (by_grain es) ∙ by (is_at (grain_cmp f.0.grain) e.0.grain) refl
+      where
+        by : (b : Bool) → is_at (grain_cmp f.0.grain) e.0.grain ≡ b → cond b (Some (entry_under e)) (entry_at f.0.grain (by_grain es)) ≡ Some (entry_under f)
+        by true at =
+            let none : entry_at f.0.grain (by_grain es) ≡ None =
+            ap (λ g. entry_at g (by_grain es)) (grain_cmp_exact f.0.grain e.0.grain (Equal-from (grain_cmp f.0.grain e.0.grain) at)) ∙ none_behind hashing e es are in
+            let no : None ≡ Some (entry_under f) = sym none ∙ is in cc
+        by false at = is
+
+    each : (fs : Hashed) → HasAll (by_grain es) fs → HasAll (by_grain (e ∷ es)) fs
+    each [] all = tt
+    each (f ∷ fs) all = (still f all.0, each fs all.1)

@@ -1,78 +1,103 @@
--- A stretch of hashes stands between its bounds.
-use Rattle.std.proofs.Common.{arith, ◌≡◌, refl, ap, ◌∙◌, ℕ, ◌<◌, ◌≤◌, List, [], ◌∷◌, ◌++◌, length}
+-- A stretch of hashes stands between its bounds, which are bytes of hashes alone.
+use Rattle.std.proofs.Common.{arith, ◌≡◌, refl, sym, ap, ◌∙◌, subst, ℕ, ◌<◌, ◌^◌, List, [], ◌∷◌}
 use Rattle.std.proofs.lemmas.Bool.Decides.{nat_tests}
-use Rattle.std.specs.Prelude.{false, cond, not, ◌&&◌, nat_le, nat_lt}
+use Rattle.std.specs.Prelude.{cond, not, ◌&&◌, filter, nat_le, nat_lt, Result, Ok, Err, OnOk, OnErr}
 use Rattle.std.specs.BTreeMap.Range.{is_past_end, range_contains}
 use Rattle.std.specs.Cmp.Lexicographic.{slice_cmp}
-use Rattle.std.specs.List.{AllByRecursion}
+use Rattle.std.specs.Int.{w32, to_be_bytes}
 use Rattle.std.specs.Ordering.{is_gt, is_le, nat_cmp, ordering_then}
+use Rattle.std.specs.Range.Bound.{bound_map}
 use Rattle.std.specs.declared.cmp.Ordering.{Ordering}
 use Rattle.std.specs.declared.cmp.Ordering.TheVariants.{Less, Equal, Greater}
+use Rattle.std.specs.declared.ops.Bound.{Bound}
 use Rattle.std.specs.declared.ops.Bound.TheVariants.{Included, Excluded, Unbounded}
 use Rattle.std.proofs.lemmas.Cmp.{ranked}
-use Rattle.std.proofs.lemmas.List.Elements.{recursion_from_All}
-use Rattle.silo_address.specs.Marks.{slash}
-use Rattle.silo_address.specs.Grain.{Grain, IsGrain, IsVisible, grain_cmp, grain_text}
 use Rattle.ring_range.specs.Range.{circle}
-use Rattle.hash_ring.specs.declared.Hashing.{Hashing}
 use Rattle.directory_rules.proofs.Cases.{on_bool}
-use Rattle.grain_table.specs.declared.hashed_grain.HashedGrain.{HashedGrain}
-use Rattle.grain_table.specs.Hashed.{IsKeyOf, hashed_cmp}
-use Rattle.grain_table.specs.Stretch.{end_at, first_at, first_grain, is_between}
+use Rattle.grain_table.specs.KeyBytes.{AreKeyBytes, IsKeyBytes, hash_in, hashed_in}
+use Rattle.grain_table.specs.Stretch.{end_at, is_between}
+use Rattle.grain_table.proofs.Ends.{stays_within}
+use Rattle.grain_table.proofs.KeyOrder.{hash_below, hash_order}
+use Rattle.grain_table.proofs.KeysRead.{each_key, passed_are, passed_read}
 
--- ---- No grain is before the first.
-not_gt_then : (r s : Ordering) → is_gt r ≡ false → is_gt s ≡ false → is_gt (ordering_then r s) ≡ false
-not_gt_then Less s first second = refl
-not_gt_then Equal s first second = second
-not_gt_then Greater s first second = first
-
-not_gt : (a b : ℕ) → a ≤ b → is_gt (nat_cmp a b) ≡ false
-not_gt a b le = grind (arith, nat_tests)
-
-least_text : (bytes : List ℕ) → 0 < length bytes → AllByRecursion IsVisible bytes → is_gt (slice_cmp nat_cmp (33 ∷ []) bytes) ≡ false
-least_text [] some visible = absurd (omega arith)
-least_text (byte ∷ []) some visible = not_gt_then (nat_cmp 33 byte) Equal (not_gt 33 byte visible.0.0) refl
-least_text (byte ∷ next ∷ bytes) some visible = not_gt_then (nat_cmp 33 byte) Less (not_gt 33 byte visible.0.0) refl
-
-all_before : (P : ℕ → Type 0) (xs ys : List ℕ) → AllByRecursion P (xs ++ ys) → AllByRecursion P xs
-all_before P [] ys all = tt
-all_before P (x ∷ xs) ys all = (all.0, all_before P xs ys all.1)
-
-all_after : (P : ℕ → Type 0) (xs ys : List ℕ) → AllByRecursion P (xs ++ ys) → AllByRecursion P ys
-all_after P [] ys all = all
-all_after P (x ∷ xs) ys all = all_after P xs ys all.1
-
-least_grain : (grain : Grain) → IsGrain grain → is_gt (grain_cmp first_grain grain) ≡ false
-least_grain grain is =
-    let visible : AllByRecursion IsVisible (grain.kind ++ slash ∷ grain.key) = recursion_from_All IsVisible (grain_text grain) is.visible in
-    not_gt_then (slice_cmp nat_cmp (33 ∷ []) grain.kind) (slice_cmp nat_cmp (33 ∷ []) grain.key)
-    (least_text grain.kind is.cut.some_kind (all_before IsVisible grain.kind (slash ∷ grain.key) visible))
-    (least_text grain.key is.cut.some_key (all_after IsVisible grain.kind (slash ∷ grain.key) visible).1)
-
--- ---- So just the hash decides.
-from_first : (first hash : ℕ) (r : Ordering) → is_gt r ≡ false → is_le (ordering_then (nat_cmp first hash) r) ≡ nat_le first hash
-from_first first hash r least = by (nat_cmp first hash) refl r least
+-- ---- Just the hash decides.
+le_less : (a b : ℕ) → is_le (ordering_then (nat_cmp a b) Less) ≡ nat_le a b
+le_less a b = by (nat_cmp a b) refl
   where
-    by : (o : Ordering) → o ≡ nat_cmp first hash → (r : Ordering) → is_gt r ≡ false → is_le (ordering_then o r) ≡ nat_le first hash
-    by Less is r least = let below : first < hash = ranked first hash Less is in grind (arith, nat_tests)
-    by Equal is Less least = let same : first ≡ hash = ranked first hash Equal is in grind (arith, nat_tests)
-    by Equal is Equal least = let same : first ≡ hash = ranked first hash Equal is in grind (arith, nat_tests)
-    by Equal is Greater least = cc
-    by Greater is r least = let above : hash < first = ranked first hash Greater is in grind (arith, nat_tests)
+    by : (o : Ordering) → o ≡ nat_cmp a b → is_le (ordering_then o Less) ≡ nat_le a b
+    by Less is = let below : a < b = ranked a b Less is in grind (arith, nat_tests)
+    by Equal is = let same : a ≡ b = ranked a b Equal is in grind (arith, nat_tests)
+    by Greater is = let above : b < a = ranked a b Greater is in grind (arith, nat_tests)
+
+gt_less : (a b : ℕ) → is_gt (ordering_then (nat_cmp a b) Less) ≡ nat_lt b a
+gt_less a b = by (nat_cmp a b) refl
+  where
+    by : (o : Ordering) → o ≡ nat_cmp a b → is_gt (ordering_then o Less) ≡ nat_lt b a
+    by Less is = let below : a < b = ranked a b Less is in grind (arith, nat_tests)
+    by Equal is = let same : a ≡ b = ranked a b Equal is in grind (arith, nat_tests)
+    by Greater is = let above : b < a = ranked a b Greater is in grind (arith, nat_tests)
 
 not_le : (a b : ℕ) → not (nat_le a b) ≡ nat_lt b a
 not_le a b = grind (arith, nat_tests)
 
-pub stands_between : (hashing : Hashing) (first end : ℕ) → end ≤ circle → (key : HashedGrain) → IsKeyOf hashing key
-    → range_contains hashed_cmp (Included (first_at first)) (end_at end) key ≡ is_between first end key.hash
-stands_between hashing first end within key is =
-    λ i. starts i && on_bool (λ b. not (is_past_end hashed_cmp (cond b (Excluded (first_at end)) Unbounded) key) ≡ nat_lt key.hash end) (nat_lt end circle)
-    (λ t. ap not (from_first end key.hash (grain_cmp first_grain key.grain) (least_grain key.grain is.is_grain)) ∙ not_le end key.hash)
-    (λ f. let whole : circle ≤ end = grind (arith, nat_tests) in let below = is.below in grind (arith, nat_tests)) i
-  where
-    starts : is_le (hashed_cmp (first_at first) key) ≡ nat_le first key.hash
-    starts = from_first first key.hash (grain_cmp first_grain key.grain) (least_grain key.grain is.is_grain)
+module _ {K : Type 0} (bytes : K → List ℕ) where
+  abbrev key_cmp : K → K → Ordering
+  key_cmp x y = slice_cmp nat_cmp (bytes x) (bytes y)
 
--- and the bounds are in order
-pub runs_forward : (first end : ℕ) → first ≤ end → is_gt (hashed_cmp (first_at first) (first_at end)) ≡ false
-runs_forward first end le = not_gt_then (nat_cmp first end) (grain_cmp first_grain first_grain) (not_gt first end le) refl
+  past_end : (bound : Bound K) (k : K) → is_past_end key_cmp bound k ≡ is_past_end (slice_cmp nat_cmp) (bound_map bytes bound) (bytes k)
+  past_end (Included x) k = refl
+  past_end (Excluded x) k = refl
+  past_end Unbounded k = refl
+
+  before_end : (end : ℕ) (x : List ℕ) → IsKeyBytes x → not (is_past_end (slice_cmp nat_cmp) (end_at end) x) ≡ nat_lt (hash_in x) end
+  before_end end x is =
+      on_bool (λ b. nat_lt end circle ≡ b → not (is_past_end (slice_cmp nat_cmp) (cond b (Excluded (to_be_bytes w32 end)) Unbounded) x) ≡ nat_lt (hash_in x) end) (nat_lt end circle)
+      (λ t h. let fits : end < 2 ^ 32 = grind (arith, nat_tests) in ap (λ o. not (is_le o)) (hash_order end fits x is) ∙ ap not (le_less end (hash_in x)) ∙ not_le end (hash_in x))
+      (λ f h. let below = hash_below x is in grind (arith, nat_tests)) refl
+
+  module _ (first end : ℕ) (fits : first < 2 ^ 32) (start : K) (bound : Bound K) (starts : bytes start ≡ to_be_bytes w32 first) (ends : bound_map bytes bound ≡ end_at end) where
+    stands_between : (k : K) → IsKeyBytes (bytes k) → range_contains key_cmp (Included start) bound k ≡ is_between first end (hash_in (bytes k))
+    stands_between k is = λ i. from i && to i
+      where
+        from : is_le (slice_cmp nat_cmp (bytes start) (bytes k)) ≡ nat_le first (hash_in (bytes k))
+        from = ap (λ x. is_le (slice_cmp nat_cmp x (bytes k))) starts ∙ ap is_le (hash_order first fits (bytes k) is) ∙ le_less first (hash_in (bytes k))
+
+        to : not (is_past_end key_cmp bound k) ≡ nat_lt (hash_in (bytes k)) end
+        to = ap not (past_end bound k ∙ ap (λ b. is_past_end (slice_cmp nat_cmp) b (bytes k)) ends) ∙ before_end end (bytes k) is
+
+    pub stretch_read : {V : Type 0} (es : List (K × V)) → AreKeyBytes bytes es
+        → hashed_in bytes (filter (λ e. range_contains key_cmp (Included start) bound e.0) es) ≡ filter (λ e. is_between first end e.0.hash) (hashed_in bytes es)
+    stretch_read es are =
+        passed_read bytes (λ e. range_contains key_cmp (Included start) bound e.0) (λ e. is_between first end e.0.hash) es
+        (each_key bytes (λ e. range_contains key_cmp (Included start) bound e.0 ≡ is_between first end (hash_in (bytes e.0))) (λ e is. stands_between e.0 is) es are)
+
+  -- all stand between no bounds
+  pub all_stand : {V : Type 0} (es : List (K × V)) → filter (λ e. range_contains key_cmp Unbounded Unbounded e.0) es ≡ es
+  all_stand [] = refl
+  all_stand (e ∷ es) = ap (λ l. e ∷ l) (all_stand es)
+
+  -- ---- What is split off stands under the hash or higher ones.
+  module _ {T E V : Type 0} (r : Result T E) (hash : ℕ) (fits : hash < 2 ^ 32) (x : List ℕ) (spelled : x ≡ to_be_bytes w32 hash) (old new : List (K × V))
+      (below : OnOk r (new ≡ filter (λ e. is_gt (slice_cmp nat_cmp x (bytes e.0))) old)) (same : OnErr r (new ≡ old)) (are : AreKeyBytes bytes old) where
+    pub split_are : AreKeyBytes bytes new
+    split_are = by r below same
+      where
+        by : (r : Result T E) → OnOk r (new ≡ filter (λ e. is_gt (slice_cmp nat_cmp x (bytes e.0))) old) → OnErr r (new ≡ old) → AreKeyBytes bytes new
+        by (Ok t) below same = subst (AreKeyBytes bytes) (sym below) (passed_are bytes (λ e. is_gt (slice_cmp nat_cmp x (bytes e.0))) old are)
+        by (Err e) below same = subst (AreKeyBytes bytes) (sym same) are
+
+    pub split_read : filter (λ e. nat_lt e.0.hash hash) (hashed_in bytes new) ≡ filter (λ e. nat_lt e.0.hash hash) (hashed_in bytes old)
+    split_read = by r below same
+      where
+        left : hashed_in bytes (filter (λ e. is_gt (slice_cmp nat_cmp x (bytes e.0))) old) ≡ filter (λ e. nat_lt e.0.hash hash) (hashed_in bytes old)
+        left =
+            passed_read bytes (λ e. is_gt (slice_cmp nat_cmp x (bytes e.0))) (λ e. nat_lt e.0.hash hash) old
+            (each_key bytes (λ e. is_gt (slice_cmp nat_cmp x (bytes e.0)) ≡ nat_lt (hash_in (bytes e.0)) hash)
+            (λ e is. ap (λ y. is_gt (slice_cmp nat_cmp y (bytes e.0))) spelled ∙ ap is_gt (hash_order hash fits (bytes e.0) is) ∙ gt_less hash (hash_in (bytes e.0))) old are)
+
+        by : (r : Result T E) → OnOk r (new ≡ filter (λ e. is_gt (slice_cmp nat_cmp x (bytes e.0))) old) → OnErr r (new ≡ old)
+            → filter (λ e. nat_lt e.0.hash hash) (hashed_in bytes new) ≡ filter (λ e. nat_lt e.0.hash hash) (hashed_in bytes old)
+        by (Ok t) below same =
+            ap (λ es. filter (λ e. nat_lt e.0.hash hash) es) (ap (hashed_in bytes) below ∙ left)
+            ∙ stays_within (λ e. nat_lt e.0.hash hash) (λ e. nat_lt e.0.hash hash) (λ e before. before) (hashed_in bytes old)
+        by (Err e) below same = ap (λ es. filter (λ e. nat_lt e.0.hash hash) (hashed_in bytes es)) same

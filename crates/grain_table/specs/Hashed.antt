@@ -1,13 +1,14 @@
--- How a table keeps its entries: activations under hashed grains, in order of hash, then grain.
+-- How a table keeps its entries: activations under hashed grains, in order of hash, then the grain's text.
 use Rattle.std.specs.Prelude.{◌≡◌, ◌<◌, Bool, true, List, [], ◌∷◌}
 use Rattle.std.specs.List.{AllByRecursion, list_any}
 use Rattle.std.specs.List.Sorted.{IsStrictlySortedBy}
 use Rattle.std.specs.Map.{keys_of}
 use Rattle.std.specs.BTreeMap.{is_at}
+use Rattle.std.specs.Cmp.Lexicographic.{slice_cmp}
 use Rattle.std.specs.Ordering.{nat_cmp, on, then_cmp}
 use Rattle.std.specs.declared.cmp.Ordering.{Ordering}
 use Rattle.silo_address.specs.Silo.{Silo, silo_cmp}
-use Rattle.silo_address.specs.Grain.{Grain, IsGrain, grain_cmp}
+use Rattle.silo_address.specs.Grain.{Grain, IsGrain, grain_cmp, grain_text}
 use Rattle.silo_address.specs.declared.ActivationId.{ActivationId}
 use Rattle.silo_address.specs.declared.Entry.{Entry}
 use Rattle.ring_range.specs.Range.{circle}
@@ -16,9 +17,13 @@ use Rattle.hash_ring.specs.Hash.{hash_grain}
 use Rattle.directory_rules.specs.Table.{Table, with_entry}
 use Rattle.grain_table.specs.declared.hashed_grain.HashedGrain.{HashedGrain}
 
--- by hash, then grain
+-- by text: no two grains have the same, and what else has is told by kind and key
+abbrev pub text_cmp : Grain → Grain → Ordering
+text_cmp = then_cmp (on grain_text (slice_cmp nat_cmp)) grain_cmp
+
+-- by hash, then the grain's text
 abbrev pub hashed_cmp : HashedGrain → HashedGrain → Ordering
-hashed_cmp = then_cmp (on (λ k. k.hash) nat_cmp) (on (λ k. k.grain) grain_cmp)
+hashed_cmp = then_cmp (on (λ k. k.hash) nat_cmp) (on (λ k. k.grain) text_cmp)
 
 -- activations under hashed grains
 abbrev pub Hashed : Type 0

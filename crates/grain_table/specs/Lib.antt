@@ -1,3 +1,4 @@
 pub mod Table
 pub mod Hashed
+pub mod KeyBytes
 pub mod Stretch

@@ -2,8 +2,8 @@
 #![tactic(auto)]
 
 mod hashed_grain;
+mod hashed_map;
 mod living;
-mod stretch;
 mod table;
 
 pub use living::is_dead_in;

@@ -14,17 +14,18 @@ mod put;
 mod same;
 mod turn;
 
-use crate::hashed_grain::{HashedGrain, HashedMap, key_of};
+use crate::hashed_grain::{HashedGrain, key_of};
+use crate::hashed_map::HashedMap;
 use hash_ring::Hashing;
 use silo_address::{ActivationId, Entry, GrainId, SiloAddress};
 use std::alloc::{AllocError, Global};
-use std::collections::{BTreeMap, BTreeSet};
+use std::collections::BTreeSet;
 use std::marker::Model;
 
-/// Entries, one a grain. They are kept in order of their grains' hashes, so that a search compares numbers and a range of
-/// hashes stands together, and each grain is there once: an `Entry` is put together where it is handed out. Beside them stand
-/// the silos that they may be on, few of them, so that who asks for the entries of a dead silo mostly looks at no entry
-/// (`docs/RULES.md#pieces`).
+/// Entries, one a grain. They are kept in order of their grains' hashes, so that a search mostly compares these and a range of
+/// hashes stands together, and each grain is there once, as short as its name is: an `Entry` is put together where it is handed
+/// out. Beside them stand the silos that they may be on, few of them, so that who asks for the entries of a dead silo mostly
+/// looks at no entry (`docs/RULES.md#pieces`).
 #[derive(Drop)]
 pub struct Table {
     hashing: Hashing,
@@ -39,9 +40,9 @@ impl Model for Table {
 
     ghost use Rattle.grain_table.specs.Hashed.{AreKept, by_grain};
 
-    ghost view = { λ t. record { hashing = t.hashing; entries = by_grain t.map.entries } };
+    ghost view = { λ t. record { hashing = t.hashing; entries = by_grain t.map } };
 
-    ghost invariant = { λ t. AreKept t.hashing t.silos.keys t.map.entries };
+    ghost invariant = { λ t. AreKept t.hashing t.silos.keys t.map };
 }
 
 impl Table {
@@ -51,7 +52,7 @@ impl Table {
     {
         Table {
             hashing,
-            map: BTreeMap::new(alloc),
+            map: HashedMap::new(alloc),
             silos: BTreeSet::new(alloc),
         }
     }
@@ -129,7 +130,7 @@ impl Table {
         requires { IsKeyOf self.now.hashing key.now }
         ensures { result ≡ entry_at key.now.grain self.now.entries }
     {
-        let activation = *self.map.get(key)?;
+        let activation = self.map.get(key)?;
         Some(Entry {
             grain: key.grain,
             activation,
@@ -143,7 +144,7 @@ impl Table {
         ensures unchanged { OnErr result (self.new ≡ self.old) }
     {
         self.silos.insert(activation.silo)?;
-        self.map.insert(key, activation)?;
+        self.map.insert(&key, activation)?;
         Ok(())
     }
 
@@ -159,7 +160,7 @@ impl Table {
     pub fn copy(&self) -> Result<Table, AllocError>
         ensures { IfOk result (λ table. table ≡ self.now) }
     {
-        let map = self.map.clone()?;
+        let map = self.map.copy()?;
         let silos = self.silos.clone()?;
         Ok(Table {
             hashing: self.hashing,

@@ -8,15 +8,14 @@ ghost use Rattle.grain_table.specs.declared.hashed_grain.HashedGrain.{HashedGrai
 ghost use Rattle.grain_table.specs.Hashed.{Hashed};
 
 use super::Table;
-use crate::hashed_grain::HashedMap;
-use crate::stretch::{CIRCLE, first_at};
+use crate::hashed_map::{CIRCLE, HashedMap};
 use hash_ring::Hashing;
 use ring_range::RingRange;
 
 impl Table {
     /// Takes out the entries whose grains are hashed outside the range, and copies none. Those behind the range are split off, which
-    /// costs a logarithm and their nodes; where some are before it, each entry is looked at. Needs no memory: where there is none to
-    /// split, what is behind is taken out one by one.
+    /// costs a logarithm and to free them; where some are before it, each entry is looked at. Needs no memory: where there is none
+    /// to split, what is behind is taken out one by one.
     pub fn keep_within(&mut self, hashing: Hashing, range: &RingRange)
         ensures { self.new ≡ record self.old { entries = filter (λ e. holds range.now (hash_grain hashing e.0)) self.old.entries } }
     {
@@ -55,22 +54,21 @@ impl Table {
     fn keep_those_under(&mut self, range: &RingRange)
         ensures { self.new ≡ record self.old { entries = filter (λ e. holds range.now (hash_grain self.old.hashing e.0)) self.old.entries } }
     {
-        self.map.retain(|key, _| range.contains(key.hash));
+        self.map.keep_in(range);
     }
 
     // The same, under any hashes: each grain is hashed anew.
     fn keep_hashed_into(&mut self, hashing: Hashing, range: &RingRange)
         ensures { self.new ≡ record self.old { entries = filter (λ e. holds range.now (hash_grain hashing e.0)) self.old.entries } }
     {
-        self.map
-            .retain(|key, _| range.contains(hashing.hash_grain(&key.grain)));
+        self.map.keep_hashed_into(hashing, range);
     }
 }
 
 // Takes out what stands under the end or higher hashes: at once, and what may be left one after another from the last, so that
 // nothing has to move.
 fn drop_behind(map: &mut HashedMap, end: u64)
-    ensures { map.new.entries ≡ filter (λ e. nat_lt e.0.hash end) map.old.entries }
+    ensures { map.new ≡ filter (λ e. nat_lt e.0.hash end) map.old }
 {
     split_behind(map, end);
     'behind: while ends_behind(map, end) {
@@ -78,25 +76,24 @@ fn drop_behind(map: &mut HashedMap, end: u64)
     }
 }
 
-// Splits off what stands under the end or higher hashes, which costs a logarithm and then its nodes, not its entries. Where there is
-// no memory to split, it stays.
+// Splits off what stands under the end or higher hashes, which costs a logarithm and to free that. Where there is no memory to split,
+// it stays.
 fn split_behind(map: &mut HashedMap, end: u64)
-    ensures { filter (λ e. nat_lt e.0.hash end) map.new.entries ≡ filter (λ e. nat_lt e.0.hash end) map.old.entries }
+    ensures { filter (λ e. nat_lt e.0.hash end) map.new ≡ filter (λ e. nat_lt e.0.hash end) map.old }
 {
     if end < CIRCLE {
-        let first = first_at(end as u32);
-        drop(map.split_off(&first));
+        map.split_off(end as u32);
     }
 }
 
 // Whether the last one stands under the end or a higher hash.
 fn ends_behind(map: &HashedMap, end: u64) -> bool
-    ensures some { OnTrue result (0 < length map.now.entries) }
-    ensures last { OnTrue result ((before : Hashed) (last : Key × ActivationId) → map.now.entries ≡ before ++ last ∷ [] → nat_lt last.0.hash end ≡ false) }
-    ensures none { OnFalse result (filter (λ e. nat_lt e.0.hash end) map.now.entries ≡ map.now.entries) }
+    ensures some { OnTrue result (0 < length map.now) }
+    ensures last { OnTrue result ((before : Hashed) (last : Key × ActivationId) → map.now ≡ before ++ last ∷ [] → nat_lt last.0.hash end ≡ false) }
+    ensures none { OnFalse result (filter (λ e. nat_lt e.0.hash end) map.now ≡ map.now) }
 {
-    match map.last_key_value() {
-        Some((key, _)) => u64::from(key.hash) >= end,
+    match map.last_hash() {
+        Some(hash) => u64::from(hash) >= end,
         None => false,
     }
 }

@@ -10,15 +10,13 @@ ghost use Rattle.grain_table.specs.Hashed.{AreHashed, entry_under};
 ghost use Rattle.grain_table.specs.Stretch.{is_between};
 
 use super::Table;
-use crate::hashed_grain::HashedMap;
+use crate::hashed_map::{CIRCLE, HashedMap};
 use crate::living::is_dead_in;
-use crate::stretch::{CIRCLE, end_at, first_at};
 use hash_ring::Hashing;
 use membership_view::View;
 use ring_range::RingRange;
 use silo_address::Entry;
 use std::alloc::{AllocError, Global};
-use std::ops::Bound;
 
 impl Table {
     /// The list with the entries whose grains are hashed into the range, without those on silos that are Dead in the view; they
@@ -61,8 +59,8 @@ fn list_range(
     view: &View,
     range: &RingRange,
 ) -> Result<Vec<Entry>, AllocError>
-    requires { (hashing : HashingValue) × AreHashed hashing from.now.entries }
-    ensures { IfOk result (λ listed. listed.items ≡ entries.items ++ map entry_under (filter (λ e. not (is_dead_in view.now e.1.silo)) (filter (λ e. holds range.now e.0.hash) from.now.entries))) }
+    requires { (hashing : HashingValue) × AreHashed hashing from.now }
+    ensures { IfOk result (λ listed. listed.items ≡ entries.items ++ map entry_under (filter (λ e. not (is_dead_in view.now e.1.silo)) (filter (λ e. holds range.now e.0.hash) from.now))) }
 {
     range.in_range();
     let start = range.start();
@@ -82,19 +80,18 @@ fn list_stretch(
     first: u32,
     end: u64,
 ) -> Result<Vec<Entry>, AllocError>
-    requires hashed { (hashing : HashingValue) × AreHashed hashing from.now.entries }
+    requires hashed { (hashing : HashingValue) × AreHashed hashing from.now }
     requires forward { first ≤ end }
     requires below { end ≤ circle }
-    ensures { IfOk result (λ listed. listed.items ≡ entries.items ++ map entry_under (filter (λ e. not (is_dead_in view.now e.1.silo)) (filter (λ e. is_between first end e.0.hash) from.now.entries))) }
+    ensures { IfOk result (λ listed. listed.items ≡ entries.items ++ map entry_under (filter (λ e. not (is_dead_in view.now e.1.silo)) (filter (λ e. is_between first end e.0.hash) from.now))) }
 {
-    let bounds = (Bound::Included(first_at(first)), end_at(end));
-    'entries: for (key, activation) in from.range(bounds) {
+    'entries: for (key, activation) in from.between(first, end)? {
         if is_dead_in(view, &activation.silo) {
             continue;
         }
         entries.push(Entry {
             grain: key.grain,
-            activation: *activation,
+            activation,
         })?;
     }
     Ok(entries)

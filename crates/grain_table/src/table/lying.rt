@@ -8,15 +8,14 @@ ghost use Rattle.ring_range.specs.Range.{circle, holds};
 ghost use Rattle.grain_table.specs.Stretch.{is_between};
 
 use super::Table;
-use crate::hashed_grain::HashedMap;
-use crate::stretch::{CIRCLE, end_at, first_at};
+use crate::hashed_map::{CIRCLE, HashedMap};
 use hash_ring::Hashing;
 use ring_range::RingRange;
-use std::ops::Bound;
 
 impl Table {
     /// Whether all grains that have entries are hashed into the range. Costs a logarithm where they are hashed here in this way:
-    /// then nothing may stand under the hashes outside. Otherwise each is hashed.
+    /// then nothing may stand under the hashes outside, and only where there is no memory to search for these each entry is
+    /// looked at. Otherwise each is hashed.
     pub fn lies_in(&self, hashing: Hashing, range: &RingRange) -> bool
         ensures { result ≡ lie_in hashing range.now (entries_of self.now.entries) }
     {
@@ -53,38 +52,32 @@ impl Table {
         if stands_apart(&self.map, first, end) {
             return true;
         }
-        let mut between = self
-            .map
-            .range((Bound::Included(first_at(first as u32)), end_at(end)));
-        match between.next() {
-            Some(_) => false,
-            None => true,
-        }
+        self.map.has_none_between(first as u32, end)
     }
 }
 
 // Whether there is none, or the first one stands at the end or behind it, or the last one before the first hash: then none is
 // between.
 fn stands_apart(map: &HashedMap, first: u64, end: u64) -> bool
-    ensures { OnTrue result (filter (λ e. is_between first end e.0.hash) map.now.entries ≡ []) }
+    ensures { OnTrue result (filter (λ e. is_between first end e.0.hash) map.now ≡ []) }
 {
-    let Some((lowest, _)) = map.first_key_value() else {
+    let Some(lowest) = map.first_hash() else {
         return true;
     };
-    if u64::from(lowest.hash) >= end {
+    if u64::from(lowest) >= end {
         return true;
     }
-    match map.last_key_value() {
-        Some((highest, _)) => u64::from(highest.hash) < first,
+    match map.last_hash() {
+        Some(highest) => u64::from(highest) < first,
         None => false,
     }
 }
 
 // Whether each grain of a map is hashed into the range.
 fn are_hashed_into(hashing: Hashing, range: &RingRange, map: &HashedMap) -> bool
-    ensures { result ≡ list_all (λ e. holds range.now (hash_grain hashing e.0.grain)) map.now.entries }
+    ensures { result ≡ list_all (λ e. holds range.now (hash_grain hashing e.0.grain)) map.now }
 {
-    'entries: for (key, _) in map {
+    'entries: for (key, _) in map.iter() {
         if !range.contains(hashing.hash_grain(&key.grain)) {
             return false;
         }

@@ -4,7 +4,7 @@ ghost use Rattle.directory_rules.specs.Table.{entries_of};
 ghost use Rattle.grain_table.specs.Hashed.{entry_under};
 
 use super::Table;
-use crate::hashed_grain::HashedMap;
+use crate::hashed_map::HashedMap;
 use silo_address::Entry;
 use std::alloc::{AllocError, Global};
 
@@ -22,13 +22,14 @@ impl Table {
 
 // The entries, in the order of their hashes.
 fn entries_under(alloc: Global, hashed: &HashedMap) -> Result<Vec<Entry>, AllocError>
-    ensures { IfOk result (λ entries. entries.items ≡ map entry_under hashed.now.entries) }
+    ensures { IfOk result (λ entries. entries.items ≡ map entry_under hashed.now) }
 {
-    hashed
-        .iter()
-        .map(|(key, activation)| Entry {
+    let mut entries = Vec::with_capacity(alloc, hashed.len())?;
+    'entries: for (key, activation) in hashed.iter() {
+        entries.push(Entry {
             grain: key.grain,
-            activation: *activation,
-        })
-        .collect(alloc)
+            activation,
+        })?;
+    }
+    Ok(entries)
 }

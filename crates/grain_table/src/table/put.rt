@@ -10,16 +10,15 @@ ghost use Rattle.grain_table.specs.Hashed.{AreHashed, IsKeyOf, entry_under};
 ghost use Rattle.grain_table.specs.Stretch.{is_between};
 
 use super::Table;
-use crate::hashed_grain::{HashedGrain, HashedMap, key_of};
+use crate::hashed_grain::{HashedGrain, key_of};
+use crate::hashed_map::{CIRCLE, HashedMap};
 use crate::living::is_dead_in;
-use crate::stretch::{CIRCLE, end_at, first_at};
 use hash_ring::Hashing;
 use membership_view::View;
 use ring_range::RingRange;
 use silo_address::SiloAddress;
 use std::alloc::{AllocError, Global};
 use std::collections::BTreeSet;
-use std::ops::Bound;
 
 impl Table {
     /// This table with all entries of another, each in place of one of its grain. What the other has hashed in the same way is
@@ -75,8 +74,7 @@ impl Table {
         if !is_any_dead(view, &self.silos) {
             return;
         }
-        self.map
-            .retain(|_, activation| !is_dead_in(view, &activation.silo));
+        self.map.remove_dead(view);
         self.silos.retain(|silo| !is_dead_in(view, silo));
     }
 }
@@ -95,12 +93,12 @@ fn is_any_dead(view: &View, silos: &BTreeSet<SiloAddress>) -> bool
 
 // The table with what stands in a map.
 fn put_all(mut table: Table, from_hashing: Hashing, from: &HashedMap) -> Result<Table, AllocError>
-    requires { AreHashed from_hashing from.now.entries }
-    ensures { IfOk result (λ new. new ≡ record table { entries = fold with_entry table.entries (map entry_under from.now.entries) }) }
+    requires { AreHashed from_hashing from.now }
+    ensures { IfOk result (λ new. new ≡ record table { entries = fold with_entry table.entries (map entry_under from.now) }) }
 {
-    'entries: for (key, activation) in from {
-        let key = key_under(table.hashing, from_hashing, key);
-        table.put(key, *activation)?;
+    'entries: for (key, activation) in from.iter() {
+        let key = key_under(table.hashing, from_hashing, &key);
+        table.put(key, activation)?;
     }
     Ok(table)
 }
@@ -119,8 +117,8 @@ fn key_under(hashing: Hashing, from_hashing: Hashing, key: &HashedGrain) -> Hash
 
 // The table with what stands in a map under hashes of the range: at most two stretches of it.
 fn put_range(table: Table, from: &HashedMap, range: &RingRange) -> Result<Table, AllocError>
-    requires { AreHashed table.hashing from.now.entries }
-    ensures { IfOk result (λ new. new ≡ record table { entries = fold with_entry table.entries (map entry_under (filter (λ e. holds range.now e.0.hash) from.now.entries)) }) }
+    requires { AreHashed table.hashing from.now }
+    ensures { IfOk result (λ new. new ≡ record table { entries = fold with_entry table.entries (map entry_under (filter (λ e. holds range.now e.0.hash) from.now)) }) }
 {
     range.in_range();
     let start = range.start();
@@ -139,14 +137,13 @@ fn put_stretch(
     first: u32,
     end: u64,
 ) -> Result<Table, AllocError>
-    requires hashed { AreHashed table.hashing from.now.entries }
+    requires hashed { AreHashed table.hashing from.now }
     requires forward { first ≤ end }
     requires below { end ≤ circle }
-    ensures { IfOk result (λ new. new ≡ record table { entries = fold with_entry table.entries (map entry_under (filter (λ e. is_between first end e.0.hash) from.now.entries)) }) }
+    ensures { IfOk result (λ new. new ≡ record table { entries = fold with_entry table.entries (map entry_under (filter (λ e. is_between first end e.0.hash) from.now)) }) }
 {
-    let bounds = (Bound::Included(first_at(first)), end_at(end));
-    'entries: for (key, activation) in from.range(bounds) {
-        table.put(*key, *activation)?;
+    'entries: for (key, activation) in from.between(first, end)? {
+        table.put(key, activation)?;
     }
     Ok(table)
 }

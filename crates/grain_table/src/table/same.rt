@@ -5,7 +5,7 @@ ghost use Rattle.directory_rules.specs.Table.{entry_at};
 ghost use Rattle.grain_table.specs.Hashed.{entry_under};
 
 use super::Table;
-use crate::hashed_grain::HashedMap;
+use crate::hashed_map::HashedMap;
 use silo_address::Entry;
 
 impl Table {
@@ -18,12 +18,12 @@ impl Table {
 
     // Whether each grain of the map has its activation here too.
     fn has_all(&self, map: &HashedMap) -> bool
-        ensures { IsTrue result ↔ AllByRecursion (λ e. entry_at e.0.grain self.now.entries ≡ Some (entry_under e)) map.now.entries }
+        ensures { IsTrue result ↔ AllByRecursion (λ e. entry_at e.0.grain self.now.entries ≡ Some (entry_under e)) map.now }
     {
-        'entries: for (key, activation) in map {
+        'entries: for (key, activation) in map.iter() {
             let entry = Entry {
                 grain: key.grain,
-                activation: *activation,
+                activation,
             };
             if !self.has(&entry) {
                 return false;

@@ -1,6 +1,5 @@
-use Rattle.std.proofs.Common.{◌∙◌, ap, sym, subst, rules}
+use Rattle.std.proofs.Common.{◌∙◌, ap, sym, subst}
 use Rattle.std.specs.Prelude.{filter}
-use Rattle.std.proofs.lemmas.Map.Made.{filter_same_pairs}
 use Rattle.ring_range.specs.Range.{holds}
 use Rattle.hash_ring.specs.Hash.{hash_grain}
 use Rattle.grain_table.specs.Hashed.{AreKept, Hashed, by_grain}
@@ -11,13 +10,11 @@ use Rattle.grain_table.proofs.table.Table.keep_those_under.Goals as goal
 
 pub invariant_of-self : goal.invariant_of-self
 invariant_of-self c =
-    let left = filter_same_pairs _ (λ e. holds c.args.range.now e.0.hash) _ (λ k v b w f' t. search rules) c.self.inside.map.entries c.retain.new.self.entries c.retain.ensures.filtered in
-    subst (λ (es : Hashed). AreKept c.self.inside.hashing c.self.inside.silos.keys es) (sym left)
-    (kept_some c.self.inside.hashing c.self.inside.silos.keys (λ e. holds c.args.range.now e.0.hash) c.self.inside.map.entries c.self.invariant)
+    subst (λ (es : Hashed). AreKept c.self.inside.hashing c.self.inside.silos.keys es) (sym c.keep_in.ensures)
+    (kept_some c.self.inside.hashing c.self.inside.silos.keys (λ e. holds c.args.range.now e.0.hash) c.self.inside.map c.self.invariant)
 
 pub returns : goal.returns
 returns c =
-    let left = filter_same_pairs _ (λ e. holds c.args.range.now e.0.hash) _ (λ k v b w f' t. search rules) c.self.inside.map.entries c.retain.new.self.entries c.retain.ensures.filtered in
-    ap (λ (es : Hashed). record { hashing = c.self.inside.hashing; entries = by_grain es }) left
-    ∙ ap (λ table. record { hashing = c.self.inside.hashing; entries = table }) (passed_by_grain c.self.inside.hashing (holds c.args.range.now) c.self.inside.map.entries c.self.invariant.are)
+    ap (λ (es : Hashed). record { hashing = c.self.inside.hashing; entries = by_grain es }) c.keep_in.ensures
+    ∙ ap (λ table. record { hashing = c.self.inside.hashing; entries = table }) (passed_by_grain c.self.inside.hashing (holds c.args.range.now) c.self.inside.map c.self.invariant.are)
     ∙ ap (λ (v : TableValue). record v { entries = filter (λ e. holds c.args.range.now (hash_grain v.hashing e.0)) v.entries }) c.self.view_is

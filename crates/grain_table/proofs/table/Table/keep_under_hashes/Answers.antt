@@ -14,7 +14,7 @@ use Rattle.grain_table.proofs.table.Table.keep_under_hashes.Goals as goal
 pub returns-then-lies_under_hashes : goal.returns-then-lies_under_hashes
 returns-then-lies_under_hashes c =
     let own = c.args.self.now.hashing in
-    let under = subst (λ (v : TableValue). AllByRecursion (λ e. e.1.grain ≡ e.0) v.entries) c.self.view_is (by_grain_is_table c.self.inside.map.entries).under in
+    let under = subst (λ (v : TableValue). AllByRecursion (λ e. e.1.grain ≡ e.0) v.entries) c.self.view_is (by_grain_is_table c.self.inside.map).under in
     let lie : lie_in own c.args.range.now (entries_of (filter (λ e. nat_lt (hash_grain own e.0) (c.from.result + c.size.result)) c.args.self.now.entries)) ≡ true =
     ap (λ (v : TableValue). lie_in v.hashing c.args.range.now (entries_of v.entries)) (sym c.keep_before.ensures) ∙ sym c.lies_under_hashes.ensures ∙ c.if-lies_under_hashes.true in
     c.keep_before.ensures

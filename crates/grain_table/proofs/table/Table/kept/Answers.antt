@@ -12,7 +12,7 @@ use Rattle.grain_table.proofs.table.Table.kept.Goals as goal
 
 pub returns : goal.returns
 returns c =
-    let is = subst (λ (v : TableValue). IsTable v.entries) c.self.view_is (by_grain_is_table c.self.inside.map.entries) in
+    let is = subst (λ (v : TableValue). IsTable v.entries) c.self.view_is (by_grain_is_table c.self.inside.map) in
     c.remove_dead.ensures
     ∙ ap (λ (t : TableValue). record t { entries = filter (λ e. not (is_dead_in c.args.view.now e.1.activation.silo)) t.entries })
     (c.in_ok-table.ensures

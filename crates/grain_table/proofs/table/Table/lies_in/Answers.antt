@@ -14,5 +14,5 @@ returns-then-same c =
 pub returns : goal.returns
 returns c =
     c.are_hashed_into.ensures
-    ∙ sym (each_grain c.self.inside.hashing (λ grain. holds c.args.range.now (hash_grain c.args.hashing grain)) c.self.inside.map.entries c.self.invariant.are)
+    ∙ sym (each_grain c.self.inside.hashing (λ grain. holds c.args.range.now (hash_grain c.args.hashing grain)) c.self.inside.map c.self.invariant.are)
     ∙ ap (λ (v : TableValue). lie_in c.args.hashing c.args.range.now (entries_of v.entries)) c.self.view_is

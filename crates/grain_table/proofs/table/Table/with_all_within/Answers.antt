@@ -10,7 +10,7 @@ use Rattle.grain_table.proofs.table.Table.with_all_within.Goals as goal
 
 pub returns : goal.returns
 returns c =
-    let is = subst (λ (v : TableValue). IsTable v.entries) c.other.view_is (by_grain_is_table c.other.inside.map.entries) in
+    let is = subst (λ (v : TableValue). IsTable v.entries) c.other.view_is (by_grain_is_table c.other.inside.map) in
     let hashed : c.in_ok-hashed.hashed.entries ≡ c.args.other.now.entries =
     ap (λ (v : TableValue). v.entries) c.in_ok-hashed.ensures
     ∙ ap (λ (v : TableValue). put_in v.entries (entries_of c.args.other.now.entries)) c.new.ensures

@@ -8,5 +8,5 @@ pub returns-in-Some-clause-none : goal.returns-in-Some-clause-none
 returns-in-Some-clause-none c =
     OnFalse_from _ _
     (λ before. let is = c.from.ensures in
-    let below : c.in-Some.key.now.hash < c.args.end = grind (arith, nat_tests) in
-    all_before c.in-Some.key.now c.args.end c.args.map.now.entries below c.in-Some.ensures.all_up_to)
+    let below : c.in-Some.hash < c.args.end = grind (arith, nat_tests) in
+    all_before c.in-Some.hash c.args.end c.args.map.now below c.in-Some.ensures.some)

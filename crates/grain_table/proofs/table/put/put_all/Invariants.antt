@@ -9,6 +9,6 @@ use Rattle.grain_table.proofs.table.put.put_all.Given as goal
 abbrev pub invariant-entries : goal.invariant-entries
 invariant-entries l = record {
   hashing_is : l.table.hashing ≡ l.initial.table.hashing;
-  whole : put_in l.table.entries (entries_under l.key-iterator) ≡ put_in l.initial.table.entries (entries_under l.from.entries);
+  whole : put_in l.table.entries (entries_under l.key-iterator) ≡ put_in l.initial.table.entries (entries_under l.from);
   keys : AllByRecursion (IsKeyOf l.from_hashing) (keys_of l.key-iterator);
 }
