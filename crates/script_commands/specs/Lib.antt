@@ -2,5 +2,6 @@ pub mod CommandModel
 pub mod Laws
 pub mod Numbers
 pub mod Known
+pub mod Named
 pub mod Reading
 pub mod WordCounts

@@ -1,6 +1,5 @@
 -- How what the code read is what the rule reads.
-use Rattle.std.specs.Prelude.{◌≡◌, ℕ, ⊤, List, Option, Some, Result, Ok, Err, IsOk, bytes_eq, option_map}
-use Rattle.std.specs.Map.{lookup}
+use Rattle.std.specs.Prelude.{◌≡◌, ℕ, ⊤, Option, Some, Result, Ok, Err, IsOk}
 use Rattle.directory_rules.specs.Event as event
 use Rattle.script_rules.specs.Script as script
 use Rattle.script_commands.specs.declared.error.ScriptFault.{ScriptFault}
@@ -22,10 +21,6 @@ Fails OutOfMemory rule = IsOk rule
 abbrev pub Reads : {A B : Type 0} → (A → B) → Result A ReadError → Result B ℕ → Type 0
 Reads view (Ok value) rule = rule ≡ Ok (view value)
 Reads view (Err error) rule = Fails error rule
-
--- what the words ask for behind that name, where it names one of these commands
-abbrev pub asked_of : List (List ℕ × script.Grammar) → (name : List ℕ) → (words : List (List ℕ)) → Option (Result script.Command ℕ)
-asked_of known name words = option_map (λ grammar. grammar words) (lookup (bytes_eq name) known)
 
 -- the line asks for a join, the only command that takes memory
 abbrev pub IsJoin : Result (Option script.Command) ℕ → Type 0

@@ -1,20 +1,22 @@
-//! The commands that the program knows. One more is a row of its group in `specs/Known.antt`, a row of the group's function,
-//! and a function that makes it.
+//! The commands that the program knows. One more is a name, a row of its group in `specs/Known.antt`, a row of the group's
+//! function, and a function that reads what stands behind it.
 
 ghost use Rattle.std.specs.Map.{lookup};
-ghost use Rattle.std.specs.Prelude.{◌≡◌, IsErrOf, Some, bytes_eq};
+ghost use Rattle.std.specs.Prelude.{◌≡◌, IsErrOf, Some, bytes_eq, option_map};
 ghost use Rattle.directory_rules.specs.Event as event;
 ghost use Rattle.texts.specs.Words.{words_in};
 ghost use Rattle.script_rules.specs.Script as script;
 ghost use Rattle.script_commands.specs.CommandModel.{command_of};
-ghost use Rattle.script_commands.specs.Known.{known_commands};
-ghost use Rattle.script_commands.specs.Reading.{IsJoin, Reads};
+ghost use Rattle.script_commands.specs.Known.{known_commands, other_commands};
+ghost use Rattle.script_commands.specs.Named.{grammar_of};
+ghost use Rattle.script_commands.specs.Reading.{IsJoin, Reads, told};
 
-use crate::grains::grain_command;
+use crate::grains::{close, find, forget, grain_name, offer, wake};
 use crate::grammar::a_silo_and_places;
-use crate::letters::letter_command;
-use crate::questions::question;
-use crate::silos::silo_command;
+use crate::letters::{deliver, letter_name, lose, settle};
+use crate::names::CommandName;
+use crate::questions::{check, dump, mail, owner, place, question_name, show};
+use crate::silos::{kill, leave, nudge, see, silo_name, sync};
 use crate::{Command, ReadError, ScriptFault};
 use cluster_events::Event;
 use std::alloc::Global;
@@ -27,19 +29,54 @@ pub(crate) fn command_named(alloc: Global, name: &[u8], words: &[u8]) -> Result<
     if name == b"join".as_slice() {
         return join(alloc, words);
     }
-    if let Some(asked) = silo_command(name, words) {
-        return Ok(asked?);
+    let Some(named) = name_of(name) else {
+        return Err(ReadError::Fault(ScriptFault::UnknownCommand));
+    };
+    let command = behind(named, words)?;
+    Ok(command)
+}
+
+/// The command of that name, where it is one other than a join.
+fn name_of(name: &[u8]) -> Option<CommandName>
+    ensures { option_map grammar_of result ≡ lookup (bytes_eq name.now) other_commands }
+{
+    if let Some(named) = silo_name(name) {
+        return Some(named);
     }
-    if let Some(asked) = grain_command(name, words) {
-        return Ok(asked?);
+    if let Some(named) = grain_name(name) {
+        return Some(named);
     }
-    if let Some(asked) = letter_command(name, words) {
-        return Ok(asked?);
+    if let Some(named) = letter_name(name) {
+        return Some(named);
     }
-    if let Some(asked) = question(name, words) {
-        return Ok(asked?);
+    question_name(name)
+}
+
+/// What the words behind a name ask for. Each choice hands on what it reads: what one held would be cleared at every line.
+fn behind(name: CommandName, words: &[u8]) -> Result<Command, ScriptFault>
+    ensures { told command_of result ≡ grammar_of name (words_in words.now) }
+{
+    match name {
+        CommandName::Leave => leave(words),
+        CommandName::Kill => kill(words),
+        CommandName::Nudge => nudge(words),
+        CommandName::See => see(words),
+        CommandName::Sync => sync(words),
+        CommandName::Wake => wake(words),
+        CommandName::Close => close(words),
+        CommandName::Find => find(words),
+        CommandName::Forget => forget(words),
+        CommandName::Offer => offer(words),
+        CommandName::Deliver => deliver(words),
+        CommandName::Lose => lose(words),
+        CommandName::Settle => settle(words),
+        CommandName::Owner => owner(words),
+        CommandName::Place => place(words),
+        CommandName::Show => show(words),
+        CommandName::Mail => mail(words),
+        CommandName::Dump => dump(words),
+        CommandName::Check => check(words),
     }
-    Err(ReadError::Fault(ScriptFault::UnknownCommand))
 }
 
 fn join(alloc: Global, words: &[u8]) -> Result<Command, ReadError>

@@ -9,6 +9,7 @@ mod known;
 pub mod laws;
 mod letters;
 mod lines;
+mod names;
 mod places;
 mod questions;
 mod reading;

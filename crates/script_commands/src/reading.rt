@@ -36,11 +36,22 @@ pub fn read_command(alloc: Global, line: &[u8]) -> Result<Option<Command>, ReadE
     Ok(Some(command))
 }
 
-/// Whether each byte may stand in a line.
+/// Whether each byte may stand in a line. Looks at all of them, whatever it finds, so that many can be looked at at once.
 fn is_text(line: &[u8]) -> bool
     ensures { result ≡ list_all script.is_text line.now }
 {
-    line.iter().all(|byte| b' ' <= *byte && *byte <= b'~')
+    let mut all = true;
+    for byte in line {
+        all &= may_stand(*byte);
+    }
+    all
+}
+
+/// Whether the byte may stand in a line.
+fn may_stand(byte: u8) -> bool
+    ensures { result ≡ script.is_text byte }
+{
+    b' ' <= byte && byte <= b'~'
 }
 
 /// Whether a word begins a remark.

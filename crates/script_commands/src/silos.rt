@@ -1,68 +1,71 @@
 //! Commands about silos, but for their joining.
 
-ghost use Rattle.std.specs.Prelude.{◌≡◌, option_map};
+ghost use Rattle.std.specs.Map.{lookup};
+ghost use Rattle.std.specs.Prelude.{◌≡◌, bytes_eq, option_map};
 ghost use Rattle.directory_rules.specs.Event as event;
 ghost use Rattle.texts.specs.Words.{words_in};
 ghost use Rattle.script_rules.specs.Script as script;
 ghost use Rattle.script_commands.specs.CommandModel.{command_of};
 ghost use Rattle.script_commands.specs.Known.{silo_commands};
-ghost use Rattle.script_commands.specs.Reading.{asked_of, told};
+ghost use Rattle.script_commands.specs.Named.{grammar_of};
+ghost use Rattle.script_commands.specs.Reading.{told};
 
 use crate::grammar::{a_silo, a_silo_and_version, no_word};
+use crate::names::CommandName;
 use crate::{Command, ScriptFault};
 use cluster_events::Event;
 
-/// The command of that name about silos, with the words behind it.
-pub(crate) fn silo_command(name: &[u8], words: &[u8]) -> Option<Result<Command, ScriptFault>>
-    ensures { option_map (told command_of) result ≡ asked_of silo_commands name.now (words_in words.now) }
+/// The command of that name about silos.
+pub(crate) fn silo_name(name: &[u8]) -> Option<CommandName>
+    ensures { option_map grammar_of result ≡ lookup (bytes_eq name.now) silo_commands }
 {
     if name == b"leave".as_slice() {
-        return Some(leave(words));
+        return Some(CommandName::Leave);
     }
     if name == b"kill".as_slice() {
-        return Some(kill(words));
+        return Some(CommandName::Kill);
     }
     if name == b"nudge".as_slice() {
-        return Some(nudge(words));
+        return Some(CommandName::Nudge);
     }
     if name == b"see".as_slice() {
-        return Some(see(words));
+        return Some(CommandName::See);
     }
     if name == b"sync".as_slice() {
-        return Some(sync(words));
+        return Some(CommandName::Sync);
     }
     None
 }
 
-fn leave(words: &[u8]) -> Result<Command, ScriptFault>
+pub(crate) fn leave(words: &[u8]) -> Result<Command, ScriptFault>
     ensures { told command_of result ≡ script.a_silo event.Leave (words_in words.now) }
 {
     let silo = a_silo(words)?;
     Ok(Command::Happen(Event::Leave { silo }))
 }
 
-fn kill(words: &[u8]) -> Result<Command, ScriptFault>
+pub(crate) fn kill(words: &[u8]) -> Result<Command, ScriptFault>
     ensures { told command_of result ≡ script.a_silo event.Kill (words_in words.now) }
 {
     let silo = a_silo(words)?;
     Ok(Command::Happen(Event::Kill { silo }))
 }
 
-fn nudge(words: &[u8]) -> Result<Command, ScriptFault>
+pub(crate) fn nudge(words: &[u8]) -> Result<Command, ScriptFault>
     ensures { told command_of result ≡ script.a_silo event.Nudge (words_in words.now) }
 {
     let silo = a_silo(words)?;
     Ok(Command::Happen(Event::Nudge { silo }))
 }
 
-fn see(words: &[u8]) -> Result<Command, ScriptFault>
+pub(crate) fn see(words: &[u8]) -> Result<Command, ScriptFault>
     ensures { told command_of result ≡ script.a_silo_and_version event.See (words_in words.now) }
 {
     let (silo, version) = a_silo_and_version(words)?;
     Ok(Command::Happen(Event::See { silo, version }))
 }
 
-fn sync(words: &[u8]) -> Result<Command, ScriptFault>
+pub(crate) fn sync(words: &[u8]) -> Result<Command, ScriptFault>
     ensures { told command_of result ≡ script.no_word script.Sync (words_in words.now) }
 {
     no_word(words)?;
