@@ -26,7 +26,7 @@ use Rattle.directory_rules.specs.declared.policy.Policy.{Policy}
 use Rattle.directory_rules.specs.declared.policy.Policy.TheVariants.{PreferLocal, HashBased, LeastHeld}
 use Rattle.directory_rules.proofs.Cases.{on_bool}
 use Rattle.script_rules.specs.Show.{chosen_place, held_counts}
-use Rattle.console_play.specs.Telling.{CountsAll}
+use Rattle.console_play.specs.Telling.{CountsAll, CountsAsked}
 
 -- ---- one silo counted more
 put_here : (counts : List (Silo × ℕ)) (silo : Silo) (n : ℕ) → lookup (is_at (silo_cmp silo)) (insert_entry silo_cmp counts silo n) ≡ Some n
@@ -136,17 +136,18 @@ module _ (counts held : List (Silo × ℕ)) where
       by true rest = (same.0, rest)
       by false rest = rest
 
-  pub chosen_alike : (policy : Policy) (view : ViewValue) (local : Silo) (hash : ℕ) → AllByRecursion (λ row. IsAlike row.0) view.rows
-      → silo_for policy view local hash counts ≡ silo_for policy view local hash held
-  chosen_alike PreferLocal view local hash same = refl
-  chosen_alike HashBased view local hash same = refl
-  chosen_alike LeastHeld view local hash same = (least_alike (active_silos view) (active_alike view.rows same)).0
+chosen_by_asked : (policy : Policy) (world : World) (view : ViewValue) (local : Silo) (hash : ℕ) (counts : List (Silo × ℕ)) → CountsAsked policy world view counts
+    → silo_for policy view local hash counts ≡ silo_for policy view local hash (held_counts world)
+chosen_by_asked PreferLocal world view local hash counts asked = refl
+chosen_by_asked HashBased world view local hash counts asked = refl
+chosen_by_asked LeastHeld world view local hash counts all =
+    (least_alike counts (held_counts world) (active_silos view) (active_alike counts (held_counts world) view.rows all)).0
 
 pub place_chosen : (world : World) (policy : Policy) (node : Node) (grain : Grain) (seen view : ViewValue) (local : Silo) (hash : ℕ) (counts : List (Silo × ℕ)) (chosen : Option Silo)
-    → seen ≡ node.view → CountsAll world seen counts → view ≡ node.view → local ≡ node.host.silo → hash ≡ hash_grain world.settings.hashing grain
+    → seen ≡ node.view → CountsAsked policy world seen counts → view ≡ node.view → local ≡ node.host.silo → hash ≡ hash_grain world.settings.hashing grain
     → chosen ≡ silo_for policy view local hash counts → chosen ≡ chosen_place world policy node grain
-place_chosen world policy node grain seen view local hash counts chosen seen_is all view_is local_is hash_is is =
+place_chosen world policy node grain seen view local hash counts chosen seen_is asked view_is local_is hash_is is =
     is ∙ (ap (λ (v : ViewValue). silo_for policy v local hash counts) view_is
     ∙ (ap (λ (s : Silo). silo_for policy node.view s hash counts) local_is
     ∙ (ap (λ (h : ℕ). silo_for policy node.view node.host.silo h counts) hash_is
-    ∙ chosen_alike counts (held_counts world) policy node.view node.host.silo (hash_grain world.settings.hashing grain) (subst (λ (v : ViewValue). CountsAll world v counts) seen_is all))))
+    ∙ chosen_by_asked policy world node.view node.host.silo (hash_grain world.settings.hashing grain) counts (subst (λ (v : ViewValue). CountsAsked policy world v counts) seen_is asked))))

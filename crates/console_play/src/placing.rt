@@ -9,7 +9,7 @@ ghost use Rattle.script_rules.specs.Output.{printing};
 ghost use Rattle.script_rules.specs.Show.{chosen_place, held_counts, place_line};
 ghost use Rattle.script_output.specs.Spaced.{BeginsWith};
 ghost use Rattle.console_play.specs.Performing.{Performs, in_session};
-ghost use Rattle.console_play.specs.Telling.{CountsAll};
+ghost use Rattle.console_play.specs.Telling.{CountsAll, CountsAsked};
 
 use directory_core::World;
 use directory_node::Node;
@@ -62,9 +62,24 @@ fn chosen_place(
 ) -> Result<Option<SiloAddress>, AllocError>
     ensures { IfOk result (λ chosen. chosen ≡ chosen_place world.now policy node.now grain.now) }
 {
-    let counts = counts_in(alloc, world, node.view())?;
+    let counts = counts_asked(alloc, world, policy, node.view())?;
     let hash = world.settings().hashing().hash_grain(grain);
     Ok(silo_for(policy, node.view(), &node.host().silo(), hash, &counts))
+}
+
+// How many activations each silo in the view holds now, where the policy looks at that.
+fn counts_asked(
+    alloc: Global,
+    world: &World,
+    policy: Policy,
+    view: &View,
+) -> Result<BTreeMap<SiloAddress, u64>, AllocError>
+    ensures { IfOk result (λ counts. CountsAsked policy world.now view.now counts.entries) }
+{
+    match policy {
+        Policy::LeastHeld => counts_in(alloc, world, view),
+        Policy::PreferLocal | Policy::HashBased => Ok(BTreeMap::new(alloc)),
+    }
 }
 
 // How many activations each silo in the view holds now.
