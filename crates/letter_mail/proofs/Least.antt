@@ -1,5 +1,5 @@
--- The least fresh letter: the one at the mark of its silo's queue, and the least of several silos' ones.
-use Rattle.std.proofs.Common.{◌≡◌, ℕ, zero, suc, ◌+◌, ◌-◌, ◌<◌, ◌≤◌, ◌&&◌, ◌||◌, Bool, true, false, cond, List, [], ◌∷◌, length, map, find, Option, Some, None, refl, sym, ◌∙◌, ap, subst, arith}
+-- The least fresh letter: the first one of its silo's queue, and the least of several silos' ones.
+use Rattle.std.proofs.Common.{◌≡◌, ℕ, suc, ◌+◌, ◌-◌, ◌<◌, ◌≤◌, ◌&&◌, ◌||◌, Bool, true, false, cond, List, [], ◌∷◌, length, map, find, Option, Some, None, refl, sym, ◌∙◌, ap, subst, arith}
 use Rattle.std.specs.Prelude.{is_some, slice_get}
 use Rattle.std.specs.Option.{option_map}
 use Rattle.std.specs.List.{cons_option}
@@ -13,7 +13,7 @@ use Rattle.letter_mail.specs.declared.slots.Slot.{Slot}
 use Rattle.letter_mail.specs.declared.slots.Slot.TheVariants.{Short, Whole, Lost}
 use Rattle.letter_mail.specs.Kept.{letter_by}
 use Rattle.letter_mail.specs.Slots.{is_fresh, posted_from, posted_in, sent_from, slot_to}
-use Rattle.letter_mail.specs.Queues.{AreQueued, IsMarked, IsQueue, QueueValue, first_of, queue_of}
+use Rattle.letter_mail.specs.Queues.{AreQueued, QueueValue, first_of, from_first, queue_of, waiting}
 use Rattle.letter_mail.specs.Mail.{HasRisingNumbers, MailValue, is_fresh_to, least_fresh, least_fresh_to, lesser}
 use Rattle.letter_mail.specs.MailModel.{mail_in}
 use Rattle.letter_mail.proofs.Queued.{turned}
@@ -62,18 +62,17 @@ first_sent first silo grains (s ∷ slots) = by s (first_sent (first + 1) silo g
         lost true = refl
         lost false = refl
 
-at_mark : (mark : ℕ) (sent : List (ℕ × Bool)) → IsMarked mark sent → slice_get (map (λ e. e.0) sent) mark ≡ first_part (find (λ e. e.1) sent)
-at_mark zero [] is = refl
-at_mark zero (e ∷ es) is = ap (λ b. first_part (cond b (Some e) (find (λ x. x.1) es))) (sym is)
-at_mark (suc mark) [] is = absurd is
-at_mark (suc mark) (e ∷ es) is = at_mark mark es is.1 ∙ ap (λ b. first_part (cond b (Some e) (find (λ x. x.1) es))) (sym is.0)
-
-first_is : (sent : List (ℕ × Bool)) (queue : Option QueueValue) → IsQueue sent queue → first_of queue ≡ first_part (find (λ e. e.1) sent)
-first_is sent None is = ap (λ (l : List (ℕ × Bool)). first_part (find (λ e. e.1) l)) (sym is)
-first_is sent (Some queue) is = ap (λ (l : List ℕ). slice_get l queue.mark) is.0 ∙ at_mark queue.mark sent is.1
+first_waiting : (sent : List (ℕ × Bool)) → slice_get (waiting sent) 0 ≡ first_part (find (λ e. e.1) sent)
+first_waiting [] = refl
+first_waiting (e ∷ es) = by e.1 (first_waiting es)
+  where
+    by : (b : Bool) → slice_get (waiting es) 0 ≡ first_part (find (λ x. x.1) es)
+        → slice_get (map (λ x. x.0) (cond b (e ∷ es) (from_first (λ x. x.1) es))) 0 ≡ first_part (cond b (Some e) (find (λ x. x.1) es))
+    by true later = refl
+    by false later = later
 
 pub least_to : (silo : Silo) (grains : List Grain) (slots : List Slot) (queues : List (Silo × QueueValue)) → AreQueued slots queues → first_of (queue_of queues silo) ≡ least_fresh_to silo (mail_in grains slots)
-least_to silo grains slots queues are = first_is (sent_from 1 silo slots) (queue_of queues silo) (are silo) ∙ sym (first_sent 1 silo grains slots)
+least_to silo grains slots queues are = ap (λ (l : List ℕ). slice_get l 0) (are silo) ∙ first_waiting (sent_from 1 silo slots) ∙ sym (first_sent 1 silo grains slots)
 
 -- ---- the numbers rise
 rising_from : (low first : ℕ) (grains : List Grain) (slots : List Slot) → low < first → RiseBetween low (first + length slots - 1) (posted_from first grains slots)

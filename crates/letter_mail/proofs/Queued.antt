@@ -1,20 +1,19 @@
--- Each silo's queue has the letters that were ever sent to it, with its mark on the first fresh one.
-use Rattle.std.proofs.Common.{◌≡◌, ◌⊎◌, inl, inr, ℕ, zero, suc, ◌+◌, ◌-◌, ◌<◌, ◌≤◌, Bool, true, false, cond, List, [], ◌∷◌, ◌++◌, length, get_or, set, take, drop, min, map, not, Option, Some, None, refl, sym, ◌∙◌, ap, subst, arith}
-use Rattle.std.specs.List.{AllByRecursion, cons_option, enumerate_from, filter_map, position_or_len}
+-- Each silo's queue has the letters that were sent to it, from the first fresh one on.
+use Rattle.std.proofs.Common.{◌≡◌, ◌⊎◌, inl, inr, ℕ, zero, suc, ◌+◌, ◌-◌, ◌<◌, Bool, true, false, cond, List, [], ◌∷◌, ◌++◌, length, get_or, set, map, Option, Some, None, refl, sym, ◌∙◌, ap, subst, arith}
+use Rattle.std.specs.List.{AllByRecursion, cons_option, enumerate_from, filter_map}
 use Rattle.std.specs.Ordering.{is_eq}
 use Rattle.std.specs.BTreeMap.{is_at}
 use Rattle.std.specs.declared.cmp.Ordering.{Ordering}
 use Rattle.std.specs.declared.cmp.Ordering.TheVariants.{Less, Equal, Greater}
-use Rattle.std.proofs.lemmas.Bool.{cases_lt}
 use Rattle.std.proofs.lemmas.Cmp.{tied_back, tied_itself}
-use Rattle.std.proofs.lemmas.List.{append-nil, length-append, length-map, map-append, take_at}
+use Rattle.std.proofs.lemmas.List.{append-nil, length-append, map-append, take_at}
 use Rattle.std.proofs.lemmas.List.Elements.{filter_map-append}
 use Rattle.silo_address.specs.Silo.{Silo, silo_cmp}
 use Rattle.silo_address.proofs.Order.{silo_cmp_exact, silo_cmp_total}
 use Rattle.letter_mail.specs.declared.slots.Slot.{Slot}
 use Rattle.letter_mail.specs.declared.slots.Slot.TheVariants.{Short, Whole, Lost}
 use Rattle.letter_mail.specs.Slots.{is_fresh, sent_from, slot_from, slot_to, stale_slot}
-use Rattle.letter_mail.specs.Queues.{AreQueued, IsMarked, IsQueue, Puts, QueueValue, advanced, fresh_at, is_fresh_in, queue_of, stale_count, with_number, without_number}
+use Rattle.letter_mail.specs.Queues.{AreQueued, Puts, QueueValue, fresh_at, from_first, is_fresh_in, numbers_of, queue_of, waiting, with_number, without_number}
 use Rattle.letter_mail.proofs.Posted.{enumerate-append, further, slot_at, slot_none}
 
 -- ---- whether two silos are one
@@ -64,115 +63,106 @@ own_sent silo slots slot own =
 abbrev number_part : ℕ × Bool → ℕ
 number_part e = e.0
 
-marked_put : (mark : ℕ) (sent : List (ℕ × Bool)) (number : ℕ) → IsMarked mark sent → IsMarked mark (sent ++ (number, true) ∷ [])
-marked_put zero [] number is = refl
-marked_put zero (e ∷ es) number is = is
-marked_put (suc mark) [] number is = absurd is
-marked_put (suc mark) (e ∷ es) number is = (is.0, marked_put mark es number is.1)
+abbrev fresh_part : ℕ × Bool → Bool
+fresh_part e = e.1
 
-put_queue : (sent : List (ℕ × Bool)) (queue : Option QueueValue) (number : ℕ) → IsQueue sent queue → IsQueue (sent ++ (number, true) ∷ []) (Some (with_number queue number))
-put_queue sent None number is = subst (λ (l : List (ℕ × Bool)). IsQueue (l ++ (number, true) ∷ []) (Some (with_number None number))) (sym is) (refl, refl)
-put_queue sent (Some queue) number is =
-    (ap (λ (l : List ℕ). l ++ number ∷ []) is.0 ∙ sym (map-append number_part sent ((number, true) ∷ [])), marked_put queue.mark sent number is.1)
+waiting_more : (sent : List (ℕ × Bool)) (number : ℕ) → waiting (sent ++ (number, true) ∷ []) ≡ waiting sent ++ number ∷ []
+waiting_more [] number = refl
+waiting_more (e ∷ es) number = by e.1 (waiting_more es number)
+  where
+    by : (b : Bool) → waiting (es ++ (number, true) ∷ []) ≡ waiting es ++ number ∷ []
+        → map number_part (cond b (e ∷ (es ++ (number, true) ∷ [])) (from_first fresh_part (es ++ (number, true) ∷ []))) ≡ map number_part (cond b (e ∷ es) (from_first fresh_part es)) ++ number ∷ []
+    by true later = map-append number_part (e ∷ es) ((number, true) ∷ [])
+    by false later = later
 
 pub queued_put : (slots after : List Slot) (slot : Slot) (to : Silo) (number : ℕ) (queues now : List (Silo × QueueValue)) → AreQueued slots queues → after ≡ slots ++ slot ∷ []
     → is_fresh slot ≡ true → slot_to slot ≡ to → number ≡ 1 + length slots → Puts to (with_number (queue_of queues to) number) queues now → AreQueued after now
 queued_put slots after slot to number queues now are is fresh for number_is put silo =
-    subst (λ (l : List Slot). IsQueue (sent_from 1 silo l) (queue_of now silo)) (sym is)
-    (subst (λ (o : Option QueueValue). IsQueue (sent_from 1 silo (slots ++ slot ∷ [])) o) (sym (put silo)) (by (is_at (silo_cmp to) silo) refl))
+    ap numbers_of (put silo) ∙ by (is_at (silo_cmp to) silo) refl ∙ ap (λ (l : List Slot). waiting (sent_from 1 silo l)) (sym is)
   where
-    by : (b : Bool) → is_at (silo_cmp to) silo ≡ b → IsQueue (sent_from 1 silo (slots ++ slot ∷ [])) (cond b (Some (with_number (queue_of queues to) number)) (queue_of queues silo))
-    by false other =
-        subst (λ (l : List (ℕ × Bool)). IsQueue l (queue_of queues silo)) (sym (other_sent silo slots slot (ap (is_at (silo_cmp silo)) for ∙ turned silo to ∙ other))) (are silo)
+    by : (b : Bool) → is_at (silo_cmp to) silo ≡ b → numbers_of (cond b (Some (with_number (queue_of queues to) number)) (queue_of queues silo)) ≡ waiting (sent_from 1 silo (slots ++ slot ∷ []))
+    by false other = are silo ∙ sym (ap (λ (l : List (ℕ × Bool)). waiting l) (other_sent silo slots slot (ap (is_at (silo_cmp silo)) for ∙ turned silo to ∙ other)))
     by true own =
-        subst (λ (l : List (ℕ × Bool)). IsQueue l (Some (with_number (queue_of queues to) number)))
-        (ap (λ n. sent_from 1 silo slots ++ (n, true) ∷ []) number_is ∙ ap (λ b. sent_from 1 silo slots ++ (1 + length slots, b) ∷ []) (sym fresh)
-        ∙ sym (own_sent silo slots slot (ap (is_at (silo_cmp silo)) for ∙ turned silo to ∙ own)))
-        (put_queue (sent_from 1 silo slots) (queue_of queues to) number
-        (subst (λ (s : Silo). IsQueue (sent_from 1 silo slots) (queue_of queues s)) (sym (one_silo to silo own)) (are silo)))
+        ap (λ (s : Silo). with_number (queue_of queues s) number) (one_silo to silo own)
+        ∙ ap (λ (l : List ℕ). l ++ number ∷ []) (are silo)
+        ∙ sym (waiting_more (sent_from 1 silo slots) number)
+        ∙ ap (λ n. waiting (sent_from 1 silo slots ++ (n, true) ∷ [])) number_is
+        ∙ ap (λ b. waiting (sent_from 1 silo slots ++ (1 + length slots, b) ∷ [])) (sym fresh)
+        ∙ sym (ap (λ (l : List (ℕ × Bool)). waiting l) (own_sent silo slots slot (ap (is_at (silo_cmp silo)) for ∙ turned silo to ∙ own)))
+
+-- ---- one silo's queue is changed, where it has one
+changed : (change : List ℕ → List ℕ) → change [] ≡ [] → (to silo : Silo) (queues now : List (Silo × QueueValue)) (wanted : List ℕ) → (queue_of queues to ≡ None → now ≡ queues)
+    → ((queue : QueueValue) → queue_of queues to ≡ Some queue → Puts to (change queue) queues now) → (is_at (silo_cmp to) silo ≡ false → numbers_of (queue_of queues silo) ≡ wanted)
+    → (is_at (silo_cmp to) silo ≡ true → change (numbers_of (queue_of queues silo)) ≡ wanted) → numbers_of (queue_of now silo) ≡ wanted
+changed change nothing to silo queues now wanted none some others own = found (queue_of queues to) refl
+  where
+    of_to : is_at (silo_cmp to) silo ≡ true → queue_of queues silo ≡ queue_of queues to
+    of_to at = ap (λ (s : Silo). queue_of queues s) (sym (one_silo to silo at))
+
+    kept : queue_of queues to ≡ None → (b : Bool) → is_at (silo_cmp to) silo ≡ b → numbers_of (queue_of queues silo) ≡ wanted
+    kept gone false at = others at
+    kept gone true at =
+        ap numbers_of (of_to at ∙ gone) ∙ sym nothing ∙ sym (ap (λ (o : Option QueueValue). change (numbers_of o)) (of_to at ∙ gone)) ∙ own at
+
+    by : (queue : QueueValue) → queue_of queues to ≡ Some queue → (b : Bool) → is_at (silo_cmp to) silo ≡ b → numbers_of (cond b (Some (change queue)) (queue_of queues silo)) ≡ wanted
+    by queue there false at = others at
+    by queue there true at = sym (ap (λ (o : Option QueueValue). change (numbers_of o)) (of_to at ∙ there)) ∙ own at
+
+    found : (o : Option QueueValue) → queue_of queues to ≡ o → numbers_of (queue_of now silo) ≡ wanted
+    found None gone = ap (λ (l : List (Silo × QueueValue)). numbers_of (queue_of l silo)) (none gone) ∙ kept gone (is_at (silo_cmp to) silo) refl
+    found (Some queue) there = ap numbers_of (some queue there silo) ∙ by queue there (is_at (silo_cmp to) silo) refl
 
 -- ---- a letter less
-marked_until : (mark : ℕ) (sent : List (ℕ × Bool)) (e : ℕ × Bool) → mark ≤ length sent → IsMarked mark (sent ++ e ∷ []) → IsMarked mark sent
-marked_until zero [] e within is = tt
-marked_until zero (x ∷ xs) e within is = is
-marked_until (suc mark) [] e within is = absurd (omega arith)
-marked_until (suc mark) (x ∷ xs) e within is = (is.0, marked_until mark xs e (omega arith) is.1)
+all_but : (sent : List (ℕ × Bool)) (e : ℕ × Bool) → without_number (map number_part (sent ++ e ∷ [])) ≡ map number_part sent
+all_but sent e =
+    ap without_number (map-append number_part sent (e ∷ []))
+    ∙ take_at (map number_part sent) (e.0 ∷ []) (length (map number_part sent ++ e.0 ∷ []) - 1) (omega (arith, length-append (map number_part sent) (e.0 ∷ [])))
 
-marked_all : (mark : ℕ) (sent : List (ℕ × Bool)) (e : ℕ × Bool) → length sent ≤ mark → IsMarked mark (sent ++ e ∷ []) → IsMarked (length sent) sent
-marked_all mark [] e within is = tt
-marked_all zero (x ∷ xs) e within is = absurd (omega arith)
-marked_all (suc mark) (x ∷ xs) e within is = (is.0, marked_all mark xs e (omega arith) is.1)
-
-marked_less : (mark : ℕ) (sent : List (ℕ × Bool)) (e : ℕ × Bool) → IsMarked mark (sent ++ e ∷ []) → IsMarked (min mark (length sent)) sent
-marked_less mark sent e is = elim (cases_lt (length sent) mark) [
-  | inl beyond ↦ subst (λ n. IsMarked n sent) (least_right mark (length sent) beyond) (marked_all mark sent e (omega arith) is)
-  | inr within ↦ subst (λ n. IsMarked n sent) (least_left mark (length sent) within) (marked_until mark sent e within is)
-]
+waiting_less : (sent : List (ℕ × Bool)) (e : ℕ × Bool) → without_number (waiting (sent ++ e ∷ [])) ≡ waiting sent
+waiting_less [] e = by e.1
   where
-    least_right : (a b : ℕ) → b < a → b ≡ min a b
-    least_right a b below = omega arith
-
-    least_left : (a b : ℕ) → a ≤ b → a ≡ min a b
-    least_left a b within = omega arith
-
-less_queue : (sent : List (ℕ × Bool)) (e : ℕ × Bool) (queue : QueueValue) → IsQueue (sent ++ e ∷ []) (Some queue) → IsQueue sent (Some (without_number queue))
-less_queue sent e queue is = (
-  ap (λ (l : List ℕ). take (length l - 1) l) numbers ∙ take_at (map number_part sent) (e.0 ∷ []) (length (map number_part sent ++ e.0 ∷ []) - 1) (omega (arith, length-append (map number_part sent) (e.0 ∷ []))),
-  subst (λ n. IsMarked (min queue.mark n) sent)
-      (sym (ap (λ (l : List ℕ). length l - 1) numbers ∙ ap (λ n. n - 1) (length-append (map number_part sent) (e.0 ∷ [])) ∙ ap (λ n. n + 1 - 1) (length-map sent number_part) ∙ back (length sent)))
-      (marked_less queue.mark sent e is.1),
-)
+    by : (b : Bool) → without_number (map number_part (cond b (e ∷ []) [])) ≡ []
+    by true = refl
+    by false = refl
+waiting_less (x ∷ xs) e = by x.1 (waiting_less xs e)
   where
-    numbers : queue.numbers ≡ map number_part sent ++ e.0 ∷ []
-    numbers = is.0 ∙ map-append number_part sent (e ∷ [])
-
-    back : (n : ℕ) → n + 1 - 1 ≡ n
-    back n = omega arith
-
-not_nil : {A : Type 0} (xs : List A) (x : A) → xs ++ x ∷ [] ≡ [] → ⊥
-not_nil [] x is = cc (is)
-not_nil (y ∷ xs) x is = cc (is)
+    by : (b : Bool) → without_number (waiting (xs ++ e ∷ [])) ≡ waiting xs
+        → without_number (map number_part (cond b (x ∷ (xs ++ e ∷ [])) (from_first fresh_part (xs ++ e ∷ [])))) ≡ map number_part (cond b (x ∷ xs) (from_first fresh_part xs))
+    by true later = all_but (x ∷ xs) e
+    by false later = later
 
 pub queued_less : (slots after : List Slot) (slot : Slot) (to : Silo) (queues now : List (Silo × QueueValue)) → AreQueued slots queues → slots ≡ after ++ slot ∷ [] → slot_to slot ≡ to
-    → ((queue : QueueValue) → queue_of queues to ≡ Some queue → Puts to (without_number queue) queues now) → AreQueued after now
-queued_less slots after slot to queues now are is for put silo = found (queue_of queues to) refl
+    → (queue_of queues to ≡ None → now ≡ queues) → ((queue : QueueValue) → queue_of queues to ≡ Some queue → Puts to (without_number queue) queues now) → AreQueued after now
+queued_less slots after slot to queues now are is for none some silo = changed without_number refl to silo queues now (waiting (sent_from 1 silo after)) none some others own
   where
-    first : (silo : Silo) → IsQueue (sent_from 1 silo (after ++ slot ∷ [])) (queue_of queues silo)
-    first silo = subst (λ (l : List Slot). IsQueue (sent_from 1 silo l) (queue_of queues silo)) is (are silo)
+    first : numbers_of (queue_of queues silo) ≡ waiting (sent_from 1 silo (after ++ slot ∷ []))
+    first = are silo ∙ ap (λ (l : List Slot). waiting (sent_from 1 silo l)) is
 
-    own_at : is_at (silo_cmp to) (slot_to slot) ≡ true
-    own_at = ap (is_at (silo_cmp to)) for ∙ itself to
+    others : is_at (silo_cmp to) silo ≡ false → numbers_of (queue_of queues silo) ≡ waiting (sent_from 1 silo after)
+    others at = first ∙ ap (λ (l : List (ℕ × Bool)). waiting l) (other_sent silo after slot (ap (is_at (silo_cmp silo)) for ∙ turned silo to ∙ at))
 
-    of_to : IsQueue (sent_from 1 to after ++ (1 + length after, is_fresh slot) ∷ []) (queue_of queues to)
-    of_to = subst (λ (l : List (ℕ × Bool)). IsQueue l (queue_of queues to)) (own_sent to after slot own_at) (first to)
-
-    by : (queue : QueueValue) → queue_of queues to ≡ Some queue → (b : Bool) → is_at (silo_cmp to) silo ≡ b
-        → IsQueue (sent_from 1 silo after) (cond b (Some (without_number queue)) (queue_of queues silo))
-    by queue there false other =
-        subst (λ (l : List (ℕ × Bool)). IsQueue l (queue_of queues silo)) (other_sent silo after slot (ap (is_at (silo_cmp silo)) for ∙ turned silo to ∙ other)) (first silo)
-    by queue there true own =
-        subst (λ (s : Silo). IsQueue (sent_from 1 s after) (Some (without_number queue))) (one_silo to silo own)
-        (less_queue (sent_from 1 to after) (1 + length after, is_fresh slot) queue
-        (subst (λ (o : Option QueueValue). IsQueue (sent_from 1 to after ++ (1 + length after, is_fresh slot) ∷ []) o) there of_to))
-
-    found : (o : Option QueueValue) → queue_of queues to ≡ o → IsQueue (sent_from 1 silo after) (queue_of now silo)
-    found None none =
-        absurd (not_nil (sent_from 1 to after) (1 + length after, is_fresh slot)
-        (subst (λ (o : Option QueueValue). IsQueue (sent_from 1 to after ++ (1 + length after, is_fresh slot) ∷ []) o) none of_to))
-    found (Some queue) there =
-        subst (λ (o : Option QueueValue). IsQueue (sent_from 1 silo after) o) (sym (put queue there silo)) (by queue there (is_at (silo_cmp to) silo) refl)
+    own : is_at (silo_cmp to) silo ≡ true → without_number (numbers_of (queue_of queues silo)) ≡ waiting (sent_from 1 silo after)
+    own at =
+        ap without_number (first ∙ ap (λ (l : List (ℕ × Bool)). waiting l) (own_sent silo after slot (ap (is_at (silo_cmp silo)) for ∙ turned silo to ∙ at)))
+        ∙ waiting_less (sent_from 1 silo after) (1 + length after, is_fresh slot)
 
 -- ---- a letter that is fresh no more
--- nothing before the mark is fresh
-abbrev IsPassed : ℕ → List (ℕ × Bool) → Type 0
-IsPassed zero es = Unit {0}
-IsPassed (suc mark) [] = ⊥
-IsPassed (suc mark) (e ∷ es) = (e.1 ≡ false) × IsPassed mark es
+-- the same numbers, and none of them is fresh that wasn't
+abbrev AreStaler : List (ℕ × Bool) → List (ℕ × Bool) → Type 0
+AreStaler [] [] = Unit {0}
+AreStaler [] (x ∷ xs) = ⊥
+AreStaler (e ∷ es) [] = ⊥
+AreStaler (e ∷ es) (x ∷ xs) = (e.0 ≡ x.0) × ((e.1 ≡ false → x.1 ≡ false) × AreStaler es xs)
 
-passed : (mark : ℕ) (sent : List (ℕ × Bool)) → IsMarked mark sent → IsPassed mark sent
-passed zero sent is = tt
-passed (suc mark) [] is = is
-passed (suc mark) (e ∷ es) is = (is.0, passed mark es is.1)
+as_stale : (sent : List (ℕ × Bool)) → AreStaler sent sent
+as_stale [] = tt
+as_stale (e ∷ es) = (refl, (λ stale. stale, as_stale es))
+
+same_numbers : (sent now : List (ℕ × Bool)) → AreStaler sent now → map number_part sent ≡ map number_part now
+same_numbers [] [] staler = refl
+same_numbers [] (x ∷ xs) staler = absurd staler
+same_numbers (e ∷ es) [] staler = absurd staler
+same_numbers (e ∷ es) (x ∷ xs) staler = ap (λ n. n ∷ map number_part es) staler.0 ∙ ap (λ (l : List ℕ). x.0 ∷ l) (same_numbers es xs staler.1.1)
 
 -- a slot that is for the same silo, in the place of another one
 set_others : (first k : ℕ) (silo : Silo) (slots : List Slot) (slot d : Slot) → k < length slots → slot_to slot ≡ slot_to (get_or slots k d) → is_at (silo_cmp silo) (slot_to slot) ≡ false
@@ -184,46 +174,22 @@ set_others first zero silo (s ∷ slots) slot d below same other =
 set_others first (suc k) silo (s ∷ slots) slot d below same other =
     ap (λ (l : List (ℕ × Bool)). cons_option (sent_under silo (first, s)) l) (set_others (first + 1) k silo slots slot d (omega arith) same other)
 
-set_numbers : (first k : ℕ) (silo : Silo) (slots : List Slot) (slot d : Slot) → k < length slots → slot_to slot ≡ slot_to (get_or slots k d)
-    → map number_part (sent_from first silo (set slots k slot)) ≡ map number_part (sent_from first silo slots)
-set_numbers first k silo [] slot d below same = absurd (omega arith)
-set_numbers first zero silo (s ∷ slots) slot d below same =
-    ap (λ to. map number_part (cons_option (cond (is_at (silo_cmp silo) to) (Some (first, is_fresh slot)) None) (sent_from (first + 1) silo slots))) same
-    ∙ by (is_at (silo_cmp silo) (slot_to s))
+set_staler : (first k : ℕ) (silo : Silo) (slots : List Slot) (slot d : Slot) → k < length slots → slot_to slot ≡ slot_to (get_or slots k d) → is_fresh slot ≡ false
+    → AreStaler (sent_from first silo slots) (sent_from first silo (set slots k slot))
+set_staler first k silo [] slot d below same stale = absurd (omega arith)
+set_staler first zero silo (s ∷ slots) slot d below same stale =
+    subst (λ to. AreStaler (sent_from first silo (s ∷ slots)) (cons_option (cond (is_at (silo_cmp silo) to) (Some (first, is_fresh slot)) None) (sent_from (first + 1) silo slots)))
+    (sym same) (by (is_at (silo_cmp silo) (slot_to s)))
   where
-    by : (b : Bool) → map number_part (cons_option (cond b (Some (first, is_fresh slot)) None) (sent_from (first + 1) silo slots))
-        ≡ map number_part (cons_option (cond b (Some (first, is_fresh s)) None) (sent_from (first + 1) silo slots))
-    by true = refl
-    by false = refl
-set_numbers first (suc k) silo (s ∷ slots) slot d below same = by (is_at (silo_cmp silo) (slot_to s)) (set_numbers (first + 1) k silo slots slot d (omega arith) same)
+    by : (b : Bool) → AreStaler (cons_option (cond b (Some (first, is_fresh s)) None) (sent_from (first + 1) silo slots)) (cons_option (cond b (Some (first, is_fresh slot)) None) (sent_from (first + 1) silo slots))
+    by true = (refl, (λ _. stale, as_stale (sent_from (first + 1) silo slots)))
+    by false = as_stale (sent_from (first + 1) silo slots)
+set_staler first (suc k) silo (s ∷ slots) slot d below same stale = by (is_at (silo_cmp silo) (slot_to s)) (set_staler (first + 1) k silo slots slot d (omega arith) same stale)
   where
-    by : (b : Bool) → map number_part (sent_from (first + 1) silo (set slots k slot)) ≡ map number_part (sent_from (first + 1) silo slots)
-        → map number_part (cons_option (cond b (Some (first, is_fresh s)) None) (sent_from (first + 1) silo (set slots k slot)))
-        ≡ map number_part (cons_option (cond b (Some (first, is_fresh s)) None) (sent_from (first + 1) silo slots))
-    by true later = ap (λ (l : List ℕ). first ∷ l) later
+    by : (b : Bool) → AreStaler (sent_from (first + 1) silo slots) (sent_from (first + 1) silo (set slots k slot))
+        → AreStaler (cons_option (cond b (Some (first, is_fresh s)) None) (sent_from (first + 1) silo slots)) (cons_option (cond b (Some (first, is_fresh s)) None) (sent_from (first + 1) silo (set slots k slot)))
+    by true later = (refl, (λ was. was, later))
     by false later = later
-
-set_passed : (first k mark : ℕ) (silo : Silo) (slots : List Slot) (slot d : Slot) → k < length slots → slot_to slot ≡ slot_to (get_or slots k d) → is_fresh slot ≡ false
-    → IsPassed mark (sent_from first silo slots) → IsPassed mark (sent_from first silo (set slots k slot))
-set_passed first k mark silo [] slot d below same stale is = absurd (omega arith)
-set_passed first zero mark silo (s ∷ slots) slot d below same stale is =
-    subst (λ to. IsPassed mark (cons_option (cond (is_at (silo_cmp silo) to) (Some (first, is_fresh slot)) None) (sent_from (first + 1) silo slots))) (sym same)
-    (by (is_at (silo_cmp silo) (slot_to s)) mark is)
-  where
-    by : (b : Bool) (m : ℕ) → IsPassed m (cons_option (cond b (Some (first, is_fresh s)) None) (sent_from (first + 1) silo slots))
-        → IsPassed m (cons_option (cond b (Some (first, is_fresh slot)) None) (sent_from (first + 1) silo slots))
-    by false m is = is
-    by true zero is = tt
-    by true (suc m) is = (stale, is.1)
-set_passed first (suc k) mark silo (s ∷ slots) slot d below same stale is =
-    by (is_at (silo_cmp silo) (slot_to s)) mark (λ m. set_passed (first + 1) k m silo slots slot d (omega arith) same stale) is
-  where
-    by : (b : Bool) (m : ℕ) → ((n : ℕ) → IsPassed n (sent_from (first + 1) silo slots) → IsPassed n (sent_from (first + 1) silo (set slots k slot)))
-        → IsPassed m (cons_option (cond b (Some (first, is_fresh s)) None) (sent_from (first + 1) silo slots))
-        → IsPassed m (cons_option (cond b (Some (first, is_fresh s)) None) (sent_from (first + 1) silo (set slots k slot)))
-    by false m later is = later m is
-    by true zero later is = tt
-    by true (suc m) later is = (is.0, later m is.1)
 
 -- what a number's slot says is what is said of the letter
 flags_from : (p : ℕ → Bool) (first : ℕ) (silo : Silo) (slots : List Slot) → ((k : ℕ) (d : Slot) → k < length slots → p (first + k) ≡ is_fresh (get_or slots k d))
@@ -246,78 +212,44 @@ pub fresh_none : (slots : List Slot) (number : ℕ) → (number ≡ 0) ⊎ (leng
 unfolding fresh_at
 fresh_none slots number out = ap is_fresh_in (slot_none 1 number slots (elim out [ inl none ↦ inl (omega arith) | inr behind ↦ inr (omega arith) ]))
 
--- how many stand before the first that passes
-abbrev before_first : (ℕ → Bool) → List ℕ → ℕ
-before_first p numbers = position_or_len p numbers
-
-marked_from_none : (p : ℕ → Bool) (sent : List (ℕ × Bool)) → AllByRecursion (λ (e : ℕ × Bool). p e.0 ≡ e.1) sent → IsMarked (before_first p (map number_part sent)) sent
-marked_from_none p [] says = tt
-marked_from_none p (e ∷ es) says = by (p e.0) says.0 (marked_from_none p es says.1)
+-- from the first fresh one on, by what slots say
+waiting_all : (p : ℕ → Bool) (sent : List (ℕ × Bool)) → AllByRecursion (λ (e : ℕ × Bool). p e.0 ≡ e.1) sent → from_first p (map number_part sent) ≡ waiting sent
+waiting_all p [] says = refl
+waiting_all p (e ∷ es) says = by (p e.0) says.0 (waiting_all p es says.1)
   where
-    more : (n : ℕ) → suc n ≡ 1 + n
-    more n = omega arith
+    by : (b : Bool) → b ≡ e.1 → from_first p (map number_part es) ≡ waiting es → cond b (e.0 ∷ map number_part es) (from_first p (map number_part es)) ≡ waiting (e ∷ es)
+    by true is later = ap (λ c. map number_part (cond c (e ∷ es) (from_first fresh_part es))) is
+    by false is later = later ∙ ap (λ c. map number_part (cond c (e ∷ es) (from_first fresh_part es))) is
 
-    by : (b : Bool) → b ≡ e.1 → IsMarked (before_first p (map number_part es)) es → IsMarked (cond (not b) (1 + before_first p (map number_part es)) 0) (e ∷ es)
-    by true says later = sym says
-    by false says later = subst (λ n. IsMarked n (e ∷ es)) (more (before_first p (map number_part es))) (sym says, later)
-
-none_before : (n : ℕ) → n ≡ 0 + n
-none_before n = omega arith
-
-one_before : (mark n : ℕ) → suc (mark + n) ≡ suc mark + n
-one_before mark n = omega arith
-
-marked_from : (p : ℕ → Bool) (mark : ℕ) (sent : List (ℕ × Bool)) → AllByRecursion (λ (e : ℕ × Bool). p e.0 ≡ e.1) sent → IsPassed mark sent
-    → IsMarked (mark + before_first p (drop mark (map number_part sent))) sent
-marked_from p zero sent says is = subst (λ n. IsMarked n sent) (none_before (before_first p (map number_part sent))) (marked_from_none p sent says)
-marked_from p (suc mark) [] says is = absurd is
-marked_from p (suc mark) (e ∷ es) says is =
-    subst (λ n. IsMarked n (e ∷ es))
-    (one_before mark (before_first p (drop mark (map number_part es))))
-    (is.0, marked_from p mark es says.1 is.1)
-
-nil_from : (sent : List (ℕ × Bool)) → map number_part sent ≡ [] → sent ≡ []
-nil_from [] is = refl
-nil_from (e ∷ es) is = absurd (cc (is))
+waiting_after : (p : ℕ → Bool) (sent now : List (ℕ × Bool)) → AreStaler sent now → AllByRecursion (λ (e : ℕ × Bool). p e.0 ≡ e.1) now → from_first p (waiting sent) ≡ waiting now
+waiting_after p [] [] staler says = refl
+waiting_after p [] (x ∷ xs) staler says = absurd staler
+waiting_after p (e ∷ es) [] staler says = absurd staler
+waiting_after p (e ∷ es) (x ∷ xs) staler says = by e.1 refl (waiting_after p es xs staler.1.1 says.1)
+  where
+    by : (b : Bool) → e.1 ≡ b → from_first p (waiting es) ≡ waiting xs → from_first p (map number_part (cond b (e ∷ es) (from_first fresh_part es))) ≡ waiting (x ∷ xs)
+    by true is later = ap (λ (l : List ℕ). from_first p l) (same_numbers (e ∷ es) (x ∷ xs) staler) ∙ waiting_all p (x ∷ xs) says
+    by false is later = later ∙ ap (λ c. map number_part (cond c (x ∷ xs) (from_first fresh_part xs))) (sym (staler.1.0 is))
 
 pub queued_passed : (slots after : List Slot) (slot d : Slot) (to : Silo) (k : ℕ) (queues now : List (Silo × QueueValue)) → AreQueued slots queues → k < length slots
     → after ≡ set slots k slot → slot_to slot ≡ slot_to (get_or slots k d) → slot_to slot ≡ to → is_fresh slot ≡ false
-    → (queue_of queues to ≡ None → now ≡ queues) → ((queue : QueueValue) → queue_of queues to ≡ Some queue → Puts to (advanced after queue) queues now) → AreQueued after now
-queued_passed slots after slot d to k queues now are below is same for stale none some silo = found (queue_of queues to) refl
+    → (queue_of queues to ≡ None → now ≡ queues) → ((queue : QueueValue) → queue_of queues to ≡ Some queue → Puts to (from_first (fresh_at after) queue) queues now) → AreQueued after now
+queued_passed slots after slot d to k queues now are below is same for stale none some silo =
+    changed (from_first (fresh_at after)) refl to silo queues now (waiting (sent_from 1 silo after)) none some others (λ _. own)
   where
-    others : is_at (silo_cmp to) silo ≡ false → sent_from 1 silo slots ≡ sent_from 1 silo after
-    others other = sym (ap (λ (l : List Slot). sent_from 1 silo l) is ∙ set_others 1 k silo slots slot d below same (ap (is_at (silo_cmp silo)) for ∙ turned silo to ∙ other))
+    others : is_at (silo_cmp to) silo ≡ false → numbers_of (queue_of queues silo) ≡ waiting (sent_from 1 silo after)
+    others at =
+        are silo ∙ sym (ap (λ (l : List Slot). waiting (sent_from 1 silo l)) is
+        ∙ ap (λ (l : List (ℕ × Bool)). waiting l) (set_others 1 k silo slots slot d below same (ap (is_at (silo_cmp silo)) for ∙ turned silo to ∙ at)))
 
-    numbers : (silo : Silo) → map number_part (sent_from 1 silo slots) ≡ map number_part (sent_from 1 silo after)
-    numbers silo = sym (ap (λ (l : List Slot). map number_part (sent_from 1 silo l)) is ∙ set_numbers 1 k silo slots slot d below same)
+    staler : AreStaler (sent_from 1 silo slots) (sent_from 1 silo after)
+    staler = subst (λ (l : List Slot). AreStaler (sent_from 1 silo slots) (sent_from 1 silo l)) (sym is) (set_staler 1 k silo slots slot d below same stale)
 
-    flags : AllByRecursion (λ (e : ℕ × Bool). fresh_at after e.0 ≡ e.1) (sent_from 1 to after)
-    flags = flags_from (fresh_at after) 1 to after (λ j e under. fresh_some after (1 + j) j e under refl)
+    flags : AllByRecursion (λ (e : ℕ × Bool). fresh_at after e.0 ≡ e.1) (sent_from 1 silo after)
+    flags = flags_from (fresh_at after) 1 silo after (λ j e under. fresh_some after (1 + j) j e under refl)
 
-    kept : (b : Bool) → is_at (silo_cmp to) silo ≡ b → queue_of queues to ≡ None → IsQueue (sent_from 1 silo after) (queue_of queues silo)
-    kept false other gone = subst (λ (l : List (ℕ × Bool)). IsQueue l (queue_of queues silo)) (others other) (are silo)
-    kept true own gone =
-        subst (λ (s : Silo). IsQueue (sent_from 1 s after) (queue_of queues s)) (one_silo to silo own)
-        (subst (λ (o : Option QueueValue). IsQueue (sent_from 1 to after) o) (sym gone)
-        (nil_from (sent_from 1 to after) (sym (numbers to) ∙ ap (λ (l : List (ℕ × Bool)). map number_part l) (subst (λ (o : Option QueueValue). IsQueue (sent_from 1 to slots) o) gone (are to)))))
-
-    by : (queue : QueueValue) → queue_of queues to ≡ Some queue → (b : Bool) → is_at (silo_cmp to) silo ≡ b
-        → IsQueue (sent_from 1 silo after) (cond b (Some (advanced after queue)) (queue_of queues silo))
-    by queue there false other = subst (λ (l : List (ℕ × Bool)). IsQueue l (queue_of queues silo)) (others other) (are silo)
-    by queue there true own =
-        let was : IsQueue (sent_from 1 to slots) (Some queue) = subst (λ (o : Option QueueValue). IsQueue (sent_from 1 to slots) o) there (are to) in
-        let numbers_are : queue.numbers ≡ map number_part (sent_from 1 to after) = was.0 ∙ numbers to in
-        subst (λ (s : Silo). IsQueue (sent_from 1 s after) (Some (advanced after queue))) (one_silo to silo own) (
-          numbers_are,
-          subst (λ (l : List ℕ). IsMarked (queue.mark + stale_count after (drop queue.mark l)) (sent_from 1 to after)) (sym numbers_are)
-              (marked_from (fresh_at after) queue.mark (sent_from 1 to after) flags
-              (subst (λ (l : List Slot). IsPassed queue.mark (sent_from 1 to l)) (sym is)
-              (set_passed 1 k queue.mark to slots slot d below same stale (passed queue.mark (sent_from 1 to slots) was.1)))),
-        )
-
-    found : (o : Option QueueValue) → queue_of queues to ≡ o → IsQueue (sent_from 1 silo after) (queue_of now silo)
-    found None gone = subst (λ (l : List (Silo × QueueValue)). IsQueue (sent_from 1 silo after) (queue_of l silo)) (sym (none gone)) (kept (is_at (silo_cmp to) silo) refl gone)
-    found (Some queue) there = subst (λ (o : Option QueueValue). IsQueue (sent_from 1 silo after) o) (sym (some queue there silo)) (by queue there (is_at (silo_cmp to) silo) refl)
+    own : from_first (fresh_at after) (numbers_of (queue_of queues silo)) ≡ waiting (sent_from 1 silo after)
+    own = ap (λ (l : List ℕ). from_first (fresh_at after) l) (are silo) ∙ waiting_after (fresh_at after) (sent_from 1 silo slots) (sent_from 1 silo after) staler flags
 
 -- a delivered letter and a lost one are for whom they were
 pub stale_to : (slot : Slot) → slot_to (stale_slot slot) ≡ slot_to slot

@@ -19,8 +19,7 @@ use std::marker::Model;
 
 /// The letters that were sent and aren't lost, by number from 1. Each is kept short, its grain by number, since a letter stays
 /// until it is lost. The least fresh one to a silo is found at once, however many others are fresh: each silo has a queue of the
-/// letters that were ever sent to it, whose mark, before which none is fresh, only moves forward, but for letters that are taken
-/// back.
+/// letters that were sent to it, from the first fresh one on.
 #[derive(Drop)]
 pub struct Mail {
     alloc: Global,

@@ -1,16 +1,15 @@
-ghost use Rattle.std.specs.Prelude.{◌≡◌, ◌+◌, ◌≤◌, None, Some, IfOk, OnErr, OnOk, drop, length, slice_get};
-ghost use Rattle.letter_mail.specs.Queues.{advanced, first_of, stale_count, with_number, without_number};
+ghost use Rattle.std.specs.Prelude.{◌≡◌, ◌∷◌, ◌++◌, [], Some, IfOk, OnErr, OnOk};
+ghost use Rattle.letter_mail.specs.Queues.{first_of, fresh_at, from_first, without_number};
 
 use crate::slots::{Slot, is_fresh_at};
 use std::alloc::{AllocError, Global};
+use std::collections::VecDeque;
 use std::marker::Model;
 
-// The numbers of all letters that were ever sent to a silo, in the order in which they were sent, and a mark on the first one
-// that is fresh.
+// The numbers of the letters that were sent to a silo, in the order in which they were sent, from the first one on that is fresh.
 #[derive(Drop)]
 pub(crate) struct Queue {
-    numbers: Vec<u64>,
-    mark: usize,
+    numbers: VecDeque<u64>,
 }
 
 impl Model for Queue {
@@ -18,29 +17,27 @@ impl Model for Queue {
 
     ghost Value = { QueueValue };
 
-    ghost use Rattle.letter_mail.specs.QueueModel.{IsWithin, queue_seen};
+    ghost use Rattle.letter_mail.specs.QueueModel.{queue_seen};
 
     ghost view = { queue_seen };
-
-    ghost invariant = { IsWithin };
 }
 
 impl Queue {
     // The first letter to a silo.
     pub(crate) fn of(alloc: Global, number: u64) -> Result<Queue, AllocError>
-        ensures { IfOk result (λ queue. queue ≡ with_number None number) }
+        ensures { IfOk result (λ queue. queue ≡ number ∷ []) }
     {
-        let mut numbers = Vec::new(alloc);
-        numbers.push(number)?;
-        Ok(Queue { numbers, mark: 0 })
+        let mut numbers = VecDeque::new(alloc);
+        numbers.push_back(number)?;
+        Ok(Queue { numbers })
     }
 
     // One more letter.
     pub(crate) fn push(&mut self, number: u64) -> Result<(), AllocError>
-        ensures put { OnOk result (self.new ≡ with_number (Some self.old) number) }
+        ensures put { OnOk result (self.new ≡ self.old ++ number ∷ []) }
         ensures unchanged { OnErr result (self.new ≡ self.old) }
     {
-        self.numbers.push(number)?;
+        self.numbers.push_back(number)?;
         Ok(())
     }
 
@@ -48,34 +45,32 @@ impl Queue {
     pub(crate) fn pop(&mut self)
         ensures { self.new ≡ without_number self.old }
     {
-        let _last = self.numbers.pop();
-        self.mark = self.mark.min(self.numbers.len());
+        let _last = self.numbers.pop_back();
     }
 
-    // The number at the mark, if there is one.
+    // The number of the first fresh letter, if there is one.
     pub(crate) fn first(&self) -> Option<u64>
         ensures { result ≡ first_of (Some self.now) }
     {
-        self.numbers.get(self.mark).copied()
+        self.numbers.front().copied()
     }
 
-    // The mark moves on to the first letter that is fresh.
+    // The numbers go that stand before the first fresh letter.
     pub(crate) fn advance(&mut self, slots: &[Slot])
-        ensures { self.new ≡ advanced slots.now self.old }
+        ensures { self.new ≡ from_first (fresh_at slots.now) self.old }
     {
-        self.mark += stale_count(slots, &self.numbers[self.mark..]);
+        drop_stale(slots, &mut self.numbers);
     }
 }
 
-// How many numbers stand before the first one whose letter is fresh.
-fn stale_count(slots: &[Slot], numbers: &[u64]) -> usize
-    ensures exact { result ≡ stale_count slots.now numbers.now }
-    ensures within { result ≤ length numbers.now }
+// The numbers go that stand before the first one whose letter is fresh.
+fn drop_stale(slots: &[Slot], numbers: &mut VecDeque<u64>)
+    ensures { numbers.new.items ≡ from_first (fresh_at slots.now) numbers.old.items }
 {
-    for (count, number) in numbers.iter().enumerate() {
+    while let Some(number) = numbers.front() {
         if is_fresh_at(slots, *number) {
-            return count;
+            return;
         }
+        let _stale = numbers.pop_front();
     }
-    numbers.len()
 }

@@ -1,5 +1,5 @@
 ghost use Rattle.std.specs.Prelude.{◌≡◌, None, Some, OnErr, OnOk};
-ghost use Rattle.letter_mail.specs.Queues.{Puts, QueueValue, advanced, first_of, queue_of, with_number, without_number};
+ghost use Rattle.letter_mail.specs.Queues.{Puts, QueueValue, first_of, fresh_at, from_first, queue_of, with_number, without_number};
 
 use crate::queue::Queue;
 use crate::slots::Slot;
@@ -61,14 +61,14 @@ pub(crate) fn dequeue(queues: &mut BTreeMap<SiloAddress, Queue>, silo: &SiloAddr
     }
 }
 
-// The mark of the silo's queue moves on.
+// The silo's queue moves on to the first fresh letter.
 pub(crate) fn advance_at(
     slots: &[Slot],
     queues: &mut BTreeMap<SiloAddress, Queue>,
     silo: &SiloAddress,
 )
     ensures none { queue_of queues.old.entries silo.now ≡ None → queues.new.entries ≡ queues.old.entries }
-    ensures some { (queue : QueueValue) → queue_of queues.old.entries silo.now ≡ Some queue → Puts silo.now (advanced slots.now queue) queues.old.entries queues.new.entries }
+    ensures some { (queue : QueueValue) → queue_of queues.old.entries silo.now ≡ Some queue → Puts silo.now (from_first (fresh_at slots.now) queue) queues.old.entries queues.new.entries }
 {
     if let Some(queue) = queues.get_mut(silo) {
         queue.advance(slots);
