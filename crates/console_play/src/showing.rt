@@ -121,11 +121,10 @@ fn show_ranges(alloc: Global, world: &World, out: &mut Vec<u8>) -> Result<(), Al
         return write_no_owner(out);
     }
     let ranges = ring.owned_ranges(alloc)?;
-    show_each_range(alloc, world, ranges.as_slice(), out)
+    show_each_range(world, ranges.as_slice(), out)
 }
 
 fn show_each_range(
-    alloc: Global,
     world: &World,
     ranges: &[(RingRange, SiloAddress)],
     out: &mut Vec<u8>,
@@ -134,14 +133,13 @@ fn show_each_range(
     ensures kept { BeginsWith out.old.items out.new.items }
 {
     for row in ranges {
-        show_range(alloc, world, &row.0, &row.1, out)?;
+        show_range(world, &row.0, &row.1, out)?;
     }
     Ok(())
 }
 
 // A range and its owner.
 fn show_range(
-    alloc: Global,
     world: &World,
     range: &RingRange,
     owner: &SiloAddress,
@@ -151,13 +149,12 @@ fn show_range(
     ensures kept { BeginsWith out.old.items out.new.items }
 {
     laws::lines_are_of_the_world();
-    let entries = settled_entries(alloc, world, range, owner)?;
+    let entries = settled_entries(world, range, owner)?;
     write_range(out, range, owner, entries)
 }
 
 // How many entries a range has at its owner, where it is settled there.
 fn settled_entries(
-    alloc: Global,
     world: &World,
     range: &RingRange,
     owner: &SiloAddress,
@@ -170,11 +167,7 @@ fn settled_entries(
     if node.view().version() != world.current() {
         return Ok(None);
     }
-    if !node.holding().is_settled_throughout(range) {
-        return Ok(None);
-    }
-    let entries = node
-        .holding()
-        .count_within(alloc, world.settings().hashing(), range)?;
-    Ok(Some(entries))
+    world.tidy(owner);
+    node.holding()
+        .settled_entries(world.settings().hashing(), range)
 }

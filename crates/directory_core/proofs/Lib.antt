@@ -1,5 +1,6 @@
 pub mod Entries
 pub mod Kept
 pub mod Made
+pub mod Tidied
 pub mod Happening
 pub mod Running

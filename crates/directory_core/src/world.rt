@@ -1,5 +1,5 @@
 ghost use Rattle.std.specs.Map.Iter.{ShowsInOrder, deref_pair};
-ghost use Rattle.std.specs.Prelude.{◌≡◌, IfOk, IfSome};
+ghost use Rattle.std.specs.Prelude.{◌≡◌, IfOk, IfSome, true};
 ghost use Rattle.std.specs.Option.{option_copied, option_map};
 ghost use Rattle.silo_address.specs.Silo.{Silo};
 ghost use Rattle.hash_ring.specs.Owner.{owner_of};
@@ -10,6 +10,7 @@ ghost use Rattle.directory_rules.specs.Happens.{node_of};
 ghost use Rattle.directory_rules.specs.Mail.{letter_of};
 ghost use Rattle.directory_rules.specs.World.{current_ring};
 ghost use Rattle.directory_rules.specs.Happens.{least_deliverable};
+ghost use Rattle.grain_partition.specs.Holding.{are_tidy};
 ghost use Rattle.letter_mail.specs.Mail.{has_fresh, least_fresh_to};
 ghost use Rattle.letter_mail.specs.MailedModel.{letter_seen};
 ghost use Rattle.directory_core.specs.Mailing.{mail_of};
@@ -215,6 +216,14 @@ impl World {
         ensures { IsWorld self.now }
     {
         let _accepted = self.accepted;
+    }
+
+    /// A law: each entry of a silo's pieces is hashed into the range of its piece.
+    pub fn tidy(&self, silo: &SiloAddress)
+        ensures { IfSome (node_of self.now silo.now) (λ node. are_tidy self.now.settings.hashing node.holding.pieces ≡ true) }
+    {
+        let _silo = silo;
+        self.whole();
     }
 
     /// A law: the headline holds of every world, and each event that a world accepts is one step of the plain machine

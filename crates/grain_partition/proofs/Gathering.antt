@@ -22,9 +22,8 @@ use Rattle.grain_table.proofs.ByGrain.{IsTable, nothing_is_table, same_tables}
 use Rattle.grain_table.proofs.Filters.{entries_passed, passed_is_table}
 use Rattle.grain_table.proofs.HashesBelow.{grain_below}
 use Rattle.grain_table.proofs.Put.{found_all, put_in, put_in_is_table}
-use Rattle.grain_partition.specs.Holding.{ArePieces}
+use Rattle.grain_partition.specs.Holding.{ArePieces, are_tidy}
 use Rattle.grain_partition.specs.Search.{SettlesAt}
-use Rattle.grain_partition.specs.Staying.{are_tidy}
 use Rattle.grain_partition.proofs.Around.{below-holds, holds-below}
 use Rattle.grain_partition.proofs.ServedFrom.{found_with}
 use Rattle.grain_partition.proofs.SettledHashes.{none_settles, with_has, with_settles}

@@ -16,4 +16,5 @@ pub mod StayedPieces
 pub mod Gathering
 pub mod Foreseen
 pub mod Listing
+pub mod Counted
 pub mod BySilo

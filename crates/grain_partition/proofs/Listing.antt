@@ -24,9 +24,8 @@ use Rattle.grain_table.proofs.HashesBelow.{grain_below}
 use Rattle.grain_table.proofs.Listed.{values_kept}
 use Rattle.grain_table.proofs.Put.{put_in_is_table}
 use Rattle.grain_table.proofs.Sorting.{sorted_again}
-use Rattle.grain_partition.specs.Holding.{ArePieces}
+use Rattle.grain_partition.specs.Holding.{ArePieces, are_tidy}
 use Rattle.grain_partition.specs.Search.{SettlesAt}
-use Rattle.grain_partition.specs.Staying.{are_tidy}
 use Rattle.grain_partition.proofs.Gathering.{settles_at}
 use Rattle.grain_partition.proofs.ServedFrom.{found_with}
 use Rattle.grain_partition.proofs.Tidy.{kept_of_part}
@@ -45,7 +44,7 @@ module _ (p q r : Entry → Bool) (one : (e : Entry) → r e ≡ cond (p e) true
       by false true is other rest = IsPermutation-trans _ _ _ (IsPermutation-cons e _ _ rest) (IsPermutation-sym _ _ (IsPermutation-middle (filter p es) e (filter q es)))
       by false false is other rest = rest
 
-same_picked : (p q : Entry → Bool) → ((e : Entry) → p e ≡ q e) → (es : List Entry) → filter p es ≡ filter q es
+pub same_picked : (p q : Entry → Bool) → ((e : Entry) → p e ≡ q e) → (es : List Entry) → filter p es ≡ filter q es
 same_picked p q same [] = refl
 same_picked p q same (e ∷ es) = λ i. cond (same e i) (e ∷ same_picked p q same es i) (same_picked p q same es i)
 

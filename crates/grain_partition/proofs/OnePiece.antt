@@ -34,10 +34,10 @@ module _ {X : Type 0} where
     abbrev pub passing : List (ℕ × X) → ℕ
     passing es = count_by (λ e. p e.1) es
 
-    counted : (e : ℕ × X) (es : List (ℕ × X)) → passing (e ∷ es) ≡ cond (p e.1) 1 0 + passing es
+    pub counted : (e : ℕ × X) (es : List (ℕ × X)) → passing (e ∷ es) ≡ cond (p e.1) 1 0 + passing es
     counted e es = sum_by-cons (λ (x : ℕ × X). cond (p x.1) 1 0) e es
 
-    one_for : (b : Bool) → b ≡ true → cond {A = ℕ} b 1 0 ≡ 1
+    pub one_for : (b : Bool) → b ≡ true → cond {A = ℕ} b 1 0 ≡ 1
     one_for b is = ap (λ c. cond c 1 0) is
 
     -- what is found and passes is counted

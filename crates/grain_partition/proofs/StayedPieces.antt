@@ -25,9 +25,9 @@ use Rattle.directory_rules.specs.Piece.{Piece}
 use Rattle.directory_rules.specs.Sight.{is_owner, is_settled, kept_entries, missing_state, piece_of, pieces_after, was_settled}
 use Rattle.directory_rules.specs.Table.{Table}
 use Rattle.directory_rules.proofs.Pieces.{piece_range}
-use Rattle.grain_partition.specs.Holding.{ArePieces}
+use Rattle.grain_partition.specs.Holding.{ArePieces, are_tidy}
 use Rattle.grain_partition.specs.Sight.{AreApart}
-use Rattle.grain_partition.specs.Staying.{are_tidy, covers, left_of, piece_made, pieces_made, put_back, staying, stays_as, with_staying}
+use Rattle.grain_partition.specs.Staying.{covers, left_of, piece_made, pieces_made, put_back, staying, stays_as, with_staying}
 use Rattle.grain_partition.proofs.Around.{below-holds, holds-below}
 use Rattle.grain_partition.proofs.FromArcs.{made, sorted_made}
 use Rattle.grain_partition.proofs.OnePiece.{at_lookup}

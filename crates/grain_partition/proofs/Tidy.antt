@@ -19,12 +19,12 @@ use Rattle.directory_rules.specs.Piece.{Piece}
 use Rattle.directory_rules.specs.Sight.{all_entries, is_kept, kept_entries}
 use Rattle.directory_rules.specs.Table.{entries_of, lie_in, with_entry}
 use Rattle.directory_rules.proofs.Cases.{on_bool}
+use Rattle.grain_table.proofs.Counted.{all_pass}
 use Rattle.grain_table.proofs.ByGrain.{IsTable, nothing_is_table}
 use Rattle.grain_table.proofs.Filters.{kept_of}
 use Rattle.grain_table.proofs.HashesBelow.{grain_below}
 use Rattle.grain_table.proofs.Put.{put_in_is_table}
-use Rattle.grain_partition.specs.Holding.{ArePieces}
-use Rattle.grain_partition.specs.Staying.{are_tidy}
+use Rattle.grain_partition.specs.Holding.{ArePieces, are_tidy}
 use Rattle.grain_partition.proofs.OnePiece.{by_entry, found_counts, passing}
 use Rattle.grain_partition.proofs.Within.{put_within, within-fold, within_range}
 
@@ -35,15 +35,8 @@ module _ (hashing : Hashing) (range : Range) where
   abbrev entries_in : List (ℕ × Piece) → List Entry
   entries_in pieces = flat_map (λ e. entries_of e.1.entries) pieces
 
-  -- entries that lie in the range all pass
-  all_pass : (entries : List Entry) → lie_in hashing range entries ≡ true → filter is_within entries ≡ entries
-  all_pass [] lie = refl
-  all_pass (e ∷ entries) lie =
-      let so = both (is_within e) (lie_in hashing range entries) lie in
-      ap (λ b. cond b (e ∷ filter is_within entries) (filter is_within entries)) so.0 ∙ ap (λ l. e ∷ l) (all_pass entries so.1)
-
   -- those that lie in another that has no hash of it all fail
-  none_pass : (other : Range) → ((hash : ℕ) → hash < circle → holds other hash ≡ true → holds range hash ≡ false) → (entries : List Entry) → lie_in hashing other entries ≡ true
+  pub none_pass : (other : Range) → ((hash : ℕ) → hash < circle → holds other hash ≡ true → holds range hash ≡ false) → (entries : List Entry) → lie_in hashing other entries ≡ true
       → filter is_within entries ≡ []
   none_pass other apart [] lie = refl
   none_pass other apart (e ∷ entries) lie =
@@ -115,7 +108,7 @@ module _ (hashing : Hashing) (range : Range) where
       → lookup (is_at (nat_cmp k)) es ≡ Some piece → filter is_within (entries_in es) ≡ entries_of piece.entries
   of_one k piece same es tidy once found =
       of_part k piece (λ hash below held. ap (λ r. holds r hash) same ∙ held) es tidy once found
-      ∙ all_pass (entries_of piece.entries) (subst (λ r. lie_in hashing r (entries_of piece.entries) ≡ true) same (lies_there k piece es tidy found))
+      ∙ all_pass hashing range (entries_of piece.entries) (subst (λ r. lie_in hashing r (entries_of piece.entries) ≡ true) same (lies_there k piece es tidy found))
 
 -- what is kept of a table: what lies in the range, and then what is living
 pub kept_in_steps : (hashing : Hashing) (view : ViewValue) (range : Range) (piece : Piece) → fold with_entry [] (entries_of piece.entries) ≡ piece.entries
@@ -124,25 +117,27 @@ kept_in_steps hashing view range piece again =
     kept_of hashing view range piece.entries (subst IsTable again (put_in_is_table [] (entries_of piece.entries) nothing_is_table))
     ∙ ap (filter (λ e. is_kept hashing view range e.1)) (sym again ∙ ap (fold with_entry []) (sym (append-nil (entries_of piece.entries))))
 
+-- what of all entries lies in the range is what lies there of each piece, put together
+pub by_range : (hashing : Hashing) (range : Range) (pieces : List (ℕ × Piece))
+    → filter (λ e. within_range hashing range e.0) (all_entries pieces) ≡ fold with_entry [] (filter (λ e. within_range hashing range e.grain) (flat_map (λ e. entries_of e.1.entries) pieces))
+by_range hashing range pieces =
+    within-fold hashing range (flat_map (λ e. entries_of e.1.entries) pieces) [] (sorted-nil grain_cmp)
+    ∙ sym (put_within hashing range (flat_map (λ e. entries_of e.1.entries) pieces) [])
+
+-- what is kept of all entries: what lies in the range, and then what is living
+pub kept_by_steps : (hashing : Hashing) (view : ViewValue) (range : Range) (pieces : List (ℕ × Piece))
+    → filter (λ e. not (is_dead_in view e.1.activation.silo)) (filter (λ e. within_range hashing range e.0) (all_entries pieces)) ≡ kept_entries hashing view pieces range
+kept_by_steps hashing view range pieces = kept_of hashing view range (all_entries pieces) (put_in_is_table [] (flat_map (λ e. entries_of e.1.entries) pieces) nothing_is_table)
+
 -- what is kept of a range that a piece has
 pub kept_of_part : (hashing : Hashing) (view : ViewValue) (pieces : List (ℕ × Piece)) → ArePieces pieces → are_tidy hashing pieces ≡ true → (range : Range) (k : ℕ) (piece : Piece)
     → lookup (is_at (nat_cmp k)) pieces ≡ Some piece → ((hash : ℕ) → hash < circle → holds range hash ≡ true → holds piece.range hash ≡ true)
     → kept_entries hashing view ((0, piece) ∷ []) range ≡ kept_entries hashing view pieces range
 kept_of_part hashing view pieces are tidy range k piece found inside =
-    sym (kept_by_steps ((0, piece) ∷ []))
+    sym (kept_by_steps hashing view range ((0, piece) ∷ []))
     ∙ ap (filter (λ e. not (is_dead_in view e.1.activation.silo)))
-    (by_range ((0, piece) ∷ [])
+    (by_range hashing range ((0, piece) ∷ [])
     ∙ ap (fold with_entry [])
     (ap (filter (λ e. within_range hashing range e.grain)) (append-nil (entries_of piece.entries)) ∙ sym (of_part hashing range k piece inside pieces tidy are.once found))
-    ∙ sym (by_range pieces))
-    ∙ kept_by_steps pieces
-  where
-    by_range : (pieces : List (ℕ × Piece))
-        → filter (λ e. within_range hashing range e.0) (all_entries pieces) ≡ fold with_entry [] (filter (λ e. within_range hashing range e.grain) (flat_map (λ e. entries_of e.1.entries) pieces))
-    by_range pieces =
-        within-fold hashing range (flat_map (λ e. entries_of e.1.entries) pieces) [] (sorted-nil grain_cmp)
-        ∙ sym (put_within hashing range (flat_map (λ e. entries_of e.1.entries) pieces) [])
-
-    kept_by_steps : (pieces : List (ℕ × Piece))
-        → filter (λ e. not (is_dead_in view e.1.activation.silo)) (filter (λ e. within_range hashing range e.0) (all_entries pieces)) ≡ kept_entries hashing view pieces range
-    kept_by_steps pieces = kept_of hashing view range (all_entries pieces) (put_in_is_table [] (flat_map (λ e. entries_of e.1.entries) pieces) nothing_is_table)
+    ∙ sym (by_range hashing range pieces))
+    ∙ kept_by_steps hashing view range pieces

@@ -19,7 +19,6 @@ use Rattle.ring_range.specs.Range.{Range, holds}
 use Rattle.hash_ring.specs.declared.Hashing.{Hashing}
 use Rattle.hash_ring.specs.Hash.{hash_grain}
 use Rattle.directory_rules.specs.Piece.{Piece}
-use Rattle.directory_rules.specs.Sight.{is_settled, settled_pieces}
 use Rattle.directory_rules.specs.Table.{Table, entries_of, with_entry}
 
 module _ {K X : Type 0} {R : K → K → Ordering} (o : IsTotalOrder R) (exact : CmpEqualImpliesEq R) (p : K → Bool) where
@@ -125,14 +124,3 @@ module _ (hashing : Hashing) (range : Range) where
   one_piece_more start piece rest table new put =
       ap (λ t. fold (with_within hashing range) t (flat_map (λ e. entries_of e.1.entries) rest)) (put ∙ put_within (entries_of piece.entries) table)
       ∙ sym (fold_behind (entries_of piece.entries) (flat_map (λ e. entries_of e.1.entries) rest) table)
-
-  abbrev all_of : List (ℕ × Piece) → List Entry
-  all_of pieces = flat_map (λ e. entries_of e.1.entries) (settled_pieces pieces)
-
-  -- the entries of one settled piece more
-  pub one_more_within : (start : ℕ) (piece : Piece) (rest : List (ℕ × Piece)) → is_settled piece.state ≡ true → (table new : Table)
-      → new ≡ fold with_entry table (filter (λ e. within_range hashing range e.grain) (entries_of piece.entries))
-      → fold (with_within hashing range) new (all_of rest) ≡ fold (with_within hashing range) table (all_of ((start, piece) ∷ rest))
-  one_more_within start piece rest settled table new put =
-      one_piece_more start piece (settled_pieces rest) table new put
-      ∙ ap (λ b. fold (with_within hashing range) table (flat_map (λ e. entries_of e.1.entries) (cond b ((start, piece) ∷ settled_pieces rest) (settled_pieces rest)))) (sym settled)

@@ -1,6 +1,5 @@
 -- Steps of private functions at a sight: which pieces stay, and how they get what they had.
 use Rattle.std.specs.Prelude.{ℕ, ◌&&◌, nat_le, Bool, false, if◌then◌else◌, List, [], ◌∷◌, Option, Some, None, map, filter}
-use Rattle.std.specs.List.{list_all}
 use Rattle.std.specs.Ordering.{nat_cmp}
 use Rattle.std.specs.Map.{lookup, set_value}
 use Rattle.std.specs.BTreeMap.{is_at}
@@ -12,11 +11,6 @@ use Rattle.range_moves.specs.declared.Arc.{Arc}
 use Rattle.directory_rules.specs.declared.PieceState.TheVariants.{Settled}
 use Rattle.directory_rules.specs.Piece.{Piece}
 use Rattle.directory_rules.specs.Sight.{is_owner, is_settled, kept_entries, piece_of}
-use Rattle.directory_rules.specs.Table.{entries_of, lie_in}
-
--- whether each piece's entries are hashed into its range
-abbrev pub are_tidy : Hashing → List (ℕ × Piece) → Bool
-are_tidy hashing pieces = list_all (λ e. lie_in hashing e.1.range (entries_of e.1.entries)) pieces
 
 -- whether the piece is settled, and has every hash of a range that begins where it does
 abbrev pub covers : Range → Piece → Bool

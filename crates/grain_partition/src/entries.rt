@@ -1,10 +1,9 @@
 //! Entries of pieces in one table.
 ghost use Rattle.std.specs.Prelude.{◌≡◌, filter, true, IfOk};
-ghost use Rattle.directory_rules.specs.Sight.{all_entries, kept_entries, settled_pieces, was_settled};
+ghost use Rattle.directory_rules.specs.Sight.{all_entries, kept_entries, was_settled};
 ghost use Rattle.hash_ring.specs.Hash.{hash_grain};
 ghost use Rattle.ring_range.specs.Range.{holds};
-ghost use Rattle.grain_partition.specs.Holding.{ArePieces};
-ghost use Rattle.grain_partition.specs.Staying.{are_tidy};
+ghost use Rattle.grain_partition.specs.Holding.{ArePieces, are_tidy};
 
 use crate::Piece;
 use crate::search::piece_with;
@@ -95,23 +94,4 @@ fn all_within(
         all = all.with_all_within(alloc, piece.entries(), range)?;
     }
     Ok(all)
-}
-
-/// Those entries of the settled pieces whose grains are hashed into the range. Fails only when memory runs out.
-pub(crate) fn entries_within(
-    alloc: Global,
-    pieces: &BTreeMap<u32, Piece>,
-    hashing: Hashing,
-    range: &RingRange,
-) -> Result<Table, AllocError>
-    ensures { IfOk result (λ within. within.entries ≡ filter (λ e. holds range.now (hash_grain hashing e.0)) (all_entries (settled_pieces pieces.now.entries))) }
-{
-    let mut within = Table::new(alloc, hashing);
-    'pieces: for (_, piece) in pieces {
-        if !piece.is_settled() {
-            continue;
-        }
-        within = within.with_all_within(alloc, piece.entries(), range)?;
-    }
-    Ok(within)
 }

@@ -3,6 +3,7 @@
 #![tactic(auto)]
 
 mod by_silo;
+mod counting;
 mod entries;
 mod holding;
 mod listed;

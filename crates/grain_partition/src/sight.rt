@@ -4,9 +4,9 @@ ghost use Rattle.std.specs.Prelude.{◌≡◌, IfOk, OnOk, OnErr};
 ghost use Rattle.std.specs.BTreeMap.{insert_entry};
 ghost use Rattle.std.specs.Ordering.{nat_cmp};
 ghost use Rattle.directory_rules.specs.Sight.{is_owner, missing_state, piece_of, pieces_after};
-ghost use Rattle.grain_partition.specs.Holding.{ArePieces};
+ghost use Rattle.grain_partition.specs.Holding.{ArePieces, are_tidy};
 ghost use Rattle.grain_partition.specs.Sight.{AreApart};
-ghost use Rattle.grain_partition.specs.Staying.{are_tidy, piece_made, pieces_made};
+ghost use Rattle.grain_partition.specs.Staying.{piece_made, pieces_made};
 
 use crate::Piece;
 use crate::entries::kept_entries;

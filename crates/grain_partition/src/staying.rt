@@ -1,6 +1,7 @@
 //! Pieces that stay at a sight: they keep their tables.
 ghost use Rattle.std.specs.Prelude.{◌≡◌, fold};
-ghost use Rattle.grain_partition.specs.Staying.{are_tidy, put_back, stays, with_staying};
+ghost use Rattle.grain_partition.specs.Holding.{are_tidy};
+ghost use Rattle.grain_partition.specs.Staying.{put_back, stays, with_staying};
 
 use crate::Piece;
 use hash_ring::Hashing;

@@ -2,6 +2,7 @@ pub mod Order
 pub mod ByGrain
 pub mod Taken
 pub mod Count
+pub mod Counted
 pub mod Turning
 pub mod Put
 pub mod Filters

@@ -6,6 +6,7 @@ ghost use Rattle.directory_rules.specs.Recovery.{with_reported};
 ghost use Rattle.directory_rules.specs.Table.{entries_of, entry_at, with_entry, without_grain};
 ghost use Rattle.grain_table.specs.Hashed.{IsKeyOf};
 
+mod count;
 mod keep;
 mod list;
 mod lying;

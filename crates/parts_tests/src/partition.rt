@@ -145,11 +145,14 @@ fn requests_and_replies(rt: HostRuntime) {
     }
 }
 
-// The range is settled throughout, and has so many entries.
-fn check_within(rt: &impl Abort, alloc: Global, holding: &Holding, text: &str, count: usize) {
+// The range has so many entries, where it is settled throughout.
+fn check_within(rt: &impl Abort, holding: &Holding, text: &str, count: Option<usize>) {
     let range = range(rt, text);
-    assert!(rt; holding.is_settled_throughout(&range), "{text}");
-    let found = holding.count_within(alloc, Hashing::Stated, &range);
+    assert!(rt;
+        holding.is_settled_throughout(&range) == count.is_some(),
+        "{text}"
+    );
+    let found = holding.settled_entries(Hashing::Stated, &range);
     assert!(rt; found == Ok(count), "{text}");
 }
 
@@ -160,10 +163,11 @@ fn entries_at_newer_views(rt: HostRuntime) {
     let at_2 = of_a(&rt, alloc);
     let at_3 = sees(&rt, alloc, &at_2, A, (2, 3));
     let at_4 = sees(&rt, alloc, &at_3, A, (3, 4));
-    check_within(&rt, alloc, &at_2, "10+90", 3);
-    check_within(&rt, alloc, &at_3, "10+50", 2);
-    check_within(&rt, alloc, &at_4, "10+50", 1);
-    assert!(rt; !at_3.is_settled_throughout(&range(&rt, "10+51")));
+    check_within(&rt, &at_2, "10+90", Some(3));
+    check_within(&rt, &at_2, "60+40", Some(1));
+    check_within(&rt, &at_3, "10+50", Some(2));
+    check_within(&rt, &at_3, "10+51", None);
+    check_within(&rt, &at_4, "10+50", Some(1));
     let piece = at_4.piece_with(50).expect(&rt, "a piece has 50");
     assert!(rt; piece.find(&grain(&rt, ANN)) == Some(entry(&rt, (ANN, A, 1))));
 }

@@ -202,18 +202,7 @@ fn check_served(rt: &impl Abort, alloc: Global, grains: &[&str], count: usize) {
         let want = Reply::Registered(entry(rt, (text, B, 1)));
         serve(rt, &mut holding, &request, &want);
     }
-    assert!(rt; count_of(rt, alloc, &holding) == count);
-}
-
-fn count_of(rt: &impl Abort, alloc: Global, holding: &Holding) -> usize {
-    let circle = range(rt, "0+4294967296");
-    match holding.count_within(alloc, Hashing::Stated, &circle) {
-        Ok(count) => count,
-        Err(_) => {
-            let count = holding.count_within(alloc, Hashing::Stated, &circle);
-            count.expect(rt, "memory")
-        }
-    }
+    check_piece(rt, &holding, "10+4294967296", count);
 }
 
 // The piece needs memory at the first request, whose sender has no number yet.

@@ -146,6 +146,7 @@ fn entries_of_a_range(rt: HostRuntime) {
 
 // Of the table just these are hashed into the range, put elsewhere or left where they are.
 fn check_within(rt: &impl Abort, alloc: Global, table: &Table, range: &RingRange, want: &[u64]) {
+    assert!(rt; table.count_within(Hashing::Stated, range) == want.len());
     let within = Table::new(alloc, Hashing::Stated).with_all_within(alloc, table, range);
     assert_counts(rt, alloc, &within.expect(rt, "memory"), want);
     let mut left = table.copy().expect(rt, "memory");

@@ -1,5 +1,5 @@
 use Rattle.std.proofs.Common.{◌≡◌}
-use Rattle.grain_partition.specs.Staying.{are_tidy}
+use Rattle.grain_partition.specs.Holding.{are_tidy}
 use Rattle.grain_partition.proofs.staying.are_tidy.Given as goal
 
 -- all are tidy exactly where the rest are
