@@ -46,8 +46,9 @@ no_end depth (Token.bad ∷ ts) d r e = refl
 text_at : (ts : List Token) (s : List ℕ) (r : List Token) → ts ≡ Token.string s ∷ r → IsAt 0 ts (string s) r
 text_at ts s r is = λ depth deep. ap (converted of_json) (ap (value depth) is ∙ value_is depth (Token.string s ∷ r))
 
-pub text_told : {X : Type 0} (reads : Data → Option X) (ts : List Token) (s : List ℕ) (r : List Token) (x : X) → ts ≡ Token.string s ∷ r → reads (string s) ≡ Some x → Tells reads 0 ts x r
-text_told reads ts s r x is told = (string s, text_at ts s r is, told)
+-- a string, of which the code reads what is lent
+pub text_told : {X : Type 0} (reads : Data → Option X) (ts : List Token) (s lent : List ℕ) (r : List Token) (x : X) → ts ≡ Token.string s ∷ r → lent ≡ s → reads (string lent) ≡ Some x → Tells reads 0 ts x r
+text_told reads ts s lent r x is same told = (string s, text_at ts s r is, sym (ap (λ text. reads (string text)) same) ∙ told)
 
 number_at : (ts : List Token) (s : List ℕ) (r : List Token) (n : ℕ) → ts ≡ Token.number s ∷ r → number_of s ≡ Some (unsigned n) → IsAt 0 ts (number (unsigned n)) r
 number_at ts s r n is told =

@@ -1,21 +1,35 @@
--- What bytes without spaces and escapes begin with, as tokens.
-use Rattle.std.proofs.Common.{◌≡◌, ℕ, ◌<◌, ◌^◌, List, [], ◌∷◌, ◌++◌, decimal, Some, refl, sym, ap, ap₂, ◌∙◌, subst, inl, inr, ◌⊎◌}
+-- What bytes begin with, as tokens.
+use Rattle.std.proofs.Common.{◌≡◌, ◌+◌, length, cond, arith, append-nil, take, drop, get_or, ◌-◌, ℕ, ◌<◌, ◌^◌, List, [], ◌∷◌, ◌++◌, decimal, Some, refl, sym, ap, ap₂, ◌∙◌, subst, inl, inr, ◌⊎◌}
 use Rattle.std.specs.Bool.{OnTrue}
 use Rattle.std.specs.Borrow.{Bor}
 use Rattle.std.specs.Prelude.{Option, None, IfSome, Bool, true, false, not, nat_le, ◌≢◌, ◌==◌, ◌&&◌, ◌||◌}
 use Rattle.std.specs.List.{list_all}
-use Rattle.std.proofs.lemmas.Bool.{and_parts, eqb-false, eqb-true, leb-true, or_cases}
+use Rattle.std.proofs.lemmas.List.{drop_more, take-append-drop, take_rest}
+use Rattle.std.proofs.lemmas.Bool.{and_parts, eqb-false, eqb-true, le-ltb, leb-true, ne_eqb, or_cases}
 use Rattle.json.specs.Token.{Token, begin_object, end_object, begin_array, end_array, key, string, number}
-use Rattle.json.specs.Text.{content, plain}
-use Rattle.json.specs.Word.{ends_word}
-use Rattle.json.specs.Lex.{Lexeme, token, string_token, lex, between, in_string, begins_colon, punctuate}
+use Rattle.json.specs.Text.{content, plain, prepend, short_escape}
+use Rattle.json.specs.Word.{ends_word, is_operator, is_space}
+use Rattle.json.specs.Lex.{Lexeme, Mode, lex_byte, operator, space, other, token, string_token, lex, between, in_string, begins_colon, punctuate}
 use Rattle.json.specs.Print.{escape}
 use Rattle.json.proofs.Printed.Strings.{escape_byte_plain, content-escape, lex-escape}
 use Rattle.json.proofs.Printed.Numbers.{lex-number}
 use Rattle.json.proofs.Printed.Decimals.{IsNumber-decimal}
 use Rattle.rebuild_checker.specs.declared.plain_text.Place.{Place}
 use Rattle.rebuild_checker.specs.declared.plain_text.Place.TheVariants.{Fresh, AfterValue}
-use Rattle.rebuild_checker.specs.PlainText.{IsBegun, begun_at, ends_value, is_plain_byte, place_of, tokens_at}
+use Rattle.rebuild_checker.specs.PlainText.{IsBegun, IsNamed, IsQuoted, StandsFor, behind_blanks, ends_at_once, begun_at, keeps_its_meaning, ends_value, is_plain_byte, place_of, tokens_at}
+
+-- ---- one byte of three
+module _ (P : ℕ → Type 0) (a b c : ℕ) (at_a : P a) (at_b : P b) (at_c : P c) where
+  one_of : (byte : ℕ) → ((byte == a) || (byte == b) || (byte == c)) ≡ true → P byte
+  one_of byte is = go (or_cases ((byte == a) || (byte == b)) (byte == c) is)
+    where
+      first : ((byte == a) ≡ true) ⊎ ((byte == b) ≡ true) → P byte
+      first (inl e) = subst P (sym (eqb-true byte a e)) at_a
+      first (inr e) = subst P (sym (eqb-true byte b e)) at_b
+
+      go : (((byte == a) || (byte == b)) ≡ true) ⊎ ((byte == c) ≡ true) → P byte
+      go (inl e) = first (or_cases (byte == a) (byte == b) e)
+      go (inr e) = subst P (sym (eqb-true byte c e)) at_c
 
 -- ---- strings
 apart : (x y : ℕ) → not (x == y) ≡ true → x ≢ y
@@ -41,32 +55,109 @@ string_lexed s r are =
     (ap (λ t. content plain (t ++ 34 ∷ r)) same ∙ content-escape s r)
     (ap (λ t. lex in_string (t ++ 34 ∷ r)) same ∙ lex-escape s r)
 
--- ---- what comes behind a value
-module _ (P : ℕ → Type 0) (at_comma : P 44) (at_bracket : P 93) (at_brace : P 125) where
-  one_of : (byte : ℕ) → ((byte == 44) || (byte == 93) || (byte == 125)) ≡ true → P byte
-  one_of byte is = go (or_cases ((byte == 44) || (byte == 93)) (byte == 125) is)
+pub cut_quoted : (bytes : List ℕ) (end : ℕ) → end < length bytes → get_or bytes end 0 ≡ 34 → list_all is_plain_byte (take end bytes) ≡ true
+    → IsQuoted bytes (take end bytes) (take (length bytes - (end + 1)) (drop (end + 1) bytes))
+cut_quoted bytes end within mark are =
+    let behind = drop_more bytes end 0 within ∙ ap (λ byte. byte ∷ drop (end + 1) bytes) mark in
+    ap (λ b. lex between (34 ∷ b)) (sym (take-append-drop end bytes) ∙ ap (λ back. take end bytes ++ back) behind)
+    ∙ string_lexed (take end bytes) (drop (end + 1) bytes) are
+    ∙ ap (λ b. token (string (take end bytes)) ∷ lex between b) (sym (take_rest bytes (end + 1)))
+
+-- ---- bytes of a string, one after another
+-- in a string a byte that is no quotation mark and no backslash is passed over
+stays : (o s : Bool) (x : ℕ) (r : List ℕ) (k : Mode → List Lexeme) → lex_byte in_string (cond o operator (cond s space other)) x r k ≡ k in_string
+stays true s x r k = refl
+stays false true x r k = refl
+stays false false x r k = refl
+
+plain_stands_first : (x : ℕ) (rest : List ℕ) → is_plain_byte x ≡ true → StandsFor (x ∷ rest) (x ∷ []) rest
+unfolding content lex
+plain_stands_first x rest is =
+    let parts = and_parts (nat_le 32 x && not (x == 34)) (not (x == 92)) is in
+    let front = and_parts (nat_le 32 x) (not (x == 34)) parts.0 in
+    let mark = ne_eqb x 34 (apart x 34 front.1) in
+    let slash = ne_eqb x 92 (apart x 92 parts.1) in
+    record {
+      read = rw (mark, slash, le-ltb x 32 (leb-true 32 x front.0)) refl;
+      passed = rw (mark, slash) (stays (is_operator x) (is_space x) x rest (λ m. lex m rest));
+      fits = omega arith;
+    }
+
+pub plain_stands : (bytes : List ℕ) (x : ℕ) (rest : List ℕ) → bytes ≡ x ∷ rest → is_plain_byte x ≡ true → StandsFor bytes (x ∷ []) rest
+plain_stands bytes x rest first is = rw first (plain_stands_first x rest is)
+
+escape_stands : (x : ℕ) (r : List ℕ) → keeps_its_meaning x ≡ true → StandsFor (92 ∷ x ∷ r) (x ∷ []) r
+unfolding content lex short_escape
+escape_stands x r is =
+    one_of (λ b. StandsFor (92 ∷ b ∷ r) (b ∷ []) r) 34 92 47
+    (record { read = refl; passed = refl; fits = omega arith })
+    (record { read = refl; passed = refl; fits = omega arith })
+    (record { read = refl; passed = refl; fits = omega arith })
+    x is
+
+pub escaped_stands : (bytes behind : List ℕ) (x : ℕ) (r : List ℕ) → bytes ≡ 92 ∷ behind → behind ≡ x ∷ r → keeps_its_meaning x ≡ true → StandsFor bytes (x ∷ []) r
+escaped_stands bytes behind x r marked next is = rw (marked, next) (escape_stands x r is)
+
+pub quoted_whole : (bytes text left rest : List ℕ) → StandsFor bytes text left → left ≡ 34 ∷ rest → IsQuoted bytes text rest
+unfolding content lex
+quoted_whole bytes text left rest front closed =
+    ap₂ (λ o l. token (string_token o) ∷ l)
+    (front.read ∙ ap (λ b. prepend text (content plain b)) closed ∙ ap Some (append-nil text))
+    (front.passed ∙ ap (lex in_string) closed)
+
+-- ---- blanks
+module _ (P : ℕ → Type 0) (at_space : P 32) (at_tab : P 9) (at_line_feed : P 10) (at_return : P 13) where
+  blank_of : (byte : ℕ) → is_space byte ≡ true → P byte
+  blank_of byte is = go (or_cases ((byte == 32) || (byte == 9) || (byte == 10)) (byte == 13) is)
     where
-      first : ((byte == 44) ≡ true) ⊎ ((byte == 93) ≡ true) → P byte
-      first (inl e) = subst P (sym (eqb-true byte 44 e)) at_comma
-      first (inr e) = subst P (sym (eqb-true byte 93 e)) at_bracket
+      go : (((byte == 32) || (byte == 9) || (byte == 10)) ≡ true) ⊎ ((byte == 13) ≡ true) → P byte
+      go (inl e) = one_of P 32 9 10 at_space at_tab at_line_feed byte e
+      go (inr e) = subst P (sym (eqb-true byte 13 e)) at_return
 
-      go : (((byte == 44) || (byte == 93)) ≡ true) ⊎ ((byte == 125) ≡ true) → P byte
-      go (inl e) = first (or_cases (byte == 44) (byte == 93) e)
-      go (inr e) = subst P (sym (eqb-true byte 125 e)) at_brace
+one_passed : (byte : ℕ) (bytes : List ℕ) → is_space byte ≡ true → lex between (byte ∷ bytes) ≡ lex between bytes
+unfolding lex
+one_passed byte bytes is = blank_of (λ b. lex between (b ∷ bytes) ≡ lex between bytes) refl refl refl refl byte is
 
-no_colon : (r : List ℕ) → ends_value r ≡ true → begins_colon (lex between r) ≡ false
+first_passed : (blank : Bool) (byte : ℕ) (bytes : List ℕ) → is_space byte ≡ blank → lex between bytes ≡ lex between (behind_blanks bytes)
+    → lex between (byte ∷ bytes) ≡ lex between (cond blank (behind_blanks bytes) (byte ∷ bytes))
+first_passed true byte bytes is more = one_passed byte bytes is ∙ more
+first_passed false byte bytes is more = refl
+
+blanks_passed : (bytes : List ℕ) → lex between bytes ≡ lex between (behind_blanks bytes)
+blanks_passed [] = refl
+blanks_passed (byte ∷ bytes) = first_passed (is_space byte) byte bytes refl (blanks_passed bytes)
+
+-- ---- what comes behind a value
+no_colon : (bytes : List ℕ) → ends_at_once bytes ≡ true → begins_colon (lex between bytes) ≡ false
 unfolding lex
 no_colon [] is = absurd (cc)
-no_colon (byte ∷ bytes) is = one_of (λ b. begins_colon (lex between (b ∷ bytes)) ≡ false) refl refl refl byte is
+no_colon (byte ∷ bytes) is = one_of (λ b. begins_colon (lex between (b ∷ bytes)) ≡ false) 44 93 125 refl refl refl byte is
 
-word_ends : (r : List ℕ) → ends_value r ≡ true → ends_word r ≡ true
+no_colon_behind : (bytes : List ℕ) → ends_value bytes ≡ true → begins_colon (lex between bytes) ≡ false
+no_colon_behind bytes is = ap begins_colon (blanks_passed bytes) ∙ no_colon (behind_blanks bytes) is
+
+word_ends_first : (blank : Bool) (byte : ℕ) (bytes : List ℕ) → is_space byte ≡ blank → ends_at_once (cond blank (behind_blanks bytes) (byte ∷ bytes)) ≡ true → ends_word (byte ∷ bytes) ≡ true
+word_ends_first true byte bytes is ended = blank_of (λ b. ends_word (b ∷ bytes) ≡ true) refl refl refl refl byte is
+word_ends_first false byte bytes is ended = one_of (λ b. ends_word (b ∷ bytes) ≡ true) 44 93 125 refl refl refl byte ended
+
+word_ends : (bytes : List ℕ) → ends_value bytes ≡ true → ends_word bytes ≡ true
 word_ends [] is = absurd (cc)
-word_ends (byte ∷ bytes) is = one_of (λ b. ends_word (b ∷ bytes) ≡ true) refl refl refl byte is
+word_ends (byte ∷ bytes) is = word_ends_first (is_space byte) byte bytes refl is
 
 -- ---- tokens
+pub at_blanks : (place : Place) (bytes next : List ℕ) → behind_blanks bytes ≡ next → tokens_at place bytes ≡ tokens_at place next
+at_blanks place bytes next is = ap (punctuate (place_of place)) (blanks_passed bytes ∙ ap (lex between) is)
+
 comma_passed : (bytes : List ℕ) → IsBegun AfterValue (44 ∷ bytes) bytes
 unfolding lex punctuate
 comma_passed bytes = refl
+
+pub begun_fresh : (place : Place) (bytes begun : List ℕ) → place ≡ Fresh → begun ≡ behind_blanks bytes → IsBegun place bytes begun
+begun_fresh place bytes begun fresh is = rw fresh (at_blanks Fresh bytes begun (sym is))
+
+pub begun_behind : (place : Place) (bytes rest begun : List ℕ) → place ≡ AfterValue → behind_blanks bytes ≡ 44 ∷ rest → begun ≡ behind_blanks rest → IsBegun place bytes begun
+begun_behind place bytes rest begun after is next =
+    rw after (at_blanks AfterValue bytes (44 ∷ rest) is ∙ comma_passed rest ∙ ap (punctuate (begun_at AfterValue)) (blanks_passed rest ∙ ap (lex between) (sym next)))
 
 pub object_opened : (place : Place) (bytes : List ℕ) → punctuate (begun_at place) (lex between (123 ∷ bytes)) ≡ begin_object ∷ tokens_at Fresh bytes
 unfolding lex punctuate
@@ -93,16 +184,19 @@ unfolding lex punctuate
 named Fresh s bytes = refl
 named AfterValue s bytes = refl
 
-pub key_taken : (place : Place) (s bytes : List ℕ) → list_all is_plain_byte s ≡ true → punctuate (begun_at place) (lex between (34 ∷ (s ++ 34 ∷ 58 ∷ bytes))) ≡ key s ∷ tokens_at Fresh bytes
-key_taken place s bytes are = ap (punctuate (begun_at place)) (string_lexed s (58 ∷ bytes) are) ∙ named place s bytes
+pub key_taken : (place : Place) (bytes name rest : List ℕ) → list_all is_plain_byte name ≡ true → IsNamed bytes name rest → punctuate (begun_at place) (lex between (34 ∷ bytes)) ≡ key name ∷ tokens_at Fresh rest
+key_taken place bytes name rest are is =
+    ap (punctuate (begun_at place))
+    (ap (λ b. lex between (34 ∷ b)) is.is ∙ string_lexed name is.behind are ∙ ap (λ ls. token (string name) ∷ ls) (blanks_passed is.behind ∙ ap (lex between) is.ended))
+    ∙ named place name rest
 
 valued : (place : Place) (s : List ℕ) (ls : List Lexeme) → begins_colon ls ≡ false → punctuate (begun_at place) (token (string s) ∷ ls) ≡ string s ∷ punctuate (place_of AfterValue) ls
 unfolding punctuate
 valued Fresh s ls apart = rw apart refl
 valued AfterValue s ls apart = rw apart refl
 
-pub string_taken : (place : Place) (s bytes : List ℕ) → list_all is_plain_byte s ≡ true → ends_value bytes ≡ true → punctuate (begun_at place) (lex between (34 ∷ (s ++ 34 ∷ bytes))) ≡ string s ∷ tokens_at AfterValue bytes
-string_taken place s bytes are ended = ap (punctuate (begun_at place)) (string_lexed s bytes are) ∙ valued place s (lex between bytes) (no_colon bytes ended)
+pub string_taken : (place : Place) (bytes s rest : List ℕ) → IsQuoted bytes s rest → ends_value rest ≡ true → punctuate (begun_at place) (lex between (34 ∷ bytes)) ≡ string s ∷ tokens_at AfterValue rest
+string_taken place bytes s rest is ended = ap (punctuate (begun_at place)) is ∙ valued place s (lex between rest) (no_colon_behind rest ended)
 
 counted : (place : Place) (s : List ℕ) (ls : List Lexeme) → punctuate (begun_at place) (token (number s) ∷ ls) ≡ number s ∷ punctuate (place_of AfterValue) ls
 unfolding punctuate
@@ -113,21 +207,16 @@ number_taken : (place : Place) (n : ℕ) (bytes : List ℕ) → n < 2 ^ 64 → e
 number_taken place n bytes fits ended =
     ap (punctuate (begun_at place)) (lex-number (decimal n) bytes (IsNumber-decimal n fits) (word_ends bytes ended)) ∙ counted place (decimal n) (lex between bytes)
 
-over : (place : Place) (bytes : List ℕ) → (bytes ≡ []) ⊎ (bytes ≡ 10 ∷ []) → tokens_at place bytes ≡ []
+over : (place : Place) (bytes : List ℕ) → behind_blanks bytes ≡ [] → tokens_at place bytes ≡ []
 unfolding lex punctuate
-over Fresh bytes (inl is) = rw is refl
-over AfterValue bytes (inl is) = rw is refl
-over Fresh bytes (inr is) = rw is refl
-over AfterValue bytes (inr is) = rw is refl
+over Fresh bytes is = at_blanks Fresh bytes [] is
+over AfterValue bytes is = at_blanks AfterValue bytes [] is
 
 -- ---- what the code asks of them
-pub over_if : (place : Place) (bytes : List ℕ) (seen : List Token) (blank : Bool) → tokens_at place bytes ≡ seen → OnTrue blank ((bytes ≡ []) ⊎ (bytes ≡ 10 ∷ [])) → OnTrue blank (seen ≡ [])
-over_if place bytes seen true is blank = sym is ∙ over place bytes blank
-over_if place bytes seen false is blank = tt
-
-pub passed_if : (place : Place) (bytes : List ℕ) (found : Option (Bor (List ℕ))) → place ≡ AfterValue → IfSome found (λ rest. bytes ≡ 44 ∷ rest.now) → IfSome found (λ rest. IsBegun place bytes rest.now)
-passed_if place bytes None is found = tt
-passed_if place bytes (Some rest) is found = rw (is, found) (comma_passed rest.now)
+pub over_if : (place : Place) (bytes left : List ℕ) (seen : List Token) (none : Bool) → tokens_at place bytes ≡ seen → left ≡ behind_blanks bytes → none ≡ (length left == 0) → OnTrue none (seen ≡ [])
+over_if place bytes left seen false is behind told = tt
+over_if place bytes [] seen true is behind told = sym is ∙ over place bytes (sym behind)
+over_if place bytes (byte ∷ left) seen true is behind told = let no : length (byte ∷ left) ≡ 0 = eqb-true (length (byte ∷ left)) 0 (sym told) in absurd (omega arith)
 
 pub number_if : (place : Place) (bytes begun front back : List ℕ) (n : ℕ) → IsBegun place bytes begun → begun ≡ front ++ back → front ≡ decimal n → n < 2 ^ 64 → ends_value back ≡ true
     → tokens_at place bytes ≡ number (decimal n) ∷ tokens_at AfterValue back
@@ -135,6 +224,6 @@ number_if place bytes begun front back n is parts spelt fits ended =
     is ∙ ap (λ b. punctuate (begun_at place) (lex between b)) (parts ∙ ap (λ f. f ++ back) spelt) ∙ number_taken place n back fits ended
 
 pub unnamed_if : (bytes name unnamed unquoted : List ℕ) (found : Option (Bor (List ℕ))) → bytes ≡ name ++ unnamed → unnamed ≡ 34 ∷ unquoted
-    → IfSome found (λ rest. unquoted ≡ 58 ∷ rest.now) → IfSome found (λ rest. bytes ≡ name ++ 34 ∷ 58 ∷ rest.now)
+    → IfSome found (λ rest. behind_blanks unquoted ≡ 58 ∷ rest.now) → IfSome found (λ rest. IsNamed bytes name rest.now)
 unnamed_if bytes name unnamed unquoted None begun marked found = tt
-unnamed_if bytes name unnamed unquoted (Some rest) begun marked found = begun ∙ ap (λ b. name ++ b) (marked ∙ ap (λ b. 34 ∷ b) found)
+unnamed_if bytes name unnamed unquoted (Some rest) begun marked found = record { behind = unquoted; is = begun ∙ ap (λ b. name ++ b) marked; ended = found }

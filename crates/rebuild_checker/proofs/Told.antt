@@ -79,9 +79,9 @@ pub record Member {X : Type 0} (reads : Data → Option X) (deep : ℕ) (name : 
 pub member_told : {X : Type 0} (reads : Data → Option X) (low deep : ℕ) (name : List ℕ) (ts s r : List Token) (x : X) → low ≤ deep → ts ≡ Token.key name ∷ s → Tells reads low s x r → Member reads deep name ts x r
 member_told reads low deep name ts s r x below is one = record { low = low; named = s; data_of = one.0; below = below; name_is = is; at = one.1; tells = one.2 }
 
-pub member_text : {X : Type 0} (reads : Data → Option X) (deep : ℕ) (name : List ℕ) (ts s : List Token) (text : List ℕ) (r : List Token) (x : X)
-    → ts ≡ Token.key name ∷ s → s ≡ Token.string text ∷ r → reads (string text) ≡ Some x → Member reads deep name ts x r
-member_text reads deep name ts s text r x is word told = member_told reads 0 deep name ts s r x (omega arith) is (text_told reads s text r x word told)
+pub member_text : {X : Type 0} (reads : Data → Option X) (deep : ℕ) (name : List ℕ) (ts s : List Token) (text lent : List ℕ) (r : List Token) (x : X)
+    → ts ≡ Token.key name ∷ s → s ≡ Token.string text ∷ r → lent ≡ text → reads (string lent) ≡ Some x → Member reads deep name ts x r
+member_text reads deep name ts s text lent r x is word same told = member_told reads 0 deep name ts s r x (omega arith) is (text_told reads s text lent r x word same told)
 
 module _ (deep : ℕ) where
   with_member : {X : Type 0} (reads : Data → Option X) (name : List ℕ) (x : X) (ts r end : List Token) (old all : Members)

@@ -1,18 +1,25 @@
-//! JSON as the program writes dumps, without spaces and escapes, read token by token. What is written otherwise is refused here,
-//! which says nothing of it.
+//! JSON read token by token, as the program writes dumps, or with blanks between the tokens. What is written otherwise is refused
+//! here, which says nothing of it.
+//!
+//! Strings are lent from the text. Only one in which quotation marks, backslashes or slashes are escaped gets bytes of its own, and
+//! other escapes are refused.
 
-ghost use Rattle.std.specs.Prelude.{◌≡◌, ◌≤◌, ◌⊎◌, ◌++◌, [], ◌∷◌, IfOk, IfSome, OnOk, Some, length, true};
+ghost use Rattle.std.specs.Prelude.{◌≡◌, ◌<◌, ◌≤◌, [], ◌∷◌, IfOk, IfSome, OnOk, None, Some, length, true};
 ghost use Rattle.std.specs.Bool.{OnFalse, OnTrue};
 ghost use Rattle.std.specs.List.{list_all};
+ghost use Rattle.std.specs.Cow.{cow_slice_items};
 ghost use Rattle.json.specs.Json.{after_end_array};
 ghost use Rattle.json.specs.Lex.{tokens};
+ghost use Rattle.json.specs.Word.{is_space};
 ghost use Rattle.json.specs.Token.{begin_array, begin_object, end_array, end_object, key, string};
 ghost use Rattle.dump_rules.specs.Values.{number_in};
 ghost use Rattle.rebuild_checker.specs.Straight.{Tells};
-ghost use Rattle.rebuild_checker.specs.PlainText.{IsBegun, IsCut, ends_value, is_plain_byte};
+ghost use Rattle.rebuild_checker.specs.PlainText.{IsBegun, IsNamed, IsQuoted, StandsFor, behind_blanks, ends_value, is_plain_byte, keeps_its_meaning};
 
 use crate::ReadError;
 use memchr::memchr;
+use std::alloc::Global;
+use std::borrow::CowSlice;
 use std::marker::Model;
 use texts::number_up_to;
 
@@ -68,7 +75,7 @@ impl<'a> PlainText<'a> {
     pub(crate) fn end_members(&mut self) -> Result<(), ReadError>
         ensures { OnOk result (self.old ≡ end_object ∷ self.new) }
     {
-        let Some(rest) = behind(self.rest, b'}') else {
+        let Some(rest) = behind_blanks_and(self.rest, b'}') else {
             return Err(ReadError::NotADump);
         };
         self.rest = rest;
@@ -91,7 +98,7 @@ impl<'a> PlainText<'a> {
         ensures taken { OnTrue result (after_end_array self.old ≡ Some self.new) }
         ensures unchanged { OnFalse result (self.new ≡ self.old) }
     {
-        let Some(rest) = behind(self.rest, b']') else {
+        let Some(rest) = behind_blanks_and(self.rest, b']') else {
             return false;
         };
         self.rest = rest;
@@ -124,12 +131,12 @@ impl<'a> PlainText<'a> {
         Ok(())
     }
 
-    /// Takes a string.
-    pub(crate) fn text(&mut self) -> Result<&'a [u8], ReadError>
-        ensures { IfOk result (λ text. self.old ≡ string text.now ∷ self.new) }
+    /// Takes a string. It is lent from the text where each of its bytes stands for itself there.
+    pub(crate) fn text(&mut self, alloc: Global) -> Result<CowSlice<'a, u8>, ReadError>
+        ensures { IfOk result (λ text. self.old ≡ string (cow_slice_items text) ∷ self.new) }
     {
         let quoted = opened(self.rest, self.place, b'"')?;
-        let (text, rest) = cut(quoted)?;
+        let (text, rest) = string(alloc, quoted)?;
         if !ends_value(rest) {
             return Err(ReadError::NotADump);
         }
@@ -158,15 +165,16 @@ impl<'a> PlainText<'a> {
         Ok(value)
     }
 
-    /// Whether nothing comes any more, but for the end of the line.
+    /// Whether nothing comes any more, but for blanks.
     pub(crate) fn is_over(&self) -> bool
         ensures { OnTrue result (self.now ≡ []) }
     {
-        is_blank(self.rest)
+        behind_blanks(self.rest).is_empty()
     }
 }
 
 /// The bytes behind the mark with which a value or a name begins.
+#[inline(always)]
 fn opened(bytes: &[u8], place: Place, mark: u8) -> Result<&[u8], ReadError>
     ensures { IfOk result (λ rest. IsBegun place bytes.now (mark ∷ rest.now)) }
 {
@@ -179,14 +187,66 @@ fn opened(bytes: &[u8], place: Place, mark: u8) -> Result<&[u8], ReadError>
     }
 }
 
-/// The bytes with which a value or a name may begin: at once, or behind a comma.
+/// The bytes with which a value or a name may begin, behind blanks: at once, or behind a comma.
 fn begun(bytes: &[u8], place: Place) -> Option<&[u8]>
     ensures { IfSome result (λ begun. IsBegun place bytes.now begun.now) }
 {
     match place {
-        Place::Fresh => Some(bytes),
-        Place::AfterValue => behind(bytes, b','),
+        Place::Fresh => Some(behind_blanks(bytes)),
+        Place::AfterValue => {
+            let rest = behind_blanks_and(bytes, b',')?;
+            Some(behind_blanks(rest))
+        }
     }
+}
+
+/// The bytes behind the mark, if it comes first but for blanks.
+fn behind_blanks_and(bytes: &[u8], mark: u8) -> Option<&[u8]>
+    ensures { IfSome result (λ rest. behind_blanks bytes.now ≡ mark ∷ rest.now) }
+{
+    behind(behind_blanks(bytes), mark)
+}
+
+/// The bytes behind blanks. The program writes none, so that most often one comparison is all.
+#[inline(always)]
+fn behind_blanks(bytes: &[u8]) -> &[u8]
+    ensures { result.now ≡ behind_blanks bytes.now }
+{
+    let Some(first) = bytes.first() else {
+        return bytes;
+    };
+    if b' ' < *first {
+        return bytes;
+    }
+    behind_each_blank(bytes)
+}
+
+/// The same, blank by blank. It stands apart, so that the way without blanks stays short.
+#[inline(never)]
+fn behind_each_blank(bytes: &[u8]) -> &[u8]
+    ensures { result.now ≡ behind_blanks bytes.now }
+{
+    let mut left = bytes;
+    while let Some(rest) = behind_blank(left) {
+        left = rest;
+    }
+    left
+}
+
+/// The bytes behind a blank, if one comes first.
+fn behind_blank(bytes: &[u8]) -> Option<&[u8]>
+    ensures none { result ≡ None → behind_blanks bytes.now ≡ bytes.now }
+    ensures one { IfSome result (λ rest. behind_blanks bytes.now ≡ behind_blanks rest.now) }
+    ensures shorter { IfSome result (λ rest. length rest.now < length bytes.now) }
+{
+    let (first, rest) = bytes.split_first()?;
+    if is_blank(*first) { Some(rest) } else { None }
+}
+
+fn is_blank(byte: u8) -> bool
+    ensures { result ≡ is_space byte }
+{
+    byte == b' ' || byte == b'\t' || byte == b'\n' || byte == b'\r'
 }
 
 /// The bytes behind the mark, if it comes first.
@@ -199,25 +259,70 @@ fn behind(bytes: &[u8], mark: u8) -> Option<&[u8]>
 
 /// The bytes behind a name, its quotation mark and its colon, if these come first.
 fn behind_name<'a>(bytes: &'a [u8], name: &[u8]) -> Option<&'a [u8]>
-    ensures { IfSome result (λ rest. bytes.now ≡ name.now ++ 34 ∷ 58 ∷ rest.now) }
+    ensures { IfSome result (λ rest. IsNamed bytes.now name.now rest.now) }
 {
     let unnamed = bytes.strip_prefix(name)?;
     let unquoted = behind(unnamed, b'"')?;
-    behind(unquoted, b':')
+    behind_blanks_and(unquoted, b':')
 }
 
-/// A string without escapes, and the bytes behind its last quotation mark.
-fn cut(bytes: &[u8]) -> Result<(&[u8], &[u8]), ReadError>
-    ensures { IfOk result (λ parts. IsCut bytes.now parts.0.now parts.1.now) }
+/// The string whose first quotation mark stands before these bytes, and what comes behind its last one.
+fn string(alloc: Global, bytes: &[u8]) -> Result<(CowSlice<'_, u8>, &[u8]), ReadError>
+    ensures { IfOk result (λ parts. IsQuoted bytes.now (cow_slice_items parts.0) parts.1.now) }
 {
     let Some(end) = memchr(b'"', bytes) else {
         return Err(ReadError::NotADump);
     };
     let text = &bytes[..end];
-    if !are_plain(text) {
-        return Err(ReadError::NotADump);
+    if are_plain(text) {
+        return Ok((CowSlice::Borrowed(text), &bytes[end + 1..]));
     }
-    Ok((text, &bytes[end + 1..]))
+    let (text, rest) = unescaped(alloc, bytes)?;
+    Ok((CowSlice::Owned(text), rest))
+}
+
+/// The same for a string with escapes, whose bytes are not those of the text: one after another, into memory of its own. It stands
+/// apart, as few strings are so.
+#[inline(never)]
+fn unescaped(alloc: Global, bytes: &[u8]) -> Result<(Vec<u8>, &[u8]), ReadError>
+    ensures { IfOk result (λ parts. IsQuoted bytes.now parts.0.items parts.1.now) }
+{
+    let mut text = Vec::new(alloc);
+    let mut left = bytes;
+    while let Some((byte, rest)) = first_byte(left) {
+        text.push(byte)?;
+        left = rest;
+    }
+    match behind(left, b'"') {
+        Some(rest) => Ok((text, rest)),
+        None => Err(ReadError::NotADump),
+    }
+}
+
+/// The byte with which a string goes on, plain or escaped, and the bytes behind it.
+fn first_byte(bytes: &[u8]) -> Option<(u8, &[u8])>
+    ensures { IfSome result (λ parts. StandsFor bytes.now (parts.0 ∷ []) parts.1.now) }
+{
+    let (first, rest) = bytes.split_first()?;
+    if is_plain(*first) {
+        return Some((*first, rest));
+    }
+    if *first != b'\\' {
+        return None;
+    }
+    let (escaped, rest) = rest.split_first()?;
+    if keeps_its_meaning(*escaped) {
+        Some((*escaped, rest))
+    } else {
+        None
+    }
+}
+
+/// Whether the byte stands for itself behind a backslash too.
+fn keeps_its_meaning(byte: u8) -> bool
+    ensures { result ≡ keeps_its_meaning byte }
+{
+    byte == b'"' || byte == b'\\' || byte == b'/'
 }
 
 /// Whether each byte stands for itself in a string. Looks at all of them, whatever it finds, so that many can be looked at at
@@ -250,22 +355,12 @@ fn digits_end(bytes: &[u8]) -> usize
     bytes.len()
 }
 
-/// Whether a value ends before these bytes: a comma or a bracket comes.
+/// Whether a value ends before these bytes: behind blanks comes a comma or a closing mark.
 fn ends_value(bytes: &[u8]) -> bool
     ensures { result ≡ ends_value bytes.now }
 {
-    match bytes.first() {
+    match behind_blanks(bytes).first() {
         Some(byte) => *byte == b',' || *byte == b']' || *byte == b'}',
         None => false,
     }
-}
-
-/// Whether there is nothing, or just the end of a line.
-fn is_blank(bytes: &[u8]) -> bool
-    ensures { OnTrue result ((bytes.now ≡ []) ⊎ (bytes.now ≡ 10 ∷ [])) }
-{
-    if bytes.is_empty() {
-        return true;
-    }
-    bytes == b"\n".as_slice()
 }

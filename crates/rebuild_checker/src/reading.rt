@@ -32,7 +32,7 @@ pub fn read_dump(alloc: Global, bytes: &[u8]) -> Result<Dump, ReadError>
     }
 }
 
-/// The dump that bytes tell, where it is written as the program writes dumps.
+/// The dump that bytes tell, where its members stand as the program writes them.
 fn straight(alloc: Global, bytes: &[u8]) -> Result<Dump, ReadError>
     ensures { IfOk result (λ dump. told bytes.now ≡ Ok dump) }
 {

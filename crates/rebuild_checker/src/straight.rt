@@ -1,6 +1,7 @@
 //! Dumps read straight from their text, with no tree of JSON values before the lists: where the members of each object stand
-//! in the order of their names, each once, as the program writes them. A refusal from here other than want of memory says only
-//! that the text isn't written so.
+//! in the order of their names, each once, as the program writes them. Blanks may stand between the tokens, and quotation marks,
+//! backslashes and slashes may be escaped in texts. A refusal from here other than want of memory says only that the text isn't
+//! written so.
 
 ghost use Rattle.std.specs.Prelude.{◌≡◌, ℕ, suc, Option, Some, IfOk};
 ghost use Rattle.serde_json.specs.Data.{Data};
@@ -46,7 +47,7 @@ fn dump(alloc: Global, reader: &mut PlainText<'_>) -> Result<Dump, ReadError>
     reader.name("current")?;
     let current = reader.number()?;
     reader.name("hashing")?;
-    let hashing = hashing(reader.text()?)?;
+    let hashing = hashing(reader.text(alloc)?.as_slice())?;
     reader.name("nodes")?;
     let nodes = list(alloc, reader)?;
     reader.name("points")?;
@@ -79,7 +80,7 @@ impl ReadText for Row {
         reader.name("places")?;
         let places = list(alloc, reader)?;
         reader.name("silo")?;
-        let silo = silo(reader.text()?)?;
+        let silo = silo(reader.text(alloc)?.as_slice())?;
         reader.end_members()?;
         Ok(Row {
             dead,
@@ -107,7 +108,7 @@ impl ReadText for Node {
         reader.name("seen")?;
         let seen = reader.number()?;
         reader.name("silo")?;
-        let silo = silo(reader.text()?)?;
+        let silo = silo(reader.text(alloc)?.as_slice())?;
         reader.end_members()?;
         Ok(Node {
             held,
@@ -129,11 +130,11 @@ impl ReadText for Piece {
         reader.name("entries")?;
         let entries = list(alloc, reader)?;
         reader.name("from")?;
-        let from = from(reader.text()?)?;
+        let from = from(reader.text(alloc)?.as_slice())?;
         reader.name("range")?;
-        let range = range(reader.text()?)?;
+        let range = range(reader.text(alloc)?.as_slice())?;
         reader.name("state")?;
-        let state = state(reader.text()?)?;
+        let state = state(reader.text(alloc)?.as_slice())?;
         reader.end_members()?;
         Ok(Piece {
             entries,
@@ -149,14 +150,14 @@ impl ReadText for Held {
 
     ghost deep = { 1 };
 
-    fn read_text(_alloc: Global, reader: &mut PlainText<'_>) -> Result<Held, ReadError> {
+    fn read_text(alloc: Global, reader: &mut PlainText<'_>) -> Result<Held, ReadError> {
         reader.begin_members()?;
         reader.name("activation")?;
-        let activation = activation(reader.text()?)?;
+        let activation = activation(reader.text(alloc)?.as_slice())?;
         reader.name("grain")?;
-        let grain = grain(reader.text()?)?;
+        let grain = grain(reader.text(alloc)?.as_slice())?;
         reader.name("phase")?;
-        let phase = phase(reader.text()?)?;
+        let phase = phase(reader.text(alloc)?.as_slice())?;
         reader.end_members()?;
         Ok(Held {
             activation,
@@ -171,10 +172,10 @@ impl ReadText for ListedPoint {
 
     ghost deep = { 1 };
 
-    fn read_text(_alloc: Global, reader: &mut PlainText<'_>) -> Result<ListedPoint, ReadError> {
+    fn read_text(alloc: Global, reader: &mut PlainText<'_>) -> Result<ListedPoint, ReadError> {
         reader.begin_items()?;
         let place = reader.number()?;
-        let silo = silo(reader.text()?)?;
+        let silo = silo(reader.text(alloc)?.as_slice())?;
         let index = reader.number()?;
         reader.end_items()?;
         Ok(ListedPoint { place, silo, index })
@@ -186,10 +187,10 @@ impl ReadText for Entry {
 
     ghost deep = { 1 };
 
-    fn read_text(_alloc: Global, reader: &mut PlainText<'_>) -> Result<Entry, ReadError> {
+    fn read_text(alloc: Global, reader: &mut PlainText<'_>) -> Result<Entry, ReadError> {
         reader.begin_items()?;
-        let grain = grain(reader.text()?)?;
-        let activation = activation(reader.text()?)?;
+        let grain = grain(reader.text(alloc)?.as_slice())?;
+        let activation = activation(reader.text(alloc)?.as_slice())?;
         reader.end_items()?;
         Ok(Entry { grain, activation })
     }

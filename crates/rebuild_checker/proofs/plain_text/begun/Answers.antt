@@ -1,5 +1,10 @@
-use Rattle.rebuild_checker.proofs.PlainTexts.{passed_if}
+use Rattle.rebuild_checker.proofs.PlainTexts.{begun_behind, begun_fresh}
 use Rattle.rebuild_checker.proofs.plain_text.begun.Goals as goal
 
-pub returns-in-AfterValue : goal.returns-in-AfterValue
-returns-in-AfterValue c = passed_if c.args.place c.args.bytes.now c.behind.result c.in-AfterValue.is c.behind.ensures
+pub returns-in-Fresh : goal.returns-in-Fresh
+returns-in-Fresh c = begun_fresh c.args.place c.args.bytes.now c.behind_blanks.result.now c.in-Fresh.is c.behind_blanks.ensures
+
+pub returns-in_ok-rest-in-AfterValue : goal.returns-in_ok-rest-in-AfterValue
+returns-in_ok-rest-in-AfterValue c =
+    begun_behind c.args.place c.args.bytes.now c.in_ok-rest-in-AfterValue.rest.now c.behind_blanks-in-AfterValue.result.now
+    c.in-AfterValue.is c.in_ok-rest-in-AfterValue.ensures c.behind_blanks-in-AfterValue.ensures

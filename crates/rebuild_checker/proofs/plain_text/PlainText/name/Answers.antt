@@ -1,12 +1,9 @@
-use Rattle.std.proofs.Common.{◌∷◌, ◌++◌, ap, sym, ◌∙◌}
-use Rattle.json.specs.Lex.{lex, between, punctuate}
-use Rattle.rebuild_checker.specs.PlainText.{begun_at}
+use Rattle.std.proofs.Common.{sym, ◌∙◌}
+use Rattle.rebuild_checker.specs.PlainText.{IsNamed}
 use Rattle.rebuild_checker.proofs.PlainTexts.{key_taken}
 use Rattle.rebuild_checker.proofs.plain_text.PlainText.name.Goals as goal
 
 pub returns : goal.returns
 returns c =
-    let found = c.in-Some.ensures ∙ ap (λ name. name ++ 34 ∷ 58 ∷ c.in-Some.rest.now) c.as_bytes.ensures.value in
-    sym c.self.view_is ∙ c.in_ok-quoted.ensures
-    ∙ ap (λ text. punctuate (begun_at c.self.inside.place) (lex between (34 ∷ text))) found
-    ∙ key_taken c.self.inside.place c.args.name.now c.in-Some.rest.now c.requires
+    let named : IsNamed c.in_ok-quoted.quoted.now c.args.name.now c.in-Some.rest.now = rw c.as_bytes.ensures.value at c.in-Some.ensures in
+    sym c.self.view_is ∙ c.in_ok-quoted.ensures ∙ key_taken c.self.inside.place c.in_ok-quoted.quoted.now c.args.name.now c.in-Some.rest.now c.requires named

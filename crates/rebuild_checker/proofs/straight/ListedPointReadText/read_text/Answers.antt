@@ -6,5 +6,5 @@ use Rattle.rebuild_checker.proofs.straight.ListedPointReadText.read_text.Goals a
 pub returns : goal.returns
 returns c =
     point_told _ _ _ _ _ _ _ _ _ c.in_ok-begin_items.ensures c.in_ok-place.ensures
-    (text_told silo_in _ _ _ _ c.in_ok-text.ensures c.in_ok-silo.ensures)
+    (text_told silo_in _ _ _ _ _ c.in_ok-text.ensures c.as_slice.ensures.value c.in_ok-silo.ensures)
     c.in_ok-index.ensures c.in_ok-end_items.ensures
