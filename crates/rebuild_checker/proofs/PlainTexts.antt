@@ -1,10 +1,10 @@
 -- What bytes begin with, as tokens.
-use Rattle.std.proofs.Common.{◌≡◌, ◌+◌, length, cond, arith, append-nil, take, drop, get_or, ◌-◌, ℕ, ◌<◌, ◌^◌, List, [], ◌∷◌, ◌++◌, decimal, Some, refl, sym, ap, ap₂, ◌∙◌, subst, inl, inr, ◌⊎◌}
+use Rattle.std.proofs.Common.{◌≡◌, ◌+◌, length, cond, arith, append-nil, append_assoc, take, drop, get_or, ◌-◌, ℕ, ◌<◌, ◌^◌, List, [], ◌∷◌, ◌++◌, decimal, Some, refl, sym, ap, ap₂, ◌∙◌, subst, inl, inr, ◌⊎◌}
 use Rattle.std.specs.Bool.{OnTrue}
 use Rattle.std.specs.Borrow.{Bor}
 use Rattle.std.specs.Prelude.{Option, None, IfSome, Bool, true, false, not, nat_le, ◌≢◌, ◌==◌, ◌&&◌, ◌||◌}
 use Rattle.std.specs.List.{list_all}
-use Rattle.std.proofs.lemmas.List.{drop_more, take-append-drop, take_rest}
+use Rattle.std.proofs.lemmas.List.{drop_more, length-append, take-append-drop, take_rest}
 use Rattle.std.proofs.lemmas.Bool.{and_parts, eqb-false, eqb-true, le-ltb, leb-true, ne_eqb, or_cases}
 use Rattle.json.specs.Token.{Token, begin_object, end_object, begin_array, end_array, key, string, number}
 use Rattle.json.specs.Text.{content, plain, prepend, short_escape}
@@ -83,8 +83,33 @@ plain_stands_first x rest is =
       fits = omega arith;
     }
 
-pub plain_stands : (bytes : List ℕ) (x : ℕ) (rest : List ℕ) → bytes ≡ x ∷ rest → is_plain_byte x ≡ true → StandsFor bytes (x ∷ []) rest
-plain_stands bytes x rest first is = rw first (plain_stands_first x rest is)
+-- one part and the next one
+after_nothing : (o : Option (List ℕ)) → o ≡ prepend [] o
+after_nothing None = refl
+after_nothing (Some s) = refl
+
+after_both : (one more : List ℕ) (o : Option (List ℕ)) → prepend one (prepend more o) ≡ prepend (one ++ more) o
+after_both one more None = refl
+after_both one more (Some s) = ap Some (sym (append_assoc one more s))
+
+pub parts_stand : (bytes one middle more rest : List ℕ) → StandsFor bytes one middle → StandsFor middle more rest → StandsFor bytes (one ++ more) rest
+parts_stand bytes one middle more rest first later =
+    let front = first.fits in
+    let back = later.fits in
+    record {
+      read = first.read ∙ ap (prepend one) later.read ∙ after_both one more (content plain rest);
+      passed = first.passed ∙ later.passed;
+      fits = omega (arith, front, back, length-append one more);
+    }
+
+plain_part_stands : (part rest : List ℕ) → list_all is_plain_byte part ≡ true → StandsFor (part ++ rest) part rest
+plain_part_stands [] rest are = record { read = after_nothing (content plain rest); passed = refl; fits = omega arith }
+plain_part_stands (x ∷ part) rest are =
+    let parts = and_parts (is_plain_byte x) (list_all is_plain_byte part) are in
+    parts_stand (x ∷ (part ++ rest)) (x ∷ []) (part ++ rest) part rest (plain_stands_first x (part ++ rest) parts.0) (plain_part_stands part rest parts.1)
+
+pub plain_stand : (bytes part rest : List ℕ) → bytes ≡ part ++ rest → list_all is_plain_byte part ≡ true → StandsFor bytes part rest
+plain_stand bytes part rest is are = rw is (plain_part_stands part rest are)
 
 escape_stands : (x : ℕ) (r : List ℕ) → keeps_its_meaning x ≡ true → StandsFor (92 ∷ x ∷ r) (x ∷ []) r
 unfolding content lex short_escape

@@ -17,7 +17,7 @@ ghost use Rattle.rebuild_checker.specs.Straight.{Tells};
 ghost use Rattle.rebuild_checker.specs.PlainText.{IsBegun, IsNamed, IsQuoted, StandsFor, behind_blanks, ends_value, is_plain_byte, keeps_its_meaning};
 
 use crate::ReadError;
-use memchr::memchr;
+use memchr::{memchr, memchr2};
 use std::alloc::Global;
 use std::borrow::CowSlice;
 use std::marker::Model;
@@ -281,16 +281,16 @@ fn string(alloc: Global, bytes: &[u8]) -> Result<(CowSlice<'_, u8>, &[u8]), Read
     Ok((CowSlice::Owned(text), rest))
 }
 
-/// The same for a string with escapes, whose bytes are not those of the text: one after another, into memory of its own. It stands
-/// apart, as few strings are so.
+/// The same for a string with escapes, whose bytes are not those of the text: part by part, into memory of its own. It stands apart,
+/// as few strings are so.
 #[inline(never)]
 fn unescaped(alloc: Global, bytes: &[u8]) -> Result<(Vec<u8>, &[u8]), ReadError>
     ensures { IfOk result (λ parts. IsQuoted bytes.now parts.0.items parts.1.now) }
 {
     let mut text = Vec::new(alloc);
     let mut left = bytes;
-    while let Some((byte, rest)) = first_byte(left) {
-        text.push(byte)?;
+    while let Some((part, rest)) = next_part(left) {
+        text.extend_from_slice(part)?;
         left = rest;
     }
     match behind(left, b'"') {
@@ -299,20 +299,32 @@ fn unescaped(alloc: Global, bytes: &[u8]) -> Result<(Vec<u8>, &[u8]), ReadError>
     }
 }
 
-/// The byte with which a string goes on, plain or escaped, and the bytes behind it.
-fn first_byte(bytes: &[u8]) -> Option<(u8, &[u8])>
-    ensures { IfSome result (λ parts. StandsFor bytes.now (parts.0 ∷ []) parts.1.now) }
+/// The bytes with which a string goes on, and what comes behind them: plain ones up to a mark, or the one that is escaped here.
+fn next_part(bytes: &[u8]) -> Option<(&[u8], &[u8])>
+    ensures stands { IfSome result (λ parts. StandsFor bytes.now parts.0.now parts.1.now) }
+    ensures some { IfSome result (λ parts. 0 < length parts.0.now) }
 {
-    let (first, rest) = bytes.split_first()?;
-    if is_plain(*first) {
-        return Some((*first, rest));
+    let end = memchr2(b'"', b'\\', bytes)?;
+    if end == 0 {
+        return escaped(bytes);
     }
-    if *first != b'\\' {
-        return None;
+    let (part, rest) = bytes.split_at(end);
+    if are_plain(part) {
+        Some((part, rest))
+    } else {
+        None
     }
-    let (escaped, rest) = rest.split_first()?;
-    if keeps_its_meaning(*escaped) {
-        Some((*escaped, rest))
+}
+
+/// The byte that is escaped first of all, alone, and what comes behind it.
+fn escaped(bytes: &[u8]) -> Option<(&[u8], &[u8])>
+    ensures stands { IfSome result (λ parts. StandsFor bytes.now parts.0.now parts.1.now) }
+    ensures some { IfSome result (λ parts. 0 < length parts.0.now) }
+{
+    let marked = behind(bytes, b'\\')?;
+    let (first, rest) = marked.split_first()?;
+    if keeps_its_meaning(*first) {
+        Some((&marked[..1], rest))
     } else {
         None
     }
