@@ -1,6 +1,7 @@
 pub mod Along
 pub mod InOrder
 pub mod Joined
+pub mod MembersTold
 pub mod PlainTexts
 pub mod ReadLists
 pub mod ReadValues

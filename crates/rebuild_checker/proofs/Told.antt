@@ -1,9 +1,10 @@
--- The parts of a dump, told by the tokens of their text: members in the order of their names, each once.
-use Rattle.std.proofs.Common.{◌≡◌, ℕ, ◌≤◌, List, ◌∷◌, Option, Some, ap, ◌∙◌, arith}
+-- The parts of a dump, told by the items and the members of their text.
+use Rattle.std.proofs.Common.{◌≡◌, ℕ, List, ◌∷◌, Option, Some, ap, ◌∙◌, arith}
 use Rattle.std.specs.Prelude.{codes}
 use Rattle.json.specs.Token.{Token}
 use Rattle.json.specs.Json.{after_end_array}
-use Rattle.serde_json.specs.Data.{Data, string, array, object, no_items, item, Members, no_members, put}
+use Rattle.serde_json.specs.Data.{array, object, no_items, item, Members}
+use Rattle.serde_json.specs.Events.{members_len}
 use Rattle.silo_address.specs.Chain.{◌>>=◌}
 use Rattle.silo_address.specs.Silo.{Silo}
 use Rattle.silo_address.specs.Grain.{Grain}
@@ -14,9 +15,9 @@ use Rattle.hash_ring.specs.declared.hashing.Hashing.{Hashing}
 use Rattle.hash_ring.specs.declared.point.Point.{Point}
 use Rattle.dump_rules.specs.Dump.{DumpPhase, DumpState, DumpHeld, DumpPiece, DumpNode, DumpRow}
 use Rattle.dump_rules.specs.DumpIn.{hashing_in, phase_in, state_in, entry_in, point_in, held_in, piece_in, node_in, row_in, dump_in}
-use Rattle.dump_rules.specs.Values.{number_in, silo_in, grain_in, activation_in, range_in, from_in, list_in}
-use Rattle.rebuild_checker.specs.Straight.{IsAt, Tells}
-use Rattle.rebuild_checker.proofs.Along.{AreMembers, array_at, item_at, member_at, members_over, no_items_at, object_at, text_told}
+use Rattle.dump_rules.specs.Values.{number_in, silo_in, grain_in, activation_in, range_in, from_in, list_in, member_in}
+use Rattle.rebuild_checker.specs.Straight.{Tells}
+use Rattle.rebuild_checker.proofs.Along.{array_at, item_at, no_items_at}
 
 -- ---- several readings, one after another
 module _ {A B C D E X : Type 0} (a : A) (b : B) (c : C) (d : D) (e : E) where
@@ -64,102 +65,57 @@ point_told t0 t1 t2 t3 t4 end place silo index opened one other third over = (
   three place silo index index index (number_in one.0) (silo_in other.0) (number_in third.0) (λ place silo index. record { place = place; silo = silo; index = index }) one.2 other.2 third.2,
 )
 
--- ---- objects
+-- ---- objects, by what their members tell
+module _ (found : Members) where
+  pub held_told : (activation : ActivationId) (grain : Grain) (phase : DumpPhase) → members_len found ≡ 3
+      → member_in activation_in (codes "activation") found ≡ Some activation
+      → member_in grain_in (codes "grain") found ≡ Some grain
+      → member_in phase_in (codes "phase") found ≡ Some phase
+      → held_in (object found) ≡ Some (record { activation = activation; grain = grain; phase = phase })
+  held_told activation grain phase many one other third =
+      rw many (three activation grain phase phase phase (member_in activation_in (codes "activation") found) (member_in grain_in (codes "grain") found) (member_in phase_in (codes "phase") found)
+      (λ activation grain phase. record { activation = activation; grain = grain; phase = phase }) one other third)
 
--- the next member has the name, and its value tells x
-pub record Member {X : Type 0} (reads : Data → Option X) (deep : ℕ) (name : List ℕ) (tokens : List Token) (x : X) (rest : List Token) : Type 0 where
-  pub low : ℕ
-  pub named : List Token
-  pub data_of : Data
-  pub below : low ≤ deep
-  pub name_is : tokens ≡ Token.key name ∷ named
-  pub at : IsAt low named data_of rest
-  pub tells : reads data_of ≡ Some x
+  pub piece_told : (entries : List Entry) (from : Option Silo) (range : Range) (state : DumpState) → members_len found ≡ 4
+      → member_in (list_in entry_in) (codes "entries") found ≡ Some entries
+      → member_in from_in (codes "from") found ≡ Some from
+      → member_in range_in (codes "range") found ≡ Some range
+      → member_in state_in (codes "state") found ≡ Some state
+      → piece_in (object found) ≡ Some (record { entries = entries; from = from; range = range; state = state })
+  piece_told entries from range state many one other third fourth =
+      rw many (four entries from range state state (member_in (list_in entry_in) (codes "entries") found) (member_in from_in (codes "from") found) (member_in range_in (codes "range") found) (member_in state_in (codes "state") found)
+      (λ entries from range state. record { entries = entries; from = from; range = range; state = state }) one other third fourth)
 
-pub member_told : {X : Type 0} (reads : Data → Option X) (low deep : ℕ) (name : List ℕ) (ts s r : List Token) (x : X) → low ≤ deep → ts ≡ Token.key name ∷ s → Tells reads low s x r → Member reads deep name ts x r
-member_told reads low deep name ts s r x below is one = record { low = low; named = s; data_of = one.0; below = below; name_is = is; at = one.1; tells = one.2 }
+  pub node_told : (held : List DumpHeld) (pieces : List DumpPiece) (ring : List Point) (seen : ℕ) (silo : Silo) → members_len found ≡ 5
+      → member_in (list_in held_in) (codes "held") found ≡ Some held
+      → member_in (list_in piece_in) (codes "pieces") found ≡ Some pieces
+      → member_in (list_in point_in) (codes "ring") found ≡ Some ring
+      → member_in number_in (codes "seen") found ≡ Some seen
+      → member_in silo_in (codes "silo") found ≡ Some silo
+      → node_in (object found) ≡ Some (record { held = held; pieces = pieces; ring = ring; seen = seen; silo = silo })
+  node_told held pieces ring seen silo many one other third fourth fifth =
+      rw many (five held pieces ring seen silo (member_in (list_in held_in) (codes "held") found) (member_in (list_in piece_in) (codes "pieces") found) (member_in (list_in point_in) (codes "ring") found) (member_in number_in (codes "seen") found) (member_in silo_in (codes "silo") found)
+      (λ held pieces ring seen silo. record { held = held; pieces = pieces; ring = ring; seen = seen; silo = silo }) one other third fourth fifth)
 
-pub member_text : {X : Type 0} (reads : Data → Option X) (deep : ℕ) (name : List ℕ) (ts s : List Token) (text lent : List ℕ) (r : List Token) (x : X)
-    → ts ≡ Token.key name ∷ s → s ≡ Token.string text ∷ r → lent ≡ text → reads (string lent) ≡ Some x → Member reads deep name ts x r
-member_text reads deep name ts s text lent r x is word same told = member_told reads 0 deep name ts s r x (omega arith) is (text_told reads s text lent r x word same told)
+  pub row_told : (dead : ℕ) (joined : ℕ) (left : ℕ) (places : List ℕ) (silo : Silo) → members_len found ≡ 5
+      → member_in number_in (codes "dead") found ≡ Some dead
+      → member_in number_in (codes "joined") found ≡ Some joined
+      → member_in number_in (codes "left") found ≡ Some left
+      → member_in (list_in number_in) (codes "places") found ≡ Some places
+      → member_in silo_in (codes "silo") found ≡ Some silo
+      → row_in (object found) ≡ Some (record { dead = dead; joined = joined; left = left; places = places; silo = silo })
+  row_told dead joined left places silo many one other third fourth fifth =
+      rw many (five dead joined left places silo (member_in number_in (codes "dead") found) (member_in number_in (codes "joined") found) (member_in number_in (codes "left") found) (member_in (list_in number_in) (codes "places") found) (member_in silo_in (codes "silo") found)
+      (λ dead joined left places silo. record { dead = dead; joined = joined; left = left; places = places; silo = silo }) one other third fourth fifth)
 
-module _ (deep : ℕ) where
-  with_member : {X : Type 0} (reads : Data → Option X) (name : List ℕ) (x : X) (ts r end : List Token) (old all : Members)
-      → (m : Member reads deep name ts x r) → AreMembers deep (put name m.data_of old) r all end → AreMembers deep old ts all end
-  with_member reads name x ts r end old all m more = member_at m.low deep old all name ts m.named r m.data_of end m.below m.name_is m.at more
-
-pub held_told : (t0 t1 t2 t3 t4 end : List Token) (activation : ActivationId) (grain : Grain) (phase : DumpPhase) → t0 ≡ Token.begin_object ∷ t1
-    → Member activation_in 0 (codes "activation") t1 activation t2 → Member grain_in 0 (codes "grain") t2 grain t3 → Member phase_in 0 (codes "phase") t3 phase t4
-    → t4 ≡ Token.end_object ∷ end → Tells held_in 1 t0 (record { activation = activation; grain = grain; phase = phase }) end
-held_told t0 t1 t2 t3 t4 end activation grain phase opened one other third over = (
-  object (put (codes "phase") third.data_of (put (codes "grain") other.data_of (put (codes "activation") one.data_of no_members))),
-  object_at 0 t0 t1 _ end opened
-      (with_member 0 activation_in _ _ t1 t2 end _ _ one
-      (with_member 0 grain_in _ _ t2 t3 end _ _ other
-      (with_member 0 phase_in _ _ t3 t4 end _ _ third (members_over 0 _ t4 end over)))),
-  three activation grain phase phase phase (activation_in one.data_of) (grain_in other.data_of) (phase_in third.data_of)
-      (λ activation grain phase. record { activation = activation; grain = grain; phase = phase }) one.tells other.tells third.tells,
-)
-
-pub piece_told : (t0 t1 t2 t3 t4 t5 end : List Token) (entries : List Entry) (from : Option Silo) (range : Range) (state : DumpState) → t0 ≡ Token.begin_object ∷ t1
-    → Member (list_in entry_in) 2 (codes "entries") t1 entries t2 → Member from_in 2 (codes "from") t2 from t3 → Member range_in 2 (codes "range") t3 range t4 → Member state_in 2 (codes "state") t4 state t5
-    → t5 ≡ Token.end_object ∷ end → Tells piece_in 3 t0 (record { entries = entries; from = from; range = range; state = state }) end
-piece_told t0 t1 t2 t3 t4 t5 end entries from range state opened one other third fourth over = (
-  object (put (codes "state") fourth.data_of (put (codes "range") third.data_of (put (codes "from") other.data_of (put (codes "entries") one.data_of no_members)))),
-  object_at 2 t0 t1 _ end opened
-      (with_member 2 (list_in entry_in) _ _ t1 t2 end _ _ one
-      (with_member 2 from_in _ _ t2 t3 end _ _ other
-      (with_member 2 range_in _ _ t3 t4 end _ _ third
-      (with_member 2 state_in _ _ t4 t5 end _ _ fourth (members_over 2 _ t5 end over))))),
-  four entries from range state state (list_in entry_in one.data_of) (from_in other.data_of) (range_in third.data_of) (state_in fourth.data_of)
-      (λ entries from range state. record { entries = entries; from = from; range = range; state = state }) one.tells other.tells third.tells fourth.tells,
-)
-
-pub node_told : (t0 t1 t2 t3 t4 t5 t6 end : List Token) (held : List DumpHeld) (pieces : List DumpPiece) (ring : List Point) (seen : ℕ) (silo : Silo) → t0 ≡ Token.begin_object ∷ t1
-    → Member (list_in held_in) 4 (codes "held") t1 held t2 → Member (list_in piece_in) 4 (codes "pieces") t2 pieces t3 → Member (list_in point_in) 4 (codes "ring") t3 ring t4
-    → Member number_in 4 (codes "seen") t4 seen t5 → Member silo_in 4 (codes "silo") t5 silo t6
-    → t6 ≡ Token.end_object ∷ end → Tells node_in 5 t0 (record { held = held; pieces = pieces; ring = ring; seen = seen; silo = silo }) end
-node_told t0 t1 t2 t3 t4 t5 t6 end held pieces ring seen silo opened one other third fourth fifth over = (
-  object (put (codes "silo") fifth.data_of (put (codes "seen") fourth.data_of (put (codes "ring") third.data_of (put (codes "pieces") other.data_of (put (codes "held") one.data_of no_members))))),
-  object_at 4 t0 t1 _ end opened
-      (with_member 4 (list_in held_in) _ _ t1 t2 end _ _ one
-      (with_member 4 (list_in piece_in) _ _ t2 t3 end _ _ other
-      (with_member 4 (list_in point_in) _ _ t3 t4 end _ _ third
-      (with_member 4 number_in _ _ t4 t5 end _ _ fourth
-      (with_member 4 silo_in _ _ t5 t6 end _ _ fifth (members_over 4 _ t6 end over)))))),
-  five held pieces ring seen silo (list_in held_in one.data_of) (list_in piece_in other.data_of) (list_in point_in third.data_of) (number_in fourth.data_of) (silo_in fifth.data_of)
-      (λ held pieces ring seen silo. record { held = held; pieces = pieces; ring = ring; seen = seen; silo = silo }) one.tells other.tells third.tells fourth.tells fifth.tells,
-)
-
-pub row_told : (t0 t1 t2 t3 t4 t5 t6 end : List Token) (dead joined left : ℕ) (places : List ℕ) (silo : Silo) → t0 ≡ Token.begin_object ∷ t1
-    → Member number_in 1 (codes "dead") t1 dead t2 → Member number_in 1 (codes "joined") t2 joined t3 → Member number_in 1 (codes "left") t3 left t4
-    → Member (list_in number_in) 1 (codes "places") t4 places t5 → Member silo_in 1 (codes "silo") t5 silo t6
-    → t6 ≡ Token.end_object ∷ end → Tells row_in 2 t0 (record { dead = dead; joined = joined; left = left; places = places; silo = silo }) end
-row_told t0 t1 t2 t3 t4 t5 t6 end dead joined left places silo opened one other third fourth fifth over = (
-  object (put (codes "silo") fifth.data_of (put (codes "places") fourth.data_of (put (codes "left") third.data_of (put (codes "joined") other.data_of (put (codes "dead") one.data_of no_members))))),
-  object_at 1 t0 t1 _ end opened
-      (with_member 1 number_in _ _ t1 t2 end _ _ one
-      (with_member 1 number_in _ _ t2 t3 end _ _ other
-      (with_member 1 number_in _ _ t3 t4 end _ _ third
-      (with_member 1 (list_in number_in) _ _ t4 t5 end _ _ fourth
-      (with_member 1 silo_in _ _ t5 t6 end _ _ fifth (members_over 1 _ t6 end over)))))),
-  five dead joined left places silo (number_in one.data_of) (number_in other.data_of) (number_in third.data_of) (list_in number_in fourth.data_of) (silo_in fifth.data_of)
-      (λ dead joined left places silo. record { dead = dead; joined = joined; left = left; places = places; silo = silo }) one.tells other.tells third.tells fourth.tells fifth.tells,
-)
-
-pub whole_told : (t0 t1 t2 t3 t4 t5 t6 end : List Token) (current : ℕ) (hashing : Hashing) (nodes : List DumpNode) (points : ℕ) (rows : List DumpRow) → t0 ≡ Token.begin_object ∷ t1
-    → Member number_in 6 (codes "current") t1 current t2 → Member hashing_in 6 (codes "hashing") t2 hashing t3 → Member (list_in node_in) 6 (codes "nodes") t3 nodes t4
-    → Member number_in 6 (codes "points") t4 points t5 → Member (list_in row_in) 6 (codes "rows") t5 rows t6
-    → t6 ≡ Token.end_object ∷ end → Tells dump_in 7 t0 (record { current = current; hashing = hashing; nodes = nodes; points = points; rows = rows }) end
-unfolding dump_in
-whole_told t0 t1 t2 t3 t4 t5 t6 end current hashing nodes points rows opened one other third fourth fifth over = (
-  object (put (codes "rows") fifth.data_of (put (codes "points") fourth.data_of (put (codes "nodes") third.data_of (put (codes "hashing") other.data_of (put (codes "current") one.data_of no_members))))),
-  object_at 6 t0 t1 _ end opened
-      (with_member 6 number_in _ _ t1 t2 end _ _ one
-      (with_member 6 hashing_in _ _ t2 t3 end _ _ other
-      (with_member 6 (list_in node_in) _ _ t3 t4 end _ _ third
-      (with_member 6 number_in _ _ t4 t5 end _ _ fourth
-      (with_member 6 (list_in row_in) _ _ t5 t6 end _ _ fifth (members_over 6 _ t6 end over)))))),
-  five current hashing nodes points rows (number_in one.data_of) (hashing_in other.data_of) (list_in node_in third.data_of) (number_in fourth.data_of) (list_in row_in fifth.data_of)
-      (λ current hashing nodes points rows. record { current = current; hashing = hashing; nodes = nodes; points = points; rows = rows }) one.tells other.tells third.tells fourth.tells fifth.tells,
-)
+  pub whole_told : (current : ℕ) (hashing : Hashing) (nodes : List DumpNode) (points : ℕ) (rows : List DumpRow) → members_len found ≡ 5
+      → member_in number_in (codes "current") found ≡ Some current
+      → member_in hashing_in (codes "hashing") found ≡ Some hashing
+      → member_in (list_in node_in) (codes "nodes") found ≡ Some nodes
+      → member_in number_in (codes "points") found ≡ Some points
+      → member_in (list_in row_in) (codes "rows") found ≡ Some rows
+      → dump_in (object found) ≡ Some (record { current = current; hashing = hashing; nodes = nodes; points = points; rows = rows })
+  unfolding dump_in
+  whole_told current hashing nodes points rows many one other third fourth fifth =
+      rw many (five current hashing nodes points rows (member_in number_in (codes "current") found) (member_in hashing_in (codes "hashing") found) (member_in (list_in node_in) (codes "nodes") found) (member_in number_in (codes "points") found) (member_in (list_in row_in) (codes "rows") found)
+      (λ current hashing nodes points rows. record { current = current; hashing = hashing; nodes = nodes; points = points; rows = rows }) one other third fourth fifth)

@@ -1,5 +1,8 @@
 pub mod DumpModel
+pub mod MemberNames
+pub mod MembersRead
 pub mod Mixed
+pub mod Placed
 pub mod PlainText
 pub mod ReadNumbers
 pub mod Reading

@@ -10,9 +10,13 @@ use Rattle.dump_rules.specs.Values.{items_in}
 abbrev pub IsAt : ℕ → List Token → Data → List Token → Type 0
 IsAt deep tokens told rest = (depth : ℕ) → deep ≤ depth → converted of_json (value depth tokens) ≡ Some (told, rest)
 
--- they begin with a value that tells x
+-- they begin with a value that tells x, which is what `tells` says
+abbrev pub TellsBy : {X : Type 0} → (Data → X → Type 0) → ℕ → List Token → X → List Token → Type 0
+TellsBy tells deep tokens x rest = (told : Data) × IsAt deep tokens told rest × tells told x
+
+-- they begin with a value that reads as x
 abbrev pub Tells : {X : Type 0} → (Data → Option X) → ℕ → List Token → X → List Token → Type 0
-Tells reads deep tokens x rest = (told : Data) × IsAt deep tokens told rest × (reads told ≡ Some x)
+Tells reads = TellsBy (λ told x. reads told ≡ Some x)
 
 -- they begin with these items and the bracket that closes their list
 abbrev pub AreItems : ℕ → List Token → Items → List Token → Type 0

@@ -5,12 +5,15 @@
 mod distinct;
 mod dump;
 mod error;
+mod member_name;
+mod members;
 mod mixed;
 mod named;
 mod node_shape;
 mod numbers;
 mod piece_shape;
 mod plain_text;
+mod read_text;
 mod reading;
 mod shape;
 mod straight;

@@ -14,7 +14,7 @@ ghost use Rattle.json.specs.Word.{is_space};
 ghost use Rattle.json.specs.Token.{begin_array, begin_object, end_array, end_object, key, string};
 ghost use Rattle.dump_rules.specs.Values.{number_in};
 ghost use Rattle.rebuild_checker.specs.Straight.{Tells};
-ghost use Rattle.rebuild_checker.specs.PlainText.{IsBegun, IsNamed, IsQuoted, StandsFor, behind_blanks, ends_value, is_plain_byte, keeps_its_meaning};
+ghost use Rattle.rebuild_checker.specs.PlainText.{IsBegun, IsQuoted, StandsFor, behind_blanks, ends_value, is_plain_byte, keeps_its_meaning};
 
 use crate::ReadError;
 use memchr::{memchr, memchr2};
@@ -71,16 +71,17 @@ impl<'a> PlainText<'a> {
         Ok(())
     }
 
-    /// Takes the brace that closes an object.
-    pub(crate) fn end_members(&mut self) -> Result<(), ReadError>
-        ensures { OnOk result (self.old ≡ end_object ∷ self.new) }
+    /// Takes the brace that closes an object, if it is next.
+    pub(crate) fn take_end_object(&mut self) -> bool
+        ensures taken { OnTrue result (self.old ≡ end_object ∷ self.new) }
+        ensures unchanged { OnFalse result (self.new ≡ self.old) }
     {
         let Some(rest) = behind_blanks_and(self.rest, b'}') else {
-            return Err(ReadError::NotADump);
+            return false;
         };
         self.rest = rest;
         self.place = Place::AfterValue;
-        Ok(())
+        true
     }
 
     /// Takes the bracket that opens a list.
@@ -117,18 +118,18 @@ impl<'a> PlainText<'a> {
         }
     }
 
-    /// Takes the name of a member, with its colon. Each byte of the name stands for itself.
-    pub(crate) fn name(&mut self, name: &str) -> Result<(), ReadError>
-        requires { list_all is_plain_byte name.now ≡ true }
-        ensures { OnOk result (self.old ≡ key name.now ∷ self.new) }
+    /// Takes the name of a member, with its colon. It is lent from the text where each of its bytes stands for itself there.
+    pub(crate) fn name(&mut self, alloc: Global) -> Result<CowSlice<'a, u8>, ReadError>
+        ensures { IfOk result (λ name. self.old ≡ key (cow_slice_items name) ∷ self.new) }
     {
         let quoted = opened(self.rest, self.place, b'"')?;
-        let Some(rest) = behind_name(quoted, name.as_bytes()) else {
+        let (name, unquoted) = string(alloc, quoted)?;
+        let Some(rest) = behind_blanks_and(unquoted, b':') else {
             return Err(ReadError::NotADump);
         };
         self.rest = rest;
         self.place = Place::Fresh;
-        Ok(())
+        Ok(name)
     }
 
     /// Takes a string. It is lent from the text where each of its bytes stands for itself there.
@@ -255,15 +256,6 @@ fn behind(bytes: &[u8], mark: u8) -> Option<&[u8]>
 {
     let (first, rest) = bytes.split_first()?;
     if *first == mark { Some(rest) } else { None }
-}
-
-/// The bytes behind a name, its quotation mark and its colon, if these come first.
-fn behind_name<'a>(bytes: &'a [u8], name: &[u8]) -> Option<&'a [u8]>
-    ensures { IfSome result (λ rest. IsNamed bytes.now name.now rest.now) }
-{
-    let unnamed = bytes.strip_prefix(name)?;
-    let unquoted = behind(unnamed, b'"')?;
-    behind_blanks_and(unquoted, b':')
 }
 
 /// The string whose first quotation mark stands before these bytes, and what comes behind its last one.

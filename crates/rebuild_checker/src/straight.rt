@@ -1,17 +1,18 @@
-//! Dumps read straight from their text, with no tree of JSON values before the lists: where the members of each object stand
-//! in the order of their names, each once, as the program writes them. Blanks may stand between the tokens, and quotation marks,
-//! backslashes and slashes may be escaped in texts. A refusal from here other than want of memory says only that the text isn't
-//! written so.
+//! Dumps read straight from their text, with no tree of JSON values before the lists: the members of each object in any order,
+//! each once. Blanks may stand between the tokens, and quotation marks, backslashes and slashes may be escaped in texts. A refusal
+//! from here other than want of memory says only that the text isn't written so.
 
 ghost use Rattle.std.specs.Prelude.{◌≡◌, ℕ, suc, Option, Some, IfOk};
 ghost use Rattle.serde_json.specs.Data.{Data};
 ghost use Rattle.serde_json.specs.Read.{read as read_json};
 ghost use Rattle.dump_rules.specs.DumpIn.{dump_in, entry_in, held_in, node_in, piece_in, point_in, row_in};
 ghost use Rattle.dump_rules.specs.Values.{list_in, number_in};
-ghost use Rattle.rebuild_checker.specs.Straight.{TellItems, Tells};
+ghost use Rattle.rebuild_checker.specs.Straight.{TellItems};
 
-use crate::named::{activation, from, grain, hashing, phase, range, silo, state};
+use crate::member_name::MemberName;
+use crate::members::{Member, NoMember, read_members};
 use crate::plain_text::PlainText;
+use crate::read_text::ReadText;
 use crate::{Dump, Held, ListedPoint, Node, Piece, ReadError, Row};
 use silo_address::Entry;
 use std::alloc::Global;
@@ -21,67 +22,57 @@ pub(crate) fn read_straight(alloc: Global, text: &str) -> Result<Dump, ReadError
     ensures { IfOk result (λ dump. (value : Data) × (read_json text.now ≡ Some value) × (dump_in value ≡ Some dump)) }
 {
     let mut reader = PlainText::new(text);
-    let dump = dump(alloc, &mut reader)?;
+    let dump = Dump::read_text(alloc, &mut reader)?;
     if !reader.is_over() {
         return Err(ReadError::NotADump);
     }
     Ok(dump)
 }
 
-/// What a dump lists, as it is read from its text.
-trait ReadText: Drop {
-    ghost tells: { Data → Option Self };
+impl ReadText for Dump {
+    ghost tells = { λ value dump. dump_in value ≡ Some dump };
 
-    ghost deep: { ℕ };
+    ghost deep = { 7 };
 
-    /// What the next value tells.
-    fn read_text(alloc: Global, reader: &mut PlainText<'_>) -> Result<Self, ReadError>
-        ensures { IfOk result (λ read. Tells tells deep reader.old read reader.new) };
-}
-
-/// The dump that comes next.
-fn dump(alloc: Global, reader: &mut PlainText<'_>) -> Result<Dump, ReadError>
-    ensures { IfOk result (λ dump. Tells dump_in 7 reader.old dump reader.new) }
-{
-    reader.begin_members()?;
-    reader.name("current")?;
-    let current = reader.number()?;
-    reader.name("hashing")?;
-    let hashing = hashing(reader.text(alloc)?.as_slice())?;
-    reader.name("nodes")?;
-    let nodes = list(alloc, reader)?;
-    reader.name("points")?;
-    let points = reader.number()?;
-    reader.name("rows")?;
-    let rows = list(alloc, reader)?;
-    reader.end_members()?;
-    Ok(Dump {
-        current,
-        hashing,
-        nodes,
-        points,
-        rows,
-    })
+    fn read_text(alloc: Global, reader: &mut PlainText<'_>) -> Result<Dump, ReadError> {
+        let rows = Member::unread(MemberName::Rows, NoMember);
+        let points = Member::unread(MemberName::Points, rows);
+        let nodes = Member::unread(MemberName::Nodes, points);
+        let hashing = Member::unread(MemberName::Hashing, nodes);
+        let mut members = Member::unread(MemberName::Current, hashing);
+        read_members(alloc, &mut members, reader)?;
+        let (current, others) = members.read()?;
+        let (hashing, others) = others.read()?;
+        let (nodes, others) = others.read()?;
+        let (points, others) = others.read()?;
+        let (rows, _) = others.read()?;
+        Ok(Dump {
+            current,
+            hashing,
+            nodes,
+            points,
+            rows,
+        })
+    }
 }
 
 impl ReadText for Row {
-    ghost tells = { row_in };
+    ghost tells = { λ value row. row_in value ≡ Some row };
 
     ghost deep = { 2 };
 
     fn read_text(alloc: Global, reader: &mut PlainText<'_>) -> Result<Row, ReadError> {
-        reader.begin_members()?;
-        reader.name("dead")?;
-        let dead = reader.number()?;
-        reader.name("joined")?;
-        let joined = reader.number()?;
-        reader.name("left")?;
-        let left = reader.number()?;
-        reader.name("places")?;
-        let places = list(alloc, reader)?;
-        reader.name("silo")?;
-        let silo = silo(reader.text(alloc)?.as_slice())?;
-        reader.end_members()?;
+        let silo = Member::unread(MemberName::Silo, NoMember);
+        let places = Member::unread(MemberName::Places, silo);
+        let left = Member::unread(MemberName::Left, places);
+        let joined = Member::unread(MemberName::Joined, left);
+        let mut members = Member::unread(MemberName::Dead, joined);
+        read_members(alloc, &mut members, reader)?;
+        let (dead, others) = members.read()?;
+        let (joined, others) = others.read()?;
+        let (left, others) = others.read()?;
+        let (places, others) = others.read()?;
+        let (silo, _) = others.read()?;
         Ok(Row {
             dead,
             joined,
@@ -93,23 +84,22 @@ impl ReadText for Row {
 }
 
 impl ReadText for Node {
-    ghost tells = { node_in };
+    ghost tells = { λ value node. node_in value ≡ Some node };
 
     ghost deep = { 5 };
 
     fn read_text(alloc: Global, reader: &mut PlainText<'_>) -> Result<Node, ReadError> {
-        reader.begin_members()?;
-        reader.name("held")?;
-        let held = list(alloc, reader)?;
-        reader.name("pieces")?;
-        let pieces = list(alloc, reader)?;
-        reader.name("ring")?;
-        let ring = list(alloc, reader)?;
-        reader.name("seen")?;
-        let seen = reader.number()?;
-        reader.name("silo")?;
-        let silo = silo(reader.text(alloc)?.as_slice())?;
-        reader.end_members()?;
+        let silo = Member::unread(MemberName::Silo, NoMember);
+        let seen = Member::unread(MemberName::Seen, silo);
+        let ring = Member::unread(MemberName::Ring, seen);
+        let pieces = Member::unread(MemberName::Pieces, ring);
+        let mut members = Member::unread(MemberName::Held, pieces);
+        read_members(alloc, &mut members, reader)?;
+        let (held, others) = members.read()?;
+        let (pieces, others) = others.read()?;
+        let (ring, others) = others.read()?;
+        let (seen, others) = others.read()?;
+        let (silo, _) = others.read()?;
         Ok(Node {
             held,
             pieces,
@@ -121,21 +111,20 @@ impl ReadText for Node {
 }
 
 impl ReadText for Piece {
-    ghost tells = { piece_in };
+    ghost tells = { λ value piece. piece_in value ≡ Some piece };
 
     ghost deep = { 3 };
 
     fn read_text(alloc: Global, reader: &mut PlainText<'_>) -> Result<Piece, ReadError> {
-        reader.begin_members()?;
-        reader.name("entries")?;
-        let entries = list(alloc, reader)?;
-        reader.name("from")?;
-        let from = from(reader.text(alloc)?.as_slice())?;
-        reader.name("range")?;
-        let range = range(reader.text(alloc)?.as_slice())?;
-        reader.name("state")?;
-        let state = state(reader.text(alloc)?.as_slice())?;
-        reader.end_members()?;
+        let state = Member::unread(MemberName::State, NoMember);
+        let range = Member::unread(MemberName::Range, state);
+        let from = Member::unread(MemberName::From, range);
+        let mut members = Member::unread(MemberName::Entries, from);
+        read_members(alloc, &mut members, reader)?;
+        let (entries, others) = members.read()?;
+        let (from, others) = others.read()?;
+        let (range, others) = others.read()?;
+        let (state, _) = others.read()?;
         Ok(Piece {
             entries,
             from,
@@ -146,19 +135,18 @@ impl ReadText for Piece {
 }
 
 impl ReadText for Held {
-    ghost tells = { held_in };
+    ghost tells = { λ value held. held_in value ≡ Some held };
 
     ghost deep = { 1 };
 
     fn read_text(alloc: Global, reader: &mut PlainText<'_>) -> Result<Held, ReadError> {
-        reader.begin_members()?;
-        reader.name("activation")?;
-        let activation = activation(reader.text(alloc)?.as_slice())?;
-        reader.name("grain")?;
-        let grain = grain(reader.text(alloc)?.as_slice())?;
-        reader.name("phase")?;
-        let phase = phase(reader.text(alloc)?.as_slice())?;
-        reader.end_members()?;
+        let phase = Member::unread(MemberName::Phase, NoMember);
+        let grain = Member::unread(MemberName::Grain, phase);
+        let mut members = Member::unread(MemberName::Activation, grain);
+        read_members(alloc, &mut members, reader)?;
+        let (activation, others) = members.read()?;
+        let (grain, others) = others.read()?;
+        let (phase, _) = others.read()?;
         Ok(Held {
             activation,
             grain,
@@ -168,14 +156,14 @@ impl ReadText for Held {
 }
 
 impl ReadText for ListedPoint {
-    ghost tells = { point_in };
+    ghost tells = { λ value point. point_in value ≡ Some point };
 
     ghost deep = { 1 };
 
     fn read_text(alloc: Global, reader: &mut PlainText<'_>) -> Result<ListedPoint, ReadError> {
         reader.begin_items()?;
         let place = reader.number()?;
-        let silo = silo(reader.text(alloc)?.as_slice())?;
+        let silo = ReadText::read_text(alloc, reader)?;
         let index = reader.number()?;
         reader.end_items()?;
         Ok(ListedPoint { place, silo, index })
@@ -183,40 +171,82 @@ impl ReadText for ListedPoint {
 }
 
 impl ReadText for Entry {
-    ghost tells = { entry_in };
+    ghost tells = { λ value entry. entry_in value ≡ Some entry };
 
     ghost deep = { 1 };
 
     fn read_text(alloc: Global, reader: &mut PlainText<'_>) -> Result<Entry, ReadError> {
         reader.begin_items()?;
-        let grain = grain(reader.text(alloc)?.as_slice())?;
-        let activation = activation(reader.text(alloc)?.as_slice())?;
+        let grain = ReadText::read_text(alloc, reader)?;
+        let activation = ReadText::read_text(alloc, reader)?;
         reader.end_items()?;
         Ok(Entry { grain, activation })
     }
 }
 
-impl ReadText for u64 {
-    ghost tells = { number_in };
+/// What stands in lists.
+pub(crate) trait ReadItem: ReadText {
+    ghost reads: { Data → Option Self };
 
-    ghost deep = { 0 };
+    ghost agrees: { (value : Data) (item : Self) → Self.tells value item → reads value ≡ Some item };
+}
 
-    fn read_text(_alloc: Global, reader: &mut PlainText<'_>) -> Result<u64, ReadError> {
-        reader.number()
+impl ReadItem for u64 {
+    ghost reads = { number_in };
+
+    ghost agrees = { λ value item is. is };
+}
+
+impl ReadItem for Row {
+    ghost reads = { row_in };
+
+    ghost agrees = { λ value item is. is };
+}
+
+impl ReadItem for Node {
+    ghost reads = { node_in };
+
+    ghost agrees = { λ value item is. is };
+}
+
+impl ReadItem for Piece {
+    ghost reads = { piece_in };
+
+    ghost agrees = { λ value item is. is };
+}
+
+impl ReadItem for Held {
+    ghost reads = { held_in };
+
+    ghost agrees = { λ value item is. is };
+}
+
+impl ReadItem for ListedPoint {
+    ghost reads = { point_in };
+
+    ghost agrees = { λ value item is. is };
+}
+
+impl ReadItem for Entry {
+    ghost reads = { entry_in };
+
+    ghost agrees = { λ value item is. is };
+}
+
+impl<T: ReadItem> ReadText for Vec<T> {
+    ghost tells = { λ value list. list_in T.reads value ≡ Some list.items };
+
+    ghost deep = { suc T.deep };
+
+    fn read_text(alloc: Global, reader: &mut PlainText<'_>) -> Result<Vec<T>, ReadError> {
+        reader.begin_items()?;
+        items(alloc, reader)
     }
 }
 
-/// The list that comes next.
-fn list<T: ReadText>(alloc: Global, reader: &mut PlainText<'_>) -> Result<Vec<T>, ReadError>
-    ensures { IfOk result (λ list. Tells (list_in T.tells) (suc T.deep) reader.old list.items reader.new) }
-{
-    reader.begin_items()?;
-    items(alloc, reader)
-}
-
 /// The items up to the bracket that closes their list.
-fn items<T: ReadText>(alloc: Global, reader: &mut PlainText<'_>) -> Result<Vec<T>, ReadError>
-    ensures { IfOk result (λ list. TellItems T.tells T.deep reader.old list.items reader.new) }
+fn items<T: ReadItem>(alloc: Global, reader: &mut PlainText<'_>) -> Result<Vec<T>, ReadError>
+    ensures { IfOk result (λ list. TellItems T.reads T.deep reader.old list.items reader.new) }
 {
     let mut list = Vec::new(alloc);
     'items: while !reader.take_end_array() {

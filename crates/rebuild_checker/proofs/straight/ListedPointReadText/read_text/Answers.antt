@@ -1,10 +1,5 @@
-use Rattle.dump_rules.specs.Values.{silo_in}
-use Rattle.rebuild_checker.proofs.Along.{text_told}
 use Rattle.rebuild_checker.proofs.Told.{point_told}
 use Rattle.rebuild_checker.proofs.straight.ListedPointReadText.read_text.Goals as goal
 
 pub returns : goal.returns
-returns c =
-    point_told _ _ _ _ _ _ _ _ _ c.in_ok-begin_items.ensures c.in_ok-place.ensures
-    (text_told silo_in _ _ _ _ _ c.in_ok-text.ensures c.as_slice.ensures.value c.in_ok-silo.ensures)
-    c.in_ok-index.ensures c.in_ok-end_items.ensures
+returns c = point_told _ _ _ _ _ _ _ _ _ c.in_ok-begin_items.ensures c.in_ok-place.ensures c.in_ok-silo.ensures c.in_ok-index.ensures c.in_ok-end_items.ensures

@@ -1,0 +1,61 @@
+//! The names of the members of a dump's objects.
+
+ghost use Rattle.std.specs.Prelude.{◌≡◌};
+ghost use Rattle.rebuild_checker.specs.MemberNames.{text_of_name};
+
+/// The name of a member.
+#[derive(Clone, Copy)]
+pub(crate) enum MemberName {
+    Activation,
+    Current,
+    Dead,
+    Entries,
+    From,
+    Grain,
+    Hashing,
+    Held,
+    Joined,
+    Left,
+    Nodes,
+    Phase,
+    Pieces,
+    Places,
+    Points,
+    Range,
+    Ring,
+    Rows,
+    Seen,
+    Silo,
+    State,
+}
+
+impl MemberName {
+    /// The name as a dump has it.
+    pub(crate) fn text(self) -> &'static [u8]
+        ensures { result.now ≡ text_of_name self }
+    {
+        match self {
+            MemberName::Activation => b"activation",
+            MemberName::Current => b"current",
+            MemberName::Dead => b"dead",
+            MemberName::Entries => b"entries",
+            MemberName::From => b"from",
+            MemberName::Grain => b"grain",
+            MemberName::Hashing => b"hashing",
+            MemberName::Held => b"held",
+            MemberName::Joined => b"joined",
+            MemberName::Left => b"left",
+            MemberName::Nodes => b"nodes",
+            MemberName::Phase => b"phase",
+            MemberName::Pieces => b"pieces",
+            MemberName::Places => b"places",
+            MemberName::Points => b"points",
+            MemberName::Range => b"range",
+            MemberName::Ring => b"ring",
+            MemberName::Rows => b"rows",
+            MemberName::Seen => b"seen",
+            MemberName::Silo => b"silo",
+            MemberName::State => b"state",
+        }
+    }
+}

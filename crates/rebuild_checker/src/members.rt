@@ -1,0 +1,140 @@
+//! The members of an object, read from its text in any order, each once.
+
+ghost use Rattle.std.specs.Prelude.{◌≡◌, ℕ, ◌+◌, max, List, [], ◌∷◌, Some, None, IfOk, OnOk};
+ghost use Rattle.serde_json.specs.Data.{Data, Members, no_members, put};
+ghost use Rattle.rebuild_checker.specs.MemberNames.{text_of_name};
+ghost use Rattle.rebuild_checker.specs.MembersRead.{AreRead, IsApart, IsRead, Stands, filled};
+ghost use Rattle.rebuild_checker.specs.Placed.{other_placed};
+
+use crate::ReadError;
+use crate::member_name::MemberName;
+use crate::plain_text::PlainText;
+use crate::read_text::ReadText;
+use std::alloc::Global;
+
+/// The members that an object may have, with the values that have been read.
+pub(crate) trait ReadMembers: Drop {
+    ghost stands: { Self → Members → Type 0 };
+
+    ghost names: { Self → List (List ℕ) };
+
+    ghost many: { Self → ℕ };
+
+    ghost deep: { ℕ };
+
+    /// Reads the value of the member of that name. It has to be one of these, and not to have been read.
+    fn read_member(
+        &mut self,
+        alloc: Global,
+        name: &[u8],
+        reader: &mut PlainText<'_>,
+    ) -> Result<(), ReadError>
+        ensures { OnOk result (IsRead stands names many deep name.now self.old self.new reader.old reader.new) };
+
+    ghost other: { (members : Self) (name : List ℕ) (value : Data) (found : Members) → IsApart name (names members) → stands members found → stands members (put name value found) };
+}
+
+/// No member.
+#[derive(Drop)]
+pub(crate) struct NoMember;
+
+impl ReadMembers for NoMember {
+    ghost stands = { λ _ _. Unit {0} };
+
+    ghost names = { λ _. [] };
+
+    ghost many = { λ _. 0 };
+
+    ghost deep = { 0 };
+
+    ghost other = { λ members name value found none stands. tt };
+
+    fn read_member(
+        &mut self,
+        _alloc: Global,
+        _name: &[u8],
+        _reader: &mut PlainText<'_>,
+    ) -> Result<(), ReadError> {
+        Err(ReadError::NotADump)
+    }
+}
+
+/// A member and others.
+#[derive(Drop)]
+pub(crate) struct Member<T, R> {
+    name: MemberName,
+    value: Option<T>,
+    others: R,
+}
+
+impl<T: ReadText, R: ReadMembers> Member<T, R> {
+    /// A member of which nothing has been read, and others.
+    pub(crate) fn unread(name: MemberName, others: R) -> Member<T, R>
+        ensures { result ≡ record { name = name; value = None; others = others } }
+    {
+        Member {
+            name,
+            value: None,
+            others,
+        }
+    }
+
+    /// The value, if it has been read, and the others.
+    pub(crate) fn read(self) -> Result<(T, R), ReadError>
+        ensures value { IfOk result (λ parts. self.value ≡ Some parts.0) }
+        ensures others { IfOk result (λ parts. self.others ≡ parts.1) }
+    {
+        let Member { value, others, .. } = self;
+        match value {
+            Some(value) => Ok((value, others)),
+            None => Err(ReadError::NotADump),
+        }
+    }
+}
+
+impl<T: ReadText, R: ReadMembers> ReadMembers for Member<T, R> {
+    ghost stands = { λ m found. Stands T.tells (text_of_name m.name) m.value found × IsApart (text_of_name m.name) (R.names m.others) × R.stands m.others found };
+
+    ghost names = { λ m. text_of_name m.name ∷ R.names m.others };
+
+    ghost many = { λ m. filled m.value + R.many m.others };
+
+    ghost deep = { max T.deep R.deep };
+
+    ghost other = { λ m. other_placed T.tells R.stands R.names R.other (text_of_name m.name) m.value m.others };
+
+    fn read_member(
+        &mut self,
+        alloc: Global,
+        name: &[u8],
+        reader: &mut PlainText<'_>,
+    ) -> Result<(), ReadError> {
+        if name != self.name.text() {
+            return self.others.read_member(alloc, name, reader);
+        }
+        if self.value.is_some() {
+            return Err(ReadError::NotADump);
+        }
+        let value = T::read_text(alloc, reader)?;
+        self.value = Some(value);
+        Ok(())
+    }
+}
+
+/// Reads all members of the object that comes next.
+pub(crate) fn read_members<M: ReadMembers>(
+    alloc: Global,
+    members: &mut M,
+    reader: &mut PlainText<'_>,
+) -> Result<(), ReadError>
+    requires none { M.stands members.old no_members }
+    requires unread { M.many members.old ≡ 0 }
+    ensures { OnOk result (AreRead M.stands M.names M.many M.deep members.old members.new reader.old reader.new) }
+{
+    reader.begin_members()?;
+    'members: while !reader.take_end_object() {
+        let name = reader.name(alloc)?;
+        members.read_member(alloc, name.as_slice(), reader)?;
+    }
+    Ok(())
+}
