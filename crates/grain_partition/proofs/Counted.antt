@@ -100,7 +100,7 @@ module _ (hashing : Hashing) (pieces : List (ℕ × Piece)) (are : ArePieces pie
 
 -- ---- The walk.
 -- a view without silos, in which none is dead
-abbrev nobody : ViewValue
+abbrev pub nobody : ViewValue
 nobody = record { version = 0; rows = [] }
 
 kept_by_all : (range : Bool) → (range && not false) ≡ range

@@ -17,4 +17,5 @@ pub mod Gathering
 pub mod Foreseen
 pub mod Listing
 pub mod Counted
+pub mod Tidied
 pub mod BySilo

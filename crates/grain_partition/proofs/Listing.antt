@@ -146,7 +146,7 @@ module _ (hashing : Hashing) (view : ViewValue) (pieces : List (ℕ × Piece)) (
     last : (hash : ℕ) → hash < circle → holds behind hash ≡ true → holds rest hash ≡ true
     last hash below held = behind_in_range pieces are rest ok piece.range at hash below held
 
-    inside : (hash : ℕ) → hash < circle → holds front hash ≡ true → holds piece.range hash ≡ true
+    pub inside : (hash : ℕ) → hash < circle → holds front hash ≡ true → holds piece.range hash ≡ true
     inside hash below held =
         on_bool (λ b. holds piece.range hash ≡ b → b ≡ true) (holds piece.range hash) (λ t has. refl)
         (λ f apart.

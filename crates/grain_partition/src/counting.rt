@@ -1,7 +1,7 @@
 //! How many entries pieces have in a settled range: a walk from piece to piece.
 ghost use Rattle.std.specs.Prelude.{◌≡◌, ◌≤◌, ◌^◌, IfOk, OnErr, length, true};
 ghost use Rattle.directory_rules.specs.Sight.{all_entries, entries_within, was_settled};
-ghost use Rattle.grain_partition.specs.Holding.{ArePieces, are_tidy};
+ghost use Rattle.grain_partition.specs.Holding.{ArePieces, tidied};
 
 use crate::Piece;
 use crate::search::piece_with;
@@ -11,8 +11,8 @@ use ring_range::RingRange;
 use std::alloc::AllocError;
 use std::collections::BTreeMap;
 
-/// How many entries of the pieces have grains that are hashed into a settled range, where each piece has just entries of its own
-/// range. It looks at the pieces alone that the range meets. Fails only where the entries are more than a `usize` can tell.
+/// How many entries a settled range has in the pieces of their hashes: one that stands in a piece of another range isn't counted. It
+/// looks at the pieces alone that the range meets. Fails only where the entries are more than a `usize` can tell.
 pub(crate) fn count_within(
     pieces: &BTreeMap<u32, Piece>,
     hashing: Hashing,
@@ -20,8 +20,8 @@ pub(crate) fn count_within(
 ) -> Result<usize, AllocError>
     requires pieces { ArePieces pieces.now.entries }
     requires settled { was_settled pieces.now.entries range.now ≡ true }
-    ensures counted { are_tidy hashing pieces.now.entries ≡ true → IfOk result (λ count. count ≡ entries_within hashing pieces.now.entries range.now) }
-    ensures fails { are_tidy hashing pieces.now.entries ≡ true → OnErr result (2 ^ 64 ≤ length (all_entries pieces.now.entries)) }
+    ensures counted { IfOk result (λ count. count ≡ entries_within hashing (tidied hashing pieces.now.entries) range.now) }
+    ensures fails { OnErr result (2 ^ 64 ≤ length (all_entries (tidied hashing pieces.now.entries))) }
 {
     range.in_range();
     let mut count: usize = 0;

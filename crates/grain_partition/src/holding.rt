@@ -1,5 +1,5 @@
 ghost use Rattle.std.specs.Map.Iter.{ShowsInOrder, deref_pair};
-ghost use Rattle.std.specs.Prelude.{◌≡◌, ◌↔◌, ℕ, [], ◌≤◌, ◌^◌, IsTrue, IsSome, IsOk, IsErr, IfOk, OnOk, OnErr, MatchResult, length, option_copied, false, true};
+ghost use Rattle.std.specs.Prelude.{◌≡◌, ◌↔◌, ℕ, [], ◌≤◌, ◌^◌, IsTrue, IsSome, IsOk, IsErr, IfOk, OnOk, OnErr, MatchResult, length, option_copied, false};
 ghost use Rattle.std.specs.Map.{lookup};
 ghost use Rattle.std.specs.Ordering.{nat_cmp};
 ghost use Rattle.std.specs.BTreeMap.{insert_entry, is_at};
@@ -8,7 +8,7 @@ ghost use Rattle.directory_rules.specs.Piece.{Piece as PieceValue};
 ghost use Rattle.directory_rules.specs.Answer.{answered, is_numbered, last_served, piece_with, serving_piece, with_piece};
 ghost use Rattle.directory_rules.specs.declared.PieceState.TheVariants.{Recovering, Settled};
 ghost use Rattle.directory_rules.specs.Sight.{all_entries, pieces_after, sealed, was_settled};
-ghost use Rattle.grain_partition.specs.Holding.{ArePieces, HasPiece, IsHolding, are_tidy, settled_entries};
+ghost use Rattle.grain_partition.specs.Holding.{ArePieces, HasPiece, IsHolding, tidied, settled_entries};
 ghost use Rattle.grain_partition.specs.Seen.{pieces_seen};
 ghost use Rattle.grain_partition.specs.Serving.{IsTurnOf};
 ghost use Rattle.grain_partition.specs.Settled.{LiesSettled};
@@ -236,16 +236,16 @@ impl Holding {
         are_settled(&self.pieces, range)
     }
 
-    /// How many entries the range has, where it is settled throughout; `None` elsewhere. It tells so where each piece has just
-    /// entries of its own range, as in every cluster; it looks at the pieces alone that the range meets, and needs no memory. Fails
-    /// only where the entries are more than a `usize` can tell (`docs/RULES.md#pieces`).
+    /// How many entries the range has in the pieces of their hashes, where it is settled throughout; `None` elsewhere. An entry
+    /// that stands in a piece of another range isn't counted; no cluster has such. It looks at the pieces alone that the range
+    /// meets, and needs no memory. Fails only where the entries are more than a `usize` can tell (`docs/RULES.md#pieces`).
     pub fn settled_entries(
         &self,
         hashing: Hashing,
         range: &RingRange,
     ) -> Result<Option<usize>, AllocError>
-        ensures told { are_tidy hashing self.now.pieces ≡ true → IfOk result (λ entries. entries ≡ settled_entries hashing self.now.pieces range.now) }
-        ensures fails { are_tidy hashing self.now.pieces ≡ true → OnErr result (2 ^ 64 ≤ length (all_entries self.now.pieces)) }
+        ensures told { IfOk result (λ entries. entries ≡ settled_entries hashing self.now.pieces range.now) }
+        ensures fails { OnErr result (2 ^ 64 ≤ length (all_entries (tidied hashing self.now.pieces))) }
     {
         if !self.is_settled_throughout(range) {
             return Ok(None);

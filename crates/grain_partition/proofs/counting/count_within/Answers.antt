@@ -6,14 +6,16 @@ use Rattle.directory_rules.specs.Answer.{piece_with}
 use Rattle.directory_rules.specs.Piece.{Piece}
 use Rattle.directory_rules.specs.Sight.{was_settled}
 use Rattle.directory_rules.specs.Table.{Table, entries_of, with_entry}
-use Rattle.grain_partition.proofs.Counted.{AreCounted, counted_all, counted_fits, counted_more, counted_none}
+use Rattle.grain_partition.specs.Holding.{tidied}
+use Rattle.grain_partition.proofs.Counted.{AreCounted, counted_fits, counted_none}
 use Rattle.grain_partition.proofs.Gathering.{has_piece, less_behind, settles_at}
+use Rattle.grain_partition.proofs.Tidied.{all_of_tidied, more_of_tidied}
 use Rattle.grain_partition.proofs.SettledHashes.{with_has}
 use Rattle.grain_partition.proofs.Walking.{part_behind, settled-behind}
 use Rattle.grain_partition.proofs.counting.count_within.Goals as goal
 
 pub walk-init : goal.walk-init
-walk-init c = record { settled = c.requires.settled; counted = λ tidy. counted_none c.args.hashing c.args.pieces.now.entries c.args.range.now }
+walk-init c = record { settled = c.requires.settled; counted = counted_none c.args.hashing (tidied c.args.hashing c.args.pieces.now.entries) c.args.range.now }
 
 pub unwrap-piece-requires : goal.unwrap-piece-requires
 unwrap-piece-requires c =
@@ -30,7 +32,7 @@ part_behind-behind-requires c =
     ap (λ r. holds r c.walk.rest.start) c.range.ensures ∙ with_has c.walk.rest.start c.args.pieces.now.entries c.requires.pieces piece with
 
 pub returns-in_default-clause-fails : goal.returns-in_default-clause-fails
-returns-in_default-clause-fails c = λ tidy.
+returns-in_default-clause-fails c =
     let piece : Piece = c.unwrap-piece.result.now in
     let with : piece_with c.walk.rest.start c.args.pieces.now.entries ≡ Some piece =
     ap (λ k. piece_with k c.args.pieces.now.entries) (sym c.start.ensures) ∙ sym c.piece_with.ensures ∙ ap option_copied c.unwrap-piece.ensures in
@@ -38,11 +40,11 @@ returns-in_default-clause-fails c = λ tidy.
     let behind : c.part_behind-behind.result ≡ part_behind c.walk.rest piece.range = c.part_behind-behind.ensures ∙ ap (part_behind c.walk.rest) c.range.ensures in
     let front_is : c.front_of-front.result ≡ record { start = c.walk.rest.start; size = c.walk.rest.size - (part_behind c.walk.rest piece.range).size } =
     c.front_of-front.ensures ∙ ap (λ (r : Range). record { start = c.walk.rest.start; size = c.walk.rest.size - r.size }) behind in
-    let fits = counted_fits c.args.hashing c.args.pieces.now.entries c.args.range.now (part_behind c.walk.rest piece.range) (c.walk.count + c.count_within.result)
-    (counted_more c.args.hashing c.args.pieces.now.entries c.args.range.now c.requires.pieces tidy c.walk.rest c.in_range-in-walk.ensures (omega (arith, c.walk-test.true, c.size.ensures.value)) c.walk.invariant.settled
+    let fits = counted_fits c.args.hashing (tidied c.args.hashing c.args.pieces.now.entries) c.args.range.now (part_behind c.walk.rest piece.range) (c.walk.count + c.count_within.result)
+    (more_of_tidied c.args.hashing c.args.pieces.now.entries c.requires.pieces c.args.range.now c.walk.rest c.in_range-in-walk.ensures (omega (arith, c.walk-test.true, c.size.ensures.value)) c.walk.invariant.settled
     piece with again c.walk.count c.count_within.result
     (c.count_within.ensures ∙ (λ i. length (filter (λ e. holds (front_is i) (hash_grain c.args.hashing e.grain)) (entries_of (c.entries-table.ensures i)))))
-    (c.walk.invariant.counted tidy)) in
+    c.walk.invariant.counted) in
     omega (arith, fits, c.in_default.ensures)
 
 pub walk-smaller : goal.walk-smaller
@@ -70,16 +72,16 @@ walk-preserved c =
           ∙ sym (settled-behind c.args.pieces.now.entries c.requires.pieces c.walk.rest c.in_range-in-walk.ensures piece.range
           (settles_at c.args.hashing c.args.pieces.now.entries c.requires.pieces c.args.range.now c.walk.rest c.in_range-in-walk.ensures (omega (arith, c.walk-test.true, c.size.ensures.value)) c.walk.invariant.settled piece with))
           ∙ c.walk.invariant.settled;
-      counted = λ tidy.
-          subst (λ n. AreCounted c.args.hashing c.args.pieces.now.entries c.args.range.now c.part_behind-behind.result n) (sym c.in-Some.ensures.1)
-          (subst (λ r. AreCounted c.args.hashing c.args.pieces.now.entries c.args.range.now r (c.walk.count + c.count_within.result)) (sym behind)
-          (counted_more c.args.hashing c.args.pieces.now.entries c.args.range.now c.requires.pieces tidy c.walk.rest c.in_range-in-walk.ensures (omega (arith, c.walk-test.true, c.size.ensures.value)) c.walk.invariant.settled
+      counted =
+          subst (λ n. AreCounted c.args.hashing (tidied c.args.hashing c.args.pieces.now.entries) c.args.range.now c.part_behind-behind.result n) (sym c.in-Some.ensures.1)
+          (subst (λ r. AreCounted c.args.hashing (tidied c.args.hashing c.args.pieces.now.entries) c.args.range.now r (c.walk.count + c.count_within.result)) (sym behind)
+          (more_of_tidied c.args.hashing c.args.pieces.now.entries c.requires.pieces c.args.range.now c.walk.rest c.in_range-in-walk.ensures (omega (arith, c.walk-test.true, c.size.ensures.value)) c.walk.invariant.settled
           piece with again c.walk.count c.count_within.result
           (c.count_within.ensures ∙ (λ i. length (filter (λ e. holds (front_is i) (hash_grain c.args.hashing e.grain)) (entries_of (c.entries-table.ensures i)))))
-          (c.walk.invariant.counted tidy)));
+          c.walk.invariant.counted));
     }
 
 pub returns-clause-counted : goal.returns-clause-counted
-returns-clause-counted c = λ tidy.
-    counted_all c.args.hashing c.args.pieces.now.entries c.args.range.now c.requires.pieces tidy c.in_range.ensures c.requires.settled c.walk.rest c.walk.count
-    (omega (arith, c.walk-test.false, c.size.ensures.value)) (c.walk.invariant.counted tidy)
+returns-clause-counted c =
+    all_of_tidied c.args.hashing c.args.pieces.now.entries c.requires.pieces c.args.range.now c.in_range.ensures c.requires.settled c.walk.rest c.walk.count
+    (omega (arith, c.walk-test.false, c.size.ensures.value)) c.walk.invariant.counted

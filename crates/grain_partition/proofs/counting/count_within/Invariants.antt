@@ -1,6 +1,6 @@
 use Rattle.std.proofs.Common.{◌≡◌, true}
 use Rattle.directory_rules.specs.Sight.{was_settled}
-use Rattle.grain_partition.specs.Holding.{are_tidy}
+use Rattle.grain_partition.specs.Holding.{tidied}
 use Rattle.grain_partition.proofs.Counted.{AreCounted}
 use Rattle.grain_partition.proofs.counting.count_within.Given as goal
 
@@ -8,7 +8,7 @@ use Rattle.grain_partition.proofs.counting.count_within.Given as goal
 abbrev pub invariant-walk : goal.invariant-walk
 invariant-walk l = record {
   settled : was_settled l.pieces.entries l.rest ≡ true;
-  counted : are_tidy l.hashing l.pieces.entries ≡ true → AreCounted l.hashing l.pieces.entries l.range l.rest l.count;
+  counted : AreCounted l.hashing (tidied l.hashing l.pieces.entries) l.range l.rest l.count;
 }
 
 abbrev pub decreases-walk : goal.decreases-walk
