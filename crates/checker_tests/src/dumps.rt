@@ -73,7 +73,7 @@ fn written_again(rt: HostRuntime) {
 
 #[test]
 fn written_otherwise(rt: HostRuntime) {
-    for text in [OTHER_ORDER, REPEATED] {
+    for text in [OTHER_ORDER, CODED, REPEATED] {
         assert!(rt; is_read_as_one(&rt, rt.alloc(), text), "{text}");
     }
 }
@@ -81,6 +81,10 @@ fn written_otherwise(rt: HostRuntime) {
 /// That of one silo, the members of each object in the opposite order.
 const OTHER_ORDER: &str =
     "{\"rows\":[{\"silo\":\"10.0.0.1:1000@1\",\"places\":[0],\"left\":0,\"joined\":1,\"dead\":0}],\"points\":30,\"nodes\":[{\"silo\":\"10.0.0.1:1000@1\",\"seen\":1,\"ring\":[[0,\"10.0.0.1:1000@1\",0]],\"pieces\":[{\"state\":\"settled\",\"range\":\"0+4294967296\",\"from\":\"\",\"entries\":[]}],\"held\":[]}],\"hashing\":\"stated\",\"current\":1}";
+
+/// That of one silo, the members of each object in yet another order, with blanks, and with bytes told by their codes.
+const CODED: &str =
+    "{ \"rows\": [{\"silo\": \"10.0.0.1\\u003a1000@1\", \"joined\": 1, \"l\\u0065ft\": 0, \"dead\": 0, \"places\": [0]}], \"current\": 1, \"hashing\": \"\\u0073tate\\u0064\", \"points\": 30, \"nodes\": [{\"silo\": \"10.0.0.1:1000@1\", \"seen\": 1, \"held\": [], \"ring\": [[0, \"10.0.0.1:1000\\u00401\", 0]], \"pieces\": [{\"range\": \"0\\u002B4294967296\", \"st\\u0061te\": \"settled\", \"from\": \"\", \"entries\": []}]}] }";
 
 /// That of one silo, with a member twice, of which the last one counts.
 const REPEATED: &str =

@@ -22,7 +22,7 @@ use Rattle.rebuild_checker.specs.MemberNames.{text_of_name}
 use Rattle.rebuild_checker.specs.declared.member_name.MemberName.{MemberName}
 use Rattle.rebuild_checker.specs.declared.members.Member.{Member}
 use Rattle.rebuild_checker.proofs.Along.{AreMembers, member_at, members_over, object_at, shorter_at, text_told}
-use Rattle.rebuild_checker.specs.Placed.{stands_on}
+use Rattle.rebuild_checker.specs.Standing.{stands_on}
 
 -- a member that was not there makes one more
 length_at : (o : Ordering) (k l : List ℕ) (d e : Data) (ms : Members) → match_ordering o (get_member k ms) (Some e) (get_member k ms) ≡ None
@@ -80,7 +80,7 @@ module _ {X S : Type 0} (tells : Data → X → Type 0) (low : ℕ) (stands : S 
     value = one.0;
     at = deeper low (max low deep) ts one.0 rest (omega arith) one.1;
     fresh = λ found stood. stood.0;
-    placed = λ found stood. ((one.0, get_member-put (text_of_name name) one.0 found, one.2), stood.1, on others (text_of_name name) one.0 found stood.1 stood.2);
+    with_it = λ found stood. ((one.0, get_member-put (text_of_name name) one.0 found, one.2), stood.1, on others (text_of_name name) one.0 found stood.1 stood.2);
     same_names = refl;
     one_more = omega arith;
   }
@@ -103,7 +103,7 @@ module _ {X S : Type 0} (tells : Data → X → Type 0) (low : ℕ) (stands : S 
         value = one.value;
         at = deeper deep (max low deep) ts one.value rest (omega arith) one.at;
         fresh = λ found stood. one.fresh found stood.2;
-        placed = λ found stood. (stands_on tells (text_of_name own) name read one.value found apart stood.0, subst (IsApart (text_of_name own)) (sym one.same_names) stood.1, one.placed found stood.2);
+        with_it = λ found stood. (stands_on tells (text_of_name own) name read one.value found apart stood.0, subst (IsApart (text_of_name own)) (sym one.same_names) stood.1, one.with_it found stood.2);
         same_names = ap (λ those. text_of_name own ∷ those) one.same_names;
         one_more = omega (arith, more);
       }
@@ -125,7 +125,7 @@ module _ {S : Type 0} (stands : S → Members → Type 0) (names : S → List (L
   one_more begun first ts s r name old new so is one = record {
     found = put name one.value so.found;
     continues = λ all rest more. so.continues all rest (member_at deep deep so.found all name ts s r one.value rest (omega arith) is one.at more);
-    stand = one.placed so.found so.stand;
+    stand = one.with_it so.found so.stand;
     same_names = one.same_names ∙ so.same_names;
     so_many = members_len-put name one.value so.found (one.fresh so.found so.stand) ∙ ap suc so.so_many ∙ sym one.one_more;
   }

@@ -1,12 +1,14 @@
 -- What bytes begin with, as tokens.
-use Rattle.std.proofs.Common.{◌≡◌, ◌+◌, length, cond, arith, append-nil, append_assoc, take, drop, get_or, ◌-◌, ℕ, ◌<◌, ◌^◌, List, [], ◌∷◌, ◌++◌, decimal, Some, refl, sym, ap, ap₂, ◌∙◌, subst, inl, inr, ◌⊎◌}
+use Rattle.std.proofs.Common.{◌≡◌, ◌+◌, ◌*◌, length, cond, arith, append-nil, append_assoc, take, drop, get_or, ◌-◌, ℕ, ◌<◌, ◌^◌, List, [], ◌∷◌, ◌++◌, decimal, Some, refl, sym, ap, ap₂, ◌∙◌, subst, inl, inr, ◌⊎◌}
 use Rattle.std.specs.Bool.{OnTrue}
-use Rattle.std.specs.Prelude.{Option, None, Bool, true, false, not, nat_le, ◌≢◌, ◌==◌, ◌&&◌, ◌||◌}
+use Rattle.std.specs.Prelude.{Option, None, Bool, true, false, not, nat_le, nat_lt, ◌≢◌, ◌==◌, ◌&&◌, ◌||◌}
+use Rattle.std.specs.Char.{digit_value, encode_utf8}
 use Rattle.std.specs.List.{list_all}
 use Rattle.std.proofs.lemmas.List.{drop_more, length-append, take-append-drop, take_rest}
-use Rattle.std.proofs.lemmas.Bool.{and_parts, eqb-false, eqb-true, le-ltb, leb-true, ne_eqb, or_cases}
+use Rattle.std.proofs.lemmas.Bool.{and_parts, eqb-false, eqb-true, le-ltb, leb-true, lt-ltb, ne_eqb, or_cases}
+use Rattle.std.proofs.lemmas.Bool.Decides.{nat_tests}
 use Rattle.json.specs.Token.{Token, begin_object, end_object, begin_array, end_array, key, string, number}
-use Rattle.json.specs.Text.{content, plain, prepend, short_escape}
+use Rattle.json.specs.Text.{after_high, code_unit, content, is_high_surrogate, is_low_surrogate, plain, prepend, short_escape}
 use Rattle.json.specs.Word.{ends_word, is_operator, is_space}
 use Rattle.json.specs.Lex.{Lexeme, Mode, lex_byte, operator, space, other, token, string_token, lex, between, in_string, begins_colon, punctuate}
 use Rattle.json.specs.Print.{escape}
@@ -15,7 +17,7 @@ use Rattle.json.proofs.Printed.Numbers.{lex-number}
 use Rattle.json.proofs.Printed.Decimals.{IsNumber-decimal}
 use Rattle.rebuild_checker.specs.declared.plain_text.Place.{Place}
 use Rattle.rebuild_checker.specs.declared.plain_text.Place.TheVariants.{Fresh, AfterValue}
-use Rattle.rebuild_checker.specs.PlainText.{IsBegun, IsQuoted, StandsFor, behind_blanks, ends_at_once, begun_at, keeps_its_meaning, ends_value, is_plain_byte, place_of, tokens_at}
+use Rattle.rebuild_checker.specs.PlainText.{AreDigitsOf, IsBegun, IsQuoted, StandsFor, behind_blanks, ends_at_once, begun_at, keeps_its_meaning, ends_value, is_plain_byte, place_of, tokens_at}
 
 -- ---- one byte of three
 module _ (P : ℕ → Type 0) (a b c : ℕ) (at_a : P a) (at_b : P b) (at_c : P c) where
@@ -119,8 +121,39 @@ escape_stands x r is =
     (record { read = refl; passed = refl; fits = omega arith })
     x is
 
-pub escaped_stands : (bytes behind : List ℕ) (x : ℕ) (r : List ℕ) → bytes ≡ 92 ∷ behind → behind ≡ x ∷ r → keeps_its_meaning x ≡ true → StandsFor bytes (x ∷ []) r
-escaped_stands bytes behind x r marked next is = rw (marked, next) (escape_stands x r is)
+pub kept_stands : (bytes : List ℕ) (x : ℕ) (r : List ℕ) → bytes ≡ x ∷ r → keeps_its_meaning x ≡ true → StandsFor (92 ∷ bytes) (x ∷ []) r
+kept_stands bytes x r next is = rw next (escape_stands x r is)
+
+-- a code below 128 is no surrogate, and one byte
+code_stands : (code : ℕ) (rest : List ℕ) → code < 128
+    → cond (is_high_surrogate code) (content (after_high code) rest) (cond (is_low_surrogate code) None (prepend (encode_utf8 code) (content plain rest))) ≡ prepend (code ∷ []) (content plain rest)
+unfolding encode_utf8
+code_stands code rest below =
+    let high : nat_le 0xd800 code ≡ false = grind (arith, nat_tests) in
+    let low : nat_le 0xdc00 code ≡ false = grind (arith, nat_tests) in
+    let one : nat_lt code 0x80 ≡ true = grind (arith, nat_tests) in
+    rw (high, low, one) refl
+
+-- a digit is no mark
+digit_plain : (x : ℕ) → digit_value x < 16 → is_plain_byte x ≡ true
+digit_plain x is = grind (arith, nat_tests)
+
+code_read : (byte high low : ℕ) (rest : List ℕ) → AreDigitsOf byte high low → StandsFor (92 ∷ 117 ∷ 48 ∷ 48 ∷ high ∷ low ∷ rest) (byte ∷ []) rest
+unfolding content lex code_unit
+code_read byte high low rest are =
+    let first : nat_lt (digit_value high) 16 ≡ true = lt-ltb (digit_value high) 16 are.first in
+    let second : nat_lt (digit_value low) 16 ≡ true = lt-ltb (digit_value low) 16 are.second in
+    let is = are.is in
+    let code : 0 + digit_value high * 16 + digit_value low ≡ byte = omega arith in
+    record {
+      read = rw (first, second, code) (code_stands byte rest are.below);
+      passed = (plain_stands_first high (low ∷ rest) (digit_plain high are.first)).passed ∙ (plain_stands_first low rest (digit_plain low are.second)).passed;
+      fits = omega arith;
+    }
+
+pub code_read_if : (bytes zeros digits second rest : List ℕ) (byte high low : ℕ) → bytes ≡ 48 ∷ zeros → zeros ≡ 48 ∷ digits → digits ≡ high ∷ second → second ≡ low ∷ rest → AreDigitsOf byte high low
+    → StandsFor (92 ∷ 117 ∷ bytes) (byte ∷ []) rest
+code_read_if bytes zeros digits second rest byte high low one two three four are = rw (one, two, three, four) (code_read byte high low rest are)
 
 pub quoted_whole : (bytes text left rest : List ℕ) → StandsFor bytes text left → left ≡ 34 ∷ rest → IsQuoted bytes text rest
 unfolding content lex

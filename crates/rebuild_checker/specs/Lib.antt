@@ -2,9 +2,9 @@ pub mod DumpModel
 pub mod MemberNames
 pub mod MembersRead
 pub mod Mixed
-pub mod Placed
 pub mod PlainText
 pub mod ReadNumbers
 pub mod Reading
 pub mod Sets
+pub mod Standing
 pub mod Straight

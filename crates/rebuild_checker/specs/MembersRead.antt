@@ -27,7 +27,7 @@ pub record IsRead {S : Type 0} (stands : S → Members → Type 0) (names : S �
   pub value : Data
   pub at : IsAt deep tokens value rest
   pub fresh : (found : Members) → stands old found → get_member name found ≡ None
-  pub placed : (found : Members) → stands old found → stands new (put name value found)
+  pub with_it : (found : Members) → stands old found → stands new (put name value found)
   pub same_names : names new ≡ names old
   pub one_more : many new ≡ suc (many old)
 

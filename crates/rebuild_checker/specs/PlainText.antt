@@ -1,5 +1,6 @@
 -- JSON read from bytes, token by token.
-use Rattle.std.specs.Prelude.{◌≡◌, ℕ, ◌+◌, ◌≤◌, length, ◌&&◌, ◌||◌, ◌==◌, nat_le, not, cond, Bool, false, List, [], ◌∷◌}
+use Rattle.std.specs.Prelude.{◌≡◌, ℕ, ◌+◌, ◌*◌, ◌<◌, ◌≤◌, length, ◌&&◌, ◌||◌, ◌==◌, nat_le, not, cond, Bool, false, List, [], ◌∷◌}
+use Rattle.std.specs.Char.{digit_value}
 use Rattle.json.specs.Token.{Token, string}
 use Rattle.json.specs.Text.{content, plain, prepend}
 use Rattle.json.specs.Word.{is_space}
@@ -43,6 +44,13 @@ pub record StandsFor (bytes text rest : List ℕ) : Type 0 where
   pub read : content plain bytes ≡ prepend text (content plain rest)
   pub passed : lex in_string bytes ≡ lex in_string rest
   pub fits : length text + length rest ≤ length bytes
+
+-- a byte below 128, by its two hexadecimal digits
+pub record AreDigitsOf (byte high low : ℕ) : Type 0 where
+  pub first : digit_value high < 16
+  pub second : digit_value low < 16
+  pub is : byte ≡ digit_value high * 16 + digit_value low
+  pub below : byte < 128
 
 -- what stands behind blanks
 abbrev pub behind_blanks : List ℕ → List ℕ

@@ -4,7 +4,7 @@ ghost use Rattle.std.specs.Prelude.{◌≡◌, ℕ, ◌+◌, max, List, [], ◌�
 ghost use Rattle.serde_json.specs.Data.{Data, Members, no_members, put};
 ghost use Rattle.rebuild_checker.specs.MemberNames.{text_of_name};
 ghost use Rattle.rebuild_checker.specs.MembersRead.{AreRead, IsApart, IsRead, Stands, filled};
-ghost use Rattle.rebuild_checker.specs.Placed.{other_placed};
+ghost use Rattle.rebuild_checker.specs.Standing.{others_stand};
 
 use crate::ReadError;
 use crate::member_name::MemberName;
@@ -101,7 +101,7 @@ impl<T: ReadText, R: ReadMembers> ReadMembers for Member<T, R> {
 
     ghost deep = { max T.deep R.deep };
 
-    ghost other = { λ m. other_placed T.tells R.stands R.names R.other (text_of_name m.name) m.value m.others };
+    ghost other = { λ m. others_stand T.tells R.stands R.names R.other (text_of_name m.name) m.value m.others };
 
     fn read_member(
         &mut self,

@@ -1,10 +1,10 @@
 //! JSON read token by token, as the program writes dumps, or with blanks between the tokens. What is written otherwise is refused
 //! here, which says nothing of it.
 //!
-//! Strings are lent from the text. Only one in which quotation marks, backslashes or slashes are escaped gets bytes of its own, and
-//! other escapes are refused.
+//! Strings are lent from the text. Only one in which bytes are escaped gets bytes of its own. Escapes of codes from 128 on and short
+//! ones of control characters are refused, since no text of a dump needs them.
 
-ghost use Rattle.std.specs.Prelude.{◌≡◌, ◌<◌, ◌≤◌, [], ◌∷◌, IfOk, IfSome, OnOk, None, Some, length, true};
+ghost use Rattle.std.specs.Prelude.{◌≡◌, ◌<◌, ◌≤◌, [], ◌∷◌, ◌++◌, IfOk, IfSome, OnOk, None, Some, length, true};
 ghost use Rattle.std.specs.Bool.{OnFalse, OnTrue};
 ghost use Rattle.std.specs.List.{list_all};
 ghost use Rattle.std.specs.Cow.{cow_slice_items};
@@ -14,7 +14,7 @@ ghost use Rattle.json.specs.Word.{is_space};
 ghost use Rattle.json.specs.Token.{begin_array, begin_object, end_array, end_object, key, string};
 ghost use Rattle.dump_rules.specs.Values.{number_in};
 ghost use Rattle.rebuild_checker.specs.Straight.{Tells};
-ghost use Rattle.rebuild_checker.specs.PlainText.{IsBegun, IsQuoted, StandsFor, behind_blanks, ends_value, is_plain_byte, keeps_its_meaning};
+ghost use Rattle.rebuild_checker.specs.PlainText.{AreDigitsOf, IsBegun, IsQuoted, StandsFor, behind_blanks, ends_value, is_plain_byte, keeps_its_meaning};
 
 use crate::ReadError;
 use memchr::{memchr, memchr2};
@@ -281,45 +281,84 @@ fn unescaped(alloc: Global, bytes: &[u8]) -> Result<(Vec<u8>, &[u8]), ReadError>
 {
     let mut text = Vec::new(alloc);
     let mut left = bytes;
-    while let Some((part, rest)) = next_part(left) {
+    while let Some((part, byte, rest)) = up_to_escape(left) {
         text.extend_from_slice(part)?;
+        text.push(byte)?;
         left = rest;
     }
-    match behind(left, b'"') {
+    let Some((part, marked)) = up_to_mark(left) else {
+        return Err(ReadError::NotADump);
+    };
+    text.extend_from_slice(part)?;
+    match behind(marked, b'"') {
         Some(rest) => Ok((text, rest)),
         None => Err(ReadError::NotADump),
     }
 }
 
-/// The bytes with which a string goes on, and what comes behind them: plain ones up to a mark, or the one that is escaped here.
-fn next_part(bytes: &[u8]) -> Option<(&[u8], &[u8])>
-    ensures stands { IfSome result (λ parts. StandsFor bytes.now parts.0.now parts.1.now) }
-    ensures some { IfSome result (λ parts. 0 < length parts.0.now) }
+/// The bytes up to the first byte that is escaped, this byte, and what comes behind it.
+fn up_to_escape(bytes: &[u8]) -> Option<(&[u8], u8, &[u8])>
+    ensures { IfSome result (λ parts. StandsFor bytes.now (parts.0.now ++ parts.1 ∷ []) parts.2.now) }
+{
+    let (part, marked) = up_to_mark(bytes)?;
+    let (byte, rest) = escaped(marked)?;
+    Some((part, byte, rest))
+}
+
+/// The bytes before the first quotation mark or backslash, each of which stands for itself, and what begins with the mark.
+fn up_to_mark(bytes: &[u8]) -> Option<(&[u8], &[u8])>
+    ensures { IfSome result (λ parts. StandsFor bytes.now parts.0.now parts.1.now) }
 {
     let end = memchr2(b'"', b'\\', bytes)?;
-    if end == 0 {
-        return escaped(bytes);
-    }
-    let (part, rest) = bytes.split_at(end);
+    let (part, marked) = bytes.split_at(end);
     if are_plain(part) {
-        Some((part, rest))
+        Some((part, marked))
     } else {
         None
     }
 }
 
-/// The byte that is escaped first of all, alone, and what comes behind it.
-fn escaped(bytes: &[u8]) -> Option<(&[u8], &[u8])>
-    ensures stands { IfSome result (λ parts. StandsFor bytes.now parts.0.now parts.1.now) }
-    ensures some { IfSome result (λ parts. 0 < length parts.0.now) }
+/// The byte that is escaped first of all, and what comes behind it: a mark behind a backslash, or a code below 128.
+fn escaped(bytes: &[u8]) -> Option<(u8, &[u8])>
+    ensures { IfSome result (λ parts. StandsFor bytes.now (parts.0 ∷ []) parts.1.now) }
 {
     let marked = behind(bytes, b'\\')?;
-    let (first, rest) = marked.split_first()?;
+    match behind(marked, b'u') {
+        Some(digits) => coded(digits),
+        None => kept(marked),
+    }
+}
+
+/// The mark that comes first, which stands for itself behind a backslash, and what comes behind it.
+fn kept(bytes: &[u8]) -> Option<(u8, &[u8])>
+    ensures { IfSome result (λ parts. StandsFor (92 ∷ bytes.now) (parts.0 ∷ []) parts.1.now) }
+{
+    let (first, rest) = bytes.split_first()?;
     if keeps_its_meaning(*first) {
-        Some((&marked[..1], rest))
+        Some((*first, rest))
     } else {
         None
     }
+}
+
+/// The byte whose code the first four digits are, if it is below 128, and what comes behind them.
+fn coded(bytes: &[u8]) -> Option<(u8, &[u8])>
+    ensures { IfSome result (λ parts. StandsFor (92 ∷ 117 ∷ bytes.now) (parts.0 ∷ []) parts.1.now) }
+{
+    let digits = behind(behind(bytes, b'0')?, b'0')?;
+    let (high, digits) = digits.split_first()?;
+    let (low, rest) = digits.split_first()?;
+    Some((of_digits(*high, *low)?, rest))
+}
+
+/// The byte below 128 whose hexadecimal digits these are.
+fn of_digits(high: u8, low: u8) -> Option<u8>
+    ensures { IfSome result (λ byte. AreDigitsOf byte high low) }
+{
+    let high = char::from(high).to_digit(16)?;
+    let low = char::from(low).to_digit(16)?;
+    let code = high * 16 + low;
+    if code < 128 { Some(code as u8) } else { None }
 }
 
 /// Whether the byte stands for itself behind a backslash too.

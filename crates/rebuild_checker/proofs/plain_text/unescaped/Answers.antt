@@ -1,5 +1,13 @@
-use Rattle.rebuild_checker.proofs.PlainTexts.{quoted_whole}
+use Rattle.std.proofs.Common.{sym, subst}
+use Rattle.rebuild_checker.specs.PlainText.{StandsFor}
+use Rattle.rebuild_checker.proofs.PlainTexts.{parts_stand, quoted_whole}
 use Rattle.rebuild_checker.proofs.plain_text.unescaped.Goals as goal
 
 pub returns-in-Some-behind : goal.returns-in-Some-behind
-returns-in-Some-behind c = quoted_whole c.args.bytes.now c.loop-part.text.items c.loop-part.left.now c.in-Some-behind.rest.now c.loop-part.invariant c.in-Some-behind.ensures
+returns-in-Some-behind c =
+    let bytes = c.args.bytes.now in
+    let marked = c.in-Some-up_to_mark.marked.now in
+    let whole = parts_stand bytes c.loop-part.text.items c.loop-part.left.now c.in-Some-up_to_mark.part.now marked c.loop-part.invariant c.in-Some-up_to_mark.ensures in
+    quoted_whole bytes _ marked c.in-Some-behind.rest.now
+    (subst (λ text. StandsFor bytes text marked) (sym c.in_ok-extend_from_slice-2.ensures.items) whole)
+    c.in-Some-behind.ensures

@@ -22,11 +22,11 @@ pub stands_on : {X : Type 0} (tells : Data → X → Type 0) (own name : List �
 stands_on tells own name None value found apart stood = get_member-put_other own name value found apart ∙ stood
 stands_on tells own name (Some x) value found apart stood = (stood.0, get_member-put_other own name value found apart ∙ stood.1, stood.2)
 
-pub other_placed : {X S : Type 0} (tells : Data → X → Type 0) (stands : S → Members → Type 0) (names : S → List (List ℕ))
+pub others_stand : {X S : Type 0} (tells : Data → X → Type 0) (stands : S → Members → Type 0) (names : S → List (List ℕ))
     → ((others : S) (name : List ℕ) (value : Data) (found : Members) → IsApart name (names others) → stands others found → stands others (put name value found))
     → (own : List ℕ) (read : Option X) (others : S) (name : List ℕ) (value : Data) (found : Members) → IsApart name (own ∷ names others)
     → (Stands tells own read found × IsApart own (names others) × stands others found)
     → (Stands tells own read (put name value found) × IsApart own (names others) × stands others (put name value found))
-other_placed tells stands names on own read others name value found differ stood =
+others_stand tells stands names on own read others name value found differ stood =
     let none = neither (bytes_eq name own) (list_any (bytes_eq name) (names others)) differ in
     (stands_on tells own name read value found (names_apart name own none.0) stood.0, stood.1, on others name value found none.1 stood.2)
