@@ -1,9 +1,8 @@
 -- Members read one after another, until their object ends.
-use Rattle.std.proofs.Common.{◌≡◌, ℕ, Bool, true, false, true≢false, eqb, suc, ◌+◌, ◌<◌, ◌≤◌, max, List, ◌∷◌, length, Option, Some, None, option_and_then, refl, sym, ◌∙◌, ap, subst, arith}
-use Rattle.std.specs.Prelude.{not, is_some, IfOk, OnOk, Result, Ok, Err}
-use Rattle.std.proofs.lemmas.Bool.Decides.{Decides-eqb}
-use Rattle.std.proofs.lemmas.Slice.Eq.{slice_eq-Decides}
-use lib.Pointwise.{pointwise}
+use Rattle.std.proofs.Common.{◌≡◌, ℕ, Bool, true, false, true≢false, ◌||◌, suc, ◌+◌, ◌<◌, ◌≤◌, max, List, ◌∷◌, length, Option, Some, None, option_and_then, refl, sym, ◌∙◌, ap, subst, arith}
+use Rattle.std.specs.List.{list_any}
+use Rattle.std.specs.Prelude.{bytes_eq, IfOk, OnOk, Result, Ok, Err}
+use Rattle.std.proofs.lemmas.Slice.Eq.{bytes_eq-Decides}
 use Rattle.std.specs.Ordering.{nat_cmp, match_ordering}
 use Rattle.std.specs.Cmp.Lexicographic.{slice_cmp}
 use Rattle.std.specs.declared.cmp.Ordering.{Ordering}
@@ -36,26 +35,24 @@ pub members_len-put : (k : List ℕ) (d : Data) (ms : Members) → get_member k 
 members_len-put k d no_members none = refl
 members_len-put k d (member l e ms) none = length_at (slice_cmp nat_cmp k l) k l d e ms none (members_len-put k d ms)
 
--- names that were compared
-pub unlike : (xs ys : List ℕ) (r : Bool) → r ≡ not (pointwise eqb xs ys) → r ≡ true → ys ≡ xs → ⊥
-unlike xs ys r is apart same =
-    let equal = (slice_eq-Decides Decides-eqb xs ys (pointwise eqb xs ys) refl).1 (sym same) in
-    true≢false (sym apart ∙ is ∙ ap not equal)
-
-pub alike : (xs ys : List ℕ) (r : Bool) → r ≡ not (pointwise eqb xs ys) → r ≡ false → xs ≡ ys
-alike xs ys r is near = by (pointwise eqb xs ys) refl
-  where
-    by : (b : Bool) → pointwise eqb xs ys ≡ b → xs ≡ ys
-    by true equal = (slice_eq-Decides Decides-eqb xs ys (pointwise eqb xs ys) refl).0 equal
-    by false differ = absurd (true≢false (sym (is ∙ ap not differ) ∙ near))
-
 pub on_ok : {A E : Type 0} (P Q : Type 0) (result : Result A E) → (P → Q) → OnOk result P → OnOk result Q
 on_ok P Q (Ok x) then is = then is
 on_ok P Q (Err e) then is = tt
 
-empty_is : {X : Type 0} (value : Option X) → is_some value ≡ false → value ≡ None
-empty_is None empty = refl
-empty_is (Some x) empty = absurd (true≢false empty)
+-- ---- names among others
+first_among : (name : List ℕ) (others : List (List ℕ)) → list_any (bytes_eq name) (name ∷ others) ≡ true
+first_among name others = ap (λ b. b || list_any (bytes_eq name) others) ((bytes_eq-Decides name name).1 refl)
+
+later_among : (first name : List ℕ) (others : List (List ℕ)) → list_any (bytes_eq name) others ≡ true → list_any (bytes_eq name) (first ∷ others) ≡ true
+later_among first name others is = by (bytes_eq name first)
+  where
+    by : (b : Bool) → (b || list_any (bytes_eq name) others) ≡ true
+    by true = refl
+    by false = is
+
+-- a name that is none of them is none that is
+none_of : (own name : List ℕ) (others : List (List ℕ)) → IsApart own others → list_any (bytes_eq name) others ≡ true → own ≡ name → ⊥
+none_of own name others apart among same = true≢false (sym among ∙ sym (ap (λ n. list_any (bytes_eq n) others) same) ∙ apart)
 
 -- what nests less deep is there as well
 deeper : (low deep : ℕ) (ts : List Token) (value : Data) (rest : List Token) → low ≤ deep → IsAt low ts value rest → IsAt deep ts value rest
@@ -73,12 +70,16 @@ module _ {X S : Type 0} (tells : Data → X → Type 0) (low : ℕ) (stands : S 
   all_many m = filled m.value + many m.others
 
   -- the first one
-  pub own_read : ((others : S) (name : List ℕ) (value : Data) (found : Members) → IsApart name (names others) → stands others found → stands others (put name value found))
-      → (name : MemberName) (others : S) (x : X) (ts rest : List Token) → TellsBy tells low ts x rest
-      → IsRead all_stand all_names all_many (max low deep) (text_of_name name) (record { name = name; value = None; others = others }) (record { name = name; value = Some x; others = others }) ts rest
-  own_read on name others x ts rest one = record {
+  own_read : ((others : S) (name : List ℕ) (value : Data) (found : Members) → IsApart name (names others) → stands others found → stands others (put name value found))
+      → (name : MemberName) (others : S) (x : X) (ts named rest : List Token) → ts ≡ Token.key (text_of_name name) ∷ named → TellsBy tells low named x rest
+      → IsRead all_stand all_names all_many (max low deep) (record { name = name; value = None; others = others }) (record { name = name; value = Some x; others = others }) ts rest
+  own_read on name others x ts named rest is one = record {
+    name = text_of_name name;
+    named = named;
     value = one.0;
-    at = deeper low (max low deep) ts one.0 rest (omega arith) one.1;
+    is = is;
+    at = deeper low (max low deep) named one.0 rest (omega arith) one.1;
+    among = first_among (text_of_name name) (names others);
     fresh = λ found stood. stood.0;
     with_it = λ found stood. ((one.0, get_member-put (text_of_name name) one.0 found, one.2), stood.1, on others (text_of_name name) one.0 found stood.1 stood.2);
     same_names = refl;
@@ -86,24 +87,30 @@ module _ {X S : Type 0} (tells : Data → X → Type 0) (low : ℕ) (stands : S 
   }
 
   pub own_read_if : ((others : S) (name : List ℕ) (value : Data) (found : Members) → IsApart name (names others) → stands others found → stands others (put name value found))
-      → (name : List ℕ) (old : Member X S) (x : X) (none : Bool) (ts rest : List Token) → name ≡ text_of_name old.name → none ≡ is_some old.value → none ≡ false → TellsBy tells low ts x rest
-      → IsRead all_stand all_names all_many (max low deep) name old (record { name = old.name; value = Some x; others = old.others }) ts rest
-  own_read_if on name old x none ts rest mine test empty one =
-      let new : Member X S = record { name = old.name; value = Some x; others = old.others } in
-      subst (λ own. IsRead all_stand all_names all_many (max low deep) own old new ts rest) (sym mine)
-      (subst (λ (value : Option X). IsRead all_stand all_names all_many (max low deep) (text_of_name old.name) (record { name = old.name; value = value; others = old.others }) new ts rest)
-      (sym (empty_is old.value (sym test ∙ empty))) (own_read on old.name old.others x ts rest one))
+      → (old : Member X S) (x : X) (ts named rest : List Token) → old.value ≡ None → ts ≡ Token.key (text_of_name old.name) ∷ named → TellsBy tells low named x rest
+      → IsRead all_stand all_names all_many (max low deep) old (record { name = old.name; value = Some x; others = old.others }) ts rest
+  own_read_if on old x ts named rest none is one =
+      subst (λ (value : Option X). IsRead all_stand all_names all_many (max low deep) (record { name = old.name; value = value; others = old.others }) (record { name = old.name; value = Some x; others = old.others }) ts rest)
+      (sym none) (own_read on old.name old.others x ts named rest is one)
 
   -- one of the others
-  pub other_read : (own : MemberName) (name : List ℕ) (read : Option X) (old new : S) (ts rest : List Token) → (text_of_name own ≡ name → ⊥) → IsRead stands names many deep name old new ts rest
-      → IsRead all_stand all_names all_many (max low deep) name (record { name = own; value = read; others = old }) (record { name = own; value = read; others = new }) ts rest
-  other_read own name read old new ts rest apart one =
+  pub other_read : (own : MemberName) (read : Option X) (old new : S) (ts rest : List Token) → IsRead stands names many deep old new ts rest
+      → IsRead all_stand all_names all_many (max low deep) (record { name = own; value = read; others = old }) (record { name = own; value = read; others = new }) ts rest
+  other_read own read old new ts rest one =
       let more = one.one_more in
       record {
+        name = one.name;
+        named = one.named;
         value = one.value;
-        at = deeper deep (max low deep) ts one.value rest (omega arith) one.at;
+        is = one.is;
+        at = deeper deep (max low deep) one.named one.value rest (omega arith) one.at;
+        among = later_among (text_of_name own) one.name (names old) one.among;
         fresh = λ found stood. one.fresh found stood.2;
-        with_it = λ found stood. (stands_on tells (text_of_name own) name read one.value found apart stood.0, subst (IsApart (text_of_name own)) (sym one.same_names) stood.1, one.with_it found stood.2);
+        with_it = λ found stood. (
+          stands_on tells (text_of_name own) one.name read one.value found (none_of (text_of_name own) one.name (names old) stood.1 one.among) stood.0,
+          subst (IsApart (text_of_name own)) (sym one.same_names) stood.1,
+          one.with_it found stood.2,
+        );
         same_names = ap (λ those. text_of_name own ∷ those) one.same_names;
         one_more = omega (arith, more);
       }
@@ -121,19 +128,19 @@ module _ {S : Type 0} (stands : S → Members → Type 0) (names : S → List (L
   pub none_yet : (begun : S) (ts : List Token) → stands begun no_members → many begun ≡ 0 → SoFar begun ts begun ts
   none_yet begun ts stand none = record { found = no_members; continues = λ all rest more. more; stand = stand; same_names = refl; so_many = sym none }
 
-  pub one_more : (begun : S) (first ts s r : List Token) (name : List ℕ) (old new : S) → SoFar begun first old ts → ts ≡ Token.key name ∷ s → IsRead stands names many deep name old new s r → SoFar begun first new r
-  one_more begun first ts s r name old new so is one = record {
-    found = put name one.value so.found;
-    continues = λ all rest more. so.continues all rest (member_at deep deep so.found all name ts s r one.value rest (omega arith) is one.at more);
+  pub one_more : (begun : S) (first ts r : List Token) (old new : S) → SoFar begun first old ts → IsRead stands names many deep old new ts r → SoFar begun first new r
+  one_more begun first ts r old new so one = record {
+    found = put one.name one.value so.found;
+    continues = λ all rest more. so.continues all rest (member_at deep deep so.found all one.name ts one.named r one.value rest (omega arith) one.is one.at more);
     stand = one.with_it so.found so.stand;
     same_names = one.same_names ∙ so.same_names;
-    so_many = members_len-put name one.value so.found (one.fresh so.found so.stand) ∙ ap suc so.so_many ∙ sym one.one_more;
+    so_many = members_len-put one.name one.value so.found (one.fresh so.found so.stand) ∙ ap suc so.so_many ∙ sym one.one_more;
   }
 
-  pub fewer : (ts s r : List Token) (name : List ℕ) (old new : S) → ts ≡ Token.key name ∷ s → IsRead stands names many deep name old new s r → length r < length ts
-  fewer ts s r name old new is one =
-      let less = shorter_at deep s one.value r one.at in
-      let long : length ts ≡ suc (length s) = ap length is in
+  pub fewer : (ts r : List Token) (old new : S) → IsRead stands names many deep old new ts r → length r < length ts
+  fewer ts r old new one =
+      let less = shorter_at deep one.named one.value r one.at in
+      let long : length ts ≡ suc (length one.named) = ap length one.is in
       omega (arith, less, long)
 
   pub all_read : (begun : S) (t0 first ts r : List Token) (read : S) → t0 ≡ Token.begin_object ∷ first → SoFar begun first read ts → ts ≡ Token.end_object ∷ r → AreRead stands names many deep begun read t0 r

@@ -1,7 +1,8 @@
 -- What bytes begin with, as tokens.
 use Rattle.std.proofs.Common.{◌≡◌, ◌+◌, ◌*◌, length, cond, arith, append-nil, append_assoc, take, drop, get_or, ◌-◌, ℕ, ◌<◌, ◌^◌, List, [], ◌∷◌, ◌++◌, decimal, Some, refl, sym, ap, ap₂, ◌∙◌, subst, inl, inr, ◌⊎◌}
 use Rattle.std.specs.Bool.{OnTrue}
-use Rattle.std.specs.Prelude.{Option, None, Bool, true, false, not, nat_le, nat_lt, ◌≢◌, ◌==◌, ◌&&◌, ◌||◌}
+use Rattle.std.specs.Borrow.{Bor}
+use Rattle.std.specs.Prelude.{Option, None, IfSome, Bool, true, false, not, nat_le, nat_lt, ◌≢◌, ◌==◌, ◌&&◌, ◌||◌}
 use Rattle.std.specs.Char.{digit_value, encode_utf8}
 use Rattle.std.specs.List.{list_all}
 use Rattle.std.proofs.lemmas.List.{drop_more, length-append, take-append-drop, take_rest}
@@ -17,7 +18,7 @@ use Rattle.json.proofs.Printed.Numbers.{lex-number}
 use Rattle.json.proofs.Printed.Decimals.{IsNumber-decimal}
 use Rattle.rebuild_checker.specs.declared.plain_text.Place.{Place}
 use Rattle.rebuild_checker.specs.declared.plain_text.Place.TheVariants.{Fresh, AfterValue}
-use Rattle.rebuild_checker.specs.PlainText.{AreDigitsOf, IsBegun, IsQuoted, StandsFor, behind_blanks, ends_at_once, begun_at, keeps_its_meaning, ends_value, is_plain_byte, place_of, tokens_at}
+use Rattle.rebuild_checker.specs.PlainText.{AreDigitsOf, IsBegun, IsNamed, IsQuoted, StandsFor, behind_blanks, ends_at_once, begun_at, keeps_its_meaning, ends_value, is_plain_byte, place_of, tokens_at}
 
 -- ---- one byte of three
 module _ (P : ℕ → Type 0) (a b c : ℕ) (at_a : P a) (at_b : P b) (at_c : P c) where
@@ -241,9 +242,11 @@ unfolding lex punctuate
 named Fresh s bytes = refl
 named AfterValue s bytes = refl
 
-pub key_taken : (place : Place) (bytes name behind rest : List ℕ) → IsQuoted bytes name behind → behind_blanks behind ≡ 58 ∷ rest → punctuate (begun_at place) (lex between (34 ∷ bytes)) ≡ key name ∷ tokens_at Fresh rest
-key_taken place bytes name behind rest is ended =
-    ap (punctuate (begun_at place)) (is ∙ ap (λ ls. token (string name) ∷ ls) (blanks_passed behind ∙ ap (lex between) ended)) ∙ named place name rest
+pub key_taken : (place : Place) (bytes name rest : List ℕ) → list_all is_plain_byte name ≡ true → IsNamed bytes name rest → punctuate (begun_at place) (lex between (34 ∷ bytes)) ≡ key name ∷ tokens_at Fresh rest
+key_taken place bytes name rest are is =
+    ap (punctuate (begun_at place))
+    (ap (λ b. lex between (34 ∷ b)) is.is ∙ string_lexed name is.behind are ∙ ap (λ ls. token (string name) ∷ ls) (blanks_passed is.behind ∙ ap (lex between) is.ended))
+    ∙ named place name rest
 
 valued : (place : Place) (s : List ℕ) (ls : List Lexeme) → begins_colon ls ≡ false → punctuate (begun_at place) (token (string s) ∷ ls) ≡ string s ∷ punctuate (place_of AfterValue) ls
 unfolding punctuate
@@ -277,3 +280,8 @@ pub number_if : (place : Place) (bytes begun front back : List ℕ) (n : ℕ) �
     → tokens_at place bytes ≡ number (decimal n) ∷ tokens_at AfterValue back
 number_if place bytes begun front back n is parts spelt fits ended =
     is ∙ ap (λ b. punctuate (begun_at place) (lex between b)) (parts ∙ ap (λ f. f ++ back) spelt) ∙ number_taken place n back fits ended
+
+pub unnamed_if : (bytes name unnamed unquoted : List ℕ) (found : Option (Bor (List ℕ))) → bytes ≡ name ++ unnamed → unnamed ≡ 34 ∷ unquoted
+    → IfSome found (λ rest. behind_blanks unquoted ≡ 58 ∷ rest.now) → IfSome found (λ rest. IsNamed bytes name rest.now)
+unnamed_if bytes name unnamed unquoted None begun marked found = tt
+unnamed_if bytes name unnamed unquoted (Some rest) begun marked found = record { behind = unquoted; is = begun ∙ ap (λ b. name ++ b) marked; ended = found }

@@ -1,7 +1,7 @@
 -- The members of an object, read one after another, in any order.
-use Rattle.std.specs.Prelude.{◌≡◌, ℕ, suc, false, List, bytes_eq, Option, Some, None}
+use Rattle.std.specs.Prelude.{◌≡◌, ℕ, suc, true, false, List, ◌∷◌, bytes_eq, Option, Some, None}
 use Rattle.std.specs.List.{list_any}
-use Rattle.json.specs.Token.{Token}
+use Rattle.json.specs.Token.{Token, key}
 use Rattle.serde_json.specs.Data.{Data, object, Members, put}
 use Rattle.serde_json.specs.Events.{members_len}
 use Rattle.serde_json.specs.Find.{get_member}
@@ -21,11 +21,15 @@ filled (Some x) = 1
 abbrev pub IsApart : List ℕ → List (List ℕ) → Type 0
 IsApart name others = list_any (bytes_eq name) others ≡ false
 
--- a value has been read for the member of that name, for which nothing had been: what stands for members found stands for them
--- with this one
-pub record IsRead {S : Type 0} (stands : S → Members → Type 0) (names : S → List (List ℕ)) (many : S → ℕ) (deep : ℕ) (name : List ℕ) (old new : S) (tokens rest : List Token) : Type 0 where
+-- the tokens begin with a member, whose value has been read, and nothing had been read of it: what stands for members found stands
+-- for them with this one
+pub record IsRead {S : Type 0} (stands : S → Members → Type 0) (names : S → List (List ℕ)) (many : S → ℕ) (deep : ℕ) (old new : S) (tokens rest : List Token) : Type 0 where
+  pub name : List ℕ
+  pub named : List Token
   pub value : Data
-  pub at : IsAt deep tokens value rest
+  pub is : tokens ≡ key name ∷ named
+  pub at : IsAt deep named value rest
+  pub among : list_any (bytes_eq name) (names old) ≡ true
   pub fresh : (found : Members) → stands old found → get_member name found ≡ None
   pub with_it : (found : Members) → stands old found → stands new (put name value found)
   pub same_names : names new ≡ names old

@@ -1,5 +1,5 @@
 -- JSON read from bytes, token by token.
-use Rattle.std.specs.Prelude.{◌≡◌, ℕ, ◌+◌, ◌*◌, ◌<◌, ◌≤◌, length, ◌&&◌, ◌||◌, ◌==◌, nat_le, not, cond, Bool, false, List, [], ◌∷◌}
+use Rattle.std.specs.Prelude.{◌≡◌, ℕ, ◌+◌, ◌*◌, ◌<◌, ◌≤◌, ◌++◌, length, ◌&&◌, ◌||◌, ◌==◌, nat_le, not, cond, Bool, false, List, [], ◌∷◌}
 use Rattle.std.specs.Char.{digit_value}
 use Rattle.json.specs.Token.{Token, string}
 use Rattle.json.specs.Text.{content, plain, prepend}
@@ -56,6 +56,12 @@ pub record AreDigitsOf (byte high low : ℕ) : Type 0 where
 abbrev pub behind_blanks : List ℕ → List ℕ
 behind_blanks [] = []
 behind_blanks (byte ∷ bytes) = cond (is_space byte) (behind_blanks bytes) (byte ∷ bytes)
+
+-- the bytes are a name with its last quotation mark, and behind blanks its colon and the rest
+pub record IsNamed (bytes name rest : List ℕ) : Type 0 where
+  pub behind : List ℕ
+  pub is : bytes ≡ name ++ 34 ∷ behind
+  pub ended : behind_blanks behind ≡ 58 ∷ rest
 
 -- a value ends right here: a comma or a closing mark comes
 abbrev pub ends_at_once : List ℕ → Bool

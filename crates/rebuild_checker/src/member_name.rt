@@ -1,7 +1,9 @@
 //! The names of the members of a dump's objects.
 
-ghost use Rattle.std.specs.Prelude.{◌≡◌};
+ghost use Rattle.std.specs.Prelude.{◌≡◌, true};
+ghost use Rattle.std.specs.List.{list_all};
 ghost use Rattle.rebuild_checker.specs.MemberNames.{text_of_name};
+ghost use Rattle.rebuild_checker.specs.PlainText.{is_plain_byte};
 
 /// The name of a member.
 #[derive(Clone, Copy)]
@@ -30,9 +32,10 @@ pub(crate) enum MemberName {
 }
 
 impl MemberName {
-    /// The name as a dump has it.
+    /// The name as a dump has it. Each of its bytes stands for itself in a string.
     pub(crate) fn text(self) -> &'static [u8]
-        ensures { result.now ≡ text_of_name self }
+        ensures name { result.now ≡ text_of_name self }
+        ensures plain { list_all is_plain_byte result.now ≡ true }
     {
         match self {
             MemberName::Activation => b"activation",

@@ -1,6 +1,8 @@
 //! The members of an object, read from its text in any order, each once.
 
 ghost use Rattle.std.specs.Prelude.{◌≡◌, ℕ, ◌+◌, max, List, [], ◌∷◌, Some, None, IfOk, OnOk};
+ghost use Rattle.std.specs.Bool.{OnFalse, OnTrue};
+ghost use Rattle.json.specs.Token.{key};
 ghost use Rattle.serde_json.specs.Data.{Data, Members, no_members, put};
 ghost use Rattle.rebuild_checker.specs.MemberNames.{text_of_name};
 ghost use Rattle.rebuild_checker.specs.MembersRead.{AreRead, IsApart, IsRead, Stands, filled};
@@ -22,14 +24,9 @@ pub(crate) trait ReadMembers: Drop {
 
     ghost deep: { ℕ };
 
-    /// Reads the value of the member of that name. It has to be one of these, and not to have been read.
-    fn read_member(
-        &mut self,
-        alloc: Global,
-        name: &[u8],
-        reader: &mut PlainText<'_>,
-    ) -> Result<(), ReadError>
-        ensures { OnOk result (IsRead stands names many deep name.now self.old self.new reader.old reader.new) };
+    /// Reads the next member. It has to be one of these, and not to have been read.
+    fn read_next(&mut self, alloc: Global, reader: &mut PlainText<'_>) -> Result<(), ReadError>
+        ensures { OnOk result (IsRead stands names many deep self.old self.new reader.old reader.new) };
 
     ghost other: { (members : Self) (name : List ℕ) (value : Data) (found : Members) → IsApart name (names members) → stands members found → stands members (put name value found) };
 }
@@ -49,12 +46,7 @@ impl ReadMembers for NoMember {
 
     ghost other = { λ members name value found none stands. tt };
 
-    fn read_member(
-        &mut self,
-        _alloc: Global,
-        _name: &[u8],
-        _reader: &mut PlainText<'_>,
-    ) -> Result<(), ReadError> {
+    fn read_next(&mut self, _alloc: Global, _reader: &mut PlainText<'_>) -> Result<(), ReadError> {
         Err(ReadError::NotADump)
     }
 }
@@ -69,6 +61,7 @@ pub(crate) struct Member<T, R> {
 
 impl<T: ReadText, R: ReadMembers> Member<T, R> {
     /// A member of which nothing has been read, and others.
+    #[inline(always)]
     pub(crate) fn unread(name: MemberName, others: R) -> Member<T, R>
         ensures { result ≡ record { name = name; value = None; others = others } }
     {
@@ -79,7 +72,17 @@ impl<T: ReadText, R: ReadMembers> Member<T, R> {
         }
     }
 
+    /// Takes the name of the member, if it is next and its value has not been read.
+    fn takes_name(&self, reader: &mut PlainText<'_>) -> bool
+        ensures none { OnTrue result (self.now.value ≡ None) }
+        ensures taken { OnTrue result (reader.old ≡ key (text_of_name self.now.name) ∷ reader.new) }
+        ensures unchanged { OnFalse result (reader.new ≡ reader.old) }
+    {
+        self.value.is_none() && reader.take_name(self.name.text())
+    }
+
     /// The value, if it has been read, and the others.
+    #[inline(always)]
     pub(crate) fn read(self) -> Result<(T, R), ReadError>
         ensures value { IfOk result (λ parts. self.value ≡ Some parts.0) }
         ensures others { IfOk result (λ parts. self.others ≡ parts.1) }
@@ -103,17 +106,10 @@ impl<T: ReadText, R: ReadMembers> ReadMembers for Member<T, R> {
 
     ghost other = { λ m. others_stand T.tells R.stands R.names R.other (text_of_name m.name) m.value m.others };
 
-    fn read_member(
-        &mut self,
-        alloc: Global,
-        name: &[u8],
-        reader: &mut PlainText<'_>,
-    ) -> Result<(), ReadError> {
-        if name != self.name.text() {
-            return self.others.read_member(alloc, name, reader);
-        }
-        if self.value.is_some() {
-            return Err(ReadError::NotADump);
+    #[inline]
+    fn read_next(&mut self, alloc: Global, reader: &mut PlainText<'_>) -> Result<(), ReadError> {
+        if !self.takes_name(reader) {
+            return self.others.read_next(alloc, reader);
         }
         let value = T::read_text(alloc, reader)?;
         self.value = Some(value);
@@ -133,8 +129,7 @@ pub(crate) fn read_members<M: ReadMembers>(
 {
     reader.begin_members()?;
     'members: while !reader.take_end_object() {
-        let name = reader.name(alloc)?;
-        members.read_member(alloc, name.as_slice(), reader)?;
+        members.read_next(alloc, reader)?;
     }
     Ok(())
 }

@@ -14,7 +14,7 @@ ghost use Rattle.json.specs.Word.{is_space};
 ghost use Rattle.json.specs.Token.{begin_array, begin_object, end_array, end_object, key, string};
 ghost use Rattle.dump_rules.specs.Values.{number_in};
 ghost use Rattle.rebuild_checker.specs.Straight.{Tells};
-ghost use Rattle.rebuild_checker.specs.PlainText.{AreDigitsOf, IsBegun, IsQuoted, StandsFor, behind_blanks, ends_value, is_plain_byte, keeps_its_meaning};
+ghost use Rattle.rebuild_checker.specs.PlainText.{AreDigitsOf, IsBegun, IsNamed, IsQuoted, StandsFor, behind_blanks, ends_value, is_plain_byte, keeps_its_meaning};
 
 use crate::ReadError;
 use memchr::{memchr, memchr2};
@@ -118,18 +118,22 @@ impl<'a> PlainText<'a> {
         }
     }
 
-    /// Takes the name of a member, with its colon. It is lent from the text where each of its bytes stands for itself there.
-    pub(crate) fn name(&mut self, alloc: Global) -> Result<CowSlice<'a, u8>, ReadError>
-        ensures { IfOk result (λ name. self.old ≡ key (cow_slice_items name) ∷ self.new) }
+    /// Takes the name of a member, with its colon, if it is next. Each byte of the name stands for itself.
+    #[inline(always)]
+    pub(crate) fn take_name(&mut self, name: &[u8]) -> bool
+        requires { list_all is_plain_byte name.now ≡ true }
+        ensures taken { OnTrue result (self.old ≡ key name.now ∷ self.new) }
+        ensures unchanged { OnFalse result (self.new ≡ self.old) }
     {
-        let quoted = opened(self.rest, self.place, b'"')?;
-        let (name, unquoted) = string(alloc, quoted)?;
-        let Some(rest) = behind_blanks_and(unquoted, b':') else {
-            return Err(ReadError::NotADump);
+        let Ok(quoted) = opened(self.rest, self.place, b'"') else {
+            return false;
+        };
+        let Some(rest) = behind_name(quoted, name) else {
+            return false;
         };
         self.rest = rest;
         self.place = Place::Fresh;
-        Ok(name)
+        true
     }
 
     /// Takes a string. It is lent from the text where each of its bytes stands for itself there.
@@ -256,6 +260,28 @@ fn behind(bytes: &[u8], mark: u8) -> Option<&[u8]>
 {
     let (first, rest) = bytes.split_first()?;
     if *first == mark { Some(rest) } else { None }
+}
+
+/// The bytes behind a name, its quotation mark and its colon, if these come first.
+#[inline(always)]
+fn behind_name<'a>(bytes: &'a [u8], name: &[u8]) -> Option<&'a [u8]>
+    ensures { IfSome result (λ rest. IsNamed bytes.now name.now rest.now) }
+{
+    let unnamed = behind_all(bytes, name)?;
+    let unquoted = behind(unnamed, b'"')?;
+    behind_blanks_and(unquoted, b':')
+}
+
+/// The bytes behind these marks, if they come first.
+#[inline(always)]
+fn behind_all<'a>(bytes: &'a [u8], marks: &[u8]) -> Option<&'a [u8]>
+    ensures { IfSome result (λ rest. bytes.now ≡ marks.now ++ rest.now) }
+{
+    let mut rest = bytes;
+    for mark in marks {
+        rest = behind(rest, *mark)?;
+    }
+    Some(rest)
 }
 
 /// The string whose first quotation mark stands before these bytes, and what comes behind its last one.

@@ -30,6 +30,7 @@ impl ReadText for u64 {
 
     ghost deep = { 0 };
 
+    #[inline(always)]
     fn read_text(_alloc: Global, reader: &mut PlainText<'_>) -> Result<u64, ReadError> {
         reader.number()
     }
@@ -40,6 +41,7 @@ impl ReadText for SiloAddress {
 
     ghost deep = { 0 };
 
+    #[inline(always)]
     fn read_text(alloc: Global, reader: &mut PlainText<'_>) -> Result<SiloAddress, ReadError> {
         named::silo(reader.text(alloc)?.as_slice())
     }
@@ -50,6 +52,7 @@ impl ReadText for Option<SiloAddress> {
 
     ghost deep = { 0 };
 
+    #[inline(always)]
     fn read_text(
         alloc: Global,
         reader: &mut PlainText<'_>,
@@ -63,6 +66,7 @@ impl ReadText for GrainId {
 
     ghost deep = { 0 };
 
+    #[inline(always)]
     fn read_text(alloc: Global, reader: &mut PlainText<'_>) -> Result<GrainId, ReadError> {
         named::grain(reader.text(alloc)?.as_slice())
     }
@@ -73,6 +77,7 @@ impl ReadText for ActivationId {
 
     ghost deep = { 0 };
 
+    #[inline(always)]
     fn read_text(alloc: Global, reader: &mut PlainText<'_>) -> Result<ActivationId, ReadError> {
         named::activation(reader.text(alloc)?.as_slice())
     }
@@ -83,6 +88,7 @@ impl ReadText for RingRange {
 
     ghost deep = { 0 };
 
+    #[inline(always)]
     fn read_text(alloc: Global, reader: &mut PlainText<'_>) -> Result<RingRange, ReadError> {
         named::range(reader.text(alloc)?.as_slice())
     }
@@ -93,6 +99,7 @@ impl ReadText for Hashing {
 
     ghost deep = { 0 };
 
+    #[inline(always)]
     fn read_text(alloc: Global, reader: &mut PlainText<'_>) -> Result<Hashing, ReadError> {
         named::hashing(reader.text(alloc)?.as_slice())
     }
@@ -103,6 +110,7 @@ impl ReadText for Phase {
 
     ghost deep = { 0 };
 
+    #[inline(always)]
     fn read_text(alloc: Global, reader: &mut PlainText<'_>) -> Result<Phase, ReadError> {
         named::phase(reader.text(alloc)?.as_slice())
     }
@@ -113,6 +121,7 @@ impl ReadText for State {
 
     ghost deep = { 0 };
 
+    #[inline(always)]
     fn read_text(alloc: Global, reader: &mut PlainText<'_>) -> Result<State, ReadError> {
         named::state(reader.text(alloc)?.as_slice())
     }

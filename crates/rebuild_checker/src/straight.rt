@@ -1,6 +1,6 @@
 //! Dumps read straight from their text, with no tree of JSON values before the lists: the members of each object in any order,
 //! each once, with blanks between the tokens or none, and with bytes of texts escaped or not. A refusal from here other than want of
-//! memory says only that the text isn't written so: it may tell a dump in which a member stands twice.
+//! memory says only that the text isn't written so: it may tell a dump in which a member stands twice or its name is escaped.
 
 ghost use Rattle.std.specs.Prelude.{◌≡◌, ℕ, suc, Option, Some, IfOk};
 ghost use Rattle.serde_json.specs.Data.{Data};
