@@ -11,8 +11,8 @@ use std::alloc::{AllocError, Global};
 pub(crate) fn current_pieces<'a>(
     alloc: Global,
     dump: &Dump,
-    nodes: &[&'a Node],
-) -> Result<Vec<&'a Piece>, AllocError>
+    nodes: &[&'a Node<'a>],
+) -> Result<Vec<&'a Piece<'a>>, AllocError>
     requires { nodes_lent nodes.now ≡ rule.live_nodes dump.now }
     ensures { IfOk result (λ pieces. pieces_lent pieces.items ≡ rule.current_pieces dump.now) }
 {
@@ -23,8 +23,8 @@ pub(crate) fn current_pieces<'a>(
 fn settled_pieces<'a>(
     alloc: Global,
     current: u64,
-    nodes: &[&'a Node],
-) -> Result<Vec<&'a Piece>, AllocError>
+    nodes: &[&'a Node<'a>],
+) -> Result<Vec<&'a Piece<'a>>, AllocError>
     ensures { IfOk result (λ pieces. map (λ piece. piece.now) pieces.items ≡ filter (λ piece. rule.is_settled_state piece.state) (flat_map (λ node. node.now.pieces) (filter (λ node. node.now.seen == current) nodes.now))) }
 {
     nodes

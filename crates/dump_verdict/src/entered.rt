@@ -15,6 +15,7 @@ ghost use Rattle.dump_verdict.specs.Tallies.{is_lacking};
 use crate::cover::{Cover, count_holding, cover_of, is_apart};
 use crate::index::{Named, places_of};
 use hash_ring::Hashing;
+use lent_grains::LentGrain;
 use rebuild_checker::{Dump, Held, Node, Piece};
 use ring_range::RingRange;
 use silo_address::GrainId;
@@ -98,7 +99,7 @@ fn walk_along<'a>(
     for held in activations {
         let (from, to) = places_of(entered, done, &(held.activation, &held.grain));
         if is_lacking(hashing, cover, apart, &held.grain, to - from) {
-            missing.push(held.grain)?;
+            missing.push(held.grain.id())?;
         }
         pass(&mut passed, entered, done, from)?;
         done = done.max(to);
@@ -124,7 +125,7 @@ fn pass<'a>(
 }
 
 /// Whether more pieces have the grain's hash than so many. Where no two have a hash in common, it is hashed only if there are none.
-fn is_lacking(hashing: Hashing, cover: &Cover, apart: bool, grain: &GrainId, times: usize) -> bool
+fn is_lacking(hashing: Hashing, cover: &Cover, apart: bool, grain: &LentGrain, times: usize) -> bool
     requires cover { (ranges : List Range) × IsCover ranges cover.now }
     requires apart { IsTrue apart → IsApart cover.now }
     ensures { result ≡ nat_lt times (covering cover.now (hash_grain hashing grain.now)) }
@@ -132,6 +133,6 @@ fn is_lacking(hashing: Hashing, cover: &Cover, apart: bool, grain: &GrainId, tim
     if apart && times > 0 {
         return false;
     }
-    let hash = hashing.hash_grain(grain);
+    let hash = hashing.hash_grain(&grain.id());
     times < count_holding(cover, u64::from(hash))
 }

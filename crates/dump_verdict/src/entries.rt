@@ -10,8 +10,8 @@ ghost use Rattle.dump_verdict.specs.Lent.{entries_lent};
 ghost use Rattle.dump_verdict.specs.Ready.{is_by_grain};
 ghost use Rattle.rebuild_checker.specs.Mixed.{grains_lent};
 
-use rebuild_checker::{Dump, Node, Piece, are_distinct_grains};
-use silo_address::{Entry, GrainId};
+use lent_grains::LentGrain;
+use rebuild_checker::{Dump, Entry, Node, Piece, are_distinct_grains};
 use std::alloc::{AllocError, Global};
 
 /// Whether the entries of each piece of the node are hashed into it.
@@ -37,7 +37,9 @@ fn has_entries_inside(dump: &Dump, piece: &Piece) -> bool
 fn is_inside(dump: &Dump, piece: &Piece, entry: &Entry) -> bool
     ensures { result ≡ holds piece.now.range (hash_grain dump.now.hashing entry.now.grain) }
 {
-    piece.range.contains(dump.hashing.hash_grain(&entry.grain))
+    piece
+        .range
+        .contains(dump.hashing.hash_grain(&entry.grain.id()))
 }
 
 /// Whether in each piece of the node no entry is of the grain of the one before it. They stand by grain, so no two in a piece are of one
@@ -75,7 +77,7 @@ pub(crate) fn has_one_entry_a_grain(alloc: Global, node: &Node) -> Result<bool, 
 }
 
 /// The node's entries.
-fn entries_of<'a>(alloc: Global, node: &'a Node) -> Result<Vec<&'a Entry>, AllocError>
+fn entries_of<'a, 't>(alloc: Global, node: &'a Node<'t>) -> Result<Vec<&'a Entry<'t>>, AllocError>
     ensures { IfOk result (λ entries. entries_lent entries.items ≡ node_entries node.now) }
 {
     node.pieces
@@ -85,7 +87,10 @@ fn entries_of<'a>(alloc: Global, node: &'a Node) -> Result<Vec<&'a Entry>, Alloc
 }
 
 /// The grains of entries.
-fn grains_of<'a>(alloc: Global, entries: &[&'a Entry]) -> Result<Vec<&'a GrainId>, AllocError>
+fn grains_of<'a>(
+    alloc: Global,
+    entries: &[&'a Entry<'a>],
+) -> Result<Vec<&'a LentGrain<'a>>, AllocError>
     ensures { IfOk result (λ grains. grains_lent grains.items ≡ map (λ one. one.now.grain) entries.now) }
 {
     entries

@@ -8,6 +8,7 @@ ghost use Rattle.dump_verdict.specs.Lent.{held_lent, held_on, nodes_lent};
 ghost use Rattle.rebuild_checker.specs.Mixed.{grains_lent};
 
 use crate::least::{least_of, lesser};
+use lent_grains::LentGrain;
 use rebuild_checker::{Held, Node, Phase, are_distinct_grains};
 use silo_address::GrainId;
 use std::alloc::{AllocError, Global};
@@ -31,7 +32,10 @@ pub(crate) fn twice_firm(
 }
 
 /// The firm activations on the nodes.
-pub(crate) fn firm_on<'a>(alloc: Global, nodes: &[&'a Node]) -> Result<Vec<&'a Held>, AllocError>
+pub(crate) fn firm_on<'a>(
+    alloc: Global,
+    nodes: &[&'a Node<'a>],
+) -> Result<Vec<&'a Held<'a>>, AllocError>
     ensures { IfOk result (λ held. held_lent held.items ≡ filter (λ held. rule.is_firm_phase held.phase) (held_on nodes.now)) }
 {
     nodes
@@ -43,7 +47,7 @@ pub(crate) fn firm_on<'a>(alloc: Global, nodes: &[&'a Node]) -> Result<Vec<&'a H
 }
 
 /// The grains of activations.
-fn grains_of<'a>(alloc: Global, held: &[&'a Held]) -> Result<Vec<&'a GrainId>, AllocError>
+fn grains_of<'a>(alloc: Global, held: &[&'a Held<'a>]) -> Result<Vec<&'a LentGrain<'a>>, AllocError>
     ensures { IfOk result (λ grains. grains_lent grains.items ≡ map (λ one. one.now.grain) held.now) }
 {
     held.iter().copied().map(|held| &held.grain).collect(alloc)
@@ -75,7 +79,7 @@ fn firm_among(
     node.held
         .iter()
         .filter(|held| held.phase == Phase::Firm)
-        .map(|held| held.grain)
+        .map(|held| held.grain.id())
         .filter(|grain| later.contains(grain))
         .collect(alloc)
 }
@@ -88,6 +92,6 @@ fn add_firm(grains: &mut BTreeSet<GrainId>, node: &Node) -> Result<(), AllocErro
         node.held
             .iter()
             .filter(|held| held.phase == Phase::Firm)
-            .map(|held| held.grain),
+            .map(|held| held.grain.id()),
     )
 }

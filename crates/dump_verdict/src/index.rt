@@ -7,17 +7,18 @@ ghost use Rattle.dump_verdict.specs.Lent.{entries_in, entries_lent, held_lent, h
 ghost use Rattle.dump_verdict.specs.Named.{IsIndex, entries_named, entry_named, named_cmp};
 ghost use Rattle.dump_verdict.specs.Tallies.{count_below, count_up_to};
 
-use rebuild_checker::{Held, Node, Piece};
-use silo_address::{ActivationId, Entry, GrainId};
+use lent_grains::LentGrain;
+use rebuild_checker::{Entry, Held, Node, Piece};
+use silo_address::ActivationId;
 use std::alloc::{AllocError, Global};
 
 /// An activation, and the grain that is said to be active in it.
-pub(crate) type Named<'a> = (ActivationId, &'a GrainId);
+pub(crate) type Named<'a> = (ActivationId, &'a LentGrain<'a>);
 
 /// What the entries of some pieces name, in order.
 pub(crate) fn index_of_entries<'a>(
     alloc: Global,
-    pieces: &[&'a Piece],
+    pieces: &[&'a Piece<'a>],
 ) -> Result<Vec<Named<'a>>, AllocError>
     ensures { IfOk result (λ names. IsIndex (entries_in pieces.now) names.items) }
 {
@@ -28,7 +29,7 @@ pub(crate) fn index_of_entries<'a>(
 }
 
 /// The entries of some pieces.
-fn entries_of<'a>(alloc: Global, pieces: &[&'a Piece]) -> Result<Vec<&'a Entry>, AllocError>
+fn entries_of<'a>(alloc: Global, pieces: &[&'a Piece<'a>]) -> Result<Vec<&'a Entry<'a>>, AllocError>
     ensures { IfOk result (λ entries. entries_lent entries.items ≡ entries_in pieces.now) }
 {
     pieces
@@ -38,7 +39,10 @@ fn entries_of<'a>(alloc: Global, pieces: &[&'a Piece]) -> Result<Vec<&'a Entry>,
         .collect(alloc)
 }
 
-fn named_by_entries<'a>(alloc: Global, entries: &[&'a Entry]) -> Result<Vec<Named<'a>>, AllocError>
+fn named_by_entries<'a>(
+    alloc: Global,
+    entries: &[&'a Entry<'a>],
+) -> Result<Vec<Named<'a>>, AllocError>
     ensures { IfOk result (λ names. entries_named names.items ≡ entries_lent entries.now) }
 {
     entries
@@ -51,7 +55,7 @@ fn named_by_entries<'a>(alloc: Global, entries: &[&'a Entry]) -> Result<Vec<Name
 /// The activations on some nodes, in order.
 pub(crate) fn index_of_held<'a>(
     alloc: Global,
-    nodes: &[&'a Node],
+    nodes: &[&'a Node<'a>],
 ) -> Result<Vec<Named<'a>>, AllocError>
     ensures { IfOk result (λ names. IsIndex (map rule.entry_of_held (held_on nodes.now)) names.items) }
 {
@@ -62,7 +66,7 @@ pub(crate) fn index_of_held<'a>(
 }
 
 /// The activations on some nodes.
-fn held_on<'a>(alloc: Global, nodes: &[&'a Node]) -> Result<Vec<&'a Held>, AllocError>
+fn held_on<'a>(alloc: Global, nodes: &[&'a Node<'a>]) -> Result<Vec<&'a Held<'a>>, AllocError>
     ensures { IfOk result (λ held. held_lent held.items ≡ held_on nodes.now) }
 {
     nodes
@@ -72,7 +76,7 @@ fn held_on<'a>(alloc: Global, nodes: &[&'a Node]) -> Result<Vec<&'a Held>, Alloc
         .collect(alloc)
 }
 
-fn named_by_held<'a>(alloc: Global, held: &[&'a Held]) -> Result<Vec<Named<'a>>, AllocError>
+fn named_by_held<'a>(alloc: Global, held: &[&'a Held<'a>]) -> Result<Vec<Named<'a>>, AllocError>
     ensures { IfOk result (λ names. entries_named names.items ≡ map rule.entry_of_held (held_lent held.now)) }
 {
     held.iter()

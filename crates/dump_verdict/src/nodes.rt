@@ -10,7 +10,10 @@ use rebuild_checker::{Dump, Node};
 use std::alloc::{AllocError, Global};
 
 /// The nodes of silos that aren't Dead in the current version. Costs a logarithm of the number of rows for each node.
-pub(crate) fn live_nodes(alloc: Global, dump: &Dump) -> Result<Vec<&Node>, AllocError>
+pub(crate) fn live_nodes<'a>(
+    alloc: Global,
+    dump: &'a Dump<'a>,
+) -> Result<Vec<&'a Node<'a>>, AllocError>
     requires { IsTrue (is_dump dump.now) }
     ensures { IfOk result (λ nodes. nodes_lent nodes.items ≡ rule.live_nodes dump.now) }
 {

@@ -44,7 +44,7 @@ fn strange_grains(
     for one in entered {
         let (is_held, next) = find_named(held, guess, one);
         if !is_held {
-            grains.push(*one.1)?;
+            grains.push(one.1.id())?;
         }
         guess = next;
     }

@@ -8,6 +8,7 @@ pub mod ReadValues
 pub mod Rising
 pub mod SetsMade
 pub mod Shaped
+pub mod Standing
 pub mod Tests
 pub mod Ties
 pub mod Told

@@ -14,14 +14,14 @@ use Rattle.serde_json.specs.Find.{get_member}
 use Rattle.serde_json.proofs.Views.{get_member-put}
 use Rattle.dump_rules.specs.Values.{member_in}
 use Rattle.rebuild_checker.specs.Reading.{IsReadingBy}
-use Rattle.rebuild_checker.specs.Straight.{IsAt, Tells, TellsBy}
+use Rattle.rebuild_checker.specs.Straight.{IsAt, TellsBy}
 use Rattle.rebuild_checker.specs.declared.error.ReadError.{ReadError}
 use Rattle.rebuild_checker.specs.MembersRead.{AreRead, IsApart, IsRead, Stands, filled}
 use Rattle.rebuild_checker.specs.MemberNames.{text_of_name}
 use Rattle.rebuild_checker.specs.declared.member_name.MemberName.{MemberName}
 use Rattle.rebuild_checker.specs.declared.members.Member.{Member}
 use Rattle.rebuild_checker.proofs.Along.{AreMembers, member_at, members_over, object_at, shorter_at, text_told}
-use Rattle.rebuild_checker.specs.Standing.{stands_on}
+use Rattle.rebuild_checker.proofs.Standing.{stands_on}
 
 -- a member that was not there makes one more
 length_at : (o : Ordering) (k l : List ℕ) (d e : Data) (ms : Members) → match_ordering o (get_member k ms) (Some e) (get_member k ms) ≡ None
@@ -69,11 +69,14 @@ module _ {X S : Type 0} (tells : Data → X → Type 0) (low : ℕ) (stands : S 
   abbrev pub all_many : Member X S → ℕ
   all_many m = filled m.value + many m.others
 
+  -- what has been read of the others stands on when a member of another name is found
+  abbrev StandOn : S → Type 0
+  StandOn others = (name : List ℕ) (value : Data) (found : Members) → IsApart name (names others) → stands others found → stands others (put name value found)
+
   -- the first one
-  own_read : ((others : S) (name : List ℕ) (value : Data) (found : Members) → IsApart name (names others) → stands others found → stands others (put name value found))
-      → (name : MemberName) (others : S) (x : X) (ts named rest : List Token) → ts ≡ Token.key (text_of_name name) ∷ named → TellsBy tells low named x rest
+  own_read : (name : MemberName) (others : S) (x : X) (ts named rest : List Token) → StandOn others → ts ≡ Token.key (text_of_name name) ∷ named → TellsBy tells low named x rest
       → IsRead all_stand all_names all_many (max low deep) (record { name = name; value = None; others = others }) (record { name = name; value = Some x; others = others }) ts rest
-  own_read on name others x ts named rest is one = record {
+  own_read name others x ts named rest on is one = record {
     name = text_of_name name;
     named = named;
     value = one.0;
@@ -81,17 +84,16 @@ module _ {X S : Type 0} (tells : Data → X → Type 0) (low : ℕ) (stands : S 
     at = deeper low (max low deep) named one.0 rest (omega arith) one.1;
     among = first_among (text_of_name name) (names others);
     fresh = λ found stood. stood.0;
-    with_it = λ found stood. ((one.0, get_member-put (text_of_name name) one.0 found, one.2), stood.1, on others (text_of_name name) one.0 found stood.1 stood.2);
+    with_it = λ found stood. ((one.0, get_member-put (text_of_name name) one.0 found, one.2), stood.1, on (text_of_name name) one.0 found stood.1 stood.2);
     same_names = refl;
     one_more = omega arith;
   }
 
-  pub own_read_if : ((others : S) (name : List ℕ) (value : Data) (found : Members) → IsApart name (names others) → stands others found → stands others (put name value found))
-      → (old : Member X S) (x : X) (ts named rest : List Token) → old.value ≡ None → ts ≡ Token.key (text_of_name old.name) ∷ named → TellsBy tells low named x rest
+  pub own_read_if : (old : Member X S) (x : X) (ts named rest : List Token) → StandOn old.others → old.value ≡ None → ts ≡ Token.key (text_of_name old.name) ∷ named → TellsBy tells low named x rest
       → IsRead all_stand all_names all_many (max low deep) old (record { name = old.name; value = Some x; others = old.others }) ts rest
-  own_read_if on old x ts named rest none is one =
+  own_read_if old x ts named rest on none is one =
       subst (λ (value : Option X). IsRead all_stand all_names all_many (max low deep) (record { name = old.name; value = value; others = old.others }) (record { name = old.name; value = Some x; others = old.others }) ts rest)
-      (sym none) (own_read on old.name old.others x ts named rest is one)
+      (sym none) (own_read old.name old.others x ts named rest on is one)
 
   -- one of the others
   pub other_read : (own : MemberName) (read : Option X) (old new : S) (ts rest : List Token) → IsRead stands names many deep old new ts rest
@@ -157,11 +159,6 @@ pub text_if : {X Y : Type 0} (reads : Data → Option Y) (see : X → Y) (ts : L
     → ts ≡ Token.string text ∷ rest → lent ≡ text → IsReadingBy see result (reads (string lent)) → IfOk result (λ x. TellsBy (λ value x. reads value ≡ Some (see x)) 0 ts x rest)
 text_if reads see ts text lent rest (Ok x) is same told = text_told reads ts text lent rest (see x) is same told
 text_if reads see ts text lent rest (Err e) is same told = tt
-
--- ---- an item of a list
-pub item_told_by : {X : Type 0} (tells : Data → X → Type 0) (reads : Data → Option X) → ((value : Data) (x : X) → tells value x → reads value ≡ Some x)
-    → (deep : ℕ) (ts : List Token) (x : X) (rest : List Token) → TellsBy tells deep ts x rest → Tells reads deep ts x rest
-item_told_by tells reads agrees deep ts x rest one = (one.0, one.1, agrees one.0 x one.2)
 
 -- ---- what the members tell, one by one, once all have been read
 module _ {X S : Type 0} where

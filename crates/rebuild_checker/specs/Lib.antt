@@ -6,5 +6,4 @@ pub mod PlainText
 pub mod ReadNumbers
 pub mod Reading
 pub mod Sets
-pub mod Standing
 pub mod Straight

@@ -1,6 +1,7 @@
 use hash_ring::Hashing;
+use lent_grains::LentGrain;
 use ring_range::RingRange;
-use silo_address::{ActivationId, Entry, GrainId, SiloAddress};
+use silo_address::{ActivationId, SiloAddress};
 use std::marker::Model;
 
 /// The phase of an activation.
@@ -21,13 +22,13 @@ pub enum State {
 
 /// An activation on its silo.
 #[derive(Drop)]
-pub struct Held {
+pub struct Held<'a> {
     pub activation: ActivationId,
-    pub grain: GrainId,
+    pub grain: LentGrain<'a>,
     pub phase: Phase,
 }
 
-impl Model for Held {
+impl<'a> Model for Held<'a> {
     ghost use Rattle.dump_rules.specs.Dump.{DumpHeld};
 
     ghost Value = { DumpHeld };
@@ -55,17 +56,32 @@ impl Model for ListedPoint {
     ghost inverse = { λ v. record { place = v.place; silo = v.silo; index = v.index } };
 }
 
+/// An entry of a piece: a grain and its activation.
+#[derive(Drop)]
+pub struct Entry<'a> {
+    pub grain: LentGrain<'a>,
+    pub activation: ActivationId,
+}
+
+impl<'a> Model for Entry<'a> {
+    ghost use Rattle.silo_address.specs.declared.Entry.{Entry as EntryValue};
+
+    ghost Value = { EntryValue };
+
+    ghost view = { λ e. record { grain = e.grain; activation = e.activation } };
+}
+
 /// A piece of what a silo owns.
 #[derive(Drop)]
-pub struct Piece {
-    pub entries: Vec<Entry>,
+pub struct Piece<'a> {
+    pub entries: Vec<Entry<'a>>,
     /// The silo from which it awaits its entries.
     pub from: Option<SiloAddress>,
     pub range: RingRange,
     pub state: State,
 }
 
-impl Model for Piece {
+impl<'a> Model for Piece<'a> {
     ghost use Rattle.dump_rules.specs.Dump.{DumpPiece};
 
     ghost Value = { DumpPiece };
@@ -77,18 +93,18 @@ impl Model for Piece {
 
 /// What one silo has.
 #[derive(Drop)]
-pub struct Node {
+pub struct Node<'a> {
     /// In the order in which they began.
-    pub held: Vec<Held>,
+    pub held: Vec<Held<'a>>,
     /// By start.
-    pub pieces: Vec<Piece>,
+    pub pieces: Vec<Piece<'a>>,
     pub ring: Vec<ListedPoint>,
     /// The version that the silo has seen.
     pub seen: u64,
     pub silo: SiloAddress,
 }
 
-impl Model for Node {
+impl<'a> Model for Node<'a> {
     ghost use Rattle.dump_rules.specs.Dump.{DumpNode};
 
     ghost Value = { DumpNode };
@@ -118,19 +134,19 @@ impl Model for Row {
 /// A whole dump: the rows and nodes of a world as plain lists, which may say anything
 /// (`docs/RULES.md#the-dump-and-the-verdict`).
 #[derive(Drop)]
-pub struct Dump {
+pub struct Dump<'a> {
     /// The current version.
     pub current: u64,
     pub hashing: Hashing,
     /// By address.
-    pub nodes: Vec<Node>,
+    pub nodes: Vec<Node<'a>>,
     /// How many points a silo has where points are hashed.
     pub points: u64,
     /// By address.
     pub rows: Vec<Row>,
 }
 
-impl Model for Dump {
+impl<'a> Model for Dump<'a> {
     ghost use Rattle.dump_rules.specs.Dump.{DumpValue};
 
     ghost Value = { DumpValue };

@@ -21,7 +21,7 @@ mod values;
 mod words;
 mod writing;
 
-pub use dump::{Dump, Held, ListedPoint, Node, Phase, Piece, Row, State};
+pub use dump::{Dump, Entry, Held, ListedPoint, Node, Phase, Piece, Row, State};
 pub use error::ReadError;
 pub use mixed::are_distinct_grains;
 pub use reading::read_dump;

@@ -6,7 +6,6 @@ ghost use Rattle.json.specs.Token.{key};
 ghost use Rattle.serde_json.specs.Data.{Data, Members, no_members, put};
 ghost use Rattle.rebuild_checker.specs.MemberNames.{text_of_name};
 ghost use Rattle.rebuild_checker.specs.MembersRead.{AreRead, IsApart, IsRead, Stands, filled};
-ghost use Rattle.rebuild_checker.specs.Standing.{others_stand};
 
 use crate::ReadError;
 use crate::member_name::MemberName;
@@ -15,7 +14,7 @@ use crate::read_text::ReadText;
 use std::alloc::Global;
 
 /// The members that an object may have, with the values that have been read.
-pub(crate) trait ReadMembers: Drop {
+pub(crate) trait ReadMembers<'a>: Drop {
     ghost stands: { Self → Members → Type 0 };
 
     ghost names: { Self → List (List ℕ) };
@@ -25,17 +24,19 @@ pub(crate) trait ReadMembers: Drop {
     ghost deep: { ℕ };
 
     /// Reads the next member. It has to be one of these, and not to have been read.
-    fn read_next(&mut self, alloc: Global, reader: &mut PlainText<'_>) -> Result<(), ReadError>
+    fn read_next(&mut self, alloc: Global, reader: &mut PlainText<'a>) -> Result<(), ReadError>
         ensures { OnOk result (IsRead stands names many deep self.old self.new reader.old reader.new) };
 
-    ghost other: { (members : Self) (name : List ℕ) (value : Data) (found : Members) → IsApart name (names members) → stands members found → stands members (put name value found) };
+    /// A law: what has been read stands on when a member of another name is found.
+    fn stand_on(&self)
+        ensures { (name : List ℕ) (value : Data) (found : Members) → IsApart name (names self.now) → stands self.now found → stands self.now (put name value found) };
 }
 
 /// No member.
 #[derive(Drop)]
 pub(crate) struct NoMember;
 
-impl ReadMembers for NoMember {
+impl<'a> ReadMembers<'a> for NoMember {
     ghost stands = { λ _ _. Unit {0} };
 
     ghost names = { λ _. [] };
@@ -44,11 +45,11 @@ impl ReadMembers for NoMember {
 
     ghost deep = { 0 };
 
-    ghost other = { λ members name value found none stands. tt };
-
-    fn read_next(&mut self, _alloc: Global, _reader: &mut PlainText<'_>) -> Result<(), ReadError> {
+    fn read_next(&mut self, _alloc: Global, _reader: &mut PlainText<'a>) -> Result<(), ReadError> {
         Err(ReadError::NotADump)
     }
+
+    fn stand_on(&self) {}
 }
 
 /// A member and others.
@@ -59,7 +60,7 @@ pub(crate) struct Member<T, R> {
     others: R,
 }
 
-impl<T: ReadText, R: ReadMembers> Member<T, R> {
+impl<T: Drop, R: Drop> Member<T, R> {
     /// A member of which nothing has been read, and others.
     #[inline(always)]
     pub(crate) fn unread(name: MemberName, others: R) -> Member<T, R>
@@ -95,7 +96,7 @@ impl<T: ReadText, R: ReadMembers> Member<T, R> {
     }
 }
 
-impl<T: ReadText, R: ReadMembers> ReadMembers for Member<T, R> {
+impl<'a, T: ReadText<'a>, R: ReadMembers<'a>> ReadMembers<'a> for Member<T, R> {
     ghost stands = { λ m found. Stands T.tells (text_of_name m.name) m.value found × IsApart (text_of_name m.name) (R.names m.others) × R.stands m.others found };
 
     ghost names = { λ m. text_of_name m.name ∷ R.names m.others };
@@ -104,24 +105,27 @@ impl<T: ReadText, R: ReadMembers> ReadMembers for Member<T, R> {
 
     ghost deep = { max T.deep R.deep };
 
-    ghost other = { λ m. others_stand T.tells R.stands R.names R.other (text_of_name m.name) m.value m.others };
-
     #[inline]
-    fn read_next(&mut self, alloc: Global, reader: &mut PlainText<'_>) -> Result<(), ReadError> {
+    fn read_next(&mut self, alloc: Global, reader: &mut PlainText<'a>) -> Result<(), ReadError> {
         if !self.takes_name(reader) {
             return self.others.read_next(alloc, reader);
         }
         let value = T::read_text(alloc, reader)?;
+        self.others.stand_on();
         self.value = Some(value);
         Ok(())
+    }
+
+    fn stand_on(&self) {
+        self.others.stand_on();
     }
 }
 
 /// Reads all members of the object that comes next.
-pub(crate) fn read_members<M: ReadMembers>(
+pub(crate) fn read_members<'a, M: ReadMembers<'a>>(
     alloc: Global,
     members: &mut M,
-    reader: &mut PlainText<'_>,
+    reader: &mut PlainText<'a>,
 ) -> Result<(), ReadError>
     requires none { M.stands members.old no_members }
     requires unread { M.many members.old ≡ 0 }

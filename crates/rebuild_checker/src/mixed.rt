@@ -6,13 +6,13 @@ ghost use Rattle.dump_rules.specs.DumpShape.{are_distinct_by};
 ghost use Rattle.rebuild_checker.specs.Mixed.{Rises, grains_lent, mixed};
 
 use crate::distinct::are_distinct;
-use silo_address::GrainId;
+use lent_grains::LentGrain;
 use std::alloc::{AllocError, Global};
 use std::hash::{FoldHasher, Hasher};
 
 /// Whether no two of the grains are the same. Mostly numbers tell that are mixed from their texts, each of which is read once, in order;
 /// only where two have one number, a set of the grains does. Costs a logarithm for each grain. Fails only when memory runs out.
-pub fn are_distinct_grains(alloc: Global, grains: &[&GrainId]) -> Result<bool, AllocError>
+pub fn are_distinct_grains(alloc: Global, grains: &[&LentGrain]) -> Result<bool, AllocError>
     ensures { IfOk result (λ distinct. distinct ≡ are_distinct_by grain_eq (grains_lent grains.now)) }
 {
     if are_told_apart(alloc, grains)? {
@@ -23,7 +23,7 @@ pub fn are_distinct_grains(alloc: Global, grains: &[&GrainId]) -> Result<bool, A
 }
 
 /// Whether the grains have numbers of their own. `false` says nothing: two grains may have one number.
-fn are_told_apart(alloc: Global, grains: &[&GrainId]) -> Result<bool, AllocError>
+fn are_told_apart(alloc: Global, grains: &[&LentGrain]) -> Result<bool, AllocError>
     ensures { IfOk result (λ apart. IsTrue apart → IsTrue (are_distinct_by grain_eq (grains_lent grains.now))) }
 {
     let mut numbers = numbers_of(alloc, grains)?;
@@ -32,7 +32,7 @@ fn are_told_apart(alloc: Global, grains: &[&GrainId]) -> Result<bool, AllocError
 }
 
 /// The numbers of the grains.
-fn numbers_of(alloc: Global, grains: &[&GrainId]) -> Result<Vec<u64>, AllocError>
+fn numbers_of(alloc: Global, grains: &[&LentGrain]) -> Result<Vec<u64>, AllocError>
     ensures { IfOk result (λ numbers. numbers.items ≡ map (λ grain. mixed grain.now) grains.now) }
 {
     grains.iter().map(|grain| mixed(grain)).collect(alloc)
@@ -40,7 +40,7 @@ fn numbers_of(alloc: Global, grains: &[&GrainId]) -> Result<Vec<u64>, AllocError
 
 /// A number mixed from the grain's text.
 #[tactic(auto, unfolding(crate::specs::Mixed::mixed))]
-fn mixed(grain: &GrainId) -> u64
+fn mixed(grain: &LentGrain) -> u64
     ensures { result ≡ mixed grain.now }
 {
     let mut hasher = FoldHasher::default();

@@ -1,5 +1,6 @@
 //! Names, ranges and words, read from the texts that a dump has for them.
 
+ghost use Rattle.std.specs.Cow.{cow_slice_items};
 ghost use Rattle.serde_json.specs.Data.{string};
 ghost use Rattle.dump_rules.specs.DumpIn.{hashing_in, phase_in, state_in};
 ghost use Rattle.dump_rules.specs.Values.{activation_in, from_in, grain_in, range_in, silo_in};
@@ -8,8 +9,10 @@ ghost use Rattle.rebuild_checker.specs.Reading.{IsReading, IsReadingBy};
 
 use crate::{Phase, ReadError, State};
 use hash_ring::Hashing;
+use lent_grains::LentGrain;
 use ring_range::RingRange;
-use silo_address::{ActivationId, GrainId, SiloAddress};
+use silo_address::{ActivationId, SiloAddress};
+use std::borrow::CowSlice;
 
 /// A silo.
 pub(crate) fn silo(text: &[u8]) -> Result<SiloAddress, ReadError>
@@ -22,10 +25,10 @@ pub(crate) fn silo(text: &[u8]) -> Result<SiloAddress, ReadError>
 }
 
 /// A grain.
-pub(crate) fn grain(text: &[u8]) -> Result<GrainId, ReadError>
-    ensures { IsReading result (grain_in (string text.now)) }
+pub(crate) fn grain(text: CowSlice<'_, u8>) -> Result<LentGrain<'_>, ReadError>
+    ensures { IsReading result (grain_in (string (cow_slice_items text.entry))) }
 {
-    match GrainId::parse(text) {
+    match LentGrain::parse(text) {
         Ok(grain) => Ok(grain),
         Err(_) => Err(ReadError::NotADump),
     }

@@ -12,7 +12,8 @@ use crate::distinct::{all_hold, are_distinct, are_in_order};
 use crate::mixed::are_distinct_grains;
 use crate::piece_shape::are_pieces;
 use crate::{Dump, Node, Piece};
-use silo_address::{ActivationId, GrainId, SiloAddress};
+use lent_grains::LentGrain;
+use silo_address::{ActivationId, SiloAddress};
 use std::alloc::{AllocError, Global};
 use std::collections::BTreeSet;
 
@@ -104,7 +105,10 @@ fn holds_grains_once(alloc: Global, node: &Node) -> Result<bool, AllocError>
     Ok(once)
 }
 
-fn grains_of<'a>(alloc: Global, node: &'a Node) -> Result<Vec<&'a GrainId>, AllocError>
+fn grains_of<'a, 't>(
+    alloc: Global,
+    node: &'a Node<'t>,
+) -> Result<Vec<&'a LentGrain<'t>>, AllocError>
     ensures { IfOk result (λ grains. grains_lent grains.items ≡ map (λ held. held.grain) node.now.held) }
 {
     node.held.iter().map(|held| &held.grain).collect(alloc)

@@ -10,44 +10,45 @@ ghost use Rattle.rebuild_checker.specs.Straight.{TellsBy};
 use crate::plain_text::PlainText;
 use crate::{Phase, ReadError, State, named};
 use hash_ring::Hashing;
+use lent_grains::LentGrain;
 use ring_range::RingRange;
-use silo_address::{ActivationId, GrainId, SiloAddress};
+use silo_address::{ActivationId, SiloAddress};
 use std::alloc::Global;
 
 /// What is read from the tokens of a text.
-pub(crate) trait ReadText: Drop {
+pub(crate) trait ReadText<'a>: Drop {
     ghost tells: { Data → Self → Type 0 };
 
     ghost deep: { ℕ };
 
     /// What the next value tells.
-    fn read_text(alloc: Global, reader: &mut PlainText<'_>) -> Result<Self, ReadError>
+    fn read_text(alloc: Global, reader: &mut PlainText<'a>) -> Result<Self, ReadError>
         ensures { IfOk result (λ read. TellsBy tells deep reader.old read reader.new) };
 }
 
-impl ReadText for u64 {
+impl<'a> ReadText<'a> for u64 {
     ghost tells = { λ value number. number_in value ≡ Some number };
 
     ghost deep = { 0 };
 
     #[inline(always)]
-    fn read_text(_alloc: Global, reader: &mut PlainText<'_>) -> Result<u64, ReadError> {
+    fn read_text(_alloc: Global, reader: &mut PlainText<'a>) -> Result<u64, ReadError> {
         reader.number()
     }
 }
 
-impl ReadText for SiloAddress {
+impl<'a> ReadText<'a> for SiloAddress {
     ghost tells = { λ value silo. silo_in value ≡ Some silo };
 
     ghost deep = { 0 };
 
     #[inline(always)]
-    fn read_text(alloc: Global, reader: &mut PlainText<'_>) -> Result<SiloAddress, ReadError> {
+    fn read_text(alloc: Global, reader: &mut PlainText<'a>) -> Result<SiloAddress, ReadError> {
         named::silo(reader.text(alloc)?.as_slice())
     }
 }
 
-impl ReadText for Option<SiloAddress> {
+impl<'a> ReadText<'a> for Option<SiloAddress> {
     ghost tells = { λ value from. from_in value ≡ Some from };
 
     ghost deep = { 0 };
@@ -55,74 +56,74 @@ impl ReadText for Option<SiloAddress> {
     #[inline(always)]
     fn read_text(
         alloc: Global,
-        reader: &mut PlainText<'_>,
+        reader: &mut PlainText<'a>,
     ) -> Result<Option<SiloAddress>, ReadError> {
         named::from(reader.text(alloc)?.as_slice())
     }
 }
 
-impl ReadText for GrainId {
+impl<'a> ReadText<'a> for LentGrain<'a> {
     ghost tells = { λ value grain. grain_in value ≡ Some grain };
 
     ghost deep = { 0 };
 
     #[inline(always)]
-    fn read_text(alloc: Global, reader: &mut PlainText<'_>) -> Result<GrainId, ReadError> {
-        named::grain(reader.text(alloc)?.as_slice())
+    fn read_text(alloc: Global, reader: &mut PlainText<'a>) -> Result<LentGrain<'a>, ReadError> {
+        named::grain(reader.text(alloc)?)
     }
 }
 
-impl ReadText for ActivationId {
+impl<'a> ReadText<'a> for ActivationId {
     ghost tells = { λ value activation. activation_in value ≡ Some activation };
 
     ghost deep = { 0 };
 
     #[inline(always)]
-    fn read_text(alloc: Global, reader: &mut PlainText<'_>) -> Result<ActivationId, ReadError> {
+    fn read_text(alloc: Global, reader: &mut PlainText<'a>) -> Result<ActivationId, ReadError> {
         named::activation(reader.text(alloc)?.as_slice())
     }
 }
 
-impl ReadText for RingRange {
+impl<'a> ReadText<'a> for RingRange {
     ghost tells = { λ value range. range_in value ≡ Some range };
 
     ghost deep = { 0 };
 
     #[inline(always)]
-    fn read_text(alloc: Global, reader: &mut PlainText<'_>) -> Result<RingRange, ReadError> {
+    fn read_text(alloc: Global, reader: &mut PlainText<'a>) -> Result<RingRange, ReadError> {
         named::range(reader.text(alloc)?.as_slice())
     }
 }
 
-impl ReadText for Hashing {
+impl<'a> ReadText<'a> for Hashing {
     ghost tells = { λ value hashing. hashing_in value ≡ Some hashing };
 
     ghost deep = { 0 };
 
     #[inline(always)]
-    fn read_text(alloc: Global, reader: &mut PlainText<'_>) -> Result<Hashing, ReadError> {
+    fn read_text(alloc: Global, reader: &mut PlainText<'a>) -> Result<Hashing, ReadError> {
         named::hashing(reader.text(alloc)?.as_slice())
     }
 }
 
-impl ReadText for Phase {
+impl<'a> ReadText<'a> for Phase {
     ghost tells = { λ value phase. phase_in value ≡ Some (phase_of phase) };
 
     ghost deep = { 0 };
 
     #[inline(always)]
-    fn read_text(alloc: Global, reader: &mut PlainText<'_>) -> Result<Phase, ReadError> {
+    fn read_text(alloc: Global, reader: &mut PlainText<'a>) -> Result<Phase, ReadError> {
         named::phase(reader.text(alloc)?.as_slice())
     }
 }
 
-impl ReadText for State {
+impl<'a> ReadText<'a> for State {
     ghost tells = { λ value state. state_in value ≡ Some (state_of state) };
 
     ghost deep = { 0 };
 
     #[inline(always)]
-    fn read_text(alloc: Global, reader: &mut PlainText<'_>) -> Result<State, ReadError> {
+    fn read_text(alloc: Global, reader: &mut PlainText<'a>) -> Result<State, ReadError> {
         named::state(reader.text(alloc)?.as_slice())
     }
 }

@@ -13,27 +13,26 @@ use crate::values::{
     activation, from, grain, hashing, items, member, members_of, number, phase, range, silo, state,
     three_items, two_items,
 };
-use crate::{Dump, Held, ListedPoint, Node, Piece, ReadError, Row};
+use crate::{Dump, Entry, Held, ListedPoint, Node, Piece, ReadError, Row};
 use serde_json::Value;
-use silo_address::Entry;
 use simdutf8::basic::from_utf8;
 use std::alloc::Global;
 
 /// Reads the dump that bytes tell: they have to be UTF-8 and one JSON value, nested at most 127 deep, else they are
 /// refused by 971; and the value has to tell a dump, else they are refused by 972
 /// (`docs/RULES.md#the-dump-and-the-verdict`). What is read may still be no dump by its lists, as `Dump::is_dump` tells.
-pub fn read_dump(alloc: Global, bytes: &[u8]) -> Result<Dump, ReadError>
+pub fn read_dump(alloc: Global, bytes: &[u8]) -> Result<Dump<'_>, ReadError>
     ensures { (result ≡ Err ReadError.OutOfMemory) ⊎ (result ≡ told bytes.now) }
 {
     match straight(alloc, bytes) {
-        Ok(dump) => Ok(dump),
-        Err(ReadError::OutOfMemory) => Err(ReadError::OutOfMemory),
-        Err(_) => by_value(alloc, bytes),
+        Err(ReadError::NotJson | ReadError::NotADump) => {}
+        read => return read,
     }
+    by_value(alloc, bytes)
 }
 
-/// The dump that bytes tell, where its members stand as the program writes them.
-fn straight(alloc: Global, bytes: &[u8]) -> Result<Dump, ReadError>
+/// The dump that bytes tell, read straight from them. Its grains are lent from them, but for names with escapes.
+fn straight(alloc: Global, bytes: &[u8]) -> Result<Dump<'_>, ReadError>
     ensures { IfOk result (λ dump. told bytes.now ≡ Ok dump) }
 {
     match from_utf8(bytes) {
@@ -42,8 +41,8 @@ fn straight(alloc: Global, bytes: &[u8]) -> Result<Dump, ReadError>
     }
 }
 
-/// The dump that bytes tell, however it is written.
-fn by_value(alloc: Global, bytes: &[u8]) -> Result<Dump, ReadError>
+/// The dump that bytes tell, however it is written. It lends nothing from them.
+fn by_value(alloc: Global, bytes: &[u8]) -> Result<Dump<'static>, ReadError>
     ensures { (result ≡ Err ReadError.OutOfMemory) ⊎ (result ≡ told bytes.now) }
 {
     match Value::from_slice(alloc, bytes) {
@@ -63,7 +62,7 @@ trait ReadJson: Drop {
 
 /// The dump that the value tells.
 #[tactic(auto, unfolding(dump_rules::specs::DumpIn::dump_in))]
-fn dump(alloc: Global, value: &Value) -> Result<Dump, ReadError>
+fn dump(alloc: Global, value: &Value) -> Result<Dump<'static>, ReadError>
     ensures { IsReading result (dump_in (view value.now)) }
 {
     let members = members_of(value, 5)?;
@@ -114,10 +113,10 @@ impl ReadJson for Row {
     }
 }
 
-impl ReadJson for Node {
+impl ReadJson for Node<'static> {
     ghost reads = { node_in };
 
-    fn read(alloc: Global, value: &Value) -> Result<Node, ReadError> {
+    fn read(alloc: Global, value: &Value) -> Result<Node<'static>, ReadError> {
         let members = members_of(value, 5)?;
         let held = list(alloc, member(members, "held")?)?;
         let pieces = list(alloc, member(members, "pieces")?)?;
@@ -134,10 +133,10 @@ impl ReadJson for Node {
     }
 }
 
-impl ReadJson for Piece {
+impl ReadJson for Piece<'static> {
     ghost reads = { piece_in };
 
-    fn read(alloc: Global, value: &Value) -> Result<Piece, ReadError> {
+    fn read(alloc: Global, value: &Value) -> Result<Piece<'static>, ReadError> {
         let members = members_of(value, 4)?;
         let entries = list(alloc, member(members, "entries")?)?;
         let from = from(member(members, "from")?)?;
@@ -152,13 +151,13 @@ impl ReadJson for Piece {
     }
 }
 
-impl ReadJson for Held {
+impl ReadJson for Held<'static> {
     ghost reads = { held_in };
 
-    fn read(_alloc: Global, value: &Value) -> Result<Held, ReadError> {
+    fn read(alloc: Global, value: &Value) -> Result<Held<'static>, ReadError> {
         let members = members_of(value, 3)?;
         let activation = activation(member(members, "activation")?)?;
-        let grain = grain(member(members, "grain")?)?;
+        let grain = grain(alloc, member(members, "grain")?)?;
         let phase = phase(member(members, "phase")?)?;
         Ok(Held {
             activation,
@@ -180,12 +179,12 @@ impl ReadJson for ListedPoint {
     }
 }
 
-impl ReadJson for Entry {
+impl ReadJson for Entry<'static> {
     ghost reads = { entry_in };
 
-    fn read(_alloc: Global, value: &Value) -> Result<Entry, ReadError> {
+    fn read(alloc: Global, value: &Value) -> Result<Entry<'static>, ReadError> {
         let (grain_text, activation_text) = two_items(value)?;
-        let grain = grain(grain_text)?;
+        let grain = grain(alloc, grain_text)?;
         let activation = activation(activation_text)?;
         Ok(Entry { grain, activation })
     }

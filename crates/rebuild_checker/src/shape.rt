@@ -18,7 +18,7 @@ use std::collections::BTreeSet;
 /// The most places that a join may name.
 const MOST_PLACES: usize = 128;
 
-impl Dump {
+impl<'a> Dump<'a> {
     /// Whether the lists are a dump, over which there is a verdict: numbers are in their ranges, whoever is named has joined,
     /// what stands once stands once, and all is in order (`docs/RULES.md#the-dump-and-the-verdict`). Where they aren't, the
     /// refusal is 972. Fails only when memory runs out.

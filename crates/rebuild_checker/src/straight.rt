@@ -7,18 +7,17 @@ ghost use Rattle.serde_json.specs.Data.{Data};
 ghost use Rattle.serde_json.specs.Read.{read as read_json};
 ghost use Rattle.dump_rules.specs.DumpIn.{dump_in, entry_in, held_in, node_in, piece_in, point_in, row_in};
 ghost use Rattle.dump_rules.specs.Values.{list_in, number_in};
-ghost use Rattle.rebuild_checker.specs.Straight.{TellItems};
+ghost use Rattle.rebuild_checker.specs.Straight.{TellItems, Tells};
 
 use crate::member_name::MemberName;
 use crate::members::{Member, NoMember, read_members};
 use crate::plain_text::PlainText;
 use crate::read_text::ReadText;
-use crate::{Dump, Held, ListedPoint, Node, Piece, ReadError, Row};
-use silo_address::Entry;
+use crate::{Dump, Entry, Held, ListedPoint, Node, Piece, ReadError, Row};
 use std::alloc::Global;
 
 /// Reads the dump that the text tells.
-pub(crate) fn read_straight(alloc: Global, text: &str) -> Result<Dump, ReadError>
+pub(crate) fn read_straight(alloc: Global, text: &str) -> Result<Dump<'_>, ReadError>
     ensures { IfOk result (λ dump. (value : Data) × (read_json text.now ≡ Some value) × (dump_in value ≡ Some dump)) }
 {
     let mut reader = PlainText::new(text);
@@ -29,12 +28,12 @@ pub(crate) fn read_straight(alloc: Global, text: &str) -> Result<Dump, ReadError
     Ok(dump)
 }
 
-impl ReadText for Dump {
+impl<'a> ReadText<'a> for Dump<'a> {
     ghost tells = { λ value dump. dump_in value ≡ Some dump };
 
     ghost deep = { 7 };
 
-    fn read_text(alloc: Global, reader: &mut PlainText<'_>) -> Result<Dump, ReadError> {
+    fn read_text(alloc: Global, reader: &mut PlainText<'a>) -> Result<Dump<'a>, ReadError> {
         let rows = Member::unread(MemberName::Rows, NoMember);
         let points = Member::unread(MemberName::Points, rows);
         let nodes = Member::unread(MemberName::Nodes, points);
@@ -56,12 +55,33 @@ impl ReadText for Dump {
     }
 }
 
-impl ReadText for Row {
-    ghost tells = { λ value row. row_in value ≡ Some row };
+/// What stands in lists, read from the tokens of a text.
+pub(crate) trait ReadItem<'a>: Drop {
+    ghost reads: { Data → Option Self };
+
+    ghost deep: { ℕ };
+
+    /// What the next value tells.
+    fn read_item(alloc: Global, reader: &mut PlainText<'a>) -> Result<Self, ReadError>
+        ensures { IfOk result (λ item. Tells reads deep reader.old item reader.new) };
+}
+
+impl<'a> ReadItem<'a> for u64 {
+    ghost reads = { number_in };
+
+    ghost deep = { 0 };
+
+    fn read_item(_alloc: Global, reader: &mut PlainText<'a>) -> Result<u64, ReadError> {
+        reader.number()
+    }
+}
+
+impl<'a> ReadItem<'a> for Row {
+    ghost reads = { row_in };
 
     ghost deep = { 2 };
 
-    fn read_text(alloc: Global, reader: &mut PlainText<'_>) -> Result<Row, ReadError> {
+    fn read_item(alloc: Global, reader: &mut PlainText<'a>) -> Result<Row, ReadError> {
         let silo = Member::unread(MemberName::Silo, NoMember);
         let places = Member::unread(MemberName::Places, silo);
         let left = Member::unread(MemberName::Left, places);
@@ -83,12 +103,12 @@ impl ReadText for Row {
     }
 }
 
-impl ReadText for Node {
-    ghost tells = { λ value node. node_in value ≡ Some node };
+impl<'a> ReadItem<'a> for Node<'a> {
+    ghost reads = { node_in };
 
     ghost deep = { 5 };
 
-    fn read_text(alloc: Global, reader: &mut PlainText<'_>) -> Result<Node, ReadError> {
+    fn read_item(alloc: Global, reader: &mut PlainText<'a>) -> Result<Node<'a>, ReadError> {
         let silo = Member::unread(MemberName::Silo, NoMember);
         let seen = Member::unread(MemberName::Seen, silo);
         let ring = Member::unread(MemberName::Ring, seen);
@@ -110,12 +130,12 @@ impl ReadText for Node {
     }
 }
 
-impl ReadText for Piece {
-    ghost tells = { λ value piece. piece_in value ≡ Some piece };
+impl<'a> ReadItem<'a> for Piece<'a> {
+    ghost reads = { piece_in };
 
     ghost deep = { 3 };
 
-    fn read_text(alloc: Global, reader: &mut PlainText<'_>) -> Result<Piece, ReadError> {
+    fn read_item(alloc: Global, reader: &mut PlainText<'a>) -> Result<Piece<'a>, ReadError> {
         let state = Member::unread(MemberName::State, NoMember);
         let range = Member::unread(MemberName::Range, state);
         let from = Member::unread(MemberName::From, range);
@@ -134,12 +154,12 @@ impl ReadText for Piece {
     }
 }
 
-impl ReadText for Held {
-    ghost tells = { λ value held. held_in value ≡ Some held };
+impl<'a> ReadItem<'a> for Held<'a> {
+    ghost reads = { held_in };
 
     ghost deep = { 1 };
 
-    fn read_text(alloc: Global, reader: &mut PlainText<'_>) -> Result<Held, ReadError> {
+    fn read_item(alloc: Global, reader: &mut PlainText<'a>) -> Result<Held<'a>, ReadError> {
         let phase = Member::unread(MemberName::Phase, NoMember);
         let grain = Member::unread(MemberName::Grain, phase);
         let mut members = Member::unread(MemberName::Activation, grain);
@@ -155,12 +175,12 @@ impl ReadText for Held {
     }
 }
 
-impl ReadText for ListedPoint {
-    ghost tells = { λ value point. point_in value ≡ Some point };
+impl<'a> ReadItem<'a> for ListedPoint {
+    ghost reads = { point_in };
 
     ghost deep = { 1 };
 
-    fn read_text(alloc: Global, reader: &mut PlainText<'_>) -> Result<ListedPoint, ReadError> {
+    fn read_item(alloc: Global, reader: &mut PlainText<'a>) -> Result<ListedPoint, ReadError> {
         reader.begin_items()?;
         let place = reader.number()?;
         let silo = ReadText::read_text(alloc, reader)?;
@@ -170,12 +190,12 @@ impl ReadText for ListedPoint {
     }
 }
 
-impl ReadText for Entry {
-    ghost tells = { λ value entry. entry_in value ≡ Some entry };
+impl<'a> ReadItem<'a> for Entry<'a> {
+    ghost reads = { entry_in };
 
     ghost deep = { 1 };
 
-    fn read_text(alloc: Global, reader: &mut PlainText<'_>) -> Result<Entry, ReadError> {
+    fn read_item(alloc: Global, reader: &mut PlainText<'a>) -> Result<Entry<'a>, ReadError> {
         reader.begin_items()?;
         let grain = ReadText::read_text(alloc, reader)?;
         let activation = ReadText::read_text(alloc, reader)?;
@@ -184,73 +204,27 @@ impl ReadText for Entry {
     }
 }
 
-/// What stands in lists.
-pub(crate) trait ReadItem: ReadText {
-    ghost reads: { Data → Option Self };
-
-    ghost agrees: { (value : Data) (item : Self) → Self.tells value item → reads value ≡ Some item };
-}
-
-impl ReadItem for u64 {
-    ghost reads = { number_in };
-
-    ghost agrees = { λ value item is. is };
-}
-
-impl ReadItem for Row {
-    ghost reads = { row_in };
-
-    ghost agrees = { λ value item is. is };
-}
-
-impl ReadItem for Node {
-    ghost reads = { node_in };
-
-    ghost agrees = { λ value item is. is };
-}
-
-impl ReadItem for Piece {
-    ghost reads = { piece_in };
-
-    ghost agrees = { λ value item is. is };
-}
-
-impl ReadItem for Held {
-    ghost reads = { held_in };
-
-    ghost agrees = { λ value item is. is };
-}
-
-impl ReadItem for ListedPoint {
-    ghost reads = { point_in };
-
-    ghost agrees = { λ value item is. is };
-}
-
-impl ReadItem for Entry {
-    ghost reads = { entry_in };
-
-    ghost agrees = { λ value item is. is };
-}
-
-impl<T: ReadItem> ReadText for Vec<T> {
+impl<'a, T: ReadItem<'a>> ReadText<'a> for Vec<T> {
     ghost tells = { λ value list. list_in T.reads value ≡ Some list.items };
 
     ghost deep = { suc T.deep };
 
-    fn read_text(alloc: Global, reader: &mut PlainText<'_>) -> Result<Vec<T>, ReadError> {
+    fn read_text(alloc: Global, reader: &mut PlainText<'a>) -> Result<Vec<T>, ReadError> {
         reader.begin_items()?;
         items(alloc, reader)
     }
 }
 
 /// The items up to the bracket that closes their list.
-fn items<T: ReadItem>(alloc: Global, reader: &mut PlainText<'_>) -> Result<Vec<T>, ReadError>
+fn items<'a, T: ReadItem<'a>>(
+    alloc: Global,
+    reader: &mut PlainText<'a>,
+) -> Result<Vec<T>, ReadError>
     ensures { IfOk result (λ list. TellItems T.reads T.deep reader.old list.items reader.new) }
 {
     let mut list = Vec::new(alloc);
     'items: while !reader.take_end_array() {
-        let item = T::read_text(alloc, reader)?;
+        let item = T::read_item(alloc, reader)?;
         list.push(item)?;
     }
     Ok(list)

@@ -10,9 +10,12 @@ ghost use Rattle.rebuild_checker.specs.Reading.{IsReading, IsReadingBy};
 
 use crate::{Phase, ReadError, State, named};
 use hash_ring::Hashing;
+use lent_grains::LentGrain;
 use ring_range::RingRange;
 use serde_json::{Map, Value};
-use silo_address::{ActivationId, GrainId, SiloAddress};
+use silo_address::{ActivationId, SiloAddress};
+use std::alloc::Global;
+use std::borrow::CowSlice;
 
 /// An object's members, if they are so many.
 pub(crate) fn members_of(value: &Value, many: usize) -> Result<&Map<String, Value>, ReadError>
@@ -93,11 +96,12 @@ pub(crate) fn silo(value: &Value) -> Result<SiloAddress, ReadError>
     named::silo(text(value)?)
 }
 
-/// A grain.
-pub(crate) fn grain(value: &Value) -> Result<GrainId, ReadError>
+/// A grain, with a name of its own.
+pub(crate) fn grain(alloc: Global, value: &Value) -> Result<LentGrain<'static>, ReadError>
     ensures { IsReading result (grain_in (view value.now)) }
 {
-    named::grain(text(value)?)
+    let name = text(value)?.to_vec(alloc)?;
+    named::grain(CowSlice::Owned(name))
 }
 
 /// An activation.

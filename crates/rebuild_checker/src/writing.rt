@@ -9,9 +9,9 @@ ghost use Rattle.ring_range.specs.Text.{range_text};
 ghost use Rattle.dump_rules.specs.Dump.{comma, dump_text, entry_json, escaped, from_text, held_json, json_list, json_member, node_json, piece_json, point_json, quoted, row_json};
 
 use crate::words::{word_of_hashing, word_of_phase, word_of_state};
-use crate::{Dump, Held, ListedPoint, Node, Piece, Row};
+use crate::{Dump, Entry, Held, ListedPoint, Node, Piece, Row};
 use itoa::Buffer;
-use silo_address::{Entry, SiloAddress};
+use silo_address::SiloAddress;
 use std::alloc::{AllocError, Global};
 
 /// What stands in a dump as JSON.
@@ -23,7 +23,7 @@ trait WriteJson {
         ensures { OnOk result (out.new.items ≡ out.old.items ++ json self.now) };
 }
 
-impl Dump {
+impl<'a> Dump<'a> {
     /// The dump's text: one JSON object without spaces, the members of each object in the order of their names
     /// (`docs/RULES.md#the-dump-and-the-verdict`). Fails only when memory runs out.
     pub fn write(&self, alloc: Global) -> Result<Vec<u8>, AllocError>
@@ -54,7 +54,7 @@ impl WriteJson for Row {
     }
 }
 
-impl WriteJson for Node {
+impl<'a> WriteJson for Node<'a> {
     ghost json = { node_json };
 
     fn write_to(&self, alloc: Global, out: &mut Vec<u8>) -> Result<(), AllocError> {
@@ -68,7 +68,7 @@ impl WriteJson for Node {
     }
 }
 
-impl WriteJson for Piece {
+impl<'a> WriteJson for Piece<'a> {
     ghost json = { piece_json };
 
     fn write_to(&self, alloc: Global, out: &mut Vec<u8>) -> Result<(), AllocError> {
@@ -83,7 +83,7 @@ impl WriteJson for Piece {
     }
 }
 
-impl WriteJson for Held {
+impl<'a> WriteJson for Held<'a> {
     ghost json = { held_json };
 
     fn write_to(&self, alloc: Global, out: &mut Vec<u8>) -> Result<(), AllocError> {
@@ -112,7 +112,7 @@ impl WriteJson for ListedPoint {
     }
 }
 
-impl WriteJson for Entry {
+impl<'a> WriteJson for Entry<'a> {
     ghost json = { entry_json };
 
     fn write_to(&self, alloc: Global, out: &mut Vec<u8>) -> Result<(), AllocError> {

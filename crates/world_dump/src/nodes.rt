@@ -1,6 +1,7 @@
 //! The nodes of all silos that aren't Dead.
 ghost use Rattle.std.specs.Prelude.{◌≡◌, IfOk, map};
-ghost use Rattle.dump_rules.specs.Dump.{dump_held, dump_node};
+ghost use Rattle.dump_rules.specs.Dump.{dump_held, dump_node, dump_phase};
+ghost use Rattle.rebuild_checker.specs.DumpModel.{phase_of};
 
 use crate::pieces::pieces;
 use directory_core::World;
@@ -8,12 +9,13 @@ use directory_node::Node;
 use directory_rules::{Held, Phase};
 use hash_ring::Point;
 use host_activations::Host;
+use lent_grains::LentGrain;
 use rebuild_checker::{Held as DumpHeld, ListedPoint, Node as DumpNode, Phase as DumpPhase};
 use silo_address::{ActivationId, GrainId, SiloAddress};
 use std::alloc::{AllocError, Global};
 
 /// The node of each silo that isn't Dead, by address.
-pub(crate) fn nodes(alloc: Global, world: &World) -> Result<Vec<DumpNode>, AllocError>
+pub(crate) fn nodes(alloc: Global, world: &World) -> Result<Vec<DumpNode<'static>>, AllocError>
     ensures { IfOk result (λ nodes. nodes.items ≡ map (λ e. dump_node e.0 e.1) world.now.nodes) }
 {
     let mut nodes = Vec::new(alloc);
@@ -24,7 +26,7 @@ pub(crate) fn nodes(alloc: Global, world: &World) -> Result<Vec<DumpNode>, Alloc
     Ok(nodes)
 }
 
-fn dumped(alloc: Global, silo: &SiloAddress, node: &Node) -> Result<DumpNode, AllocError>
+fn dumped(alloc: Global, silo: &SiloAddress, node: &Node) -> Result<DumpNode<'static>, AllocError>
     ensures { IfOk result (λ dumped. dumped ≡ dump_node silo.now node.now) }
 {
     let held = held(alloc, silo, node.host())?;
@@ -40,30 +42,49 @@ fn dumped(alloc: Global, silo: &SiloAddress, node: &Node) -> Result<DumpNode, Al
 }
 
 // The activations that the silo holds, in the order in which they began.
-fn held(alloc: Global, silo: &SiloAddress, host: &Host) -> Result<Vec<DumpHeld>, AllocError>
+fn held(
+    alloc: Global,
+    silo: &SiloAddress,
+    host: &Host,
+) -> Result<Vec<DumpHeld<'static>>, AllocError>
     ensures { IfOk result (λ held. held.items ≡ map (λ e. dump_held silo.now e.0 e.1) host.now.held) }
 {
     let activations = host.activations(alloc)?;
-    activations
-        .iter()
-        .map(|(grain, held)| dumped_held(silo, grain, held))
-        .collect(alloc)
+    let mut listed = Vec::with_capacity(alloc, activations.len())?;
+    for (grain, held) in &activations {
+        let held = dumped_held(alloc, silo, grain, held)?;
+        listed.push(held)?;
+    }
+    Ok(listed)
 }
 
-fn dumped_held(silo: &SiloAddress, grain: &GrainId, held: &Held) -> DumpHeld
-    ensures { result ≡ dump_held silo.now grain.now held.now }
+fn dumped_held(
+    alloc: Global,
+    silo: &SiloAddress,
+    grain: &GrainId,
+    held: &Held,
+) -> Result<DumpHeld<'static>, AllocError>
+    ensures { IfOk result (λ dumped. dumped ≡ dump_held silo.now grain.now held.now) }
 {
-    DumpHeld {
-        activation: ActivationId {
-            silo: *silo,
-            count: held.count,
-        },
-        grain: *grain,
-        phase: match held.phase {
-            Phase::Asking(_) => DumpPhase::Asking,
-            Phase::Firm => DumpPhase::Firm,
-            Phase::Closing(_) => DumpPhase::Closing,
-        },
+    let activation = ActivationId {
+        silo: *silo,
+        count: held.count,
+    };
+    let grain = LentGrain::owned(alloc, grain)?;
+    Ok(DumpHeld {
+        activation,
+        grain,
+        phase: phase(&held.phase),
+    })
+}
+
+fn phase(phase: &Phase) -> DumpPhase
+    ensures { phase_of result ≡ dump_phase phase.now }
+{
+    match phase {
+        Phase::Asking(_) => DumpPhase::Asking,
+        Phase::Firm => DumpPhase::Firm,
+        Phase::Closing(_) => DumpPhase::Closing,
     }
 }
 

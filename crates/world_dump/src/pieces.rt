@@ -1,16 +1,22 @@
 //! The pieces that a silo keeps.
 ghost use Rattle.std.specs.Prelude.{◌≡◌, IfOk, map};
+ghost use Rattle.directory_rules.specs.Table.{entries_of};
 ghost use Rattle.dump_rules.specs.Dump.{awaited_from, dump_piece, dump_state};
 ghost use Rattle.rebuild_checker.specs.DumpModel.{state_of};
 
 use directory_rules::PieceState;
 use grain_partition::{Holding, Piece};
-use rebuild_checker::{Piece as DumpPiece, State};
-use silo_address::SiloAddress;
+use grain_table::Table;
+use lent_grains::LentGrain;
+use rebuild_checker::{Entry as DumpEntry, Piece as DumpPiece, State};
+use silo_address::{Entry, SiloAddress};
 use std::alloc::{AllocError, Global};
 
 /// The pieces, by start, each with its entries in the order of their grains.
-pub(crate) fn pieces(alloc: Global, holding: &Holding) -> Result<Vec<DumpPiece>, AllocError>
+pub(crate) fn pieces(
+    alloc: Global,
+    holding: &Holding,
+) -> Result<Vec<DumpPiece<'static>>, AllocError>
     ensures { IfOk result (λ pieces. pieces.items ≡ map (λ e. dump_piece e.1) holding.now.pieces) }
 {
     let mut pieces = Vec::new(alloc);
@@ -21,15 +27,38 @@ pub(crate) fn pieces(alloc: Global, holding: &Holding) -> Result<Vec<DumpPiece>,
     Ok(pieces)
 }
 
-fn dumped(alloc: Global, piece: &Piece) -> Result<DumpPiece, AllocError>
+fn dumped(alloc: Global, piece: &Piece) -> Result<DumpPiece<'static>, AllocError>
     ensures { IfOk result (λ dumped. dumped ≡ dump_piece piece.now) }
 {
-    let entries = piece.entries().in_order(alloc)?;
+    let entries = entries(alloc, piece.entries())?;
     Ok(DumpPiece {
         entries,
         from: awaited(&piece.state()),
         range: piece.range(),
         state: state(&piece.state()),
+    })
+}
+
+// The entries, in the order of their grains.
+fn entries(alloc: Global, table: &Table) -> Result<Vec<DumpEntry<'static>>, AllocError>
+    ensures { IfOk result (λ entries. entries.items ≡ entries_of table.now.entries) }
+{
+    let entries = table.in_order(alloc)?;
+    let mut listed = Vec::with_capacity(alloc, entries.len())?;
+    for entry in &entries {
+        let entry = dumped_entry(alloc, entry)?;
+        listed.push(entry)?;
+    }
+    Ok(listed)
+}
+
+fn dumped_entry(alloc: Global, entry: &Entry) -> Result<DumpEntry<'static>, AllocError>
+    ensures { IfOk result (λ dumped. dumped ≡ entry.now) }
+{
+    let grain = LentGrain::owned(alloc, &entry.grain)?;
+    Ok(DumpEntry {
+        grain,
+        activation: entry.activation,
     })
 }
 

@@ -12,7 +12,7 @@ use std::alloc::{AllocError, Global};
 /// The world's dump (`docs/RULES.md#the-dump-and-the-verdict`). It is a dump in which all is right, and a checker says so, of its
 /// lists and of its text. Costs what the world holds, times a logarithm. Fails only when memory runs out.
 #[tactic(auto, unfolding(dump_rules::specs::Dump::dump_of))]
-pub fn dump(alloc: Global, world: &World) -> Result<Dump, AllocError>
+pub fn dump(alloc: Global, world: &World) -> Result<Dump<'static>, AllocError>
     ensures told { IfOk result (λ dump. dump ≡ dump_of world.now) }
     ensures right { IsRightlyTold world.now }
 {

@@ -34,9 +34,10 @@ loop-held-preserved c =
       elim c.if-is_lacking.branch [
         | then-is_lacking+in_ok-push w ↦ ap (λ v. v.items) w.missing-is
             ∙ (w.in_ok-push.ensures.items
+            ∙ (ap (λ (grain : Grain). c.loop-held.missing.items ++ grain ∷ []) w.id.ensures
             ∙ (ap (λ (gs : List Grain). gs ++ c.held.inside.now.grain ∷ []) c.loop-held.invariant.0
             ∙ (ap (λ (b : Bor DumpHeld). map grain_of (filter lacks (take c.loop-held.held-index c.args.activations.now)) ++ b.now.grain ∷ []) c.held.view_is
-            ∙ sym (kept_more grain_of lacks c.args.activations.now c.loop-held.held-index held c.loop-held-test.true c.held-item.is (sym told ∙ w.if-is_lacking.true)))))
+            ∙ sym (kept_more grain_of lacks c.args.activations.now c.loop-held.held-index held c.loop-held-test.true c.held-item.is (sym told ∙ w.if-is_lacking.true))))))
         | else-is_lacking w ↦ ap (λ v. v.items) w.missing-is
             ∙ (c.loop-held.invariant.0
             ∙ sym (left_more grain_of lacks c.args.activations.now c.loop-held.held-index held c.loop-held-test.true c.held-item.is (sym told ∙ w.if-is_lacking.false)))

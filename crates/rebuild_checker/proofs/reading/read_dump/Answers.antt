@@ -1,4 +1,4 @@
 use Rattle.rebuild_checker.proofs.reading.read_dump.Goals as goal
 
-pub returns-in-Err : goal.returns-in-Err
-returns-in-Err c = c.by_value.ensures
+pub returns : goal.returns
+returns c = c.by_value.ensures

@@ -14,5 +14,5 @@ returns-then-not-takes_name g c =
 
 pub returns : goal.returns
 returns g c =
-    own_read_if g.T.ReadText.tells g.T.ReadText.deep g.R.ReadMembers.stands g.R.ReadMembers.names g.R.ReadMembers.many g.R.ReadMembers.deep g.met.R.ReadMembers.other
-    c.args.self.now c.in_ok-value.value _ _ _ c.if-not-takes_name.ensures.none c.if-not-takes_name.ensures.taken c.in_ok-value.ensures
+    own_read_if g.T.ReadText.tells g.T.ReadText.deep g.R.ReadMembers.stands g.R.ReadMembers.names g.R.ReadMembers.many g.R.ReadMembers.deep
+    c.args.self.now c.in_ok-value.value _ _ _ c.stand_on.ensures c.if-not-takes_name.ensures.none c.if-not-takes_name.ensures.taken c.in_ok-value.ensures
