@@ -17,7 +17,7 @@ ghost use Rattle.rebuild_checker.specs.Straight.{Tells};
 ghost use Rattle.rebuild_checker.specs.PlainText.{AreDigitsOf, IsBegun, IsNamed, IsQuoted, StandsFor, behind_blanks, ends_value, is_plain_byte, keeps_its_meaning};
 
 use crate::ReadError;
-use memchr::{memchr, memchr2};
+use memchr::memchr;
 use std::alloc::Global;
 use std::borrow::CowSlice;
 use std::marker::Model;
@@ -35,6 +35,8 @@ pub(crate) enum Place {
 pub(crate) struct PlainText<'a> {
     rest: &'a [u8],
     place: Place,
+    /// Where the bytes of a string are put together some of which are escaped.
+    scratch: Vec<u8>,
 }
 
 impl<'a> Model for PlainText<'a> {
@@ -52,12 +54,13 @@ impl<'a> Model for PlainText<'a> {
 
 impl<'a> PlainText<'a> {
     /// All tokens of the text are still to come.
-    pub(crate) fn new(text: &'a str) -> PlainText<'a>
+    pub(crate) fn new(alloc: Global, text: &'a str) -> PlainText<'a>
         ensures { result ≡ tokens text.now }
     {
         PlainText {
             rest: text.as_bytes(),
             place: Place::Fresh,
+            scratch: Vec::new(alloc),
         }
     }
 
@@ -141,7 +144,7 @@ impl<'a> PlainText<'a> {
         ensures { IfOk result (λ text. self.old ≡ string (cow_slice_items text) ∷ self.new) }
     {
         let quoted = opened(self.rest, self.place, b'"')?;
-        let (text, rest) = string(alloc, quoted)?;
+        let (text, rest) = string(alloc, &mut self.scratch, quoted)?;
         if !ends_value(rest) {
             return Err(ReadError::NotADump);
         }
@@ -285,7 +288,11 @@ fn behind_all<'a>(bytes: &'a [u8], marks: &[u8]) -> Option<&'a [u8]>
 }
 
 /// The string whose first quotation mark stands before these bytes, and what comes behind its last one.
-fn string(alloc: Global, bytes: &[u8]) -> Result<(CowSlice<'_, u8>, &[u8]), ReadError>
+fn string<'a>(
+    alloc: Global,
+    scratch: &mut Vec<u8>,
+    bytes: &'a [u8],
+) -> Result<(CowSlice<'a, u8>, &'a [u8]), ReadError>
     ensures { IfOk result (λ parts. IsQuoted bytes.now (cow_slice_items parts.0) parts.1.now) }
 {
     let Some(end) = memchr(b'"', bytes) else {
@@ -295,17 +302,18 @@ fn string(alloc: Global, bytes: &[u8]) -> Result<(CowSlice<'_, u8>, &[u8]), Read
     if are_plain(text) {
         return Ok((CowSlice::Borrowed(text), &bytes[end + 1..]));
     }
-    let (text, rest) = unescaped(alloc, bytes)?;
+    let rest = unescape(bytes, scratch)?;
+    let text = scratch.to_vec(alloc)?;
     Ok((CowSlice::Owned(text), rest))
 }
 
-/// The same for a string with escapes, whose bytes are not those of the text: part by part, into memory of its own. It stands apart,
-/// as few strings are so.
+/// The bytes of such a string in which some are escaped, part by part, and what comes behind it. It stands apart, as few strings are
+/// so.
 #[inline(never)]
-fn unescaped(alloc: Global, bytes: &[u8]) -> Result<(Vec<u8>, &[u8]), ReadError>
-    ensures { IfOk result (λ parts. IsQuoted bytes.now parts.0.items parts.1.now) }
+fn unescape<'a>(bytes: &'a [u8], text: &mut Vec<u8>) -> Result<&'a [u8], ReadError>
+    ensures { IfOk result (λ rest. IsQuoted bytes.now text.new.items rest.now) }
 {
-    let mut text = Vec::new(alloc);
+    text.clear();
     let mut left = bytes;
     while let Some((part, byte, rest)) = up_to_escape(left) {
         text.extend_from_slice(part)?;
@@ -317,7 +325,7 @@ fn unescaped(alloc: Global, bytes: &[u8]) -> Result<(Vec<u8>, &[u8]), ReadError>
     };
     text.extend_from_slice(part)?;
     match behind(marked, b'"') {
-        Some(rest) => Ok((text, rest)),
+        Some(rest) => Ok(rest),
         None => Err(ReadError::NotADump),
     }
 }
@@ -335,7 +343,8 @@ fn up_to_escape(bytes: &[u8]) -> Option<(&[u8], u8, &[u8])>
 fn up_to_mark(bytes: &[u8]) -> Option<(&[u8], &[u8])>
     ensures { IfSome result (λ parts. StandsFor bytes.now parts.0.now parts.1.now) }
 {
-    let end = memchr2(b'"', b'\\', bytes)?;
+    let quote = memchr(b'"', bytes)?;
+    let end = memchr(b'\\', &bytes[..quote]).unwrap_or(quote);
     let (part, marked) = bytes.split_at(end);
     if are_plain(part) {
         Some((part, marked))

@@ -20,7 +20,7 @@ use std::alloc::Global;
 pub(crate) fn read_straight(alloc: Global, text: &str) -> Result<Dump<'_>, ReadError>
     ensures { IfOk result (λ dump. (value : Data) × (read_json text.now ≡ Some value) × (dump_in value ≡ Some dump)) }
 {
-    let mut reader = PlainText::new(text);
+    let mut reader = PlainText::new(alloc, text);
     let dump = Dump::read_text(alloc, &mut reader)?;
     if !reader.is_over() {
         return Err(ReadError::NotADump);

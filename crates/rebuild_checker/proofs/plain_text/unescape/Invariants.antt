@@ -1,6 +1,6 @@
 use Rattle.std.proofs.Common.{length}
 use Rattle.rebuild_checker.specs.PlainText.{StandsFor}
-use Rattle.rebuild_checker.proofs.plain_text.unescaped.Given as goal
+use Rattle.rebuild_checker.proofs.plain_text.unescape.Given as goal
 
 abbrev pub invariant-loop-part : goal.invariant-loop-part
 invariant-loop-part l = StandsFor l.bytes l.text.items l.left

@@ -1,7 +1,7 @@
 use Rattle.std.proofs.Common.{sym, subst}
 use Rattle.rebuild_checker.specs.PlainText.{StandsFor}
 use Rattle.rebuild_checker.proofs.PlainTexts.{parts_stand, quoted_whole}
-use Rattle.rebuild_checker.proofs.plain_text.unescaped.Goals as goal
+use Rattle.rebuild_checker.proofs.plain_text.unescape.Goals as goal
 
 pub returns-in-Some-behind : goal.returns-in-Some-behind
 returns-in-Some-behind c =
