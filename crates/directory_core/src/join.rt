@@ -12,6 +12,7 @@ ghost use Rattle.directory_core.specs.Joining.{nodes_without, with_admitted};
 ghost use Rattle.directory_core.specs.Numbers.{event_refusal_number};
 ghost use Rattle.directory_core.specs.Whole.{IsWorld, LeavesWorld};
 
+use crate::nodes::{put_node, remove_node};
 use crate::{EventRefusal, World};
 use cluster_events::{Happening, Outcome};
 use directory_node::Node;
@@ -125,14 +126,14 @@ fn put_beside(
     ensures views_unchanged { OnErr result (views.new ≡ views.old) }
     ensures nodes_unchanged { OnErr result (nodes.new.entries ≡ nodes.old.entries) }
 {
-    nodes.insert(silo, Node::new(alloc, settings, silo)?)?;
+    put_node(nodes, silo, Node::new(alloc, settings, silo)?)?;
     match views.join(silo) {
         Ok(joined) => {
             remove_replaced(nodes, joined.replaced);
             Ok(joined)
         }
         Err(_) => {
-            let _node = nodes.remove(&silo);
+            remove_node(nodes, &silo);
             Err(AllocError)
         }
     }
@@ -143,6 +144,6 @@ fn remove_replaced(nodes: &mut BTreeMap<SiloAddress, Node>, replaced: Option<Sil
     ensures { nodes.new.entries ≡ nodes_without replaced nodes.old.entries }
 {
     if let Some(old) = replaced {
-        let _node = nodes.remove(&old);
+        remove_node(nodes, &old);
     }
 }

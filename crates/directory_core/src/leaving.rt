@@ -9,6 +9,7 @@ ghost use Rattle.directory_core.specs.Leaving.{with_leaving};
 ghost use Rattle.directory_core.specs.Numbers.{event_refusal_number};
 ghost use Rattle.directory_core.specs.Whole.{IsWorld, LeavesWorld};
 
+use crate::nodes::remove_node;
 use crate::{EventRefusal, World};
 use cluster_events::{Happening, Outcome};
 use membership_view::{Status, Views, ViewsError};
@@ -82,7 +83,7 @@ impl World {
     {
         self.shared = None;
         let version = die_in(&mut self.views, silo);
-        let _node = self.nodes.remove(silo);
+        remove_node(&mut self.nodes, silo);
         self.accepted += 1;
         Outcome {
             happening: Happening::Died {

@@ -5,6 +5,7 @@ mod apply;
 mod delivering;
 mod join;
 mod leaving;
+mod nodes;
 mod posting;
 mod refusal;
 mod run;

@@ -4,12 +4,12 @@ use Rattle.directory_core.proofs.world.World.die.Goals as goal
 
 pub invariant_of-self : goal.invariant_of-self
 invariant_of-self c = record {
-  world = kept_death (world_of c.self.inside) c.args.self.now c.self.view_is c.args.silo.now c.die_in-version.new.views c.remove-node.new.self.entries c.requires.leaves
-      c.die_in-version.ensures.views c.remove-node.ensures.entries;
+  world = kept_death (world_of c.self.inside) c.args.self.now c.self.view_is c.args.silo.now c.die_in-version.new.views c.remove_node.new.nodes.entries c.requires.leaves
+      c.die_in-version.ensures.views c.remove_node.ensures;
   shared = tt;
 }
 
 pub returns : goal.returns
 returns c =
-    death_told (world_of c.self.inside) c.args.self.now c.self.view_is c.args.silo.now c.die_in-version.result c.die_in-version.new.views c.remove-node.new.self.entries
-    c.die_in-version.ensures.version c.die_in-version.ensures.views c.remove-node.ensures.entries
+    death_told (world_of c.self.inside) c.args.self.now c.self.view_is c.args.silo.now c.die_in-version.result c.die_in-version.new.views c.remove_node.new.nodes.entries
+    c.die_in-version.ensures.version c.die_in-version.ensures.views c.remove_node.ensures
