@@ -1,5 +1,5 @@
 //! Dumps read from bytes, tested, and written again.
-use rebuild_checker::read_dump;
+use rebuild_checker::{is_dump, read_dump, write_dump};
 use std::alloc::Global;
 use std::process::Abort;
 
@@ -23,8 +23,8 @@ const HASHED: &str =
 fn refusal(rt: &impl Abort, alloc: Global, text: &str) -> Option<u16> {
     match read_dump(alloc, text.as_bytes()) {
         Ok(dump) => {
-            let is_dump = dump.is_dump(alloc).expect(rt, "memory");
-            if is_dump { None } else { Some(972) }
+            let answer = is_dump(alloc, &dump).expect(rt, "memory");
+            if answer { None } else { Some(972) }
         }
         Err(error) => error.number(),
     }
@@ -33,14 +33,14 @@ fn refusal(rt: &impl Abort, alloc: Global, text: &str) -> Option<u16> {
 // What is read is written as it was.
 fn comes_back(rt: &impl Abort, alloc: Global, text: &str) -> bool {
     let dump = read_dump(alloc, text.as_bytes()).expect(rt, text);
-    let written = dump.write(alloc).expect(rt, "memory");
+    let written = write_dump(alloc, &dump).expect(rt, "memory");
     written.as_slice() == text.as_bytes()
 }
 
 // It is read as the dump of one silo.
 fn is_read_as_one(rt: &impl Abort, alloc: Global, text: &str) -> bool {
     let dump = read_dump(alloc, text.as_bytes()).expect(rt, text);
-    let written = dump.write(alloc).expect(rt, "memory");
+    let written = write_dump(alloc, &dump).expect(rt, "memory");
     written.as_slice() == ONE.as_bytes()
 }
 

@@ -12,6 +12,7 @@ ghost use Rattle.console_play.specs.Performing.{Performs, in_session};
 
 use directory_core::World;
 use dump_verdict::judged_text;
+use rebuild_checker::write_dump;
 use std::alloc::{AllocError, Global};
 use world_dump::{dump, is_right};
 
@@ -21,7 +22,7 @@ pub(crate) fn tell_dump(alloc: Global, world: &World, out: &mut Vec<u8>) -> Resu
     ensures kept { OnErr result (BeginsWith out.old.items out.new.items) }
 {
     let dump = dump(alloc, world)?;
-    let text = dump.write(alloc)?;
+    let text = write_dump(alloc, &dump)?;
     write_line(out, &text)
 }
 

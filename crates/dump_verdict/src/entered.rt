@@ -14,9 +14,9 @@ ghost use Rattle.dump_verdict.specs.Tallies.{is_lacking};
 
 use crate::cover::{Cover, count_holding, cover_of, is_apart};
 use crate::index::{Named, places_of};
+use dump_lists::{Dump, Held, Node, Piece};
 use hash_ring::Hashing;
 use lent_grains::LentGrain;
-use rebuild_checker::{Dump, Held, Node, Piece};
 use ring_range::RingRange;
 use silo_address::GrainId;
 use std::alloc::{AllocError, Global};

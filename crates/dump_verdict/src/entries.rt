@@ -10,8 +10,9 @@ ghost use Rattle.dump_verdict.specs.Lent.{entries_lent};
 ghost use Rattle.dump_verdict.specs.Ready.{is_by_grain};
 ghost use Rattle.rebuild_checker.specs.Mixed.{grains_lent};
 
+use dump_lists::{Dump, Entry, Node, Piece};
 use lent_grains::LentGrain;
-use rebuild_checker::{Dump, Entry, Node, Piece, are_distinct_grains};
+use rebuild_checker::are_distinct_grains;
 use std::alloc::{AllocError, Global};
 
 /// Whether the entries of each piece of the node are hashed into it.

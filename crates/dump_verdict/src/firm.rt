@@ -8,8 +8,9 @@ ghost use Rattle.dump_verdict.specs.Lent.{held_lent, held_on, nodes_lent};
 ghost use Rattle.rebuild_checker.specs.Mixed.{grains_lent};
 
 use crate::least::{least_of, lesser};
+use dump_lists::{Held, Node, Phase};
 use lent_grains::LentGrain;
-use rebuild_checker::{Held, Node, Phase, are_distinct_grains};
+use rebuild_checker::are_distinct_grains;
 use silo_address::GrainId;
 use std::alloc::{AllocError, Global};
 use std::collections::BTreeSet;

@@ -7,8 +7,8 @@ ghost use Rattle.dump_verdict.specs.Lent.{entries_in, entries_lent, held_lent, h
 ghost use Rattle.dump_verdict.specs.Named.{IsIndex, entries_named, entry_named, named_cmp};
 ghost use Rattle.dump_verdict.specs.Tallies.{count_below, count_up_to};
 
+use dump_lists::{Entry, Held, Node, Piece};
 use lent_grains::LentGrain;
-use rebuild_checker::{Entry, Held, Node, Piece};
 use silo_address::ActivationId;
 use std::alloc::{AllocError, Global};
 

@@ -7,7 +7,8 @@ ghost use Rattle.dump_verdict.specs.Faults.{judgement_output};
 
 use crate::Judgement;
 use crate::verdict::verdict;
-use rebuild_checker::{Dump, ReadError, read_dump};
+use dump_lists::{Dump, ReadError};
+use rebuild_checker::{is_dump, read_dump};
 use std::alloc::{AllocError, Global};
 
 /// Judges bytes: 971 where no value is read from them, else 972 where it tells no dump, else by the verdict on the dump. The
@@ -28,7 +29,7 @@ pub fn judge(alloc: Global, bytes: &[u8]) -> Result<Judgement, AllocError>
 pub fn judge_dump(alloc: Global, dump: &Dump) -> Result<Judgement, AllocError>
     ensures { IfOk result (λ judgement. judgement_output judgement ≡ judged dump.now) }
 {
-    if !dump.is_dump(alloc)? {
+    if !is_dump(alloc, dump)? {
         return Ok(Judgement::NotADump);
     }
     match verdict(alloc, dump)? {

@@ -9,7 +9,7 @@ ghost use Rattle.dump_rules.specs.DumpShape.{is_dump};
 ghost use Rattle.dump_rules.specs.Verdict.{dump_view, row_in_dump, unless_never};
 ghost use Rattle.dump_verdict.specs.Rows.{is_serving, row_of_silo};
 
-use rebuild_checker::{Dump, Row};
+use dump_lists::{Dump, Row};
 use silo_address::SiloAddress;
 
 /// Whether the silo is Dead in the current version. Its row is found by halves.

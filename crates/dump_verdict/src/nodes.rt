@@ -6,7 +6,7 @@ ghost use Rattle.dump_rules.specs.Verdict as rule;
 ghost use Rattle.dump_verdict.specs.Lent.{nodes_lent};
 
 use crate::living::is_dead;
-use rebuild_checker::{Dump, Node};
+use dump_lists::{Dump, Node};
 use std::alloc::{AllocError, Global};
 
 /// The nodes of silos that aren't Dead in the current version. Costs a logarithm of the number of rows for each node.

@@ -9,8 +9,8 @@ ghost use Rattle.dump_verdict.specs.Lent.{nodes_lent};
 ghost use Rattle.dump_verdict.specs.Rings.{IsRingOfView, all_points, points_by_row, row_points};
 
 use crate::living::is_active;
+use dump_lists::{Dump, ListedPoint, Node, Row};
 use hash_ring::{Hashing, hash_text};
-use rebuild_checker::{Dump, ListedPoint, Node, Row};
 use silo_address::SiloAddress;
 use std::alloc::{AllocError, Global};
 

@@ -8,7 +8,7 @@ ghost use Rattle.dump_verdict.specs.Named.{entries_named, named_apart_from, name
 
 use crate::index::{Named, find_named, index_of_held};
 use crate::least::least_of;
-use rebuild_checker::Node;
+use dump_lists::Node;
 use silo_address::GrainId;
 use std::alloc::{AllocError, Global};
 

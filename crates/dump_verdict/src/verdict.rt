@@ -17,7 +17,7 @@ use crate::nodes::live_nodes;
 use crate::ranges::wrong_pieces;
 use crate::rings::wrong_ring;
 use crate::strangers::stranger;
-use rebuild_checker::{Dump, Held, Node};
+use dump_lists::{Dump, Held, Node};
 use std::alloc::{AllocError, Global};
 
 /// The first fault of a dump, none where all is right: each check goes over all nodes before the next one, and names the first silo

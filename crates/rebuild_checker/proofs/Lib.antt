@@ -1,15 +1,10 @@
-pub mod Along
 pub mod InOrder
 pub mod Joined
-pub mod MembersTold
-pub mod PlainTexts
 pub mod ReadLists
 pub mod ReadValues
 pub mod Rising
 pub mod SetsMade
 pub mod Shaped
-pub mod Standing
 pub mod Tests
 pub mod Ties
-pub mod Told
 pub mod ToldApart

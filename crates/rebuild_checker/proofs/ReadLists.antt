@@ -6,8 +6,8 @@ use Rattle.serde_json.specs.Data.{Data, item}
 use Rattle.serde_json.specs.View.{view, items_view}
 use Rattle.serde_json.specs.declared.value.Value.{Value}
 use Rattle.dump_rules.specs.Values.{items_in}
-use Rattle.rebuild_checker.specs.Reading.{IsReadingBy}
-use Rattle.rebuild_checker.specs.declared.error.ReadError.TheVariants.{NotADump}
+use Rattle.dump_lists.specs.Reading.{IsReadingBy}
+use Rattle.dump_lists.specs.declared.error.ReadError.TheVariants.{NotADump}
 
 -- what stands there, or nothing
 pub found_or_not : {A B : Type 0} (see : A → B) (found : Option A) (told : Option B) → option_map see found ≡ told → IsReadingBy see (ok_or found NotADump) told

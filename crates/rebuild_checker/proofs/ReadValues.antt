@@ -14,9 +14,10 @@ use Rattle.dump_rules.specs.Dump.{DumpValue}
 use Rattle.dump_rules.specs.DumpIn.{dump_in}
 use Rattle.dump_rules.specs.Judged.{value_in}
 use Rattle.dump_rules.specs.Values.{members_in, two_items, three_items}
-use Rattle.rebuild_checker.specs.Reading.{IsReading, told, told_lists, told_value}
-use Rattle.rebuild_checker.specs.declared.error.ReadError.{ReadError}
-use Rattle.rebuild_checker.specs.declared.error.ReadError.TheVariants.{NotJson, NotADump, OutOfMemory}
+use Rattle.dump_lists.specs.Reading.{IsReading}
+use Rattle.rebuild_checker.specs.Told.{told, told_lists, told_value}
+use Rattle.dump_lists.specs.declared.error.ReadError.{ReadError}
+use Rattle.dump_lists.specs.declared.error.ReadError.TheVariants.{NotJson, NotADump, OutOfMemory}
 
 eqb_apart : (a b : ℕ) → a ≢ b → eqb a b ≡ false
 eqb_apart a b apart = by (eqb a b) refl

@@ -1,9 +1,3 @@
-pub mod DumpModel
-pub mod MemberNames
-pub mod MembersRead
 pub mod Mixed
-pub mod PlainText
-pub mod ReadNumbers
-pub mod Reading
 pub mod Sets
-pub mod Straight
+pub mod Told

@@ -11,7 +11,7 @@ ghost use Rattle.rebuild_checker.specs.Sets.{HasItems};
 use crate::distinct::{all_hold, are_distinct, are_in_order};
 use crate::mixed::are_distinct_grains;
 use crate::piece_shape::are_pieces;
-use crate::{Dump, Node, Piece};
+use dump_lists::{Dump, Node, Piece};
 use lent_grains::LentGrain;
 use silo_address::{ActivationId, SiloAddress};
 use std::alloc::{AllocError, Global};

@@ -5,7 +5,7 @@ ghost use Rattle.std.specs.List.{list_all};
 ghost use Rattle.dump_rules.specs.DumpShape as rule;
 
 use crate::distinct::all_hold;
-use crate::{Dump, ListedPoint, Node, Piece, Row};
+use dump_lists::{Dump, ListedPoint, Node, Piece, Row};
 
 /// How many hashes there are.
 const CIRCLE: u64 = 4_294_967_296;

@@ -5,7 +5,7 @@ ghost use Rattle.std.specs.List.{list_all};
 ghost use Rattle.dump_rules.specs.DumpShape as rule;
 
 use crate::distinct::all_hold;
-use crate::{Node, Piece, State};
+use dump_lists::{Node, Piece, State};
 
 /// Whether each piece of the node is one.
 pub(crate) fn are_pieces(node: &Node) -> bool

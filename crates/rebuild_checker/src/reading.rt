@@ -6,21 +6,21 @@ ghost use Rattle.serde_json.specs.Errors.{IsMemory};
 ghost use Rattle.serde_json.specs.View.{view};
 ghost use Rattle.dump_rules.specs.DumpIn.{dump_in, entry_in, held_in, node_in, piece_in, point_in, row_in};
 ghost use Rattle.dump_rules.specs.Values.{list_in, number_in};
-ghost use Rattle.rebuild_checker.specs.Reading.{IsReading, IsReadingBy, told};
+ghost use Rattle.dump_lists.specs.Reading.{IsReading, IsReadingBy};
+ghost use Rattle.rebuild_checker.specs.Told.{told};
 
-use crate::straight::read_straight;
 use crate::values::{
     activation, from, grain, hashing, items, member, members_of, number, phase, range, silo, state,
     three_items, two_items,
 };
-use crate::{Dump, Entry, Held, ListedPoint, Node, Piece, ReadError, Row};
+use dump_lists::{Dump, Entry, Held, ListedPoint, Node, Piece, ReadError, Row, read_straight};
 use serde_json::Value;
 use simdutf8::basic::from_utf8;
 use std::alloc::Global;
 
 /// Reads the dump that bytes tell: they have to be UTF-8 and one JSON value, nested at most 127 deep, else they are
 /// refused by 971; and the value has to tell a dump, else they are refused by 972
-/// (`docs/RULES.md#the-dump-and-the-verdict`). What is read may still be no dump by its lists, as `Dump::is_dump` tells.
+/// (`docs/RULES.md#the-dump-and-the-verdict`). What is read may still be no dump by its lists, as `is_dump` tells.
 pub fn read_dump(alloc: Global, bytes: &[u8]) -> Result<Dump<'_>, ReadError>
     ensures { (result ≡ Err ReadError.OutOfMemory) ⊎ (result ≡ told bytes.now) }
 {

@@ -9,7 +9,7 @@ ghost use Rattle.rebuild_checker.specs.Sets.{HasItems};
 use crate::distinct::{all_hold, are_distinct, are_in_order, set_of};
 use crate::node_shape::is_node;
 use crate::numbers::has_numbers;
-use crate::{Dump, Node, Row};
+use dump_lists::{Dump, Node, Row};
 use hash_ring::Hashing;
 use silo_address::SiloAddress;
 use std::alloc::{AllocError, Global};
@@ -18,19 +18,17 @@ use std::collections::BTreeSet;
 /// The most places that a join may name.
 const MOST_PLACES: usize = 128;
 
-impl<'a> Dump<'a> {
-    /// Whether the lists are a dump, over which there is a verdict: numbers are in their ranges, whoever is named has joined,
-    /// what stands once stands once, and all is in order (`docs/RULES.md#the-dump-and-the-verdict`). Where they aren't, the
-    /// refusal is 972. Fails only when memory runs out.
-    #[tactic(auto, unfolding(dump_rules::specs::DumpShape::is_dump))]
-    pub fn is_dump(&self, alloc: Global) -> Result<bool, AllocError>
-        ensures { IfOk result (λ answer. answer ≡ rule.is_dump self.now) }
-    {
-        if !has_numbers(self) {
-            return Ok(false);
-        }
-        has_shape(alloc, self)
+/// Whether the lists are a dump, over which there is a verdict: numbers are in their ranges, whoever is named has joined,
+/// what stands once stands once, and all is in order (`docs/RULES.md#the-dump-and-the-verdict`). Where they aren't, the
+/// refusal is 972. Fails only when memory runs out.
+#[tactic(auto, unfolding(dump_rules::specs::DumpShape::is_dump))]
+pub fn is_dump(alloc: Global, dump: &Dump) -> Result<bool, AllocError>
+    ensures { IfOk result (λ answer. answer ≡ rule.is_dump dump.now) }
+{
+    if !has_numbers(dump) {
+        return Ok(false);
     }
+    has_shape(alloc, dump)
 }
 
 /// Whether what has to hold between the parts of a dump does.

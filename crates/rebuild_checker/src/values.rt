@@ -5,10 +5,10 @@ ghost use Rattle.serde_json.specs.Find.{as_array, as_str, get_member};
 ghost use Rattle.serde_json.specs.View.{items_view, members_view, view};
 ghost use Rattle.dump_rules.specs.DumpIn.{hashing_in, phase_in, state_in};
 ghost use Rattle.dump_rules.specs.Values.{activation_in, from_in, grain_in, members_in, number_in, range_in, silo_in, three_items, two_items};
-ghost use Rattle.rebuild_checker.specs.DumpModel.{phase_of, state_of};
-ghost use Rattle.rebuild_checker.specs.Reading.{IsReading, IsReadingBy};
+ghost use Rattle.dump_lists.specs.DumpModel.{phase_of, state_of};
+ghost use Rattle.dump_lists.specs.Reading.{IsReading, IsReadingBy};
 
-use crate::{Phase, ReadError, State, named};
+use dump_lists::{Phase, ReadError, State, named};
 use hash_ring::Hashing;
 use lent_grains::LentGrain;
 use ring_range::RingRange;

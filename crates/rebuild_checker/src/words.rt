@@ -2,9 +2,9 @@
 
 ghost use Rattle.std.specs.Prelude.{◌≡◌};
 ghost use Rattle.dump_rules.specs.Dump.{dump_phase_word, dump_state_word, hashing_word};
-ghost use Rattle.rebuild_checker.specs.DumpModel.{phase_of, state_of};
+ghost use Rattle.dump_lists.specs.DumpModel.{phase_of, state_of};
 
-use crate::{Phase, State};
+use dump_lists::{Phase, State};
 use hash_ring::Hashing;
 
 /// The word for a hashing.

@@ -9,7 +9,7 @@ ghost use Rattle.ring_range.specs.Text.{range_text};
 ghost use Rattle.dump_rules.specs.Dump.{comma, dump_text, entry_json, escaped, from_text, held_json, json_list, json_member, node_json, piece_json, point_json, quoted, row_json};
 
 use crate::words::{word_of_hashing, word_of_phase, word_of_state};
-use crate::{Dump, Entry, Held, ListedPoint, Node, Piece, Row};
+use dump_lists::{Dump, Entry, Held, ListedPoint, Node, Piece, Row};
 use itoa::Buffer;
 use silo_address::SiloAddress;
 use std::alloc::{AllocError, Global};
@@ -23,21 +23,19 @@ trait WriteJson {
         ensures { OnOk result (out.new.items ≡ out.old.items ++ json self.now) };
 }
 
-impl<'a> Dump<'a> {
-    /// The dump's text: one JSON object without spaces, the members of each object in the order of their names
-    /// (`docs/RULES.md#the-dump-and-the-verdict`). Fails only when memory runs out.
-    pub fn write(&self, alloc: Global) -> Result<Vec<u8>, AllocError>
-        ensures { IfOk result (λ text. text.items ≡ dump_text self.now) }
-    {
-        let mut out = Vec::new(alloc);
-        push_number_member(&mut out, b'{', b"current", self.current)?;
-        push_text_member(&mut out, b',', b"hashing", word_of_hashing(self.hashing))?;
-        push_list_member(alloc, &mut out, b',', b"nodes", &self.nodes)?;
-        push_number_member(&mut out, b',', b"points", self.points)?;
-        push_list_member(alloc, &mut out, b',', b"rows", &self.rows)?;
-        out.push(b'}')?;
-        Ok(out)
-    }
+/// The dump's text: one JSON object without spaces, the members of each object in the order of their names
+/// (`docs/RULES.md#the-dump-and-the-verdict`). Fails only when memory runs out.
+pub fn write_dump(alloc: Global, dump: &Dump) -> Result<Vec<u8>, AllocError>
+    ensures { IfOk result (λ text. text.items ≡ dump_text dump.now) }
+{
+    let mut out = Vec::new(alloc);
+    push_number_member(&mut out, b'{', b"current", dump.current)?;
+    push_text_member(&mut out, b',', b"hashing", word_of_hashing(dump.hashing))?;
+    push_list_member(alloc, &mut out, b',', b"nodes", &dump.nodes)?;
+    push_number_member(&mut out, b',', b"points", dump.points)?;
+    push_list_member(alloc, &mut out, b',', b"rows", &dump.rows)?;
+    out.push(b'}')?;
+    Ok(out)
 }
 
 impl WriteJson for Row {

@@ -1,6 +1,7 @@
 use anyhow::{Result, bail};
 use directory_core::World;
 use dump_verdict::{Judgement, judge, judge_dump};
+use rebuild_checker::write_dump;
 use std::alloc::{AllocError, Global};
 use world_dump::dump;
 
@@ -12,7 +13,8 @@ pub(crate) fn judge_listed(alloc: Global, world: &World) -> Result<()> {
 
 /// The text of the world's dump is read again and judged, and is right.
 pub(crate) fn judge_written(alloc: Global, world: &World) -> Result<()> {
-    let text = dump(alloc, world)?.write(alloc)?;
+    let listed = dump(alloc, world)?;
+    let text = write_dump(alloc, &listed)?;
     expect_right(alloc, judge(alloc, &text))
 }
 

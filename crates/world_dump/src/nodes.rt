@@ -1,16 +1,16 @@
 //! The nodes of all silos that aren't Dead.
 ghost use Rattle.std.specs.Prelude.{◌≡◌, IfOk, map};
 ghost use Rattle.dump_rules.specs.Dump.{dump_held, dump_node, dump_phase};
-ghost use Rattle.rebuild_checker.specs.DumpModel.{phase_of};
+ghost use Rattle.dump_lists.specs.DumpModel.{phase_of};
 
 use crate::pieces::pieces;
 use directory_core::World;
 use directory_node::Node;
 use directory_rules::{Held, Phase};
+use dump_lists::{Held as DumpHeld, ListedPoint, Node as DumpNode, Phase as DumpPhase};
 use hash_ring::Point;
 use host_activations::Host;
 use lent_grains::LentGrain;
-use rebuild_checker::{Held as DumpHeld, ListedPoint, Node as DumpNode, Phase as DumpPhase};
 use silo_address::{ActivationId, GrainId, SiloAddress};
 use std::alloc::{AllocError, Global};
 

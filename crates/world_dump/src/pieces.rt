@@ -2,13 +2,13 @@
 ghost use Rattle.std.specs.Prelude.{◌≡◌, IfOk, map};
 ghost use Rattle.directory_rules.specs.Table.{entries_of};
 ghost use Rattle.dump_rules.specs.Dump.{awaited_from, dump_piece, dump_state};
-ghost use Rattle.rebuild_checker.specs.DumpModel.{state_of};
+ghost use Rattle.dump_lists.specs.DumpModel.{state_of};
 
 use directory_rules::PieceState;
+use dump_lists::{Entry as DumpEntry, Piece as DumpPiece, State};
 use grain_partition::{Holding, Piece};
 use grain_table::Table;
 use lent_grains::LentGrain;
-use rebuild_checker::{Entry as DumpEntry, Piece as DumpPiece, State};
 use silo_address::{Entry, SiloAddress};
 use std::alloc::{AllocError, Global};
 

@@ -4,9 +4,9 @@ ghost use Rattle.hash_ring.specs.declared.hashing.Hashing.{Hashing as HashingSee
 ghost use Rattle.dump_rules.specs.Dump.{dump_row, named_places};
 
 use directory_core::World;
+use dump_lists::Row as DumpRow;
 use hash_ring::{Hashing, Places};
 use membership_view::Row;
-use rebuild_checker::Row as DumpRow;
 use silo_address::SiloAddress;
 use std::alloc::{AllocError, Global};
 

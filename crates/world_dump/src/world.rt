@@ -6,7 +6,7 @@ ghost use Rattle.dump_headline.specs.Told.{IsRightlyTold};
 use crate::nodes::nodes;
 use crate::rows::rows;
 use directory_core::World;
-use rebuild_checker::Dump;
+use dump_lists::Dump;
 use std::alloc::{AllocError, Global};
 
 /// The world's dump (`docs/RULES.md#the-dump-and-the-verdict`). It is a dump in which all is right, and a checker says so, of its

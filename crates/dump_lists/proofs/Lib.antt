@@ -1,0 +1,5 @@
+mod Along
+mod MembersTold
+mod PlainTexts
+mod Standing
+mod Told

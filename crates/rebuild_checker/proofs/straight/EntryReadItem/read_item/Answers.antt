@@ -1,5 +1,0 @@
-use Rattle.rebuild_checker.proofs.Told.{entry_told}
-use Rattle.rebuild_checker.proofs.straight.EntryReadItem.read_item.Goals as goal
-
-pub returns : goal.returns
-returns c = entry_told _ _ _ _ _ _ _ c.in_ok-begin_items.ensures c.in_ok-grain.ensures c.in_ok-activation.ensures c.in_ok-end_items.ensures
