@@ -4,32 +4,18 @@
 #![tactic(auto)]
 
 #[cfg(test)]
-mod activations;
-#[cfg(test)]
 mod cache;
 #[cfg(test)]
-mod host_calls;
+mod holdings;
 #[cfg(test)]
-mod host_memory;
-#[cfg(test)]
-mod partition;
-#[cfg(test)]
-mod partition_memory;
+mod hosts;
 #[cfg(test)]
 mod placement;
 #[cfg(test)]
-mod recovery;
-#[cfg(test)]
-mod recovery_memory;
-#[cfg(test)]
-mod reports;
+mod recoveries;
 #[cfg(test)]
 mod rules;
 #[cfg(test)]
 mod samples;
-#[cfg(test)]
-mod sealing;
-#[cfg(test)]
-mod table_memory;
 #[cfg(test)]
 mod tables;

@@ -27,20 +27,22 @@ fn counts(rt: &impl Abort, alloc: Global, held: &[(&str, u64)]) -> BTreeMap<Silo
     counts
 }
 
+// The policy, the silo that asks, and the one that is chosen.
+const CHOICES: [(Policy, &str, &str); 4] = [
+    (Policy::HashBased, B, C),
+    (Policy::PreferLocal, B, B),
+    (Policy::PreferLocal, LEAVING, C),
+    (Policy::LeastHeld, C, B),
+];
+
 // By each policy, of silos that hold so many: the third Active silo in turn, the silo itself where it is Active and else by the
 // hash, and the first of those that hold least.
 #[test]
 fn a_silo_by_each_policy(rt: HostRuntime) {
     let view = three_active(&rt, rt.alloc());
     let held = counts(&rt, rt.alloc(), &[(A, 2), (B, 1), (C, 1), (LEAVING, 0)]);
-    let table: [(Policy, &str, &str); 4] = [
-        (Policy::HashBased, B, C),
-        (Policy::PreferLocal, B, B),
-        (Policy::PreferLocal, LEAVING, C),
-        (Policy::LeastHeld, C, B),
-    ];
-    for (policy, local, want) in table {
-        let chosen = silo_for(policy, &view, &silo(&rt, local), 5, &held);
+    for (policy, local, want) in &CHOICES {
+        let chosen = silo_for(*policy, &view, &silo(&rt, local), 5, &held);
         assert!(rt; chosen == Some(silo(&rt, want)));
     }
 }

@@ -1,15 +1,10 @@
-//! Values by their texts, for the tests.
-ghost use Rattle.std.specs.Prelude.{IfOk};
-ghost use Rattle.grain_partition.specs.Sight.{AreOfRings};
-
+//! Values by their texts, for the tests. What needs memory is made again where that is refused.
 use directory_rules::Settings;
-use grain_partition::ArcsBySilo;
-use hash_ring::{Hashing, Ring};
+use hash_ring::Hashing;
 use membership_view::{View, Views};
-use range_moves::arcs;
 use ring_range::RingRange;
 use silo_address::{ActivationId, Entry, GrainId, SiloAddress};
-use std::alloc::{AllocError, Global};
+use std::alloc::Global;
 use std::process::Abort;
 
 // Silos, by address.
@@ -40,14 +35,6 @@ pub(crate) fn entry(rt: &impl Abort, (of, on, count): (&str, &str, u64)) -> Entr
     Entry { grain, activation }
 }
 
-// The arcs from one ring to another.
-pub(crate) fn between(alloc: Global, old: &Ring, new: &Ring) -> Result<ArcsBySilo, AllocError>
-    ensures { IfOk result (λ between. AreOfRings between) }
-{
-    let between = arcs(alloc, old, new)?;
-    ArcsBySilo::of(alloc, between)
-}
-
 // Settings of a directory that hashes in this way.
 pub(crate) fn settings(rt: &impl Abort, hashing: Hashing) -> Settings {
     Settings::of_directory(hashing, 30, 0).expect(rt, "settings")
@@ -62,23 +49,21 @@ pub(crate) fn joined(rt: &impl Abort, alloc: Global, texts: &[&str]) -> Views {
     views
 }
 
-// The silo joins, once more where that is refused memory.
 pub(crate) fn join(rt: &impl Abort, views: &mut Views, text: &str) {
     let silo = silo(rt, text);
     if views.join(silo).is_err() {
-        views.join(silo).expect(rt, "a join");
+        views.join(silo).expect(rt, "memory");
     }
 }
 
-// The silo is declared dead, once more where that is refused memory.
 pub(crate) fn declare_dead(rt: &impl Abort, views: &mut Views, text: &str) {
     let silo = silo(rt, text);
     if views.declare_dead(&silo).is_err() {
-        views.declare_dead(&silo).expect(rt, "a death");
+        views.declare_dead(&silo).expect(rt, "memory");
     }
 }
 
-// The view of a version that was made, asked for again where memory is refused.
+// The view of a version that was made.
 pub(crate) fn view(rt: &impl Abort, alloc: Global, views: &Views, version: u64) -> View {
     let made = match views.view(alloc, version) {
         Ok(made) => made,

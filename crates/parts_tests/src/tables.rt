@@ -1,183 +1,249 @@
-//! Tables of entries.
+//! Tables of entries. Each call that needs memory stands in a form that any one refusal of an allocation leaves true: what is
+//! refused has changed nothing, and made again it gives its result. `rt try --test --fail-alloc N` refuses each test its Nth
+//! allocation.
+use crate::samples::{A, B, MANY, declare_dead, entry, grain, joined, range, view};
 use directory_rules::{Act, Reply};
 use grain_table::Table;
 use hash_ring::Hashing;
-use membership_view::{View, Views};
+use membership_view::View;
 use ring_range::RingRange;
-use silo_address::{ActivationId, Entry, GrainId, SiloAddress};
-use std::alloc::Global;
+use silo_address::Entry;
+use std::alloc::{AllocError, Global};
 use std::process::Abort;
 
-const A: &str = "10.0.0.1:1000@1";
-
-const DEAD: &str = "10.0.0.2:1000@1";
-
-// Grains with their hashes stated, two of them with one hash, and one with the highest.
-const ANN: &str = "user/ann#50";
-
-const AMY: &str = "user/amy#50";
-
-const EVE: &str = "user/eve#3";
-
-const ZOE: &str = "user/zoe#4294967295";
-
-fn silo(rt: &impl Abort, text: &str) -> SiloAddress {
-    SiloAddress::parse(text.as_bytes()).expect(rt, text)
-}
-
-fn grain(rt: &impl Abort, text: &str) -> GrainId {
-    GrainId::parse(text.as_bytes()).expect(rt, text)
-}
-
-fn entry(rt: &impl Abort, (of, on, count): (&str, &str, u64)) -> Entry {
-    let (grain, silo) = (grain(rt, of), silo(rt, on));
-    let activation = ActivationId { silo, count };
-    Entry { grain, activation }
-}
-
-fn table(rt: &impl Abort, alloc: Global, hashing: Hashing, entries: &[(&str, &str, u64)]) -> Table {
+// Entries of the grains, all on activations of a silo.
+fn table(rt: &impl Abort, alloc: Global, hashing: Hashing, on: &str, grains: &[&str]) -> Table {
     let mut table = Table::new(alloc, hashing);
-    for named in entries {
-        table.insert(&entry(rt, *named)).expect(rt, "memory");
+    for text in grains {
+        put(rt, &mut table, &entry(rt, (text, on, 1)));
     }
     table
 }
 
-// Four entries, one of them on a silo that dies.
-fn four(rt: &impl Abort, alloc: Global, hashing: Hashing) -> Table {
-    let entries = [(ZOE, A, 1), (ANN, A, 2), (EVE, DEAD, 3), (AMY, A, 4)];
-    table(rt, alloc, hashing, &entries)
-}
-
-// The counts of a table's activations, by grain.
-fn assert_counts(rt: &impl Abort, alloc: Global, table: &Table, want: &[u64]) {
-    let entries = table.in_order(alloc).expect(rt, "memory");
-    assert!(rt; entries.len() == want.len());
-    assert!(rt; table.len() == want.len());
-    for (entry, count) in entries.iter().zip(want) {
-        assert!(rt; entry.activation.count == *count);
+// Puts the entry in, once more where that is refused.
+pub(crate) fn put(rt: &impl Abort, table: &mut Table, entry: &Entry) {
+    if table.insert(entry).is_err() {
+        table.insert(entry).expect(rt, "memory");
     }
 }
 
-// A view in which one silo is dead.
-fn view(rt: &impl Abort, alloc: Global) -> View {
-    let mut views = Views::new(alloc, 256);
-    views.join(silo(rt, A)).expect(rt, A);
-    views.join(silo(rt, DEAD)).expect(rt, DEAD);
-    views.declare_dead(&silo(rt, DEAD)).expect(rt, DEAD);
-    let made = views.view(alloc, 3).expect(rt, "memory");
-    made.expect(rt, "this version was made")
+// As many entries as a node of a map takes.
+fn full(rt: &impl Abort, alloc: Global) -> Table {
+    table(rt, alloc, Hashing::Stated, A, &MANY[..15])
+}
+
+// An entry that splits the node.
+fn one_more(rt: &impl Abort) -> Entry {
+    entry(rt, (MANY[15], B, 1))
+}
+
+fn copy_of(rt: &impl Abort, table: &Table) -> Table {
+    match table.copy() {
+        Ok(copy) => copy,
+        Err(_) => table.copy().expect(rt, "memory"),
+    }
+}
+
+// Whether the entry is in the table, which has so many.
+fn has(table: &Table, entry: &Entry, count: usize) -> bool {
+    table.len() == count && table.get(&entry.grain) == Some(*entry)
+}
+
+// Whether the entry is put in, at first or behind a refusal that leaves the table as it was.
+fn puts(table: &mut Table, before: &Table, entry: &Entry) -> bool {
+    table.insert(entry).is_ok() || (table.has_same_entries(before) && table.insert(entry).is_ok())
 }
 
 #[test]
-fn entries_put_in_and_taken_out(rt: HostRuntime) {
-    let alloc = rt.alloc();
-    let mut table = four(&rt, alloc, Hashing::Stated);
-    assert_counts(&rt, alloc, &table, &[4, 2, 3, 1]);
-    assert!(rt; table.get(&grain(&rt, AMY)) == Some(entry(&rt, (AMY, A, 4))));
-    assert!(rt; table.insert_new(&entry(&rt, (AMY, A, 5))) == Ok(false));
-    table.remove(&grain(&rt, AMY));
-    assert!(rt; table.get(&grain(&rt, AMY)).is_none());
-    assert!(rt; table.insert_new(&entry(&rt, (AMY, A, 5))) == Ok(true));
-    table.insert(&entry(&rt, (ANN, A, 6))).expect(&rt, "memory");
-    assert_counts(&rt, alloc, &table, &[5, 6, 3, 1]);
-    table.whole();
+fn an_entry_is_put_in(rt: HostRuntime) {
+    let (mut table, entry) = (full(&rt, rt.alloc()), one_more(&rt));
+    let before = copy_of(&rt, &table);
+    assert!(rt; puts(&mut table, &before, &entry) && has(&table, &entry, 16));
 }
 
-fn registering(entry: &Entry) -> Act {
-    Act::Register {
-        entry: *entry,
+fn puts_new(table: &mut Table, before: &Table, entry: &Entry) -> bool {
+    table.insert_new(entry) == Ok(true)
+        || (table.has_same_entries(before) && table.insert_new(entry) == Ok(true))
+}
+
+#[test]
+fn a_new_entry_is_put_in(rt: HostRuntime) {
+    let (mut table, entry) = (full(&rt, rt.alloc()), one_more(&rt));
+    let before = copy_of(&rt, &table);
+    assert!(rt; puts_new(&mut table, &before, &entry) && has(&table, &entry, 16));
+}
+
+pub(crate) fn is_reply(reply: Result<Reply, AllocError>, want: &Reply) -> bool {
+    match reply {
+        Ok(reply) => reply.same(want),
+        Err(_) => false,
+    }
+}
+
+fn turns(table: &mut Table, before: &Table, act: &Act, want: &Reply) -> bool {
+    table.reply_to(act).same(want)
+        && (is_reply(table.turn(act), want)
+            || (table.has_same_entries(before) && is_reply(table.turn(act), want)))
+}
+
+#[test]
+fn a_register_is_answered(rt: HostRuntime) {
+    let (mut table, entry) = (full(&rt, rt.alloc()), one_more(&rt));
+    let before = copy_of(&rt, &table);
+    let act = Act::Register {
+        entry,
         previous: None,
+    };
+    let want = Reply::Registered(entry);
+    assert!(rt; turns(&mut table, &before, &act, &want) && has(&table, &entry, 16));
+}
+
+// The first table, into a copy of which all of the second are put.
+fn with_all(rt: &impl Abort, one: &Table, other: &Table) -> Table {
+    match copy_of(rt, one).with_all(other) {
+        Ok(all) => all,
+        Err(_) => copy_of(rt, one).with_all(other).expect(rt, "memory"),
     }
 }
 
-fn leaving(entry: &Entry) -> Act {
-    Act::Deregister { entry: *entry }
-}
-
-fn finding(entry: &Entry) -> Act {
-    Act::Find { grain: entry.grain }
-}
-
-// What the act is answered, without its change and with it.
-fn assert_turned(rt: &impl Abort, table: &mut Table, act: Act, want: Reply) {
-    assert!(rt; table.reply_to(&act).same(&want));
-    let reply = table.turn(&act).expect(rt, "memory");
-    assert!(rt; reply.same(&want));
-}
-
-#[test]
-fn acts_answered_and_made(rt: HostRuntime) {
-    let mut table = four(&rt, rt.alloc(), Hashing::Stated);
-    let ann = &entry(&rt, (ANN, A, 2));
-    let other = &entry(&rt, (ANN, A, 7));
-    let taken = Reply::Taken(*ann);
-    let registered = Reply::Registered(*other);
-    let found = Reply::Found(*other);
-    assert_turned(&rt, &mut table, registering(other), taken);
-    assert_turned(&rt, &mut table, leaving(ann), Reply::Removed);
-    assert_turned(&rt, &mut table, registering(other), registered);
-    assert_turned(&rt, &mut table, finding(other), found);
-}
-
-// From each range the entries that it has, also where it goes on over 0, and of a table that hashes in another way.
-#[test]
-fn entries_of_a_range(rt: HostRuntime) {
-    let alloc = rt.alloc();
-    let stated = four(&rt, alloc, Hashing::Stated);
-    let hashed = four(&rt, alloc, Hashing::Sha256);
-    let ranges: [(&str, &[u64]); 8] = [
-        ("50+1", &[4, 2]),
-        ("51+4294967244", &[]),
-        ("51+4294967245", &[1]),
-        ("4294967295+4", &[1]),
-        ("4294967295+5", &[3, 1]),
-        ("0+4294967296", &[4, 2, 3, 1]),
-        ("7+4294967296", &[4, 2, 3, 1]),
-        ("3+0", &[]),
-    ];
-    for (text, want) in ranges {
-        let range = RingRange::parse(text.as_bytes()).expect(&rt, text);
-        for table in [&stated, &hashed] {
-            check_within(&rt, alloc, table, &range, want);
+// The same, of those alone that are hashed into the range.
+fn with_all_within(
+    rt: &impl Abort,
+    alloc: Global,
+    one: &Table,
+    other: &Table,
+    range: &RingRange,
+) -> Table {
+    match copy_of(rt, one).with_all_within(alloc, other, range) {
+        Ok(all) => all,
+        Err(_) => {
+            let all = copy_of(rt, one).with_all_within(alloc, other, range);
+            all.expect(rt, "memory")
         }
     }
 }
 
-// Of the table just these are hashed into the range, put elsewhere or left where they are.
-fn check_within(rt: &impl Abort, alloc: Global, table: &Table, range: &RingRange, want: &[u64]) {
-    assert!(rt; table.count_within(Hashing::Stated, range) == want.len());
-    let within = Table::new(alloc, Hashing::Stated).with_all_within(alloc, table, range);
-    assert_counts(rt, alloc, &within.expect(rt, "memory"), want);
-    let mut left = table.copy().expect(rt, "memory");
+// What comes from a table that hashes otherwise replaces what is there.
+#[test]
+fn tables_are_joined(rt: HostRuntime) {
+    let alloc = rt.alloc();
+    let one = table(&rt, alloc, Hashing::Stated, A, &MANY[14..]);
+    let other = table(&rt, alloc, Hashing::Sha256, B, &MANY[..15]);
+    check_joined(&rt, alloc, &one, &other);
+}
+
+fn check_joined(rt: &impl Abort, alloc: Global, one: &Table, other: &Table) {
+    let (last, third) = (entry(rt, (MANY[14], B, 1)), entry(rt, (MANY[2], B, 1)));
+    assert!(rt; has(&with_all(rt, one, other), &last, 17));
+    let some = with_all_within(rt, alloc, one, other, &range(rt, "30+100"));
+    assert!(rt; has(&some, &third, 13));
+}
+
+// A view in which B is dead.
+fn view_without_b(rt: &impl Abort, alloc: Global) -> View {
+    let mut views = joined(rt, alloc, &[A, B]);
+    declare_dead(rt, &mut views, B);
+    view(rt, alloc, &views, 3)
+}
+
+fn keeps(alloc: Global, table: &Table, view: &View, range: &RingRange, count: usize) -> bool {
+    match table.kept(alloc, view, range) {
+        Ok(kept) => kept.len() == count,
+        Err(_) => false,
+    }
+}
+
+fn lists(alloc: Global, table: &Table, view: &View, range: &RingRange, count: usize) -> bool {
+    match table.list_kept(alloc, Vec::new(alloc), Hashing::Stated, view, range) {
+        Ok(listed) => listed.len() == count,
+        Err(_) => false,
+    }
+}
+
+// Fifteen entries, of which one is on the dead silo.
+fn one_on_b(rt: &impl Abort, alloc: Global, hashing: Hashing) -> Table {
+    let mut table = table(rt, alloc, hashing, A, &MANY[..15]);
+    put(rt, &mut table, &entry(rt, (MANY[1], B, 1)));
+    table
+}
+
+#[test]
+fn a_table_is_cut(rt: HostRuntime) {
+    let (alloc, range) = (rt.alloc(), range(&rt, "20+110"));
+    let table = one_on_b(&rt, alloc, Hashing::Stated);
+    let view = view_without_b(&rt, alloc);
+    assert!(rt; keeps(alloc, &table, &view, &range, 10) || keeps(alloc, &table, &view, &range, 10));
+}
+
+// The same, as a list, of a table that hashes otherwise.
+#[test]
+fn a_table_is_listed(rt: HostRuntime) {
+    let (alloc, range) = (rt.alloc(), range(&rt, "20+110"));
+    let table = one_on_b(&rt, alloc, Hashing::Sha256);
+    let view = view_without_b(&rt, alloc);
+    assert!(rt; lists(alloc, &table, &view, &range, 10) || lists(alloc, &table, &view, &range, 10));
+}
+
+// Whether the table tells entries of just these grains, on A, in this order.
+fn tells(rt: &impl Abort, alloc: Global, table: &Table, grains: &[&str]) -> bool {
+    let Ok(entries) = table.in_order(alloc) else {
+        return false;
+    };
+    for (told, text) in entries.iter().zip(grains) {
+        if *told != entry(rt, (*text, A, 1)) {
+            return false;
+        }
+    }
+    entries.len() == grains.len()
+}
+
+#[test]
+fn a_table_is_told_in_order(rt: HostRuntime) {
+    let (table, alloc) = (full(&rt, rt.alloc()), rt.alloc());
+    let grains = &MANY[..15];
+    assert!(rt; tells(&rt, alloc, &table, grains) || tells(&rt, alloc, &table, grains));
+}
+
+// Grains with their hashes stated, two of them with one hash, and one with the highest.
+const FOUR: [&str; 4] = [
+    "user/zoe#4294967295",
+    "user/ann#50",
+    "user/eve#3",
+    "user/amy#50",
+];
+
+// Ranges, some of which go on over 0, and how many of the four are hashed into each.
+const WITHIN: [(&str, usize); 6] = [
+    ("50+1", 2),
+    ("51+4294967244", 0),
+    ("4294967295+4", 1),
+    ("4294967295+5", 2),
+    ("7+4294967296", 4),
+    ("3+0", 0),
+];
+
+// Whether so many are hashed into the range, and are left where it alone is kept.
+fn has_within(table: &Table, mut left: Table, range: &RingRange, count: usize) -> bool {
     left.keep_within(Hashing::Stated, range);
-    assert_counts(rt, alloc, &left, want);
+    table.count_within(Hashing::Stated, range) == count && left.len() == count
 }
 
 #[test]
-fn entries_on_living_silos(rt: HostRuntime) {
-    let alloc = rt.alloc();
-    let table = four(&rt, alloc, Hashing::Stated);
-    let range = RingRange::parse(b"0+60").expect(&rt, "a range");
-    let view = view(&rt, alloc);
-    let kept = table.kept(alloc, &view, &range);
-    assert_counts(&rt, alloc, &kept.expect(&rt, "memory"), &[4, 2]);
-    let listed = table.list_kept(alloc, Vec::new(alloc), Hashing::Stated, &view, &range);
-    assert!(rt; listed.expect(&rt, "memory").len() == 2);
+fn entries_of_a_range(rt: HostRuntime) {
+    let stated = table(&rt, rt.alloc(), Hashing::Stated, A, &FOUR);
+    let hashed = table(&rt, rt.alloc(), Hashing::Sha256, A, &FOUR);
+    for (text, count) in &WITHIN {
+        let range = range(&rt, text);
+        assert!(rt; has_within(&stated, copy_of(&rt, &hashed), &range, *count));
+        assert!(rt; has_within(&hashed, copy_of(&rt, &stated), &range, *count));
+    }
 }
 
-// What comes replaces what is there, and tables are the same however they hash.
 #[test]
-fn tables_joined_and_compared(rt: HostRuntime) {
-    let alloc = rt.alloc();
-    let stated = four(&rt, alloc, Hashing::Stated);
-    let hashed = four(&rt, alloc, Hashing::Sha256);
-    assert!(rt; stated.has_same_entries(&hashed));
-    let one = table(&rt, alloc, Hashing::Stated, &[(ANN, A, 9)]);
-    assert!(rt; !one.has_same_entries(&hashed));
-    let all = one.with_all(&hashed).expect(&rt, "memory");
-    assert!(rt; all.has_same_entries(&stated));
-    let copy = all.copy().expect(&rt, "memory");
-    assert!(rt; copy.has_same_entries(&all));
-    assert_counts(&rt, alloc, &copy, &[4, 2, 3, 1]);
+fn an_entry_is_taken_out(rt: HostRuntime) {
+    let mut table = full(&rt, rt.alloc());
+    table.whole();
+    let grain = grain(&rt, MANY[0]);
+    table.remove(&grain);
+    assert!(rt; table.get(&grain).is_none() && table.len() == 14);
 }
