@@ -2,7 +2,6 @@ use clap::error::ErrorKind;
 use command_line::{Line, LineError, read_line};
 use hash_ring::Hashing;
 use std::alloc::Global;
-use std::test::Fail;
 
 const fn play(hashing: Hashing, points: usize, cache: usize) -> Result<Line, ErrorKind> {
     Ok(Line::Play {
@@ -24,154 +23,145 @@ fn answer(alloc: Global, words: &'static [&'static str]) -> Result<Line, ErrorKi
 // A line, its hashing, points and cache.
 type Accepted = (&'static [&'static str], Hashing, usize, usize);
 
+const ACCEPTED: [Accepted; 14] = [
+    (&["grain-directory", "play"], Hashing::Sha256, 30, 1024),
+    (&["", "play"], Hashing::Sha256, 30, 1024),
+    (
+        &["g", "play", "--hashing", "stated"],
+        Hashing::Stated,
+        30,
+        1024,
+    ),
+    (
+        &["g", "play", "--hashing=sha256"],
+        Hashing::Sha256,
+        30,
+        1024,
+    ),
+    (&["g", "play", "--points", "1"], Hashing::Sha256, 1, 1024),
+    (&["g", "play", "--points=128"], Hashing::Sha256, 128, 1024),
+    (&["g", "play", "--points", "+007"], Hashing::Sha256, 7, 1024),
+    (&["g", "play", "--cache", "1"], Hashing::Sha256, 30, 1),
+    (&["g", "play", "--cache=65536"], Hashing::Sha256, 30, 65_536),
+    (
+        &["g", "play", "--cache", "+000300"],
+        Hashing::Sha256,
+        30,
+        300,
+    ),
+    (
+        &["g", "play", "--points", "5", "--hashing", "stated"],
+        Hashing::Stated,
+        5,
+        1024,
+    ),
+    (
+        &[
+            "g",
+            "play",
+            "--cache",
+            "6",
+            "--hashing",
+            "stated",
+            "--points",
+            "5",
+        ],
+        Hashing::Stated,
+        5,
+        6,
+    ),
+    (&["g", "play", "--"], Hashing::Sha256, 30, 1024),
+    (
+        &["g", "play", "--points", "5", "--"],
+        Hashing::Sha256,
+        5,
+        1024,
+    ),
+];
+
 #[test]
 fn lines_that_are_accepted(rt: HostRuntime) {
-    let rows: [Accepted; 14] = [
-        (&["grain-directory", "play"], Hashing::Sha256, 30, 1024),
-        (&["", "play"], Hashing::Sha256, 30, 1024),
-        (
-            &["g", "play", "--hashing", "stated"],
-            Hashing::Stated,
-            30,
-            1024,
-        ),
-        (
-            &["g", "play", "--hashing=sha256"],
-            Hashing::Sha256,
-            30,
-            1024,
-        ),
-        (&["g", "play", "--points", "1"], Hashing::Sha256, 1, 1024),
-        (&["g", "play", "--points=128"], Hashing::Sha256, 128, 1024),
-        (&["g", "play", "--points", "+007"], Hashing::Sha256, 7, 1024),
-        (&["g", "play", "--cache", "1"], Hashing::Sha256, 30, 1),
-        (&["g", "play", "--cache=65536"], Hashing::Sha256, 30, 65_536),
-        (
-            &["g", "play", "--cache", "+000300"],
-            Hashing::Sha256,
-            30,
-            300,
-        ),
-        (
-            &["g", "play", "--points", "5", "--hashing", "stated"],
-            Hashing::Stated,
-            5,
-            1024,
-        ),
-        (
-            &[
-                "g",
-                "play",
-                "--cache",
-                "6",
-                "--hashing",
-                "stated",
-                "--points",
-                "5",
-            ],
-            Hashing::Stated,
-            5,
-            6,
-        ),
-        (&["g", "play", "--"], Hashing::Sha256, 30, 1024),
-        (
-            &["g", "play", "--points", "5", "--"],
-            Hashing::Sha256,
-            5,
-            1024,
-        ),
-    ];
-    for (words, hashing, points, cache) in rows {
-        let given = answer(rt.alloc(), words);
-        assert!(rt; given == play(hashing, points, cache), "{words:?}");
+    for (words, hashing, points, cache) in &ACCEPTED {
+        let given = answer(rt.alloc(), *words);
+        assert!(rt; given == play(*hashing, *points, *cache));
     }
 }
+
+const REFUSED: [(&'static [&'static str], ErrorKind); 42] = [
+    (&[], ErrorKind::MissingSubcommand),
+    (&["g"], ErrorKind::MissingSubcommand),
+    (&["g", "run"], ErrorKind::InvalidSubcommand),
+    (&["g", "Play"], ErrorKind::InvalidSubcommand),
+    (&["g", "--points", "5", "play"], ErrorKind::UnknownArgument),
+    (&["g", "--"], ErrorKind::MissingSubcommand),
+    (&["g", "play", "--version"], ErrorKind::UnknownArgument),
+    (&["g", "play", "script"], ErrorKind::UnknownArgument),
+    (&["g", "play", "help"], ErrorKind::UnknownArgument),
+    (&["g", "play", "-p", "5"], ErrorKind::UnknownArgument),
+    (&["g", "play", "--point", "5"], ErrorKind::UnknownArgument),
+    (&["g", "play", "--points"], ErrorKind::InvalidValue),
+    (&["g", "play", "--points", "0"], ErrorKind::ValueValidation),
+    (
+        &["g", "play", "--points", "129"],
+        ErrorKind::ValueValidation,
+    ),
+    (&["g", "play", "--points", "x"], ErrorKind::ValueValidation),
+    (&["g", "play", "--points="], ErrorKind::ValueValidation),
+    (&["g", "play", "--cache"], ErrorKind::InvalidValue),
+    (&["g", "play", "--cache", "0"], ErrorKind::ValueValidation),
+    (
+        &["g", "play", "--cache", "65537"],
+        ErrorKind::ValueValidation,
+    ),
+    (
+        &["g", "play", "--cache", "4294967297"],
+        ErrorKind::ValueValidation,
+    ),
+    (&["g", "play", "--cache", "x"], ErrorKind::ValueValidation),
+    (
+        &["g", "play", "--cache", "5", "--cache=5"],
+        ErrorKind::ArgumentConflict,
+    ),
+    (&["g", "--cache", "5", "play"], ErrorKind::UnknownArgument),
+    (
+        &["g", "play", "--points", "5", "--points", "5"],
+        ErrorKind::ArgumentConflict,
+    ),
+    (&["g", "play", "--hashing", "md5"], ErrorKind::InvalidValue),
+    (
+        &["g", "play", "--hashing", "Stated"],
+        ErrorKind::InvalidValue,
+    ),
+    (&["g", "help", "run"], ErrorKind::InvalidSubcommand),
+    (&["g", "help", "-h"], ErrorKind::InvalidSubcommand),
+    (&["g", "help"], ErrorKind::DisplayHelp),
+    (&["g", "help", "help"], ErrorKind::DisplayHelp),
+    (&["g", "help", "--"], ErrorKind::InvalidSubcommand),
+    (&["g", "help", "play"], ErrorKind::DisplayHelp),
+    (&["g", "--help"], ErrorKind::DisplayHelp),
+    (&["g", "-h"], ErrorKind::DisplayHelp),
+    (&["g", "-hx"], ErrorKind::DisplayHelp),
+    (&["g", "-xh"], ErrorKind::UnknownArgument),
+    (&["g", "play", "-hx"], ErrorKind::DisplayHelp),
+    (&["g", "--", "play"], ErrorKind::UnknownArgument),
+    (&["g", "play", "--", "--help"], ErrorKind::UnknownArgument),
+    (&["g", "--version"], ErrorKind::DisplayVersion),
+    (&["g", "-V"], ErrorKind::DisplayVersion),
+    (
+        &["g", "play", "--points", "5", "--help"],
+        ErrorKind::DisplayHelp,
+    ),
+];
 
 #[test]
 fn lines_that_are_refused(rt: HostRuntime) {
-    let rows: [(&'static [&'static str], ErrorKind); 42] = [
-        (&[], ErrorKind::MissingSubcommand),
-        (&["g"], ErrorKind::MissingSubcommand),
-        (&["g", "run"], ErrorKind::InvalidSubcommand),
-        (&["g", "Play"], ErrorKind::InvalidSubcommand),
-        (&["g", "--points", "5", "play"], ErrorKind::UnknownArgument),
-        (&["g", "--"], ErrorKind::MissingSubcommand),
-        (&["g", "play", "--version"], ErrorKind::UnknownArgument),
-        (&["g", "play", "script"], ErrorKind::UnknownArgument),
-        (&["g", "play", "help"], ErrorKind::UnknownArgument),
-        (&["g", "play", "-p", "5"], ErrorKind::UnknownArgument),
-        (&["g", "play", "--point", "5"], ErrorKind::UnknownArgument),
-        (&["g", "play", "--points"], ErrorKind::InvalidValue),
-        (&["g", "play", "--points", "0"], ErrorKind::ValueValidation),
-        (
-            &["g", "play", "--points", "129"],
-            ErrorKind::ValueValidation,
-        ),
-        (&["g", "play", "--points", "x"], ErrorKind::ValueValidation),
-        (&["g", "play", "--points="], ErrorKind::ValueValidation),
-        (&["g", "play", "--cache"], ErrorKind::InvalidValue),
-        (&["g", "play", "--cache", "0"], ErrorKind::ValueValidation),
-        (
-            &["g", "play", "--cache", "65537"],
-            ErrorKind::ValueValidation,
-        ),
-        (
-            &["g", "play", "--cache", "4294967297"],
-            ErrorKind::ValueValidation,
-        ),
-        (&["g", "play", "--cache", "x"], ErrorKind::ValueValidation),
-        (
-            &["g", "play", "--cache", "5", "--cache=5"],
-            ErrorKind::ArgumentConflict,
-        ),
-        (&["g", "--cache", "5", "play"], ErrorKind::UnknownArgument),
-        (
-            &["g", "play", "--points", "5", "--points", "5"],
-            ErrorKind::ArgumentConflict,
-        ),
-        (&["g", "play", "--hashing", "md5"], ErrorKind::InvalidValue),
-        (
-            &["g", "play", "--hashing", "Stated"],
-            ErrorKind::InvalidValue,
-        ),
-        (&["g", "help", "run"], ErrorKind::InvalidSubcommand),
-        (&["g", "help", "-h"], ErrorKind::InvalidSubcommand),
-        (&["g", "help"], ErrorKind::DisplayHelp),
-        (&["g", "help", "help"], ErrorKind::DisplayHelp),
-        (&["g", "help", "--"], ErrorKind::InvalidSubcommand),
-        (&["g", "help", "play"], ErrorKind::DisplayHelp),
-        (&["g", "--help"], ErrorKind::DisplayHelp),
-        (&["g", "-h"], ErrorKind::DisplayHelp),
-        (&["g", "-hx"], ErrorKind::DisplayHelp),
-        (&["g", "-xh"], ErrorKind::UnknownArgument),
-        (&["g", "play", "-hx"], ErrorKind::DisplayHelp),
-        (&["g", "--", "play"], ErrorKind::UnknownArgument),
-        (&["g", "play", "--", "--help"], ErrorKind::UnknownArgument),
-        (&["g", "--version"], ErrorKind::DisplayVersion),
-        (&["g", "-V"], ErrorKind::DisplayVersion),
-        (
-            &["g", "play", "--points", "5", "--help"],
-            ErrorKind::DisplayHelp,
-        ),
-    ];
-    for (words, kind) in rows {
-        assert!(rt; answer(rt.alloc(), words) == Err(kind), "{words:?}");
+    for (words, kind) in &REFUSED {
+        assert!(rt; answer(rt.alloc(), *words) == Err(*kind));
     }
 }
 
-// The text that a refusal shows, and whether it was asked for.
-fn told(alloc: Global, words: &'static [&'static str]) -> Result<(String, bool), Fail> {
-    match read_line(alloc, words) {
-        Ok(_) => Err(Fail::new("the line was accepted")),
-        Err(refusal) => Ok((format!(in alloc; "{refusal}")?, refusal.is_request())),
-    }
-}
-
-#[test]
-fn help_of_the_program(rt: HostRuntime) -> Result<(), Fail> {
-    let (text, is_asked) = told(rt.alloc(), &["g", "help"])?;
-    assert!(rt; is_asked);
-    let wanted = "A directory of grains on a cluster of silos, played from a script
+// The help of the program and that of its command, its version, and a mistake, which is told with the way out.
+const HELP: &str = "A directory of grains on a cluster of silos, played from a script
 
 Usage: grain-directory <COMMAND>
 
@@ -184,15 +174,8 @@ Options:
   -h, --help     Print help
   -V, --version  Print version
 ";
-    assert!(rt; text.as_str() == wanted, "{text}");
-    Ok(())
-}
 
-#[test]
-fn help_of_play(rt: HostRuntime) -> Result<(), Fail> {
-    let (text, is_asked) = told(rt.alloc(), &["g", "play", "--help"])?;
-    assert!(rt; is_asked);
-    let wanted = "Play a cluster's script, read from standard input
+const HELP_OF_PLAY: &str = "Play a cluster's script, read from standard input
 
 Usage: grain-directory play [OPTIONS]
 
@@ -202,26 +185,34 @@ Options:
       --cache <CACHE>      How many hints a silo's cache keeps, from 1 to 65536 [default: 1024]
   -h, --help               Print help
 ";
-    assert!(rt; text.as_str() == wanted, "{text}");
-    Ok(())
-}
 
-#[test]
-fn the_version(rt: HostRuntime) -> Result<(), Fail> {
-    let (text, is_asked) = told(rt.alloc(), &["g", "--version"])?;
-    assert!(rt; is_asked);
-    assert!(rt; text.as_str() == "grain-directory 0.1.0\n", "{text}");
-    Ok(())
-}
+const VERSION: &str = "grain-directory 0.1.0\n";
 
-#[test]
-fn a_mistake_is_told_with_the_way_out(rt: HostRuntime) -> Result<(), Fail> {
-    let (text, is_asked) = told(rt.alloc(), &["g", "play", "--points", "0"])?;
-    assert!(rt; !is_asked);
-    let wanted = "error: invalid value '0' for '--points <POINTS>': 0 is not in 1..=128
+const MISTAKE: &str = "error: invalid value '0' for '--points <POINTS>': 0 is not in 1..=128
 
 For more information, try '--help'.
 ";
-    assert!(rt; text.as_str() == wanted, "{text}");
-    Ok(())
+
+// A line, the text that is shown for it, and whether that was asked for.
+const SHOWN: [(&'static [&'static str], &str, bool); 4] = [
+    (&["g", "help"], HELP, true),
+    (&["g", "play", "--help"], HELP_OF_PLAY, true),
+    (&["g", "--version"], VERSION, true),
+    (&["g", "play", "--points", "0"], MISTAKE, false),
+];
+
+// Whether the refusal shows just the text.
+fn shows(alloc: Global, refusal: &LineError, wanted: &str) -> bool {
+    match refusal.to_string(alloc) {
+        Ok(text) => text.as_str() == wanted,
+        Err(_) => false,
+    }
+}
+
+#[test]
+fn texts_that_are_shown(rt: HostRuntime) {
+    for (words, wanted, is_request) in &SHOWN {
+        let refusal = read_line(rt.alloc(), *words).err().expect(&rt, "a text");
+        assert!(rt; shows(rt.alloc(), &refusal, *wanted) && refusal.is_request() == *is_request);
+    }
 }

@@ -2,6 +2,7 @@ use crate::samples::{A, B, C, grain, join, no_silos, ring_now, silo, view};
 use hash_ring::{Hashing, Places, Point, Ring, hash_text, laws};
 use membership_view::{View, Views};
 use ring_range::RingRange;
+use silo_address::SiloAddress;
 use std::alloc::Global;
 use std::process::Abort;
 
@@ -14,128 +15,150 @@ fn point(rt: &impl Abort, place: u32, text: &str, index: usize) -> Point {
 }
 
 // From outside: `int.from_bytes(hashlib.sha256(text).digest()[:4], "big")` of Python's hashlib.
+const TEXTS: [(&str, u32); 6] = [
+    ("abc", 3128432319),
+    ("", 3820012610),
+    ("10.0.0.1:1000@1#0", 2737053158),
+    ("10.0.0.1:1000@1#127", 2909769735),
+    ("user/ann", 2800080252),
+    (
+        "aaaaaaaaaaaaaaaaaaaaaaaaaaaaaaaaaaaaaaaaaaaaaaaaaaaaaaaaaaaaaaaa",
+        4292891902,
+    ),
+];
+
 #[test]
 fn hashes_of_texts(rt: HostRuntime) {
-    let table: [(&str, u32); 6] = [
-        ("abc", 3128432319),
-        ("", 3820012610),
-        ("10.0.0.1:1000@1#0", 2737053158),
-        ("10.0.0.1:1000@1#127", 2909769735),
-        ("user/ann", 2800080252),
-        (
-            "aaaaaaaaaaaaaaaaaaaaaaaaaaaaaaaaaaaaaaaaaaaaaaaaaaaaaaaaaaaaaaaa",
-            4292891902,
-        ),
-    ];
-    for (text, hash) in table {
-        assert!(rt; hash_text(text.as_bytes()) == hash, "{text}");
+    for (text, hash) in &TEXTS {
+        assert!(rt; hash_text(text.as_bytes()) == *hash, "{text}");
     }
 }
 
 // The hashes of texts as above; a key that states a hash has it under `Stated` alone.
+const GRAINS: [(Hashing, &str, u32); 5] = [
+    (Hashing::Sha256, "user/ann#7", 1116218512),
+    (Hashing::Stated, "user/bob#3000000000", 3000000000),
+    (Hashing::Stated, "user/ann", 2800080252),
+    (Hashing::Stated, "user/ann#07", 129408469),
+    (Hashing::Stated, "user/ann#4294967296", 3522887990),
+];
+
 #[test]
 fn hashes_of_grains(rt: HostRuntime) {
-    let table: [(Hashing, &str, u32); 5] = [
-        (Hashing::Sha256, "user/ann#7", 1116218512),
-        (Hashing::Stated, "user/bob#3000000000", 3000000000),
-        (Hashing::Stated, "user/ann", 2800080252),
-        (Hashing::Stated, "user/ann#07", 129408469),
-        (Hashing::Stated, "user/ann#4294967296", 3522887990),
-    ];
-    for (hashing, text, hash) in table {
-        assert!(rt; hashing.hash_grain(&grain(&rt, text)) == hash, "{text}");
+    for (hashing, text, hash) in &GRAINS {
+        assert!(rt; hashing.hash_grain(&grain(&rt, text)) == *hash, "{text}");
     }
     assert!(rt; Hashing::Stated.same(&Hashing::Stated.copy()));
 }
 
 // The number by which a silo with these places is refused, if it is.
-fn refusal(rt: &impl Abort, places: &mut Places, text: &str, given: &[u32]) -> Option<u16> {
-    match places.add(silo(rt, text), given) {
+fn refusal(places: &mut Places, silo: SiloAddress, given: &[u32]) -> Option<u16> {
+    match places.add(silo, given) {
         Ok(()) => None,
         Err(refusal) => refusal.number(),
     }
 }
 
+// The silo is refused with too many places and with none, added with as many as it may have, and then not added again.
+fn adds(places: &mut Places, silo: SiloAddress, most: &[u32], more: &[u32]) -> bool {
+    refusal(places, silo, more) == Some(402)
+        && refusal(places, silo, &[]) == Some(403)
+        && refusal(places, silo, most).is_none()
+        && refusal(places, silo, &[1]) == Some(404)
+}
+
+// What is told of the places.
+fn tells(places: &Places, silo: &SiloAddress, given: &[u32]) -> bool {
+    places.is_added(silo)
+        && places.of(silo) == Some(given)
+        && places.points() == 128
+        && places.hashing() == Hashing::Stated
+}
+
 #[test]
 fn silos_added_and_refused(rt: HostRuntime) {
     let mut places = Places::new(rt.alloc(), Hashing::Stated, 128).expect(&rt, "128 points");
-    let (most, more): ([u32; 128], [u32; 129]) = ([7; 128], [7; 129]);
-    let table: [(&[u32], Option<u16>); 4] = [
-        (&more, Some(402)),
-        (&[], Some(403)),
-        (&most, None),
-        (&[1], Some(404)),
-    ];
-    for (given, refused) in table {
-        assert!(rt; refusal(&rt, &mut places, A, given) == refused);
-    }
-    assert!(rt; places.is_added(&silo(&rt, A)));
-    assert!(rt; places.of(&silo(&rt, A)) == Some(&most[..]));
-    assert!(rt; places.points() == 128);
-    assert!(rt; places.hashing() == Hashing::Stated);
+    let (silo, most) = (silo(&rt, A), [7; 128]);
+    assert!(rt; adds(&mut places, silo, &most, &[7; 129]) && tells(&places, &silo, &most));
     places.whole();
+}
+
+// Whether a copy of places without silos is the same until a silo is added, and when it is taken out.
+fn is_copied(places: &mut Places, silo: SiloAddress) -> bool {
+    let Ok(empty) = places.copy() else {
+        return false;
+    };
+    let is_other = refusal(places, silo, &[7]).is_none() && !empty.same(places);
+    places.remove(&silo);
+    is_other && empty.same(places)
 }
 
 #[test]
 fn copies_of_places(rt: HostRuntime) {
     let mut places = Places::new(rt.alloc(), Hashing::Stated, 1).expect(&rt, "one point");
-    let empty = places.copy().expect(&rt, "memory");
-    assert!(rt; refusal(&rt, &mut places, A, &[7]).is_none());
-    assert!(rt; !empty.same(&places));
-    places.remove(&silo(&rt, A));
-    assert!(rt; empty.same(&places));
+    assert!(rt; is_copied(&mut places, silo(&rt, A)));
 }
 
 // The ring of B and A, each with three points.
 fn hashed_ring(rt: &impl Abort, alloc: Global) -> Ring {
     let mut views = Views::new(alloc, 2);
     let mut places = Places::new(alloc, Hashing::Sha256, 3).expect(rt, "three points");
-    for text in [B, A] {
-        join(rt, &mut views, &mut places, silo(rt, text), &[]);
-    }
+    join(rt, &mut views, &mut places, silo(rt, B), &[]);
+    join(rt, &mut views, &mut places, silo(rt, A), &[]);
     ring_now(rt, alloc, &views, &places)
 }
 
 // Three points for each of two silos, hashed by Python's hashlib as above and sorted there.
+const POINTS: [(u32, &str, usize); 6] = [
+    (40231030, B, 0),
+    (1434877701, A, 1),
+    (2737053158, A, 0),
+    (2866218155, B, 2),
+    (3641977640, A, 2),
+    (3762726298, B, 1),
+];
+
+// Whether these are the points.
+fn are_points(rt: &impl Abort, points: &[Point], told: &[(u32, &str, usize)]) -> bool {
+    for (one, (place, text, index)) in points.iter().zip(told) {
+        if !one.same(&point(rt, *place, *text, *index)) {
+            return false;
+        }
+    }
+    points.len() == told.len()
+}
+
 #[test]
 fn hashed_points_in_order(rt: HostRuntime) {
     let ring = hashed_ring(&rt, rt.alloc());
-    let table = [
-        point(&rt, 40231030, B, 0),
-        point(&rt, 1434877701, A, 1),
-        point(&rt, 2737053158, A, 0),
-        point(&rt, 2866218155, B, 2),
-        point(&rt, 3641977640, A, 2),
-        point(&rt, 3762726298, B, 1),
-    ];
-    assert!(rt; ring.points() == &table[..]);
-    assert!(rt; ring.owner(40231029) == Some(table[5].copy()));
-    assert!(rt; table[0].same(&table[0]));
+    assert!(rt; are_points(&rt, ring.points(), &POINTS));
+    assert!(rt; ring.owner(40231029) == Some(point(&rt, 3762726298, B, 1).copy()));
 }
 
 // The ring of B and then A, of those that have places.
 fn ring_of_two(rt: &impl Abort, alloc: Global, a: &[u32], b: &[u32]) -> Ring {
     let (mut views, mut places) = no_silos(rt, alloc);
-    for (text, given) in [(B, b), (A, a)] {
-        join(rt, &mut views, &mut places, silo(rt, text), given);
-    }
+    join(rt, &mut views, &mut places, silo(rt, B), b);
+    join(rt, &mut views, &mut places, silo(rt, A), a);
     ring_now(rt, alloc, &views, &places)
 }
 
+const HALF: u32 = 2147483648;
+
 // The places of A and of B, a hash, and the place, silo and index of its owner.
+const OWNERS: [(&[u32], &[u32], u32, u32, &str, usize); 5] = [
+    (&[0], &[HALF], 2147483647, 0, A, 0),
+    (&[5], &[HALF], 4, HALF, B, 0),
+    (&[0, HALF], &[HALF], HALF, HALF, A, 1),
+    (&[9, 3, 9], &[9, 9], 9, 9, A, 0),
+    (&[3, 9, 9], &[9, 9], 2, 9, A, 1),
+];
+
 #[test]
 fn owners(rt: HostRuntime) {
-    let half = 2147483648;
-    let table: [(&[u32], &[u32], u32, u32, &str, usize); 5] = [
-        (&[0], &[half], 2147483647, 0, A, 0),
-        (&[5], &[half], 4, half, B, 0),
-        (&[0, half], &[half], half, half, A, 1),
-        (&[9, 3, 9], &[9, 9], 9, 9, A, 0),
-        (&[3, 9, 9], &[9, 9], 2, 9, A, 1),
-    ];
-    for (a, b, hash, place, text, index) in table {
-        let owner = ring_of_two(&rt, rt.alloc(), a, b).owner(hash);
-        assert!(rt; owner == Some(point(&rt, place, text, index)), "{hash}");
+    for (a, b, hash, place, text, index) in &OWNERS {
+        let owner = ring_of_two(&rt, rt.alloc(), *a, *b).owner(*hash);
+        assert!(rt; owner == Some(point(&rt, *place, text, *index)), "{hash}");
     }
 }
 
@@ -148,20 +171,23 @@ fn is_range(range: &RingRange, start: u32, size: u64) -> bool {
     range.start() == start && range.size() == size
 }
 
+// Whether these are the ranges of both silos, of which this is the second one.
+fn are_owned(owned: &[(RingRange, SiloAddress)], second: &SiloAddress) -> bool {
+    owned.len() == 3 && is_range(&owned[1].0, 20, 3999999980) && owned[1].1 == *second
+}
+
+fn are_ranges(ranges: &[RingRange]) -> bool {
+    ranges.len() == 2 && is_range(&ranges[0], 10, 10) && is_range(&ranges[1], 4000000000, 294967306)
+}
+
 // Of two points at one place the first by silo has the range, and the last range goes round to the first place.
 #[test]
 fn ranges_with_their_owners(rt: HostRuntime) {
     let ring = ring_of_two(&rt, rt.alloc(), &[4000000000, 10], &[20, 10]);
     let owned = ring.owned_ranges(rt.alloc()).expect(&rt, "memory");
-    assert!(rt; owned.len() == 3);
-    assert!(rt; is_range(&owned[1].0, 20, 3999999980));
-    assert!(rt; owned[1].1.same(&silo(&rt, B)));
-    let ranges = ring
-        .ranges_of(rt.alloc(), &silo(&rt, A))
-        .expect(&rt, "memory");
-    assert!(rt; ranges.len() == 2);
-    assert!(rt; is_range(&ranges[0], 10, 10));
-    assert!(rt; is_range(&ranges[1], 4000000000, 294967306));
+    assert!(rt; are_owned(&owned, &silo(&rt, B)));
+    let ranges = ring.ranges_of(rt.alloc(), &silo(&rt, A));
+    assert!(rt; are_ranges(&ranges.expect(&rt, "memory")));
 }
 
 // The ring of one view, advanced to the next.
@@ -188,9 +214,8 @@ fn check_ring(rt: &impl Abort, alloc: Global, views: &Views, places: &Places, ve
     let anew = Ring::anew(alloc, &now, places).expect(rt, "a ring");
     let earlier = view(rt, alloc, views, version.saturating_sub(1));
     let ring = advanced(rt, alloc, &earlier, &now, places);
-    assert!(rt; ring.same(&anew), "{version}");
-    assert!(rt; ring.version() == version);
     ring.whole();
+    assert!(rt; ring.same(&anew) && ring.version() == version, "{version}");
 }
 
 #[test]

