@@ -1,4 +1,4 @@
-//! Entries, snapshots and pages for the tests.
+//! Entries, snapshots and pages for the tests, made again where memory is refused.
 use ring_range::RingRange;
 use seal_snapshot::{Page, Snapshot};
 use silo_address::{ActivationId, Entry, GrainId, SiloAddress};
@@ -20,7 +20,7 @@ pub(crate) fn range(rt: &impl Abort, start: u32) -> RingRange {
 }
 
 // The entry of the grain user/000, user/001 and so on, which has the activation of the next count.
-pub(crate) fn entry(rt: &impl Abort, index: u64) -> Entry {
+fn entry(rt: &impl Abort, index: u64) -> Entry {
     let digits = [
         b'0' + (index / 100 % 10) as u8,
         b'0' + (index / 10 % 10) as u8,
@@ -36,11 +36,7 @@ pub(crate) fn entry(rt: &impl Abort, index: u64) -> Entry {
     Entry { grain, activation }
 }
 
-pub(crate) fn entries(
-    rt: &impl Abort,
-    alloc: Global,
-    count: u64,
-) -> Result<Vec<Entry>, AllocError> {
+fn entries(rt: &impl Abort, alloc: Global, count: u64) -> Result<Vec<Entry>, AllocError> {
     let mut entries = Vec::new(alloc);
     for index in 0..count {
         entries.push(entry(rt, index))?;
@@ -49,22 +45,29 @@ pub(crate) fn entries(
 }
 
 // A snapshot of so many entries, of that version and of a range that begins there, for the silo.
-pub(crate) fn sealed(
+pub(crate) fn snapshot(
     rt: &impl Abort,
     alloc: Global,
     (version, start, to): (u64, u32, &str),
     count: u64,
-) -> Result<Snapshot, AllocError> {
-    let entries = entries(rt, alloc, count)?;
-    let (from, to) = (silo(rt, OWNER), silo(rt, to));
-    Ok(Snapshot::seal(version, range(rt, start), from, to, entries))
-}
-
-pub(crate) fn snapshot(rt: &impl Abort, alloc: Global, count: u64) -> Snapshot {
-    sealed(rt, alloc, (VERSION, 0, NEXT), count).expect(rt, "memory")
+) -> Snapshot {
+    let entries = match entries(rt, alloc, count) {
+        Ok(entries) => entries,
+        Err(_) => entries(rt, alloc, count).expect(rt, "memory"),
+    };
+    Snapshot::seal(
+        version,
+        range(rt, start),
+        silo(rt, OWNER),
+        silo(rt, to),
+        entries,
+    )
 }
 
 pub(crate) fn page(rt: &impl Abort, alloc: Global, snapshot: &Snapshot, number: u64) -> Page {
-    let page = snapshot.page(alloc, number).expect(rt, "memory");
+    let page = match snapshot.page(alloc, number) {
+        Ok(page) => page,
+        Err(_) => snapshot.page(alloc, number).expect(rt, "memory"),
+    };
     page.expect(rt, "a page of that number")
 }
