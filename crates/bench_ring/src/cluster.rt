@@ -1,4 +1,4 @@
-ghost use Rattle.std.specs.Prelude.{IfOk};
+ghost use Rattle.std.specs.Prelude.{◌≡◌, IfOk};
 ghost use Rattle.hash_ring.specs.Ring.{IsRingBy};
 
 use crate::fault::Fault;
@@ -13,8 +13,8 @@ const POINTS_A_SILO: usize = 30;
 /// Silos `10.0.0.0:1000@1` and on, all of them Active, each with its points.
 #[derive(Drop)]
 pub(crate) struct Cluster {
-    pub(crate) alloc: Global,
-    pub(crate) views: Views,
+    alloc: Global,
+    views: Views,
     pub(crate) places: Places,
 }
 
@@ -35,6 +35,15 @@ impl Cluster {
         })
     }
 
+    /// The silo of a number dies.
+    pub(crate) fn lose(&mut self, number: u8) -> Result<(), Fault>
+        ensures { self.new.places ≡ self.old.places }
+    {
+        let silo = silo(self.alloc, number)?;
+        self.views.declare_dead(&silo)?;
+        Ok(())
+    }
+
     /// The current view.
     pub(crate) fn view(&self) -> Result<View, Fault> {
         self.views
@@ -50,8 +59,8 @@ impl Cluster {
     }
 }
 
-/// The silo of a number.
-pub(crate) fn silo(alloc: Global, number: u8) -> Result<SiloAddress, Fault> {
+// The silo of a number.
+fn silo(alloc: Global, number: u8) -> Result<SiloAddress, Fault> {
     let text = format!(in alloc; "10.0.0.{number}:1000@1")?;
     Ok(SiloAddress::parse(text.as_bytes())?)
 }

@@ -2,20 +2,26 @@ use crate::cluster::Cluster;
 use crate::fault::Fault;
 use crate::stopwatch::Stopwatch;
 use hash_ring::{Ring, hash_text};
+use std::alloc::Global;
 use std::time::Instant;
 
 const OWNERS: u64 = 2_000_000;
 
 const TEXTS: u64 = 1_000_000;
 
-/// Looks up the owners of hashes drawn at random.
-pub(crate) fn measure_owner(rt: &HostRuntime, cluster: &Cluster) -> Result<(), Fault> {
-    let ring = cluster.ring()?;
+/// Looks up the owners of hashes drawn at random, in the ring of so many silos.
+pub(crate) fn measure_owner(rt: &HostRuntime, silos: usize) -> Result<(), Fault> {
+    let ring = ring_of(rt.alloc(), silos)?;
     let mut stopwatch = Stopwatch::new();
     let start = Instant::now(rt)?;
     let sum = sum_of_owners(&ring);
-    stopwatch.note(rt, &start, sum)?;
+    stopwatch.note(rt, start, sum)?;
     stopwatch.report(rt, "owner_tenths", ring.points().len(), OWNERS, 10)
+}
+
+fn ring_of(alloc: Global, silos: usize) -> Result<Ring, Fault> {
+    let cluster = Cluster::of(alloc, silos)?;
+    cluster.ring()
 }
 
 // The sum of the places of the owners' points.
@@ -37,7 +43,7 @@ pub(crate) fn measure_hash_text(rt: &HostRuntime) -> Result<(), Fault> {
     let mut stopwatch = Stopwatch::new();
     let start = Instant::now(rt)?;
     let sum = sum_of_hashes();
-    stopwatch.note(rt, &start, sum)?;
+    stopwatch.note(rt, start, sum)?;
     stopwatch.report(rt, "hash_text", 0, TEXTS, 1)
 }
 

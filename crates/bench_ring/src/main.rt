@@ -10,7 +10,6 @@ mod lookups;
 mod rings;
 mod stopwatch;
 
-use cluster::Cluster;
 use fault::Fault;
 use std::env;
 
@@ -23,11 +22,8 @@ fn main(rt: HostRuntime) -> Result<(), Fault> {
 
 fn measure(rt: &HostRuntime) -> Result<(), Fault> {
     for silos in [1, 4, 16, 64, 256] {
-        let cluster = Cluster::of(rt.alloc(), silos)?;
-        lookups::measure_owner(rt, &cluster)?;
+        lookups::measure_owner(rt, silos)?;
     }
     lookups::measure_hash_text(rt)?;
-    rings::measure_anew(rt)?;
-    rings::measure_advance(rt)?;
-    rings::measure_arcs(rt)
+    rings::measure(rt)
 }

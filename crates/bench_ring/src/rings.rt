@@ -1,8 +1,11 @@
-use crate::cluster::{Cluster, silo};
+ghost use Rattle.hash_ring.specs.Ring.{IsRingBy};
+
+use crate::cluster::Cluster;
 use crate::fault::Fault;
 use crate::stopwatch::Stopwatch;
 use hash_ring::Ring;
 use range_moves::arcs;
+use std::alloc::Global;
 use std::time::Instant;
 
 const SILOS: usize = 256;
@@ -12,63 +15,79 @@ const ROUNDS: u64 = 100;
 // The silo that dies.
 const GONE: u8 = 100;
 
-/// Makes the ring of 256 silos.
-pub(crate) fn measure_anew(rt: &HostRuntime) -> Result<(), Fault> {
-    let cluster = Cluster::of(rt.alloc(), SILOS)?;
+/// Makes the ring of 256 silos, brings it to the view in which one of them is dead, and walks round both rings.
+pub(crate) fn measure(rt: &HostRuntime) -> Result<(), Fault> {
+    let mut cluster = Cluster::of(rt.alloc(), SILOS)?;
+    measure_anew(rt, &cluster)?;
+    let full = cluster.ring()?;
+    cluster.lose(GONE)?;
+    measure_loss(rt, &cluster, &full)
+}
+
+// Brings the full ring to the current view, and walks round it and the ring of that view.
+fn measure_loss(rt: &HostRuntime, cluster: &Cluster, full: &Ring) -> Result<(), Fault>
+    requires { IsRingBy full.now cluster.now.places }
+{
+    measure_advance(rt, cluster, full)?;
+    let fewer = cluster.ring()?;
+    measure_arcs(rt, full, &fewer)
+}
+
+fn measure_anew(rt: &HostRuntime, cluster: &Cluster) -> Result<(), Fault> {
     let view = cluster.view()?;
-    let points = cluster.ring()?.points().len();
-    let mut stopwatch = Stopwatch::new();
+    let (mut stopwatch, mut points) = (Stopwatch::new(), 0);
     for _ in 0..ROUNDS {
         let start = Instant::now(rt)?;
         let ring = Ring::anew(rt.alloc(), &view, &cluster.places)?;
-        stopwatch.note(rt, &start, place_of(&ring)?)?;
+        stopwatch.note(rt, start, place_of(&ring))?;
+        points = ring.points().len();
     }
     stopwatch.report(rt, "anew", points, ROUNDS, 1)
 }
 
-/// Brings the ring of 256 silos to the view in which one of them is dead.
-pub(crate) fn measure_advance(rt: &HostRuntime) -> Result<(), Fault> {
-    let mut cluster = Cluster::of(rt.alloc(), SILOS)?;
-    let full = cluster.ring()?;
-    cluster.views.declare_dead(&silo(rt.alloc(), GONE)?)?;
+fn measure_advance(rt: &HostRuntime, cluster: &Cluster, full: &Ring) -> Result<(), Fault>
+    requires { IsRingBy full.now cluster.now.places }
+{
     let view = cluster.view()?;
     let mut stopwatch = Stopwatch::new();
     for _ in 0..ROUNDS {
         let mut ring = full.copy()?;
         let start = Instant::now(rt)?;
         ring.advance(&view, &cluster.places)?;
-        stopwatch.note(rt, &start, place_of(&ring)?)?;
+        stopwatch.note(rt, start, place_of(&ring))?;
     }
     stopwatch.report(rt, "advance", full.points().len(), ROUNDS, 1)
 }
 
 // The place of some point: a sample of a ring.
-fn place_of(ring: &Ring) -> Result<u64, Fault> {
-    let point = ring.points().get(77).ok_or(Fault::Missing)?;
-    Ok(u64::from(point.place))
+fn place_of(ring: &Ring) -> u64 {
+    match ring.points().get(77) {
+        Some(point) => u64::from(point.place),
+        None => 0,
+    }
 }
 
-/// Walks round the rings of 256 silos and of 255.
-pub(crate) fn measure_arcs(rt: &HostRuntime) -> Result<(), Fault> {
-    let mut cluster = Cluster::of(rt.alloc(), SILOS)?;
-    let full = cluster.ring()?;
-    cluster.views.declare_dead(&silo(rt.alloc(), GONE)?)?;
-    let fewer = cluster.ring()?;
+fn measure_arcs(rt: &HostRuntime, full: &Ring, fewer: &Ring) -> Result<(), Fault> {
     let mut stopwatch = Stopwatch::new();
     for _ in 0..ROUNDS {
         let start = Instant::now(rt)?;
-        let arcs = arcs(rt.alloc(), &full, &fewer)?;
-        let first = arcs.first().ok_or(Fault::Missing)?;
-        let moved = arcs
-            .iter()
-            .filter(|arc| arc.from != arc.to)
-            .map(|arc| arc.range.size())
-            .fold(0u64, u64::wrapping_add);
-        stopwatch.note(
-            rt,
-            &start,
-            moved.wrapping_add(u64::from(first.range.start())),
-        )?;
+        let sum = sum_of_arcs(rt.alloc(), full, fewer)?;
+        stopwatch.note(rt, start, sum)?;
     }
     stopwatch.report(rt, "arcs", full.points().len(), ROUNDS, 1)
+}
+
+// How many hashes change hands, and where the first arc begins.
+fn sum_of_arcs(alloc: Global, full: &Ring, fewer: &Ring) -> Result<u64, Fault> {
+    let arcs = arcs(alloc, full, fewer)?;
+    let mut sum = match arcs.first() {
+        Some(first) => u64::from(first.range.start()),
+        None => 0,
+    };
+    for arc in &arcs {
+        if arc.from != arc.to {
+            sum = sum.wrapping_add(arc.range.size());
+        }
+    }
+    Ok(sum)
 }

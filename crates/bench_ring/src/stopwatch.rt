@@ -2,7 +2,7 @@ use crate::fault::Fault;
 use std::time::{Duration, Instant};
 
 /// Time that calls took, and a sum of their answers.
-#[derive(Drop)]
+#[derive(Clone, Copy)]
 pub(crate) struct Stopwatch {
     spent: u128,
     sum: u64,
@@ -18,7 +18,7 @@ impl Stopwatch {
     pub(crate) fn note(
         &mut self,
         rt: &HostRuntime,
-        since: &Instant,
+        since: Instant,
         answer: u64,
     ) -> Result<(), Fault> {
         let elapsed: Duration = since.elapsed(rt)?;
