@@ -5,34 +5,81 @@ use seal_snapshot::GatheringError;
 use silo_address::{Entry, GrainError, SiloError};
 use std::alloc::{AllocError, AllocFailed};
 use std::io;
-use thiserror::Error;
 
 /// Why nothing could be measured.
-#[derive(Debug, Drop, Error)]
+#[derive(Clone, Copy, Debug)]
 pub(crate) enum Fault {
-    #[error("no clock, no words or nowhere to print")]
-    System(#[from] io::Error),
-    #[error("out of memory")]
-    Memory(#[from] AllocError),
-    #[error("{0}")]
-    Silo(#[from] SiloError),
-    #[error("{0}")]
-    Grain(#[from] GrainError),
-    #[error("{0}")]
-    Membership(#[from] ViewsError),
-    #[error("{0}")]
-    Ring(#[from] RingError),
-    #[error("{0}")]
-    Cache(#[from] CacheError),
-    #[error("{0}")]
-    Page(#[from] GatheringError),
-    #[error("settings, a view, a piece, a snapshot or a page are missing")]
+    /// There is no clock, there are no words or there is nowhere to print.
+    System,
+    /// Out of memory.
+    Memory,
+    /// A text is no silo.
+    Silo,
+    /// A text is no grain.
+    Grain,
+    /// A silo can't join.
+    Membership,
+    /// There is no ring.
+    Ring,
+    /// There is no cache, or it can't learn a hint.
+    Cache,
+    /// A page was refused.
+    Page,
+    /// Settings, a view, a piece, a snapshot or a page are missing.
     Missing,
+}
+
+impl From<io::Error> for Fault {
+    fn from(_: io::Error) -> Fault {
+        Fault::System
+    }
+}
+
+impl From<AllocError> for Fault {
+    fn from(_: AllocError) -> Fault {
+        Fault::Memory
+    }
 }
 
 // A list of entries that could not grow.
 impl From<AllocFailed<Entry>> for Fault {
-    fn from(failed: AllocFailed<Entry>) -> Fault {
-        Fault::Memory(AllocError::from(failed))
+    fn from(_: AllocFailed<Entry>) -> Fault {
+        Fault::Memory
+    }
+}
+
+impl From<SiloError> for Fault {
+    fn from(_: SiloError) -> Fault {
+        Fault::Silo
+    }
+}
+
+impl From<GrainError> for Fault {
+    fn from(_: GrainError) -> Fault {
+        Fault::Grain
+    }
+}
+
+impl From<ViewsError> for Fault {
+    fn from(_: ViewsError) -> Fault {
+        Fault::Membership
+    }
+}
+
+impl From<RingError> for Fault {
+    fn from(_: RingError) -> Fault {
+        Fault::Ring
+    }
+}
+
+impl From<CacheError> for Fault {
+    fn from(_: CacheError) -> Fault {
+        Fault::Cache
+    }
+}
+
+impl From<GatheringError> for Fault {
+    fn from(_: GatheringError) -> Fault {
+        Fault::Page
     }
 }

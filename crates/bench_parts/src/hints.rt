@@ -1,4 +1,4 @@
-use crate::entries::{COUNT, entries, shuffled, silo};
+use crate::entries::{COUNT, entry, first_silo, shuffled_entries};
 use crate::fault::Fault;
 use crate::stopwatch::Stopwatch;
 use lookup_cache::Cache;
@@ -8,23 +8,30 @@ use std::time::Instant;
 
 /// Looks up grains with a hint and grains without one, and learns hints in place of the least recent.
 pub(crate) fn measure(rt: &HostRuntime) -> Result<(), Fault> {
-    let alloc = rt.alloc();
-    let silo = silo(alloc, 1)?;
-    let known = shuffled(alloc, &entries(alloc, silo, 0)?)?;
-    let unknown = shuffled(alloc, &entries(alloc, silo, COUNT)?)?;
-    let mut cache = full(alloc, &entries(alloc, silo, 0)?)?;
-    measure_finds(rt, "cache_hit", &mut cache, &known)?;
-    measure_finds(rt, "cache_miss", &mut cache, &unknown)?;
-    measure_learning(rt, &mut cache, &unknown)
+    let mut cache = full_cache(rt.alloc())?;
+    measure_known(rt, &mut cache)?;
+    measure_unknown(rt, &mut cache)
 }
 
 // A cache full of hints.
-fn full(alloc: Global, entries: &[Entry]) -> Result<Cache, Fault> {
+fn full_cache(alloc: Global) -> Result<Cache, Fault> {
+    let silo = first_silo()?;
     let mut cache = Cache::new(alloc, COUNT as usize)?;
-    for entry in entries {
-        cache.learn(*entry)?;
+    for number in 0..COUNT {
+        cache.learn(entry(alloc, silo, number)?)?;
     }
     Ok(cache)
+}
+
+fn measure_known(rt: &HostRuntime, cache: &mut Cache) -> Result<(), Fault> {
+    let known = shuffled_entries(rt.alloc(), 0)?;
+    measure_finds(rt, "cache_hit", cache, &known)
+}
+
+fn measure_unknown(rt: &HostRuntime, cache: &mut Cache) -> Result<(), Fault> {
+    let unknown = shuffled_entries(rt.alloc(), COUNT)?;
+    measure_finds(rt, "cache_miss", cache, &unknown)?;
+    measure_learning(rt, cache, &unknown)
 }
 
 fn measure_finds(
@@ -41,7 +48,7 @@ fn measure_finds(
             sum = sum.wrapping_add(activation.count);
         }
     }
-    stopwatch.note(rt, &start, sum)?;
+    stopwatch.note(rt, start, sum)?;
     stopwatch.report(rt, name, COUNT)
 }
 
@@ -51,6 +58,6 @@ fn measure_learning(rt: &HostRuntime, cache: &mut Cache, entries: &[Entry]) -> R
     for entry in entries {
         cache.learn(*entry)?;
     }
-    stopwatch.note(rt, &start, cache.len() as u64)?;
+    stopwatch.note(rt, start, cache.len() as u64)?;
     stopwatch.report(rt, "cache_learn", COUNT)
 }

@@ -1,4 +1,4 @@
-use crate::entries::{entries, shuffled, silo};
+use crate::entries::{first_silo, shuffled_entries};
 use crate::fault::Fault;
 use crate::stopwatch::Stopwatch;
 use directory_rules::Settings;
@@ -22,16 +22,20 @@ const REPORTED: u64 = 6_553_600;
 
 /// Ends activations and starts them anew, and reports those of a range.
 pub(crate) fn measure(rt: &HostRuntime) -> Result<(), Fault> {
-    let alloc = rt.alloc();
-    let silo = silo(alloc, 1)?;
-    let entries = shuffled(alloc, &entries(alloc, silo, 0)?)?;
-    let settings = Settings::of_directory(Hashing::Stated, 1, 0).ok_or(Fault::Missing)?;
-    let mut host = Host::new(alloc, silo, &settings);
-    for entry in &entries {
-        start(&mut host, entry.grain)?;
-    }
+    let entries = shuffled_entries(rt.alloc(), 0)?;
+    let mut host = full_host(rt.alloc(), &entries)?;
     measure_ends(rt, &mut host, &entries)?;
     measure_report(rt, &host)
+}
+
+// A host on which all of the grains have firm activations.
+fn full_host(alloc: Global, entries: &[Entry]) -> Result<Host, Fault> {
+    let settings = Settings::of_directory(Hashing::Stated, 1, 0).ok_or(Fault::Missing)?;
+    let mut host = Host::new(alloc, first_silo()?, &settings);
+    for entry in entries {
+        start(&mut host, entry.grain)?;
+    }
+    Ok(host)
 }
 
 // An activation begins, and is firm.
@@ -53,7 +57,7 @@ fn measure_ends(rt: &HostRuntime, host: &mut Host, entries: &[Entry]) -> Result<
         start(host, entry.grain)?;
     }
     let sum = host.next_count().wrapping_add(host.held_count() as u64);
-    stopwatch.note(rt, &begin, sum)?;
+    stopwatch.note(rt, begin, sum)?;
     stopwatch.report(rt, "end_and_start", ENDS)
 }
 
@@ -63,7 +67,7 @@ fn measure_report(rt: &HostRuntime, host: &Host) -> Result<(), Fault> {
     for _ in 0..REPORTS {
         let begin = Instant::now(rt)?;
         let sum = sum_of_report(rt.alloc(), host, &range)?;
-        stopwatch.note(rt, &begin, sum)?;
+        stopwatch.note(rt, begin, sum)?;
     }
     stopwatch.report(rt, "report", REPORTS)
 }

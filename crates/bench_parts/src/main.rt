@@ -17,9 +17,14 @@ use fault::Fault;
 use std::env;
 
 fn main(rt: HostRuntime) -> Result<(), Fault> {
-    match env::args(&rt)?.nth(1) {
-        Some(word) if word.as_str() == "measure" => measure(&rt),
-        _ => Ok(()),
+    if is_asked(&rt)? { measure(&rt) } else { Ok(()) }
+}
+
+// Whether the first word is `measure`.
+fn is_asked(rt: &HostRuntime) -> Result<bool, Fault> {
+    match env::args(rt)?.nth(1) {
+        Some(word) => Ok(word.as_str() == "measure"),
+        None => Ok(false),
     }
 }
 

@@ -1,13 +1,11 @@
 ghost use Rattle.grain_partition.specs.Sight.{AreOfRings};
 
-use crate::cluster::Cluster;
-use crate::entries::{entries, silo, table};
+use crate::cluster::Owner;
 use crate::fault::Fault;
 use crate::stopwatch::Stopwatch;
-use grain_partition::{ArcsBySilo, Holding};
+use grain_partition::Holding;
 use hash_ring::Hashing;
-use membership_view::View;
-use silo_address::SiloAddress;
+use std::alloc::Global;
 use std::time::Instant;
 
 const ROUNDS: u64 = 5;
@@ -23,15 +21,8 @@ const CUT: u32 = 1_073_741_820;
 
 /// A silo with thirty pieces sees that another one joins, all of whose points are in one of them.
 pub(crate) fn measure(rt: &HostRuntime) -> Result<(), Fault> {
-    let alloc = rt.alloc();
-    let (silo, other) = (silo(alloc, 1)?, silo(alloc, 2)?);
-    let (wide, narrow) = (points(0, STEP), points(CUT, 1));
-    let silos = [(silo, wide.as_slice()), (other, narrow.as_slice())];
-    let cluster = Cluster::of(alloc, &silos)?;
-    let all = table(alloc, &entries(alloc, silo, 0)?)?;
-    let holding = cluster.first_pieces(&silo, &all)?;
-    let (view, arcs) = (cluster.view(2)?, cluster.arcs(1, 2)?);
-    measure_sight(rt, &holding, &view, &silo, &arcs)
+    let owner = Owner::of(rt.alloc(), &points(0, STEP), &points(CUT, 1))?;
+    measure_sight(rt, &owner)
 }
 
 // Points from a first one on, so far from one another.
@@ -43,23 +34,24 @@ fn points(first: u32, step: u32) -> [u32; POINTS] {
     points
 }
 
-fn measure_sight(
-    rt: &HostRuntime,
-    holding: &Holding,
-    view: &View,
-    silo: &SiloAddress,
-    arcs: &ArcsBySilo,
-) -> Result<(), Fault>
-    requires { AreOfRings arcs.now }
+fn measure_sight(rt: &HostRuntime, owner: &Owner) -> Result<(), Fault>
+    requires { AreOfRings owner.now.arcs }
 {
     let mut stopwatch = Stopwatch::new();
     for _ in 0..ROUNDS {
-        let mut seen = holding.copy()?;
+        let mut seen = owner.holding.copy()?;
         let start = Instant::now(rt)?;
-        seen.sight(rt.alloc(), true, Hashing::Stated, view, silo, arcs)?;
-        stopwatch.note(rt, &start, sum_of(&seen))?;
+        see(rt.alloc(), &mut seen, owner)?;
+        stopwatch.note(rt, start, sum_of(&seen))?;
     }
     stopwatch.report(rt, "sight", ROUNDS)
+}
+
+fn see(alloc: Global, seen: &mut Holding, owner: &Owner) -> Result<(), Fault>
+    requires { AreOfRings owner.now.arcs }
+{
+    let (view, silo, arcs) = (&owner.view, &owner.silo, &owner.arcs);
+    Ok(seen.sight(alloc, true, Hashing::Stated, view, silo, arcs)?)
 }
 
 // How many pieces there are, and how many entries they have.

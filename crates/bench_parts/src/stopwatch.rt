@@ -1,8 +1,8 @@
 use crate::fault::Fault;
-use std::time::{Duration, Instant};
+use std::time::Instant;
 
 /// Time that calls took, and a sum of their answers.
-#[derive(Drop)]
+#[derive(Clone, Copy)]
 pub(crate) struct Stopwatch {
     spent: u128,
     sum: u64,
@@ -15,14 +15,9 @@ impl Stopwatch {
     }
 
     /// Notes what was spent on calls since a moment, and the sum of their answers.
-    pub(crate) fn note(
-        &mut self,
-        rt: &HostRuntime,
-        since: &Instant,
-        sum: u64,
-    ) -> Result<(), Fault> {
-        let elapsed: Duration = since.elapsed(rt)?;
-        self.spent = self.spent.wrapping_add(elapsed.as_nanos());
+    pub(crate) fn note(&mut self, rt: &HostRuntime, since: Instant, sum: u64) -> Result<(), Fault> {
+        let nanoseconds = since.elapsed(rt)?.as_nanos();
+        self.spent = self.spent.wrapping_add(nanoseconds);
         self.sum = self.sum.wrapping_add(sum);
         Ok(())
     }
