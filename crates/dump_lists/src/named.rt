@@ -1,11 +1,13 @@
 //! Names, ranges and words, read from the texts that a dump has for them (`docs/RULES.md#the-dump-and-the-verdict`). Each has one
 //! spelling; another text is refused by `NotADump`.
 
+ghost use Rattle.std.specs.Prelude.{◌≢◌, Err};
 ghost use Rattle.std.specs.Cow.{cow_slice_items};
 ghost use Rattle.serde_json.specs.Data.{string};
 ghost use Rattle.dump_rules.specs.DumpIn.{hashing_in, phase_in, state_in};
 ghost use Rattle.dump_rules.specs.Values.{activation_in, from_in, grain_in, range_in, silo_in};
 ghost use Rattle.dump_lists.specs.DumpModel.{phase_of, state_of};
+ghost use Rattle.dump_lists.specs.declared.error.ReadError.TheVariants.{OutOfMemory};
 ghost use Rattle.dump_lists.specs.Reading.{IsReading, IsReadingBy};
 
 use crate::{Phase, ReadError, State};
@@ -17,7 +19,8 @@ use std::borrow::CowSlice;
 
 /// Reads a silo, as `SiloAddress::parse` does. Refused by `NotADump` where the text is no silo.
 pub fn silo(text: &[u8]) -> Result<SiloAddress, ReadError>
-    ensures { IsReading result (silo_in (string text.now)) }
+    ensures read { IsReading result (silo_in (string text.now)) }
+    ensures needs_no_memory { result ≢ Err OutOfMemory }
 {
     match SiloAddress::parse(text) {
         Ok(silo) => Ok(silo),
@@ -27,7 +30,8 @@ pub fn silo(text: &[u8]) -> Result<SiloAddress, ReadError>
 
 /// Reads a grain, and keeps the text as its name, as `LentGrain::parse` does. Refused by `NotADump` where the text is no grain.
 pub fn grain(text: CowSlice<'_, u8>) -> Result<LentGrain<'_>, ReadError>
-    ensures { IsReading result (grain_in (string (cow_slice_items text.entry))) }
+    ensures read { IsReading result (grain_in (string (cow_slice_items text.entry))) }
+    ensures needs_no_memory { result ≢ Err OutOfMemory }
 {
     match LentGrain::parse(text) {
         Ok(grain) => Ok(grain),
@@ -37,7 +41,8 @@ pub fn grain(text: CowSlice<'_, u8>) -> Result<LentGrain<'_>, ReadError>
 
 /// Reads an activation, as `ActivationId::parse` does. Refused by `NotADump` where the text is no activation.
 pub fn activation(text: &[u8]) -> Result<ActivationId, ReadError>
-    ensures { IsReading result (activation_in (string text.now)) }
+    ensures read { IsReading result (activation_in (string text.now)) }
+    ensures needs_no_memory { result ≢ Err OutOfMemory }
 {
     match ActivationId::parse(text) {
         Ok(activation) => Ok(activation),
@@ -48,7 +53,8 @@ pub fn activation(text: &[u8]) -> Result<ActivationId, ReadError>
 /// Reads a range `START+SIZE` of the circle of 2^32 hashes, as `RingRange::parse` does. Refused by `NotADump` where the text is no
 /// range.
 pub fn range(text: &[u8]) -> Result<RingRange, ReadError>
-    ensures { IsReading result (range_in (string text.now)) }
+    ensures read { IsReading result (range_in (string text.now)) }
+    ensures needs_no_memory { result ≢ Err OutOfMemory }
 {
     match RingRange::parse(text) {
         Ok(range) => Ok(range),
@@ -59,7 +65,8 @@ pub fn range(text: &[u8]) -> Result<RingRange, ReadError>
 /// Reads the silo from which a piece awaits its entries: the empty text for none. Refused by `NotADump` where another text is no
 /// silo.
 pub fn from(text: &[u8]) -> Result<Option<SiloAddress>, ReadError>
-    ensures { IsReading result (from_in (string text.now)) }
+    ensures read { IsReading result (from_in (string text.now)) }
+    ensures needs_no_memory { result ≢ Err OutOfMemory }
 {
     if text.is_empty() {
         return Ok(None);
@@ -72,7 +79,8 @@ pub fn from(text: &[u8]) -> Result<Option<SiloAddress>, ReadError>
 
 /// Reads how the cluster hashes: `sha256` or `stated`. Refused by `NotADump` where the text is another word.
 pub fn hashing(text: &[u8]) -> Result<Hashing, ReadError>
-    ensures { IsReading result (hashing_in (string text.now)) }
+    ensures read { IsReading result (hashing_in (string text.now)) }
+    ensures needs_no_memory { result ≢ Err OutOfMemory }
 {
     if text == b"sha256".as_slice() {
         return Ok(Hashing::Sha256);
@@ -85,7 +93,8 @@ pub fn hashing(text: &[u8]) -> Result<Hashing, ReadError>
 
 /// Reads the phase of an activation: `asking`, `firm` or `closing`. Refused by `NotADump` where the text is another word.
 pub fn phase(text: &[u8]) -> Result<Phase, ReadError>
-    ensures { IsReadingBy phase_of result (phase_in (string text.now)) }
+    ensures read { IsReadingBy phase_of result (phase_in (string text.now)) }
+    ensures needs_no_memory { result ≢ Err OutOfMemory }
 {
     if text == b"asking".as_slice() {
         return Ok(Phase::Asking);
@@ -101,7 +110,8 @@ pub fn phase(text: &[u8]) -> Result<Phase, ReadError>
 
 /// Reads the state of a piece: `settled`, `awaiting` or `recovering`. Refused by `NotADump` where the text is another word.
 pub fn state(text: &[u8]) -> Result<State, ReadError>
-    ensures { IsReadingBy state_of result (state_in (string text.now)) }
+    ensures read { IsReadingBy state_of result (state_in (string text.now)) }
+    ensures needs_no_memory { result ≢ Err OutOfMemory }
 {
     if text == b"settled".as_slice() {
         return Ok(State::Settled);
