@@ -142,67 +142,122 @@ pub(crate) fn does(
     first.letters
 }
 
-// The letter comes to the node; what it answers.
+// The one letter that was sent.
+fn only(rt: &impl Abort, letters: Vec<Letter>) -> Letter {
+    let mut letters = letters;
+    assert!(rt; letters.len() == 1);
+    letters.pop().expect(rt, "a letter")
+}
+
+// The node sees the version, by which it sends one letter.
+pub(crate) fn sees_one(
+    rt: &impl Abort,
+    alloc: Global,
+    node: &mut Node,
+    version: u64,
+    effect: Effect,
+) -> Letter
+    requires { 1 ≤ version }
+{
+    only(rt, sees(rt, alloc, node, version, effect))
+}
+
+// The letter comes to the node; the one that it sends.
+pub(crate) fn sends(
+    rt: &impl Abort,
+    alloc: Global,
+    node: &mut Node,
+    letter: &Letter,
+    effect: Effect,
+) -> Letter {
+    only(rt, does(rt, alloc, node, &Input::Receives(letter), effect))
+}
+
+// The letter comes to the node, which sends none.
 pub(crate) fn takes(
     rt: &impl Abort,
     alloc: Global,
     node: &mut Node,
     letter: &Letter,
     effect: Effect,
-) -> Vec<Letter> {
-    does(rt, alloc, node, &Input::Receives(letter), effect)
+) {
+    let sent = does(rt, alloc, node, &Input::Receives(letter), effect);
+    assert!(rt; sent.is_empty());
 }
 
-// The one letter that was sent.
-pub(crate) fn only(rt: &impl Abort, letters: Vec<Letter>) -> Letter {
-    let mut letters = letters;
-    assert!(rt; letters.len() == 1);
-    letters.pop().expect(rt, "a letter")
+// The node takes a step, by which it sends one letter.
+pub(crate) fn does_one(
+    rt: &impl Abort,
+    alloc: Global,
+    node: &mut Node,
+    input: &Input<'_>,
+    effect: Effect,
+) -> Letter
+    requires { IsPlaced node.old (input_of input.now) }
+{
+    only(rt, does(rt, alloc, node, input, effect))
+}
+
+// The node takes a step, by which it sends no letter.
+fn does_alone(rt: &impl Abort, alloc: Global, node: &mut Node, input: &Input<'_>, effect: Effect)
+    requires { IsPlaced node.old (input_of input.now) }
+{
+    let sent = does(rt, alloc, node, input, effect);
+    assert!(rt; sent.is_empty());
+}
+
+// The moved grain's first activation on the silo.
+pub(crate) fn entry_on(rt: &impl Abort, silo: SiloAddress) -> Entry {
+    Entry {
+        grain: moved(rt),
+        activation: ActivationId { silo, count: 1 },
+    }
 }
 
 // The first silo has the whole circle at version 1, and the moved grain is active on it.
 pub(crate) fn settled(rt: &impl Abort, alloc: Global) -> Node {
     let mut node = joined(rt, alloc, first(rt));
-    let query = only(rt, sees(rt, alloc, &mut node, 1, Effect::Next));
-    let report = only(rt, takes(rt, alloc, &mut node, &query, Effect::Report));
-    let letters = takes(rt, alloc, &mut node, &report, Effect::Complete);
-    assert!(rt; letters.is_empty());
+    let query = sees_one(rt, alloc, &mut node, 1, Effect::Next);
+    let report = sends(rt, alloc, &mut node, &query, Effect::Report);
+    takes(rt, alloc, &mut node, &report, Effect::Complete);
     start(rt, alloc, &mut node);
     node
 }
 
 // The moved grain's activation starts on the node, and is entered there.
 fn start(rt: &impl Abort, alloc: Global, node: &mut Node) {
-    let grain = moved(rt);
-    let entry = Entry {
-        grain,
-        activation: ActivationId {
-            silo: first(rt),
-            count: 1,
-        },
-    };
-    let woken = does(
-        rt,
-        alloc,
-        node,
-        &Input::Wakes(&grain),
-        Effect::Started(entry),
-    );
-    let register = only(rt, woken);
-    let registered = only(rt, takes(rt, alloc, node, &register, Effect::Registered));
-    let letters = takes(rt, alloc, node, &registered, Effect::Firm);
-    assert!(rt; letters.is_empty());
+    let started = Effect::Started(entry_on(rt, first(rt)));
+    let register = does_one(rt, alloc, node, &Input::Wakes(&moved(rt)), started);
+    let registered = sends(rt, alloc, node, &register, Effect::Registered);
+    takes(rt, alloc, node, &registered, Effect::Firm);
 }
 
-// Both have seen version 2: the first silo has sealed what the second one, which asks for it, has now.
-pub(crate) fn handing(rt: &impl Abort, alloc: Global) -> (Node, Node, Letter) {
-    let mut old = settled(rt, alloc);
-    let letters = sees(rt, alloc, &mut old, 2, Effect::Next);
-    assert!(rt; letters.is_empty());
-    assert!(rt; old.shelf().snapshots().len() == 1);
-    let mut new = joined(rt, alloc, second(rt));
-    let ask = only(rt, sees(rt, alloc, &mut new, 2, Effect::Next));
-    (old, new, ask)
+// The first silo has seen version 2, and sealed what the second one has now.
+fn sealed(rt: &impl Abort, alloc: Global) -> Node {
+    let mut node = settled(rt, alloc);
+    let letters = sees(rt, alloc, &mut node, 2, Effect::Next);
+    assert!(rt; letters.is_empty() && node.shelf().snapshots().len() == 1);
+    node
+}
+
+// The second silo, which has seen nothing.
+fn joining(rt: &impl Abort, alloc: Global) -> Node {
+    joined(rt, alloc, second(rt))
+}
+
+// It sees version 2, by which it asks the first one; the page that comes.
+fn page_for(rt: &impl Abort, alloc: Global, old: &mut Node, new: &mut Node) -> Letter {
+    let ask = sees_one(rt, alloc, new, 2, Effect::Next);
+    sends(rt, alloc, old, &ask, Effect::Page)
+}
+
+// Both, when the first one has handed over.
+pub(crate) fn handed(rt: &impl Abort, alloc: Global) -> (Node, Node) {
+    let mut old = sealed(rt, alloc);
+    let mut new = joining(rt, alloc);
+    let page = page_for(rt, alloc, &mut old, &mut new);
+    hand_over(rt, alloc, &mut old, &mut new, &page);
+    (old, new)
 }
 
 // The range that is handed over.
@@ -210,36 +265,36 @@ fn range(rt: &impl Abort) -> RingRange {
     RingRange::new(2_000_000_000, 2_294_967_306).expect(rt, "a range")
 }
 
-#[test]
-fn a_range_is_handed_over(rt: HostRuntime) {
-    let alloc = rt.alloc();
-    let (mut old, mut new, ask) = handing(&rt, alloc);
-    let page = only(&rt, takes(&rt, alloc, &mut old, &ask, Effect::Page));
-    let done = only(&rt, takes(&rt, alloc, &mut new, &page, Effect::Installed));
-    let letters = takes(&rt, alloc, &mut old, &done, Effect::Deleted);
-    assert!(rt; letters.is_empty() && old.shelf().snapshots().is_empty());
-    assert!(rt; new.holding().is_settled_throughout(&range(&rt)));
-    assert!(rt; new.gatherings().is_empty());
-    again(&rt, alloc, &mut old, &mut new, &ask, &page, &done);
+// Whether nothing of the range is on the way any more.
+fn is_handed_over(old: &Node, new: &Node, range: &RingRange) -> bool {
+    old.shelf().snapshots().is_empty()
+        && new.holding().is_settled_throughout(range)
+        && new.gatherings().is_empty()
 }
 
-// Each letter comes once more: nothing of it counts, and the snapshot is gone.
-fn again(
-    rt: &impl Abort,
-    alloc: Global,
-    old: &mut Node,
-    new: &mut Node,
-    ask: &Letter,
-    page: &Letter,
-    done: &Letter,
-) {
-    let ignored = takes(rt, alloc, new, page, Effect::Ignored);
-    assert!(rt; ignored.is_empty());
-    let ignored = takes(rt, alloc, old, done, Effect::Ignored);
-    assert!(rt; ignored.is_empty());
-    let missing = only(rt, takes(rt, alloc, old, ask, Effect::Missing));
-    let ignored = takes(rt, alloc, new, &missing, Effect::Ignored);
-    assert!(rt; ignored.is_empty());
+// Each letter comes twice. The second time nothing of it counts, and the snapshot is gone.
+#[test]
+fn a_range_is_handed_over(rt: HostRuntime) {
+    let mut old = sealed(&rt, rt.alloc());
+    let mut new = joining(&rt, rt.alloc());
+    let ask = sees_one(&rt, rt.alloc(), &mut new, 2, Effect::Next);
+    ask_twice(&rt, rt.alloc(), &mut old, &mut new, &ask);
+}
+
+fn ask_twice(rt: &impl Abort, alloc: Global, old: &mut Node, new: &mut Node, ask: &Letter) {
+    let page = sends(rt, alloc, old, ask, Effect::Page);
+    hand_over(rt, alloc, old, new, &page);
+    assert!(rt; is_handed_over(old, new, &range(rt)));
+    takes(rt, alloc, new, &page, Effect::Ignored);
+    let missing = sends(rt, alloc, old, ask, Effect::Missing);
+    takes(rt, alloc, new, &missing, Effect::Ignored);
+}
+
+// The page comes, and that it has come, which comes twice.
+fn hand_over(rt: &impl Abort, alloc: Global, old: &mut Node, new: &mut Node, page: &Letter) {
+    let done = sends(rt, alloc, new, page, Effect::Installed);
+    takes(rt, alloc, old, &done, Effect::Deleted);
+    takes(rt, alloc, old, &done, Effect::Ignored);
 }
 
 // The page that the letter hands over.
@@ -267,84 +322,117 @@ fn list_of(rt: &impl Abort, alloc: Global, entry: &Entry) -> Vec<Entry> {
 // The page's letter with one entry in place of its own, the first silo's activation of that count.
 fn changed(rt: &impl Abort, alloc: Global, letter: &Letter, grain: GrainId, count: u64) -> Letter {
     let page = page_in(letter).expect(rt, "a page");
-    let activation = ActivationId {
-        silo: first(rt),
-        count,
-    };
+    let silo = first(rt);
+    let activation = ActivationId { silo, count };
     let entries = list_of(rt, alloc, &Entry { grain, activation });
-    let page = Page::new(
-        page.version(),
-        page.range(),
-        page.page(),
-        page.pages(),
-        page.digest(),
-        entries,
-    );
-    Letter::new(
-        letter.from(),
-        letter.to(),
-        letter.version(),
-        Body::Page(page),
-    )
+    let (version, range, digest) = (page.version(), page.range(), page.digest());
+    let changed = Page::new(version, range, page.page(), page.pages(), digest, entries);
+    Letter::new(letter.from(), letter.to(), version, Body::Page(changed))
 }
 
+// The page comes with this entry in place of its own, which has that effect.
+fn take_changed(
+    rt: &impl Abort,
+    alloc: Global,
+    node: &mut Node,
+    page: &Letter,
+    grain: GrainId,
+    effect: Effect,
+) {
+    let wrong = changed(rt, alloc, page, grain, 2);
+    takes(rt, alloc, node, &wrong, effect);
+    assert!(rt; !node.holding().is_settled_throughout(&range(rt)));
+}
+
+// A page with another count is refused; its piece still waits, and is settled after a nudge.
 #[test]
 fn a_page_with_another_count_is_refused(rt: HostRuntime) {
-    let alloc = rt.alloc();
-    let (mut old, mut new, ask) = handing(&rt, alloc);
-    let page = only(&rt, takes(&rt, alloc, &mut old, &ask, Effect::Page));
-    let wrong = changed(&rt, alloc, &page, moved(&rt), 2);
-    let refused = takes(&rt, alloc, &mut new, &wrong, Effect::Refused(701));
-    assert!(rt; refused.is_empty());
-    assert!(rt; !new.holding().is_settled_throughout(&range(&rt)));
-    let ask = only(
-        &rt,
-        does(&rt, alloc, &mut new, &Input::Nudges, Effect::Nudged),
-    );
-    let page = only(&rt, takes(&rt, alloc, &mut old, &ask, Effect::Page));
-    let done = takes(&rt, alloc, &mut new, &page, Effect::Installed);
-    assert!(rt; done.len() == 1);
+    let mut old = sealed(&rt, rt.alloc());
+    let mut new = joining(&rt, rt.alloc());
+    let page = page_for(&rt, rt.alloc(), &mut old, &mut new);
+    let refused = Effect::Refused(701);
+    take_changed(&rt, rt.alloc(), &mut new, &page, moved(&rt), refused);
+    nudge(&rt, rt.alloc(), &mut old, &mut new);
+}
+
+// The second silo asks once more, and gets what the first one has sealed.
+fn nudge(rt: &impl Abort, alloc: Global, old: &mut Node, new: &mut Node) {
+    let ask = does_one(rt, alloc, new, &Input::Nudges, Effect::Nudged);
+    let page = sends(rt, alloc, old, &ask, Effect::Page);
+    hand_over(rt, alloc, old, new, &page);
+    assert!(rt; is_handed_over(old, new, &range(rt)));
+}
+
+// A grain that is hashed elsewhere.
+fn outside(rt: &impl Abort) -> GrainId {
+    GrainId::parse(b"user/ann#50").expect(rt, "a grain")
 }
 
 #[test]
 fn a_page_with_an_entry_outside_the_range(rt: HostRuntime) {
-    let alloc = rt.alloc();
-    let (mut old, mut new, ask) = handing(&rt, alloc);
-    let page = only(&rt, takes(&rt, alloc, &mut old, &ask, Effect::Page));
-    let outside = GrainId::parse(b"user/ann#50").expect(&rt, "a grain");
-    let wrong = changed(&rt, alloc, &page, outside, 1);
-    let ignored = takes(&rt, alloc, &mut new, &wrong, Effect::Ignored);
-    assert!(rt; ignored.is_empty());
+    let mut old = sealed(&rt, rt.alloc());
+    let mut new = joining(&rt, rt.alloc());
+    let page = page_for(&rt, rt.alloc(), &mut old, &mut new);
+    take_changed(
+        &rt,
+        rt.alloc(),
+        &mut new,
+        &page,
+        outside(&rt),
+        Effect::Ignored,
+    );
+}
+
+// It is told that there is no snapshot, and asks both silos for reports: the first one, and then itself.
+fn recovers(rt: &impl Abort, alloc: Global, node: &mut Node) -> Vec<Letter> {
+    sees_one(rt, alloc, node, 2, Effect::Next);
+    let missing = Letter::new(first(rt), second(rt), 2, Body::Missing(range(rt)));
+    let queries = does(
+        rt,
+        alloc,
+        node,
+        &Input::Receives(&missing),
+        Effect::Recovering,
+    );
+    assert!(rt; queries.len() == 2);
+    queries
 }
 
 #[test]
 fn a_snapshot_that_is_missing_is_recovered(rt: HostRuntime) {
-    let alloc = rt.alloc();
-    let (mut old, mut new, ask) = handing(&rt, alloc);
-    let missing = Letter::new(ask.to(), ask.from(), 2, Body::Missing(range(&rt)));
-    let queries = takes(&rt, alloc, &mut new, &missing, Effect::Recovering);
-    assert!(rt; queries.len() == 2);
-    let query = &queries[0];
-    let report = only(&rt, takes(&rt, alloc, &mut old, query, Effect::Report));
-    foreign_reports(&rt, alloc, &mut new, &report);
-    let more = takes(&rt, alloc, &mut new, &report, Effect::More);
-    assert!(rt; more.is_empty());
-    let query = &queries[1];
-    let own = only(&rt, takes(&rt, alloc, &mut new, query, Effect::Report));
-    let complete = takes(&rt, alloc, &mut new, &own, Effect::Complete);
-    assert!(rt; complete.is_empty());
-    assert!(rt; new.holding().is_settled_throughout(&range(&rt)));
+    let mut node = joining(&rt, rt.alloc());
+    let queries = recovers(&rt, rt.alloc(), &mut node);
+    let other = queries.first().expect(&rt, "a query");
+    let report = sends(
+        &rt,
+        rt.alloc(),
+        &mut sealed(&rt, rt.alloc()),
+        other,
+        Effect::Report,
+    );
+    take_foreign(&rt, rt.alloc(), &mut node, &report);
+    takes(&rt, rt.alloc(), &mut node, &report, Effect::More);
+    take_own(
+        &rt,
+        rt.alloc(),
+        &mut node,
+        queries.last().expect(&rt, "a query"),
+    );
+}
+
+// Its own report completes the recovery.
+fn take_own(rt: &impl Abort, alloc: Global, node: &mut Node, query: &Letter) {
+    let report = sends(rt, alloc, node, query, Effect::Report);
+    takes(rt, alloc, node, &report, Effect::Complete);
+    assert!(rt; node.holding().is_settled_throughout(&range(rt)));
 }
 
 // A report that tells another silo's activations, and one that has an entry outside the range: neither counts.
-fn foreign_reports(rt: &impl Abort, alloc: Global, node: &mut Node, letter: &Letter) {
-    let outside = GrainId::parse(b"user/ann#50").expect(rt, "a grain");
+fn take_foreign(rt: &impl Abort, alloc: Global, node: &mut Node, letter: &Letter) {
     let foreign = reported(rt, alloc, letter, moved(rt), second(rt));
-    let ignored = takes(rt, alloc, node, &foreign, Effect::Ignored);
-    assert!(rt; ignored.is_empty());
-    let stray = reported(rt, alloc, letter, outside, first(rt));
-    let ignored = takes(rt, alloc, node, &stray, Effect::Ignored);
-    assert!(rt; ignored.is_empty());
+    takes(rt, alloc, node, &foreign, Effect::Ignored);
+    let stray = reported(rt, alloc, letter, outside(rt), first(rt));
+    takes(rt, alloc, node, &stray, Effect::Ignored);
 }
 
 // The first silo's report with this entry alone.
@@ -363,51 +451,33 @@ fn reported(
 
 #[test]
 fn an_offer_of_a_later_version_is_ignored(rt: HostRuntime) {
-    let alloc = rt.alloc();
-    let mut node = settled(&rt, alloc);
-    let entry = Entry {
-        grain: GrainId::parse(b"user/bob#60").expect(&rt, "a grain"),
-        activation: ActivationId {
-            silo: second(&rt),
-            count: 1,
-        },
-    };
-    let offer = Letter::new(second(&rt), first(&rt), 2, Body::Offer(entry));
-    let ignored = takes(&rt, alloc, &mut node, &offer, Effect::Ignored);
-    assert!(rt; ignored.is_empty());
+    let mut node = settled(&rt, rt.alloc());
+    let (from, to) = (second(&rt), first(&rt));
+    let offer = Letter::new(from, to, 2, Body::Offer(entry_on(&rt, from)));
+    takes(&rt, rt.alloc(), &mut node, &offer, Effect::Ignored);
+}
+
+// The node asks where the moved grain is, and learns it.
+fn learns(rt: &impl Abort, alloc: Global, node: &mut Node) {
+    let grain = moved(rt);
+    let find = does_one(
+        rt,
+        alloc,
+        node,
+        &Input::Finds(&grain),
+        Effect::Finding(grain),
+    );
+    let found = sends(rt, alloc, node, &find, Effect::Found);
+    takes(rt, alloc, node, &found, Effect::Learnt);
 }
 
 #[test]
 fn a_find_is_cached(rt: HostRuntime) {
-    let alloc = rt.alloc();
-    let mut node = settled(&rt, alloc);
-    let grain = moved(&rt);
-    let find = only(
-        &rt,
-        does(
-            &rt,
-            alloc,
-            &mut node,
-            &Input::Finds(&grain),
-            Effect::Finding(grain),
-        ),
-    );
-    let found = only(&rt, takes(&rt, alloc, &mut node, &find, Effect::Found));
-    let learnt = takes(&rt, alloc, &mut node, &found, Effect::Learnt);
-    assert!(rt; learnt.is_empty() && node.cache().is_some());
-    let activation = ActivationId {
-        silo: first(&rt),
-        count: 1,
-    };
-    let cached = Effect::Cached(Entry { grain, activation });
-    let sent = does(&rt, alloc, &mut node, &Input::Finds(&grain), cached);
-    assert!(rt; sent.is_empty());
-    let sent = does(
-        &rt,
-        alloc,
-        &mut node,
-        &Input::Forgets(&grain),
-        Effect::Forgot(grain),
-    );
-    assert!(rt; sent.is_empty());
+    let (mut node, grain) = (settled(&rt, rt.alloc()), moved(&rt));
+    learns(&rt, rt.alloc(), &mut node);
+    assert!(rt; node.cache().is_some());
+    let cached = Effect::Cached(entry_on(&rt, first(&rt)));
+    does_alone(&rt, rt.alloc(), &mut node, &Input::Finds(&grain), cached);
+    let forgot = Effect::Forgot(grain);
+    does_alone(&rt, rt.alloc(), &mut node, &Input::Forgets(&grain), forgot);
 }

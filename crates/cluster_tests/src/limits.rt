@@ -60,15 +60,17 @@ fn find(rt: &impl Abort, alloc: Global, number: u32) -> Event {
     }
 }
 
+// The event is accepted.
+fn accept(rt: &impl Abort, world: &mut World, event: Event) {
+    assert!(rt; world.apply(&event).is_ok());
+}
+
 // A silo has joined, and sees it: its query is the first letter, and its range recovers.
 fn joined(rt: &impl Abort, alloc: Global) -> World {
     let mut world = empty(rt, alloc);
-    assert!(rt; world.apply(&join(rt, alloc, 0, 1)).is_ok());
-    let see = Event::See {
-        silo: silo(rt, alloc, 0),
-        version: 1,
-    };
-    assert!(rt; world.apply(&see).is_ok());
+    let silo = silo(rt, alloc, 0);
+    accept(rt, &mut world, join(rt, alloc, 0, 1));
+    accept(rt, &mut world, Event::See { silo, version: 1 });
     world
 }
 
@@ -79,85 +81,108 @@ fn happens_often(rt: &impl Abort, world: &mut World, event: &Event, times: u64) 
     }
 }
 
-// The event is refused by the refusal with that number, and neither counted nor does it send a letter.
-fn is_refused(
-    rt: &impl Abort,
+// Whether the event is refused by the refusal with that number, and neither counted nor sends a letter.
+pub(crate) fn refuses(
     world: &mut World,
     event: &Event,
     refusal: EventRefusal,
     number: u16,
-) {
+) -> bool {
     let (accepted, sent) = (world.accepted(), world.sent());
-    assert!(rt; world.apply(event) == Err(refusal));
-    assert!(rt; refusal.number() == Some(number));
-    assert!(rt; world.accepted() == accepted && world.sent() == sent);
+    world.apply(event) == Err(refusal)
+        && refusal.number() == Some(number)
+        && world.accepted() == accepted
+        && world.sent() == sent
+}
+
+fn refuse(rt: &impl Abort, world: &mut World, event: Event, refusal: EventRefusal, number: u16) {
+    assert!(rt; refuses(world, &event, refusal, number));
+}
+
+// The event is accepted until so many have been.
+fn accept_all(rt: &impl Abort, world: &mut World, event: Event) {
+    happens_often(rt, world, &event, EVENTS - 2);
+    assert!(rt; world.accepted() == EVENTS);
+    refuse(rt, world, event, EventRefusal::JournalFull, 908);
 }
 
 #[test]
 fn as_many_events_as_ever_may_be(rt: HostRuntime) {
     let mut world = joined(&rt, rt.alloc());
-    let forget = Event::Forget {
-        silo: silo(&rt, rt.alloc(), 0),
-        grain: grain(&rt, rt.alloc(), 0),
-    };
-    happens_often(&rt, &mut world, &forget, EVENTS - 2);
-    assert!(rt; world.accepted() == EVENTS);
-    is_refused(&rt, &mut world, &forget, EventRefusal::JournalFull, 908);
+    let silo = silo(&rt, rt.alloc(), 0);
+    let grain = grain(&rt, rt.alloc(), 0);
+    accept_all(&rt, &mut world, Event::Forget { silo, grain });
     let lose = Event::Lose { number: 2 };
-    is_refused(&rt, &mut world, &lose, EventRefusal::JournalFull, 908);
+    refuse(&rt, &mut world, lose, EventRefusal::JournalFull, 908);
 }
 
 // A nudge sends the query and the registration again, two letters; the first two are those themselves.
+fn send_all(rt: &impl Abort, world: &mut World, nudge: Event) {
+    happens_often(rt, world, &nudge, LETTERS / 2 - 1);
+    assert!(rt; world.sent() == LETTERS);
+    refuse(rt, world, nudge, EventRefusal::MailFull, 909);
+}
+
 #[test]
 fn as_many_letters_as_ever_may_be(rt: HostRuntime) {
     let mut world = joined(&rt, rt.alloc());
-    assert!(rt; world.apply(&wake(&rt, rt.alloc(), 0)).is_ok());
-    let nudge = Event::Nudge {
-        silo: silo(&rt, rt.alloc(), 0),
-    };
-    happens_often(&rt, &mut world, &nudge, LETTERS / 2 - 1);
-    assert!(rt; world.sent() == LETTERS);
-    is_refused(&rt, &mut world, &nudge, EventRefusal::MailFull, 909);
+    accept(&rt, &mut world, wake(&rt, rt.alloc(), 0));
+    let silo = silo(&rt, rt.alloc(), 0);
+    send_all(&rt, &mut world, Event::Nudge { silo });
 }
 
 #[test]
 fn as_many_activations_as_a_silo_holds(rt: HostRuntime) {
-    let (mut world, alloc) = (joined(&rt, rt.alloc()), rt.alloc());
+    let mut world = joined(&rt, rt.alloc());
     for number in 0..ACTIVATIONS {
-        assert!(rt; world.apply(&wake(&rt, alloc, number)).is_ok());
+        accept(&rt, &mut world, wake(&rt, rt.alloc(), number));
     }
     let refusal = EventRefusal::Node(StepRefusal::HostFull);
-    let wake = wake(&rt, alloc, ACTIVATIONS);
-    is_refused(&rt, &mut world, &wake, refusal, 806);
+    refuse(
+        &rt,
+        &mut world,
+        wake(&rt, rt.alloc(), ACTIVATIONS),
+        refusal,
+        806,
+    );
 }
 
 #[test]
 fn as_many_finds_as_a_silo_waits_for(rt: HostRuntime) {
-    let (mut world, alloc) = (joined(&rt, rt.alloc()), rt.alloc());
+    let mut world = joined(&rt, rt.alloc());
     for number in 0..FINDS {
-        assert!(rt; world.apply(&find(&rt, alloc, number)).is_ok());
+        accept(&rt, &mut world, find(&rt, rt.alloc(), number));
     }
     let refusal = EventRefusal::Node(StepRefusal::HostFull);
-    let find = find(&rt, alloc, FINDS);
-    is_refused(&rt, &mut world, &find, refusal, 806);
+    refuse(&rt, &mut world, find(&rt, rt.alloc(), FINDS), refusal, 806);
 }
 
 #[test]
 fn as_many_silos_as_ever_join(rt: HostRuntime) {
-    let (mut world, alloc) = (empty(&rt, rt.alloc()), rt.alloc());
+    let mut world = empty(&rt, rt.alloc());
     for number in 0..SILOS {
-        assert!(rt; world.apply(&join(&rt, alloc, number, 1)).is_ok());
+        accept(&rt, &mut world, join(&rt, rt.alloc(), number, 1));
     }
     let refusal = EventRefusal::Views(ViewsError::RowsFull);
-    let join = join(&rt, alloc, SILOS, 1);
-    is_refused(&rt, &mut world, &join, refusal, 205);
+    refuse(
+        &rt,
+        &mut world,
+        join(&rt, rt.alloc(), SILOS, 1),
+        refusal,
+        205,
+    );
 }
 
 #[test]
 fn as_many_places_as_a_silo_has(rt: HostRuntime) {
-    let (mut world, alloc) = (empty(&rt, rt.alloc()), rt.alloc());
+    let mut world = empty(&rt, rt.alloc());
     let refusal = EventRefusal::Ring(RingError::PointCount);
-    let joins = join(&rt, alloc, 0, PLACES + 1);
-    is_refused(&rt, &mut world, &joins, refusal, 402);
-    assert!(rt; world.apply(&join(&rt, alloc, 0, PLACES)).is_ok());
+    refuse(
+        &rt,
+        &mut world,
+        join(&rt, rt.alloc(), 0, PLACES + 1),
+        refusal,
+        402,
+    );
+    accept(&rt, &mut world, join(&rt, rt.alloc(), 0, PLACES));
 }

@@ -1,3 +1,4 @@
+use crate::limits::refuses;
 use cluster_events::{Event, Happening, Outcome, Span};
 use directory_core::{EventRefusal, World};
 use directory_rules::{Effect, LetterKind, Settings};
@@ -55,18 +56,6 @@ fn find(rt: &impl Abort) -> Event {
         silo: silo(rt),
         grain: grain(rt),
     }
-}
-
-// The event is refused, by the refusal with that number.
-fn is_refused(
-    rt: &impl Abort,
-    world: &mut World,
-    event: &Event,
-    refusal: EventRefusal,
-    number: u16,
-) {
-    assert!(rt; world.apply(event) == Err(refusal));
-    assert!(rt; refusal.number() == Some(number));
 }
 
 // The event is accepted, and tells that.
@@ -160,6 +149,10 @@ fn finds(rt: &impl Abort, world: &mut World) {
     comes(rt, world, 6, LetterKind::Found, Effect::Learnt, None);
 }
 
+fn has_ended(world: &World) -> bool {
+    world.accepted() == 10 && world.sent() == 6 && world.least_deliverable().is_none()
+}
+
 // One silo, alone.
 #[test]
 fn the_first_run(rt: HostRuntime) {
@@ -167,42 +160,58 @@ fn the_first_run(rt: HostRuntime) {
     recovers(&rt, &mut world, &join_with(&rt, rt.alloc(), 1));
     registers(&rt, &mut world);
     finds(&rt, &mut world);
-    assert!(rt; world.accepted() == 10);
-    assert!(rt; world.sent() == 6);
-    assert!(rt; world.least_deliverable().is_none());
+    assert!(rt; has_ended(&world));
+}
+
+// The event, and another one behind it.
+fn events(rt: &impl Abort, alloc: Global, first: Event, second: Event) -> Vec<Event> {
+    let mut events = Vec::new(alloc);
+    events.push(first).expect(rt, "memory");
+    events.push(second).expect(rt, "memory");
+    events
 }
 
 // A run goes on behind a refusal.
 #[test]
 fn a_run_goes_on(rt: HostRuntime) {
     let mut world = first(&rt, rt.alloc(), 6);
-    let mut events = Vec::new(rt.alloc());
-    let deliver = Event::Deliver { number: 1 };
-    events.push(deliver).expect(&rt, "memory");
     let join = join_with(&rt, rt.alloc(), 1);
-    events.push(join).expect(&rt, "memory");
+    let events = events(&rt, rt.alloc(), Event::Deliver { number: 1 }, join);
     let told = world.run(rt.alloc(), &events).expect(&rt, "memory");
     assert!(rt; told.len() == 2);
-    let first = told.first().expect(&rt, "two are told");
-    assert!(rt; *first.result() == Err(EventRefusal::NoSuchLetter));
-    let last = told.last().expect(&rt, "two are told");
-    assert!(rt; last.result().is_ok());
+    assert!(rt; *told[0].result() == Err(EventRefusal::NoSuchLetter) && told[1].result().is_ok());
+}
+
+// The world in which the silo has seen the view, and so many letters may ever be sent.
+fn seen(rt: &impl Abort, alloc: Global, letters: u64) -> World {
+    let mut world = first(rt, alloc, letters);
+    let join = join_with(rt, alloc, 1);
+    assert!(rt; world.apply(&join).is_ok() && world.apply(&see(rt, 1)).is_ok());
+    world
+}
+
+// What is told of the world, of its silo and of its letter.
+fn tells(world: &World, silo: &SiloAddress) -> bool {
+    world.settings().silos() == 1
+        && world.views().current() == 1
+        && world.current() == 1
+        && world.least_deliverable() == Some(1)
+        && has_seen(world, silo)
+}
+
+fn has_seen(world: &World, silo: &SiloAddress) -> bool {
+    match world.node(silo) {
+        Some(node) => node.view().version() == 1,
+        None => false,
+    }
 }
 
 // What may be asked of a world, after its silo has seen the view.
 #[test]
 fn questions_to_a_world(rt: HostRuntime) {
-    let mut world = first(&rt, rt.alloc(), 6);
-    let join = join_with(&rt, rt.alloc(), 1);
-    assert!(rt; world.apply(&join).is_ok());
-    assert!(rt; world.apply(&see(&rt, 1)).is_ok());
+    let world = seen(&rt, rt.alloc(), 6);
     world.whole();
-    assert!(rt; world.settings().silos() == 1);
-    assert!(rt; world.views().current() == 1);
-    assert!(rt; world.current() == 1);
-    assert!(rt; world.least_deliverable() == Some(1));
-    let node = world.node(&silo(&rt)).expect(&rt, "a node");
-    assert!(rt; node.view().version() == 1);
+    assert!(rt; tells(&world, &silo(&rt)));
     let letter = world.letter(1).expect(&rt, "a query");
     assert!(rt; letter.letter().kind() == LetterKind::Query);
     check_owner(&rt, rt.alloc(), &world);
@@ -211,38 +220,29 @@ fn questions_to_a_world(rt: HostRuntime) {
 // The silo's only point owns each hash.
 fn check_owner(rt: &impl Abort, alloc: Global, world: &World) {
     let ring = world.current_ring(alloc).expect(rt, "memory");
-    assert!(rt; ring.points().len() == 1);
     let owner = world.owner(alloc, 0).expect(rt, "memory");
-    assert!(rt; owner.expect(rt, "an owner").place == 7);
+    assert!(rt; ring.points().len() == 1 && owner.expect(rt, "an owner").place == 7);
 }
 
 // The one letter that may be sent is the query of the silo's sight; what would send a second one is refused, and the query may
 // come again.
 #[test]
 fn no_room_for_a_second_letter(rt: HostRuntime) {
-    let mut world = first(&rt, rt.alloc(), 1);
-    let join = join_with(&rt, rt.alloc(), 1);
-    assert!(rt; world.apply(&join).is_ok());
-    assert!(rt; world.apply(&see(&rt, 1)).is_ok());
-    is_refused(&rt, &mut world, &wake(&rt), EventRefusal::MailFull, 909);
-    is_refused(&rt, &mut world, &find(&rt), EventRefusal::MailFull, 909);
-    let deliver = Event::Deliver { number: 1 };
-    is_refused(&rt, &mut world, &deliver, EventRefusal::MailFull, 909);
+    let mut world = seen(&rt, rt.alloc(), 1);
+    let full = EventRefusal::MailFull;
+    assert!(rt;
+        refuses(&mut world, &wake(&rt), full, 909)
+            && refuses(&mut world, &find(&rt), full, 909)
+            && refuses(&mut world, &Event::Deliver { number: 1 }, full, 909)
+    );
     assert!(rt; world.least_deliverable() == Some(1));
-    assert!(rt; world.accepted() == 2);
 }
 
-// A second silo, and a grain of the range that it takes over.
+// A second silo.
 const B: &str = "10.0.0.2:1000@1";
-
-const BOB: &str = "user/bob#3000000000";
 
 fn second(rt: &impl Abort) -> SiloAddress {
     SiloAddress::parse(B.as_bytes()).expect(rt, B)
-}
-
-fn moved(rt: &impl Abort) -> GrainId {
-    GrainId::parse(BOB.as_bytes()).expect(rt, BOB)
 }
 
 // The events are accepted, one after the other.
@@ -278,57 +278,51 @@ fn two_silos(rt: &impl Abort, alloc: Global) -> World {
 fn a_silo_comes_and_goes(rt: HostRuntime) {
     let mut world = two_silos(&rt, rt.alloc());
     all_come(&rt, &mut world, 3, 5);
-    let silo = second(&rt);
-    all_happen(&rt, &mut world, &[Event::Leave { silo }]);
-    let leaves = Event::Leave { silo };
-    let refusal = EventRefusal::Views(ViewsError::NotActive);
-    is_refused(&rt, &mut world, &leaves, refusal, 203);
-    all_happen(&rt, &mut world, &[Event::Kill { silo }]);
-    assert!(rt; world.node(&silo).is_none() && world.current() == 4);
-    let kill = Event::Kill { silo };
-    is_refused(&rt, &mut world, &kill, EventRefusal::DeadSilo, 902);
-    is_refused(&rt, &mut world, &leaves, EventRefusal::DeadSilo, 902);
+    assert!(rt; leaves(&mut world, second(&rt)));
     let ring = world.current_ring(rt.alloc()).expect(&rt, "memory");
     assert!(rt; ring.points().len() == 1);
 }
 
-// An ask is lost, and a nudge sends it again. What is lost can't come.
+// Whether the silo leaves just once, and dies just once.
+fn leaves(world: &mut World, silo: SiloAddress) -> bool {
+    let (leave, kill) = (Event::Leave { silo }, Event::Kill { silo });
+    world.apply(&leave).is_ok()
+        && refuses(
+            world,
+            &leave,
+            EventRefusal::Views(ViewsError::NotActive),
+            203,
+        )
+        && world.apply(&kill).is_ok()
+        && world.node(&silo).is_none()
+        && refuses(world, &kill, EventRefusal::DeadSilo, 902)
+        && refuses(world, &leave, EventRefusal::DeadSilo, 902)
+}
+
+// Whether letter 3, for the silo, is the least that may be delivered, and the first one isn't fresh any more.
+fn is_sent(world: &World, silo: &SiloAddress) -> bool {
+    world.least_deliverable() == Some(3)
+        && world.least_fresh_to(silo) == Some(3)
+        && world.is_fresh(3)
+        && !world.is_fresh(1)
+}
+
+// Whether the letter is lost, and can't come.
+fn is_lost(world: &mut World) -> bool {
+    let deliver = Event::Deliver { number: 3 };
+    world.apply(&Event::Lose { number: 3 }).is_ok()
+        && world.least_deliverable().is_none()
+        && !world.is_fresh(3)
+        && refuses(world, &deliver, EventRefusal::NoSuchLetter, 905)
+}
+
+// An ask is lost, and a nudge sends it again.
 #[test]
 fn a_lost_letter(rt: HostRuntime) {
     let mut world = two_silos(&rt, rt.alloc());
-    assert!(rt; world.least_deliverable() == Some(3));
-    assert!(rt; world.is_fresh(3) && world.least_fresh_to(&silo(&rt)) == Some(3));
-    assert!(rt; !world.is_fresh(1) && world.least_fresh_to(&second(&rt)).is_none());
-    all_happen(&rt, &mut world, &[Event::Lose { number: 3 }]);
-    assert!(rt; world.least_deliverable().is_none() && world.letter(3).is_none());
-    assert!(rt; !world.is_fresh(3) && world.least_fresh_to(&silo(&rt)).is_none());
-    let deliver = Event::Deliver { number: 3 };
-    is_refused(&rt, &mut world, &deliver, EventRefusal::NoSuchLetter, 905);
-    let silo = second(&rt);
-    all_happen(&rt, &mut world, &[Event::Nudge { silo }]);
+    assert!(rt; is_sent(&world, &silo(&rt)) && is_lost(&mut world));
+    let nudge = Event::Nudge { silo: second(&rt) };
+    assert!(rt; world.apply(&nudge).is_ok());
     all_come(&rt, &mut world, 4, 6);
     assert!(rt; world.sent() == 6);
-}
-
-// An activation on the first silo is offered to the second one, closes, and is forgotten where it was cached.
-#[test]
-fn an_activation_moves(rt: HostRuntime) {
-    let mut world = two_silos(&rt, rt.alloc());
-    all_come(&rt, &mut world, 3, 5);
-    let (from, to) = (silo(&rt), second(&rt));
-    let grain = moved(&rt);
-    all_happen(&rt, &mut world, &[Event::Wake { silo: from, grain }]);
-    all_come(&rt, &mut world, 6, 7);
-    let offer = Event::Offer {
-        silo: from,
-        grain,
-        to,
-    };
-    all_happen(&rt, &mut world, &[offer]);
-    all_come(&rt, &mut world, 8, 10);
-    let held = world.node(&to).expect(&rt, "a node").host();
-    assert!(rt; held.held(&grain).is_some());
-    let closes = Event::Close { silo: to, grain };
-    let forgets = Event::Forget { silo: from, grain };
-    all_happen(&rt, &mut world, &[closes, forgets]);
 }
