@@ -13,10 +13,10 @@ use Rattle.rebuild_checker.proofs.Ties.{grain_tie, list_any_alike}
 use Rattle.dump_rules.specs.Dump.{DumpHeld, DumpNode}
 use Rattle.dump_rules.specs.DumpShape.{are_distinct_by}
 use Rattle.dump_rules.specs.Verdict.{firm_grains, firm_held, firm_on_two, is_firm_on, is_firm_phase, least_grain}
-use Rattle.dump_verdict.specs.Lent.{held_lent, held_on, nodes_lent}
+use Rattle.dump_index.specs.Lent.{held_lent, held_on, nodes_lent}
 use Rattle.dump_verdict.specs.Lesser.{lesser_of}
 use Rattle.dump_verdict.proofs.LeastOf.{least-append}
-use Rattle.dump_verdict.proofs.Listed.{filter-flat_map, map-flat_map, map-map}
+use Rattle.dump_index.proofs.Listed.{filter-flat_map, map-flat_map, map-map}
 
 list_any-flat_map : {X Y : Type 0} (p : Y → Bool) (f : X → List Y) (xs : List X) → list_any p (flat_map f xs) ≡ list_any (λ x. list_any p (f x)) xs
 list_any-flat_map p f [] = refl

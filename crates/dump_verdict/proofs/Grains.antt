@@ -8,8 +8,8 @@ use Rattle.silo_address.specs.declared.Entry.{Entry}
 use Rattle.dump_rules.specs.Dump.{DumpPiece}
 use Rattle.dump_rules.specs.DumpShape.{are_distinct_by}
 use Rattle.dump_rules.specs.Verdict.{are_distinct}
-use Rattle.dump_verdict.specs.Lent.{entries_lent}
-use Rattle.dump_verdict.proofs.Listed.{map-map}
+use Rattle.dump_index.specs.Lent.{entries_lent}
+use Rattle.dump_index.proofs.Listed.{map-map}
 
 pub same_test : (xs : List Grain) → are_distinct xs ≡ are_distinct_by grain_eq xs
 same_test [] = refl

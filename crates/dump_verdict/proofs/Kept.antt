@@ -3,7 +3,7 @@ use Rattle.std.proofs.Common.{◌≡◌, ℕ, ◌+◌, ◌<◌, Bool, true, fals
 use Rattle.std.proofs.lemmas.List.{append-nil, map-append, take_more}
 use Rattle.std.proofs.lemmas.List.Elements.{filter-append}
 use Rattle.std.specs.Borrow.{Bor}
-use Rattle.dump_verdict.proofs.Listed.{filter-map, map-map}
+use Rattle.dump_index.proofs.Listed.{filter-map, map-map}
 
 gathered : {X Y : Type 0} (f : X → Y) (p : X → Bool) (xs : List X) (index : ℕ) (x : X) → index < length xs → x ≡ get_or xs index x
     → map f (filter p (take (index + 1) xs)) ≡ map f (filter p (take index xs)) ++ map f (filter p (x ∷ []))

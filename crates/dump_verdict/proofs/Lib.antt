@@ -1,5 +1,4 @@
 pub mod Apart
-pub mod Counts
 pub mod Covered
 pub mod FirmOnTwo
 pub mod Grains
@@ -8,18 +7,11 @@ pub mod HeldAsOwned
 pub mod Kept
 pub mod LeastMoved
 pub mod LeastOf
-pub mod Listed
 pub mod ListedEntries
 pub mod Missing
-pub mod Named
 pub mod NoneFailing
 pub mod OneAGrain
 pub mod OwnerFound
-pub mod Passing
-pub mod Points
 pub mod ReadyNodes
 pub mod RightPieces
-pub mod Rows
-pub mod Tested
-pub mod ViewRings
 pub mod Walked

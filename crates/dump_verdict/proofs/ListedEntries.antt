@@ -5,10 +5,10 @@ use Rattle.std.proofs.lemmas.List.Folds.{flat_map-map}
 use Rattle.silo_address.specs.declared.Entry.{Entry}
 use Rattle.dump_rules.specs.Dump.{DumpNode, DumpPiece, DumpValue}
 use Rattle.dump_rules.specs.Verdict.{entry_of_held, is_entry_among, held_entries, least_grain, live_nodes, current_pieces, strangers}
-use Rattle.dump_verdict.specs.Lent.{entries_in, held_on, nodes_lent, pieces_lent}
-use Rattle.dump_verdict.specs.Named.{IsIndex, Named, entries_named, entry_named, named_apart_from}
+use Rattle.dump_index.specs.Lent.{entries_in, held_on, nodes_lent, pieces_lent}
+use Rattle.dump_index.specs.Named.{IsIndex, Named, entries_named, entry_named, named_apart_from}
 use Rattle.dump_verdict.proofs.LeastMoved.{least_moved}
-use Rattle.dump_verdict.proofs.Listed.{filter-map, map-flat_map, map-map}
+use Rattle.dump_index.proofs.Listed.{filter-map, map-flat_map, map-map}
 
 held_told : (dump : DumpValue) (nodes : List (Bor DumpNode)) → nodes_lent nodes ≡ live_nodes dump
     → map entry_of_held (held_on nodes) ≡ held_entries dump

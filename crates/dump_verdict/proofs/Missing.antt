@@ -19,16 +19,17 @@ use Rattle.rebuild_checker.proofs.Ties.{entry_tie}
 use Rattle.dump_rules.specs.Dump.{DumpHeld, DumpNode, DumpPiece, DumpValue}
 use Rattle.dump_rules.specs.DumpShape.{has_piece_numbers}
 use Rattle.dump_rules.specs.Verdict.{are_distinct, current_pieces, entry_of_held, firm_entries, firm_held, has_entries_inside, is_entry_among, is_firm_phase, is_missing_in, live_nodes, missing_firm}
-use Rattle.dump_verdict.specs.Named.{IsIndex, Named, entries_named}
-use Rattle.dump_verdict.specs.Tallies.{count_of, is_lacking}
+use Rattle.dump_index.specs.Named.{IsIndex, Named, entries_named}
+use Rattle.dump_index.specs.Tallies.{count_of}
+use Rattle.dump_verdict.specs.Lacking.{is_lacking}
 use Rattle.dump_verdict.specs.Covers.{IsCover, covering}
-use Rattle.dump_verdict.specs.Lent.{entries_in, held_on, nodes_lent, pieces_lent}
+use Rattle.dump_index.specs.Lent.{entries_in, held_on, nodes_lent, pieces_lent}
 use Rattle.dump_verdict.specs.Ready.{is_by_grain}
 use Rattle.dump_verdict.specs.declared.cover.Cover.{Cover}
 use Rattle.dump_verdict.proofs.Covered.{covering_is_count}
 use Rattle.dump_verdict.proofs.HashesBelow.{hash_is_below}
-use Rattle.dump_verdict.proofs.Listed.{filter-flat_map, filter-map, map-flat_map, map-map}
-use Rattle.dump_verdict.proofs.Named.{count_index}
+use Rattle.dump_index.proofs.Listed.{filter-flat_map, filter-map, map-flat_map, map-map}
+use Rattle.dump_index.proofs.Named.{count_index}
 use Rattle.dump_verdict.proofs.RightPieces.{is_right}
 
 -- an entry that is listed, and its grain

@@ -18,9 +18,9 @@ use Rattle.dump_rules.specs.DumpShape as shape
 use Rattle.dump_rules.specs.DumpShape.{has_entries_if_settled, has_entries_in_order, has_from_if_awaiting, has_known_silos, has_numbers, has_pieces_in_order, has_seen_a_version, has_shape, has_silos_in_order, has_silos_once, holds_activations_once, holds_grains_once, holds_its_own, is_dump, is_node_of, is_piece, is_row_of}
 use Rattle.dump_rules.specs.RightShape.{HasNodeNumbers}
 use Rattle.dump_rules.specs.Verdict.{dump_places, dump_view, has_its_ring, live_nodes}
-use Rattle.dump_verdict.specs.Lent.{nodes_lent}
+use Rattle.dump_index.specs.Lent.{nodes_lent}
 use Rattle.dump_verdict.specs.Ready.{IsReady}
-use Rattle.dump_verdict.proofs.Rows.{dump_is}
+use Rattle.dump_index.proofs.Rows.{dump_is}
 
 -- what all pass each passes
 each_passes : (test : DumpNode → Bool) (nodes : List DumpNode) → list_all test nodes ≡ true → (node : DumpNode) → In node nodes → test node ≡ true

@@ -12,10 +12,10 @@ use Rattle.silo_address.specs.declared.Entry.{Entry}
 use Rattle.silo_address.proofs.Same.{Decides-entry}
 use Rattle.dump_rules.specs.Dump.{DumpHeld}
 use Rattle.dump_rules.specs.Verdict.{entry_of_held, is_entry_among}
-use Rattle.dump_verdict.specs.Lent.{held_lent}
-use Rattle.dump_verdict.specs.Named.{Named, entry_named, named_apart_from, named_cmp}
-use Rattle.dump_verdict.specs.Tallies.{count_below, count_up_to}
-use Rattle.dump_verdict.proofs.Named.{alike_between}
+use Rattle.dump_index.specs.Lent.{held_lent}
+use Rattle.dump_index.specs.Named.{Named, entry_named, named_apart_from, named_cmp}
+use Rattle.dump_index.specs.Tallies.{count_below, count_up_to}
+use Rattle.dump_index.proofs.Named.{alike_between}
 
 -- ---- What fails a test may be left out.
 left_out : {X : Type 0} (p : X → Bool) (xs : List X) (done from next : ℕ) → done ≤ next → from ≤ next

@@ -1,9 +1,5 @@
 pub mod Covers
 pub mod Faults
-pub mod Lent
+pub mod Lacking
 pub mod Lesser
-pub mod Named
 pub mod Ready
-pub mod Rings
-pub mod Rows
-pub mod Tallies

@@ -8,12 +8,12 @@ ghost use Rattle.hash_ring.specs.Hash.{hash_grain};
 ghost use Rattle.dump_rules.specs.DumpShape.{is_dump};
 ghost use Rattle.dump_rules.specs.Verdict as rule;
 ghost use Rattle.dump_verdict.specs.Covers.{IsApart, IsCover, covering};
-ghost use Rattle.dump_verdict.specs.Lent.{entries_in, held_lent, held_on, nodes_lent, pieces_lent};
-ghost use Rattle.dump_verdict.specs.Named.{IsIndex, named_apart_from, named_cmp};
-ghost use Rattle.dump_verdict.specs.Tallies.{is_lacking};
+ghost use Rattle.dump_index.specs.Lent.{entries_in, held_lent, held_on, nodes_lent, pieces_lent};
+ghost use Rattle.dump_index.specs.Named.{IsIndex, named_apart_from, named_cmp};
+ghost use Rattle.dump_verdict.specs.Lacking.{is_lacking};
 
 use crate::cover::{Cover, count_holding, cover_of, is_apart};
-use crate::index::{Named, places_of};
+use dump_index::{Named, places_of};
 use dump_lists::{Dump, Held, Node, Piece};
 use hash_ring::Hashing;
 use lent_grains::LentGrain;

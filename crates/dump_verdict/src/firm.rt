@@ -4,7 +4,7 @@ ghost use Rattle.std.specs.Prelude.{◌≡◌, IfOk, OnOk, filter, map};
 ghost use Rattle.std.specs.BTreeSet.{contains, InsertsAll};
 ghost use Rattle.silo_address.specs.Grain.{grain_cmp};
 ghost use Rattle.dump_rules.specs.Verdict as rule;
-ghost use Rattle.dump_verdict.specs.Lent.{held_lent, held_on, nodes_lent};
+ghost use Rattle.dump_index.specs.Lent.{held_lent, held_on, nodes_lent};
 ghost use Rattle.rebuild_checker.specs.Mixed.{grains_lent};
 
 use crate::least::{least_of, lesser};

@@ -3,20 +3,15 @@
 #![tactic(auto)]
 
 mod cover;
-mod current;
 mod entered;
 mod entries;
 mod fault;
 mod firm;
-mod index;
 mod judgement;
 mod judging;
 mod least;
-mod living;
-mod nodes;
 mod owners;
 mod ranges;
-mod rings;
 mod strangers;
 mod verdict;
 

@@ -6,7 +6,7 @@ ghost use Rattle.ring_range.specs.Range.{ahead, circle};
 ghost use Rattle.dump_rules.specs.DumpShape.{is_dump};
 ghost use Rattle.dump_rules.specs.Verdict.{first_failing, has_its_ranges, has_its_ring, has_right_pieces, is_held_as_owned, live_nodes};
 ghost use Rattle.dump_verdict.specs.Covers.{IsCover};
-ghost use Rattle.dump_verdict.specs.Lent.{nodes_lent};
+ghost use Rattle.dump_index.specs.Lent.{nodes_lent};
 ghost use Rattle.dump_verdict.specs.Ready.{IsReady, is_right_at_bounds, ranges_of};
 
 use crate::cover::{CIRCLE, Cover, count_holding, cover_of, is_apart};

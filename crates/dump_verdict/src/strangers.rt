@@ -3,11 +3,11 @@
 ghost use Rattle.std.specs.Prelude.{◌≡◌, IfOk, map};
 ghost use Rattle.std.specs.List.Sorted.{IsSorted};
 ghost use Rattle.dump_rules.specs.Verdict as rule;
-ghost use Rattle.dump_verdict.specs.Lent.{held_on};
-ghost use Rattle.dump_verdict.specs.Named.{entries_named, named_apart_from, named_cmp};
+ghost use Rattle.dump_index.specs.Lent.{held_on};
+ghost use Rattle.dump_index.specs.Named.{entries_named, named_apart_from, named_cmp};
 
-use crate::index::{Named, find_named, index_of_held};
 use crate::least::least_of;
+use dump_index::{Named, find_named, index_of_held};
 use dump_lists::Node;
 use silo_address::GrainId;
 use std::alloc::{AllocError, Global};

@@ -5,18 +5,15 @@ ghost use Rattle.std.specs.List.{list_all};
 ghost use Rattle.dump_rules.specs.DumpShape.{is_dump};
 ghost use Rattle.dump_rules.specs.Verdict as rule;
 ghost use Rattle.dump_verdict.specs.Faults.{fault_of};
-ghost use Rattle.dump_verdict.specs.Lent.{held_lent, held_on, nodes_lent};
+ghost use Rattle.dump_index.specs.Lent.{held_lent, held_on, nodes_lent};
 
 use crate::Fault;
-use crate::current::current_pieces;
 use crate::entered::walk;
 use crate::firm::{firm_on, twice_firm};
-use crate::index::index_of_entries;
 use crate::least::least_of;
-use crate::nodes::live_nodes;
 use crate::ranges::wrong_pieces;
-use crate::rings::wrong_ring;
 use crate::strangers::stranger;
+use dump_index::{current_pieces, index_of_entries, live_nodes, wrong_ring};
 use dump_lists::{Dump, Held, Node};
 use std::alloc::{AllocError, Global};
 

@@ -1,6 +1,6 @@
 use Rattle.std.proofs.Common.{leb, rules}
 use Rattle.std.proofs.lemmas.List.Sorted.{IsPartitionPoint-from_clause, IsPartitionedBy-leb}
-use Rattle.dump_verdict.proofs.Counts.{count_split}
+use Rattle.dump_index.proofs.Counts.{count_split}
 use Rattle.dump_verdict.proofs.cover.count_up_to.Goals as goal
 
 pub returns : goal.returns

@@ -3,9 +3,9 @@ use Rattle.std.proofs.lemmas.Result.{IfOk-weaker}
 use Rattle.hash_ring.specs.declared.Hashing.{Hashing}
 use Rattle.dump_rules.specs.Dump.{DumpHeld, DumpValue}
 use Rattle.dump_rules.specs.Verdict.{entry_of_held, is_firm_phase}
-use Rattle.dump_verdict.specs.Lent.{held_on}
-use Rattle.dump_verdict.specs.Named.{named_apart_from}
-use Rattle.dump_verdict.specs.Tallies.{is_lacking}
+use Rattle.dump_index.specs.Lent.{held_on}
+use Rattle.dump_index.specs.Named.{named_apart_from}
+use Rattle.dump_verdict.specs.Lacking.{is_lacking}
 use Rattle.dump_verdict.proofs.Kept.{kept_lent}
 use Rattle.dump_verdict.proofs.Missing.{lacking_told, missing_told}
 use Rattle.dump_verdict.proofs.RightPieces.{current_right, current_ranges}

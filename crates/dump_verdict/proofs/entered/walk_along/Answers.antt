@@ -6,11 +6,11 @@ use Rattle.hash_ring.specs.Hash.{hash_grain}
 use Rattle.dump_rules.specs.Dump.{DumpHeld}
 use Rattle.dump_rules.specs.Verdict.{entry_of_held}
 use Rattle.dump_verdict.specs.Covers.{covering}
-use Rattle.dump_verdict.specs.Lent.{held_lent}
-use Rattle.dump_verdict.specs.Named.{Named}
-use Rattle.dump_verdict.specs.Tallies.{is_lacking}
+use Rattle.dump_index.specs.Lent.{held_lent}
+use Rattle.dump_index.specs.Named.{Named}
+use Rattle.dump_verdict.specs.Lacking.{is_lacking}
 use Rattle.dump_verdict.proofs.Kept.{kept_more, left_more}
-use Rattle.dump_verdict.proofs.Named.{parted_bound, times_told}
+use Rattle.dump_index.proofs.Named.{parted_bound, times_told}
 use Rattle.dump_verdict.proofs.Walked.{passed_all, passed_more}
 use Rattle.dump_verdict.proofs.entered.walk_along.Goals as goal
 use Rattle.dump_verdict.proofs.entered.walk_along.Goals.{then-is_lacking+in_ok-push, else-is_lacking}

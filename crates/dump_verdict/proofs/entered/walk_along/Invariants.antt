@@ -1,8 +1,8 @@
 use Rattle.std.proofs.Common.{◌≡◌, ◌++◌, map, filter, take, drop}
 use Rattle.dump_rules.specs.Verdict.{entry_of_held}
-use Rattle.dump_verdict.specs.Lent.{held_lent}
-use Rattle.dump_verdict.specs.Named.{named_apart_from}
-use Rattle.dump_verdict.specs.Tallies.{is_lacking}
+use Rattle.dump_index.specs.Lent.{held_lent}
+use Rattle.dump_index.specs.Named.{named_apart_from}
+use Rattle.dump_verdict.specs.Lacking.{is_lacking}
 use Rattle.dump_verdict.proofs.entered.walk_along.Given as goal
 
 abbrev pub invariant-loop-held : goal.invariant-loop-held

@@ -6,7 +6,7 @@ use Rattle.std.proofs.lemmas.Iterator.Consumers.{YieldsList-at, map_from_collect
 use Rattle.silo_address.specs.declared.Entry.{Entry}
 use Rattle.dump_rules.specs.Dump.{DumpNode, DumpPiece}
 use Rattle.dump_rules.specs.Verdict.{node_entries}
-use Rattle.dump_verdict.specs.Lent.{entries_lent}
+use Rattle.dump_index.specs.Lent.{entries_lent}
 use Rattle.dump_verdict.proofs.entries.entries_of.Goals as goal
 
 pub returns : goal.returns

@@ -1,7 +1,7 @@
 use Rattle.std.proofs.Common.{◌∙◌, ap, sym}
 use Rattle.dump_rules.specs.Dump.{DumpNode, DumpPiece}
 use Rattle.dump_verdict.specs.Ready.{is_right_at_bounds}
-use Rattle.dump_verdict.proofs.Tested.{fails_at, passes_more}
+use Rattle.dump_index.proofs.Tested.{fails_at, passes_more}
 use Rattle.dump_verdict.proofs.ranges.is_right_at_pieces.Goals as goal
 
 pub returns-then-not-is_right_at_bounds : goal.returns-then-not-is_right_at_bounds

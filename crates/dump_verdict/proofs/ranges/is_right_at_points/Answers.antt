@@ -2,7 +2,7 @@ use Rattle.std.proofs.Common.{◌∙◌, ap, sym}
 use Rattle.hash_ring.specs.declared.point.Point.{Point}
 use Rattle.dump_rules.specs.Dump.{DumpNode}
 use Rattle.dump_rules.specs.Verdict.{is_held_as_owned}
-use Rattle.dump_verdict.proofs.Tested.{fails_at}
+use Rattle.dump_index.proofs.Tested.{fails_at}
 use Rattle.dump_verdict.proofs.ranges.is_right_at_points.Goals as goal
 
 pub returns-then-not-is_held_as_owned : goal.returns-then-not-is_held_as_owned

@@ -3,7 +3,7 @@ use Rattle.std.specs.Prelude.{Some}
 use Rattle.std.specs.Borrow.{Bor}
 use Rattle.dump_rules.specs.Dump.{DumpNode}
 use Rattle.dump_rules.specs.Verdict.{first_failing, has_right_pieces}
-use Rattle.dump_verdict.proofs.Passing.{fails_here, none_fails}
+use Rattle.dump_index.proofs.Passing.{fails_here, none_fails}
 use Rattle.dump_verdict.proofs.ReadyNodes.{is_ready}
 use Rattle.dump_verdict.proofs.ranges.wrong_pieces.Goals as goal
 

@@ -1,5 +1,5 @@
 use Rattle.std.proofs.Common.{◌≡◌, map, take}
-use Rattle.dump_verdict.specs.Named.{entries_named, named_apart_from}
+use Rattle.dump_index.specs.Named.{entries_named, named_apart_from}
 use Rattle.dump_verdict.proofs.strangers.strange_grains.Given as goal
 
 abbrev pub invariant-loop-one : goal.invariant-loop-one

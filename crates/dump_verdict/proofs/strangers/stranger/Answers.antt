@@ -1,9 +1,9 @@
 use Rattle.std.proofs.Common.{◌∙◌, ap, map, not}
 use Rattle.std.proofs.lemmas.List.Elements.{filter_agree}
 use Rattle.dump_rules.specs.Verdict.{entry_of_held, is_entry_among, least_grain}
-use Rattle.dump_verdict.specs.Lent.{held_on}
-use Rattle.dump_verdict.specs.Named.{Named, entries_named, entry_named}
-use Rattle.dump_verdict.proofs.Named.{among_index}
+use Rattle.dump_index.specs.Lent.{held_on}
+use Rattle.dump_index.specs.Named.{Named, entries_named, entry_named}
+use Rattle.dump_index.proofs.Named.{among_index}
 use Rattle.dump_verdict.proofs.strangers.stranger.Goals as goal
 
 pub returns : goal.returns

@@ -1,8 +1,8 @@
 use Rattle.std.proofs.Common.{◌≡◌, ◌∙◌, None, List, map, ap, rules, sym}
 use Rattle.dump_rules.specs.Verdict.{entry_of_held, least_grain, missing_firm, strangers}
 use Rattle.silo_address.specs.declared.Entry.{Entry}
-use Rattle.dump_verdict.specs.Lent.{held_on, pieces_lent}
-use Rattle.dump_verdict.specs.Named.{Named, named_apart_from}
+use Rattle.dump_index.specs.Lent.{held_on, pieces_lent}
+use Rattle.dump_index.specs.Named.{Named, named_apart_from}
 use Rattle.dump_verdict.proofs.ListedEntries.{least_strange}
 use Rattle.dump_verdict.proofs.verdict.entries_fault.Goals as goal
 

@@ -1,6 +1,6 @@
 use Rattle.std.proofs.Common.{sym, ◌∙◌, ap}
 use Rattle.dump_rules.specs.Verdict.{first_failing, has_its_ring, has_right_pieces, live_nodes}
-use Rattle.dump_verdict.specs.Lent.{nodes_lent}
+use Rattle.dump_index.specs.Lent.{nodes_lent}
 use Rattle.dump_verdict.proofs.NoneFailing.{none_failing}
 use Rattle.dump_verdict.proofs.verdict.verdict.Goals as goal
 
