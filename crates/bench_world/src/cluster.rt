@@ -25,7 +25,7 @@ pub(crate) enum Deed {
 #[derive(Drop)]
 pub(crate) struct Cluster {
     alloc: Global,
-    world: World,
+    world: Box<World>,
     silos: Vec<SiloAddress>,
     // How many points all silos have that ever joined.
     points: u64,
@@ -37,7 +37,7 @@ impl Cluster {
         let settings = Settings::of_directory(Hashing::Stated, 1, hints).context("no settings")?;
         Ok(Cluster {
             alloc,
-            world: World::new(alloc, settings),
+            world: Box::new(alloc, World::new(alloc, settings))?,
             silos: Vec::new(alloc),
             points: 0,
         })

@@ -20,8 +20,8 @@ pub(crate) struct Pair {
     alloc: Global,
     views: Views,
     places: Places,
-    first: Node,
-    second: Node,
+    first: Box<Node>,
+    second: Box<Node>,
 }
 
 impl Pair {
@@ -34,8 +34,8 @@ impl Pair {
             alloc,
             views: views_of(alloc, first, second)?,
             places: places_of(alloc, first, second)?,
-            first: Node::new(alloc, settings, first)?,
-            second: Node::new(alloc, settings, second)?,
+            first: node_of(alloc, settings, first)?,
+            second: node_of(alloc, settings, second)?,
         })
     }
 
@@ -96,6 +96,11 @@ impl Pair {
             step(self.alloc, &mut self.second, &input)
         }
     }
+}
+
+// The node of a silo, which has seen no version yet. A node is large, so it stands in a box.
+fn node_of(alloc: Global, settings: Settings, silo: SiloAddress) -> Result<Box<Node>> {
+    Ok(Box::new(alloc, Node::new(alloc, settings, silo)?)?)
 }
 
 // The first silo joins, and then the second one.
