@@ -1,17 +1,12 @@
-//! A range is handed over between two nodes that exchange letters by hand, in a form that any one refusal of an allocation leaves
-//! true: a call that is refused leaves the node as it was, and is made again. `rt try --test --fail-alloc N` refuses each test its
-//! Nth allocation.
-ghost use Rattle.std.specs.Prelude.{◌≤◌};
-ghost use Rattle.directory_node.specs.InputModel.{input_of};
-ghost use Rattle.directory_node.specs.Placed.{IsPlaced};
-ghost use Rattle.directory_node.specs.Planning.{Fits};
-
-use crate::nodes::check_placed;
+//! A range is handed over between two nodes that exchange letters by hand (`steps.rt`). Any one refusal of an allocation leaves the
+//! tests true: `rt try --test --fail-alloc N` refuses each its Nth.
+use crate::steps::{
+    does, does_alone, does_one, entry_on, first, joined, moved, second, sees, sees_one, sends,
+    settled, takes,
+};
 use directory_letters::{Body, Letter};
-use directory_node::{Input, Node, Plan};
-use directory_rules::{Effect, Settings};
-use hash_ring::{Hashing, Places};
-use membership_view::{View, Views};
+use directory_node::{Input, Node};
+use directory_rules::Effect;
 use range_recovery::Report;
 use ring_range::RingRange;
 use seal_snapshot::Page;
@@ -19,221 +14,8 @@ use silo_address::{ActivationId, Entry, GrainId, SiloAddress};
 use std::alloc::Global;
 use std::process::Abort;
 
-// The first silo has what comes after 10, the second one what comes after 2,000,000,000.
-pub(crate) fn first(rt: &impl Abort) -> SiloAddress {
-    SiloAddress::parse(b"10.0.0.1:1000@1").expect(rt, "a silo")
-}
-
-pub(crate) fn second(rt: &impl Abort) -> SiloAddress {
-    SiloAddress::parse(b"10.0.0.2:1000@1").expect(rt, "a silo")
-}
-
-// A grain of the range that the second silo takes over.
-pub(crate) fn moved(rt: &impl Abort) -> GrainId {
-    GrainId::parse(b"user/ann#3000000000").expect(rt, "a grain")
-}
-
-// The node of a silo that has joined.
-pub(crate) fn joined(rt: &impl Abort, alloc: Global, silo: SiloAddress) -> Node {
-    let settings = Settings::of_directory(Hashing::Stated, 30, 16).expect(rt, "settings");
-    match Node::new(alloc, settings, silo) {
-        Ok(node) => node,
-        Err(_) => Node::new(alloc, settings, silo).expect(rt, "memory"),
-    }
-}
-
-// The first silo joins at version 1, the second one at version 2; nothing where memory was refused.
-fn views_if(rt: &impl Abort, alloc: Global) -> Option<Views> {
-    let mut views = Views::new(alloc, 2);
-    views.join(first(rt)).ok()?;
-    views.join(second(rt)).ok()?;
-    Some(views)
-}
-
-fn views(rt: &impl Abort, alloc: Global) -> Views {
-    match views_if(rt, alloc) {
-        Some(views) => views,
-        None => views_if(rt, alloc).expect(rt, "two joins"),
-    }
-}
-
-fn view(rt: &impl Abort, alloc: Global, views: &Views, version: u64) -> View {
-    let view = match views.view(alloc, version) {
-        Ok(view) => view,
-        Err(_) => views.view(alloc, version).expect(rt, "memory"),
-    };
-    view.expect(rt, "the version")
-}
-
-// Each silo's place; nothing where memory was refused.
-fn places_if(rt: &impl Abort, alloc: Global) -> Option<Places> {
-    let mut places = Places::new(alloc, Hashing::Stated, 30).ok()?;
-    places.add(first(rt), &[10]).ok()?;
-    places.add(second(rt), &[2_000_000_000]).ok()?;
-    Some(places)
-}
-
-fn places(rt: &impl Abort, alloc: Global) -> Places {
-    match places_if(rt, alloc) {
-        Some(places) => places,
-        None => places_if(rt, alloc).expect(rt, "two places"),
-    }
-}
-
-// The node sees the version; what it sends.
-pub(crate) fn sees(
-    rt: &impl Abort,
-    alloc: Global,
-    node: &mut Node,
-    version: u64,
-    effect: Effect,
-) -> Vec<Letter>
-    requires { 1 ≤ version }
-{
-    let views = views(rt, alloc);
-    let before = view(rt, alloc, &views, version - 1);
-    let view = view(rt, alloc, &views, version);
-    let places = places(rt, alloc);
-    check_placed(rt, alloc, node, &before, &view, &places);
-    let input = Input::Sees {
-        before: &before,
-        view: &view,
-        places: &places,
-    };
-    does(rt, alloc, node, &input, effect)
-}
-
-// The plan of the node's step, made again where memory was refused.
-fn plan(rt: &impl Abort, alloc: Global, node: &Node, input: &Input<'_>) -> Plan
-    requires { IsPlaced node.now (input_of input.now) }
-    ensures { Fits result.change node.now }
-{
-    match node.plan(alloc, input) {
-        Ok(plan) => plan,
-        Err(_) => node.plan(alloc, input).expect(rt, "a plan"),
-    }
-}
-
-fn copy_of(rt: &impl Abort, node: &Node) -> Node {
-    match node.copy() {
-        Ok(copy) => copy,
-        Err(_) => node.copy().expect(rt, "memory"),
-    }
-}
-
-// The node takes a step; what it sends. Where memory is refused to it, it is as it was, and the step is made again.
-pub(crate) fn does(
-    rt: &impl Abort,
-    alloc: Global,
-    node: &mut Node,
-    input: &Input<'_>,
-    effect: Effect,
-) -> Vec<Letter>
-    requires { IsPlaced node.old (input_of input.now) }
-{
-    let first = plan(rt, alloc, node, input);
-    assert!(rt; first.effect == effect);
-    let before = copy_of(rt, node);
-    if node.carry_out(first.change).is_err() {
-        assert!(rt; node.same(&before));
-        let again = plan(rt, alloc, node, input);
-        node.carry_out(again.change).expect(rt, "memory");
-    }
-    first.letters
-}
-
-// The one letter that was sent.
-fn only(rt: &impl Abort, letters: Vec<Letter>) -> Letter {
-    let mut letters = letters;
-    assert!(rt; letters.len() == 1);
-    letters.pop().expect(rt, "a letter")
-}
-
-// The node sees the version, by which it sends one letter.
-pub(crate) fn sees_one(
-    rt: &impl Abort,
-    alloc: Global,
-    node: &mut Node,
-    version: u64,
-    effect: Effect,
-) -> Letter
-    requires { 1 ≤ version }
-{
-    only(rt, sees(rt, alloc, node, version, effect))
-}
-
-// The letter comes to the node; the one that it sends.
-pub(crate) fn sends(
-    rt: &impl Abort,
-    alloc: Global,
-    node: &mut Node,
-    letter: &Letter,
-    effect: Effect,
-) -> Letter {
-    only(rt, does(rt, alloc, node, &Input::Receives(letter), effect))
-}
-
-// The letter comes to the node, which sends none.
-pub(crate) fn takes(
-    rt: &impl Abort,
-    alloc: Global,
-    node: &mut Node,
-    letter: &Letter,
-    effect: Effect,
-) {
-    let sent = does(rt, alloc, node, &Input::Receives(letter), effect);
-    assert!(rt; sent.is_empty());
-}
-
-// The node takes a step, by which it sends one letter.
-pub(crate) fn does_one(
-    rt: &impl Abort,
-    alloc: Global,
-    node: &mut Node,
-    input: &Input<'_>,
-    effect: Effect,
-) -> Letter
-    requires { IsPlaced node.old (input_of input.now) }
-{
-    only(rt, does(rt, alloc, node, input, effect))
-}
-
-// The node takes a step, by which it sends no letter.
-fn does_alone(rt: &impl Abort, alloc: Global, node: &mut Node, input: &Input<'_>, effect: Effect)
-    requires { IsPlaced node.old (input_of input.now) }
-{
-    let sent = does(rt, alloc, node, input, effect);
-    assert!(rt; sent.is_empty());
-}
-
-// The moved grain's first activation on the silo.
-pub(crate) fn entry_on(rt: &impl Abort, silo: SiloAddress) -> Entry {
-    Entry {
-        grain: moved(rt),
-        activation: ActivationId { silo, count: 1 },
-    }
-}
-
-// The first silo has the whole circle at version 1, and the moved grain is active on it.
-pub(crate) fn settled(rt: &impl Abort, alloc: Global) -> Node {
-    let mut node = joined(rt, alloc, first(rt));
-    let query = sees_one(rt, alloc, &mut node, 1, Effect::Next);
-    let report = sends(rt, alloc, &mut node, &query, Effect::Report);
-    takes(rt, alloc, &mut node, &report, Effect::Complete);
-    start(rt, alloc, &mut node);
-    node
-}
-
-// The moved grain's activation starts on the node, and is entered there.
-fn start(rt: &impl Abort, alloc: Global, node: &mut Node) {
-    let started = Effect::Started(entry_on(rt, first(rt)));
-    let register = does_one(rt, alloc, node, &Input::Wakes(&moved(rt)), started);
-    let registered = sends(rt, alloc, node, &register, Effect::Registered);
-    takes(rt, alloc, node, &registered, Effect::Firm);
-}
-
 // The first silo has seen version 2, and sealed what the second one has now.
-fn sealed(rt: &impl Abort, alloc: Global) -> Node {
+fn sealed(rt: &impl Abort, alloc: Global) -> Box<Node> {
     let mut node = settled(rt, alloc);
     let letters = sees(rt, alloc, &mut node, 2, Effect::Next);
     assert!(rt; letters.is_empty() && node.shelf().snapshots().len() == 1);
@@ -241,7 +23,7 @@ fn sealed(rt: &impl Abort, alloc: Global) -> Node {
 }
 
 // The second silo, which has seen nothing.
-fn joining(rt: &impl Abort, alloc: Global) -> Node {
+fn joining(rt: &impl Abort, alloc: Global) -> Box<Node> {
     joined(rt, alloc, second(rt))
 }
 
@@ -252,7 +34,7 @@ fn page_for(rt: &impl Abort, alloc: Global, old: &mut Node, new: &mut Node) -> L
 }
 
 // Both, when the first one has handed over.
-pub(crate) fn handed(rt: &impl Abort, alloc: Global) -> (Node, Node) {
+pub(crate) fn handed(rt: &impl Abort, alloc: Global) -> (Box<Node>, Box<Node>) {
     let mut old = sealed(rt, alloc);
     let mut new = joining(rt, alloc);
     let page = page_for(rt, alloc, &mut old, &mut new);
@@ -402,22 +184,20 @@ fn recovers(rt: &impl Abort, alloc: Global, node: &mut Node) -> Vec<Letter> {
 fn a_snapshot_that_is_missing_is_recovered(rt: HostRuntime) {
     let mut node = joining(&rt, rt.alloc());
     let queries = recovers(&rt, rt.alloc(), &mut node);
-    let other = queries.first().expect(&rt, "a query");
-    let report = sends(
-        &rt,
-        rt.alloc(),
-        &mut sealed(&rt, rt.alloc()),
-        other,
-        Effect::Report,
-    );
-    take_foreign(&rt, rt.alloc(), &mut node, &report);
-    takes(&rt, rt.alloc(), &mut node, &report, Effect::More);
-    take_own(
-        &rt,
-        rt.alloc(),
-        &mut node,
-        queries.last().expect(&rt, "a query"),
-    );
+    take_reports(&rt, rt.alloc(), &mut node, &queries);
+}
+
+// The first silo's report comes twice, and then its own.
+fn take_reports(rt: &impl Abort, alloc: Global, node: &mut Node, queries: &[Letter]) {
+    let report = report_to(rt, alloc, queries.first().expect(rt, "a query"));
+    take_foreign(rt, alloc, node, &report);
+    takes(rt, alloc, node, &report, Effect::More);
+    take_own(rt, alloc, node, queries.last().expect(rt, "a query"));
+}
+
+// What the first silo reports.
+fn report_to(rt: &impl Abort, alloc: Global, query: &Letter) -> Letter {
+    sends(rt, alloc, &mut sealed(rt, alloc), query, Effect::Report)
 }
 
 // Its own report completes the recovery.
@@ -473,11 +253,17 @@ fn learns(rt: &impl Abort, alloc: Global, node: &mut Node) {
 
 #[test]
 fn a_find_is_cached(rt: HostRuntime) {
-    let (mut node, grain) = (settled(&rt, rt.alloc()), moved(&rt));
+    let mut node = settled(&rt, rt.alloc());
     learns(&rt, rt.alloc(), &mut node);
     assert!(rt; node.cache().is_some());
-    let cached = Effect::Cached(entry_on(&rt, first(&rt)));
-    does_alone(&rt, rt.alloc(), &mut node, &Input::Finds(&grain), cached);
+    forgets(&rt, rt.alloc(), &mut node);
+}
+
+// It finds the grain in its cache, and forgets it.
+fn forgets(rt: &impl Abort, alloc: Global, node: &mut Node) {
+    let grain = moved(rt);
+    let cached = Effect::Cached(entry_on(rt, first(rt)));
+    does_alone(rt, alloc, node, &Input::Finds(&grain), cached);
     let forgot = Effect::Forgot(grain);
-    does_alone(&rt, rt.alloc(), &mut node, &Input::Forgets(&grain), forgot);
+    does_alone(rt, alloc, node, &Input::Forgets(&grain), forgot);
 }

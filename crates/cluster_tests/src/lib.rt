@@ -5,6 +5,8 @@
 #[cfg(test)]
 mod handing;
 #[cfg(test)]
+mod leaving;
+#[cfg(test)]
 mod limits;
 #[cfg(test)]
 mod mails;
@@ -12,5 +14,7 @@ mod mails;
 mod moving;
 #[cfg(test)]
 mod nodes;
+#[cfg(test)]
+mod steps;
 #[cfg(test)]
 mod worlds;

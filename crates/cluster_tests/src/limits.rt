@@ -22,9 +22,14 @@ const FINDS: u32 = 65_536;
 const PLACES: usize = 128;
 
 // The world of a directory without caches, before the first event.
-fn empty(rt: &impl Abort, alloc: Global) -> World {
+fn empty(rt: &impl Abort, alloc: Global) -> Box<World> {
     let settings = Settings::of_directory(Hashing::Stated, 30, 0).expect(rt, "30 points");
-    World::new(alloc, settings)
+    boxed(rt, alloc, settings)
+}
+
+// The first world, in a box, which is dropped by one call. A world is dropped part by part, and what has one is slow to prove.
+pub(crate) fn boxed(rt: &impl Abort, alloc: Global, settings: Settings) -> Box<World> {
+    Box::new(alloc, World::new(alloc, settings)).expect(rt, "memory")
 }
 
 // The silo of that number, each on a machine of its own.
@@ -61,12 +66,12 @@ fn find(rt: &impl Abort, alloc: Global, number: u32) -> Event {
 }
 
 // The event is accepted.
-fn accept(rt: &impl Abort, world: &mut World, event: Event) {
+pub(crate) fn accept(rt: &impl Abort, world: &mut World, event: Event) {
     assert!(rt; world.apply(&event).is_ok());
 }
 
 // A silo has joined, and sees it: its query is the first letter, and its range recovers.
-fn joined(rt: &impl Abort, alloc: Global) -> World {
+fn joined(rt: &impl Abort, alloc: Global) -> Box<World> {
     let mut world = empty(rt, alloc);
     let silo = silo(rt, alloc, 0);
     accept(rt, &mut world, join(rt, alloc, 0, 1));

@@ -69,12 +69,16 @@ fn least(rt: &impl Abort, alloc: Global, mail: &Mail) -> (Option<u64>, Option<u6
 
 #[test]
 fn letters_that_are_delivered_and_lost_are_passed_over(rt: HostRuntime) {
-    let alloc = rt.alloc();
-    let mut mail = mail(&rt, alloc);
-    deliver(&rt, &mut mail, 1);
-    lose(&rt, &mut mail, 2);
-    assert!(rt; least(&rt, alloc, &mail) == (Some(3), Some(4), Some(3)));
-    take_back(&rt, &mut mail, 2);
-    post(&rt, alloc, &mut mail, B);
-    assert!(rt; least(&rt, alloc, &mail) == (None, Some(3), Some(3)));
+    let mut mail = mail(&rt, rt.alloc());
+    pass_over(&rt, rt.alloc(), &mut mail);
+}
+
+// The first two are passed over, and what is posted in place of the others has their numbers.
+fn pass_over(rt: &impl Abort, alloc: Global, mail: &mut Mail) {
+    deliver(rt, mail, 1);
+    lose(rt, mail, 2);
+    assert!(rt; least(rt, alloc, mail) == (Some(3), Some(4), Some(3)));
+    take_back(rt, mail, 2);
+    post(rt, alloc, mail, B);
+    assert!(rt; least(rt, alloc, mail) == (None, Some(3), Some(3)));
 }

@@ -20,11 +20,12 @@ fn circle(rt: &impl Abort) -> RingRange {
     RingRange::new(10, 4_294_967_296).expect(rt, "a range")
 }
 
-// The silo has joined, and has seen nothing.
-fn joined(rt: &impl Abort, alloc: Global) -> Node {
+// The silo has joined, and has seen nothing; in a box, as the nodes of `steps.rt`.
+fn joined(rt: &impl Abort, alloc: Global) -> Box<Node> {
     let settings = Settings::of_directory(Hashing::Stated, 30, 0).expect(rt, "settings");
     let settings = settings.with_silos(1).expect(rt, "one silo");
-    Node::new(alloc, settings, silo(rt)).expect(rt, "memory")
+    let node = Node::new(alloc, settings, silo(rt)).expect(rt, "memory");
+    Box::new(alloc, node).expect(rt, "memory")
 }
 
 // The view of its joining.
@@ -65,10 +66,17 @@ fn check_plan(rt: &impl Abort, alloc: Global, node: &mut Node, input: &Input<'_>
     requires { IsPlaced node.old (input_of input.now) }
 {
     let stepped = node.step(alloc, input).expect(rt, "a step");
+    carry_out(rt, alloc, node, input, effect);
+    assert!(rt; node.same(&stepped.node) && stepped.effect == effect && stepped.letters.len() == 1);
+}
+
+// The plan is carried out, by which one letter is sent.
+fn carry_out(rt: &impl Abort, alloc: Global, node: &mut Node, input: &Input<'_>, effect: Effect)
+    requires { IsPlaced node.old (input_of input.now) }
+{
     let plan = node.plan(alloc, input).expect(rt, "a plan");
+    assert!(rt; plan.effect == effect && plan.letters.len() == 1);
     node.carry_out(plan.change).expect(rt, "memory");
-    assert!(rt; node.same(&stepped.node) && plan.effect == effect && stepped.effect == effect);
-    assert!(rt; plan.letters.len() == 1 && stepped.letters.len() == 1);
 }
 
 // The number that refuses an input.
@@ -80,35 +88,42 @@ fn refusal_of(rt: &impl Abort, alloc: Global, node: &Node, input: &Input<'_>) ->
 }
 
 // The silo has joined and sees it, so its piece recovers.
-fn recovering(rt: &impl Abort, alloc: Global) -> Node {
+fn recovering(rt: &impl Abort, alloc: Global) -> Box<Node> {
     let mut node = joined(rt, alloc);
+    see(rt, alloc, &mut node);
+    node
+}
+
+// The node sees the view, as its plan says.
+fn see(rt: &impl Abort, alloc: Global, node: &mut Node) {
     let before = View::empty(alloc);
     let view = view(rt, alloc);
     let places = places(rt, alloc);
-    check_placed(rt, alloc, &node, &before, &view, &places);
+    check_placed(rt, alloc, node, &before, &view, &places);
     let input = Input::Sees {
         before: &before,
         view: &view,
         places: &places,
     };
-    check_plan(rt, alloc, &mut node, &input, Effect::Next);
-    node
+    check_plan(rt, alloc, node, &input, Effect::Next);
 }
 
 // A grain of which the silo knows nothing is neither woken, closed nor offered, and isn't cached.
 #[test]
 fn a_silo_that_has_seen_nothing(rt: HostRuntime) {
-    let (node, alloc) = (joined(&rt, rt.alloc()), rt.alloc());
+    let node = joined(&rt, rt.alloc());
     node.whole();
     let ann = GrainId::parse(b"user/ann#50").expect(&rt, "a grain");
-    let to = node.host().silo();
-    let offers = Input::Offers {
-        grain: &ann,
-        to: &to,
-    };
-    assert!(rt; refusal_of(&rt, alloc, &node, &Input::Wakes(&ann)) == Some(804));
-    assert!(rt; refusal_of(&rt, alloc, &node, &Input::Closes(&ann)) == Some(802));
-    assert!(rt; refusal_of(&rt, alloc, &node, &offers) == Some(802));
+    check_refusals(&rt, rt.alloc(), &node, &ann);
+}
+
+fn check_refusals(rt: &impl Abort, alloc: Global, node: &Node, grain: &GrainId) {
+    let to = &node.host().silo();
+    assert!(rt;
+        refusal_of(rt, alloc, node, &Input::Wakes(grain)) == Some(804)
+            && refusal_of(rt, alloc, node, &Input::Closes(grain)) == Some(802)
+            && refusal_of(rt, alloc, node, &Input::Offers { grain, to }) == Some(802)
+    );
 }
 
 fn is_recovering(node: &Node, circle: &RingRange) -> bool {
@@ -120,8 +135,14 @@ fn is_recovering(node: &Node, circle: &RingRange) -> bool {
 #[test]
 fn a_first_sight(rt: HostRuntime) {
     let node = recovering(&rt, rt.alloc());
-    let copy = node.copy().expect(&rt, "memory");
-    assert!(rt; copy.same(&node) && is_recovering(&node, &circle(&rt)));
+    assert!(rt; is_node_copied(&node) && is_recovering(&node, &circle(&rt)));
+}
+
+fn is_node_copied(node: &Node) -> bool {
+    match node.copy() {
+        Ok(copy) => copy.same(node),
+        Err(_) => false,
+    }
 }
 
 fn is_copied(letter: &Letter) -> bool {

@@ -1,9 +1,8 @@
-use crate::limits::refuses;
+use crate::limits::{accept, boxed, refuses};
 use cluster_events::{Event, Happening, Outcome, Span};
-use directory_core::{EventRefusal, World};
+use directory_core::{EventRefusal, Told, World};
 use directory_rules::{Effect, LetterKind, Settings};
 use hash_ring::Hashing;
-use membership_view::ViewsError;
 use silo_address::{ActivationId, Entry, GrainId, SiloAddress};
 use std::alloc::Global;
 use std::process::Abort;
@@ -13,7 +12,7 @@ const A: &str = "10.0.0.1:1000@1";
 
 const ANN: &str = "user/ann#7";
 
-fn silo(rt: &impl Abort) -> SiloAddress {
+pub(crate) fn silo(rt: &impl Abort) -> SiloAddress {
     SiloAddress::parse(A.as_bytes()).expect(rt, A)
 }
 
@@ -22,11 +21,11 @@ fn grain(rt: &impl Abort) -> GrainId {
 }
 
 // The world of one silo before the first event, with stated places, in which so many letters may ever be sent.
-fn first(rt: &impl Abort, alloc: Global, letters: u64) -> World {
+fn first(rt: &impl Abort, alloc: Global, letters: u64) -> Box<World> {
     let settings = Settings::of_directory(Hashing::Stated, 30, 0).expect(rt, "30 points");
     let settings = settings.with_silos(1).expect(rt, "one silo");
     let settings = settings.with_letters(letters).expect(rt, "so many letters");
-    World::new(alloc, settings)
+    boxed(rt, alloc, settings)
 }
 
 // A join with that place so often.
@@ -37,7 +36,7 @@ fn join_with(rt: &impl Abort, alloc: Global, places: usize) -> Event {
     }
 }
 
-fn see(rt: &impl Abort, version: u64) -> Event {
+pub(crate) fn see(rt: &impl Abort, version: u64) -> Event {
     Event::See {
         silo: silo(rt),
         version,
@@ -163,31 +162,42 @@ fn the_first_run(rt: HostRuntime) {
     assert!(rt; has_ended(&world));
 }
 
-// The event, and another one behind it.
-fn events(rt: &impl Abort, alloc: Global, first: Event, second: Event) -> Vec<Event> {
+// A letter that isn't there is to come, and then the silo joins.
+fn refused_and_joined(rt: &impl Abort, alloc: Global) -> Vec<Event> {
     let mut events = Vec::new(alloc);
-    events.push(first).expect(rt, "memory");
-    events.push(second).expect(rt, "memory");
     events
+        .push(Event::Deliver { number: 1 })
+        .expect(rt, "memory");
+    events.push(join_with(rt, alloc, 1)).expect(rt, "memory");
+    events
+}
+
+fn goes_on(told: &[Told]) -> bool {
+    told.len() == 2
+        && *told[0].result() == Err(EventRefusal::NoSuchLetter)
+        && told[1].result().is_ok()
 }
 
 // A run goes on behind a refusal.
 #[test]
 fn a_run_goes_on(rt: HostRuntime) {
     let mut world = first(&rt, rt.alloc(), 6);
-    let join = join_with(&rt, rt.alloc(), 1);
-    let events = events(&rt, rt.alloc(), Event::Deliver { number: 1 }, join);
+    let events = refused_and_joined(&rt, rt.alloc());
     let told = world.run(rt.alloc(), &events).expect(&rt, "memory");
-    assert!(rt; told.len() == 2);
-    assert!(rt; *told[0].result() == Err(EventRefusal::NoSuchLetter) && told[1].result().is_ok());
+    assert!(rt; goes_on(&told));
 }
 
 // The world in which the silo has seen the view, and so many letters may ever be sent.
-fn seen(rt: &impl Abort, alloc: Global, letters: u64) -> World {
+fn seen(rt: &impl Abort, alloc: Global, letters: u64) -> Box<World> {
     let mut world = first(rt, alloc, letters);
-    let join = join_with(rt, alloc, 1);
-    assert!(rt; world.apply(&join).is_ok() && world.apply(&see(rt, 1)).is_ok());
+    sees(rt, alloc, &mut world);
     world
+}
+
+// The silo joins, and sees it.
+pub(crate) fn sees(rt: &impl Abort, alloc: Global, world: &mut World) {
+    accept(rt, world, join_with(rt, alloc, 1));
+    accept(rt, world, see(rt, 1));
 }
 
 // What is told of the world, of its silo and of its letter.
@@ -211,17 +221,31 @@ fn has_seen(world: &World, silo: &SiloAddress) -> bool {
 fn questions_to_a_world(rt: HostRuntime) {
     let world = seen(&rt, rt.alloc(), 6);
     world.whole();
-    assert!(rt; tells(&world, &silo(&rt)));
-    let letter = world.letter(1).expect(&rt, "a query");
-    assert!(rt; letter.letter().kind() == LetterKind::Query);
-    check_owner(&rt, rt.alloc(), &world);
+    assert!(rt; tells(&world, &silo(&rt)) && has_query(&world));
+    assert!(rt; has_one_point(rt.alloc(), &world) && is_owner(rt.alloc(), &world, 7));
 }
 
-// The silo's only point owns each hash.
-fn check_owner(rt: &impl Abort, alloc: Global, world: &World) {
-    let ring = world.current_ring(alloc).expect(rt, "memory");
-    let owner = world.owner(alloc, 0).expect(rt, "memory");
-    assert!(rt; ring.points().len() == 1 && owner.expect(rt, "an owner").place == 7);
+fn has_query(world: &World) -> bool {
+    match world.letter(1) {
+        Some(letter) => letter.letter().kind() == LetterKind::Query,
+        None => false,
+    }
+}
+
+// Whether the ring of the current view has just one point.
+pub(crate) fn has_one_point(alloc: Global, world: &World) -> bool {
+    match world.current_ring(alloc) {
+        Ok(ring) => ring.points().len() == 1,
+        Err(_) => false,
+    }
+}
+
+// Whether the point at that place owns the least hash.
+fn is_owner(alloc: Global, world: &World, place: u32) -> bool {
+    match world.owner(alloc, 0) {
+        Ok(Some(owner)) => owner.place == place,
+        _ => false,
+    }
 }
 
 // The one letter that may be sent is the query of the silo's sight; what would send a second one is refused, and the query may
@@ -236,93 +260,4 @@ fn no_room_for_a_second_letter(rt: HostRuntime) {
             && refuses(&mut world, &Event::Deliver { number: 1 }, full, 909)
     );
     assert!(rt; world.least_deliverable() == Some(1));
-}
-
-// A second silo.
-const B: &str = "10.0.0.2:1000@1";
-
-fn second(rt: &impl Abort) -> SiloAddress {
-    SiloAddress::parse(B.as_bytes()).expect(rt, B)
-}
-
-// The events are accepted, one after the other.
-fn all_happen(rt: &impl Abort, world: &mut World, events: &[Event]) {
-    for event in events {
-        assert!(rt; world.apply(event).is_ok());
-    }
-}
-
-// The letters of these numbers come.
-fn all_come(rt: &impl Abort, world: &mut World, first: u64, last: u64) {
-    for number in first..=last {
-        assert!(rt; world.apply(&Event::Deliver { number }).is_ok());
-    }
-}
-
-// The first silo has settled the whole circle, and hands half of it to the second one, which asks for it.
-fn two_silos(rt: &impl Abort, alloc: Global) -> World {
-    let settings = Settings::of_directory(Hashing::Stated, 30, 16).expect(rt, "30 points");
-    let mut world = World::new(alloc, settings);
-    all_happen(rt, &mut world, &[join_with(rt, alloc, 1), see(rt, 1)]);
-    all_come(rt, &mut world, 1, 2);
-    let places = vec![in alloc; 2_147_483_655; 1].expect(rt, "memory");
-    let silo = second(rt);
-    let joins = Event::Join { silo, places };
-    let sees = Event::See { silo, version: 2 };
-    all_happen(rt, &mut world, &[joins, see(rt, 2), sees]);
-    world
-}
-
-// A range is handed over; then the second silo leaves, and dies.
-#[test]
-fn a_silo_comes_and_goes(rt: HostRuntime) {
-    let mut world = two_silos(&rt, rt.alloc());
-    all_come(&rt, &mut world, 3, 5);
-    assert!(rt; leaves(&mut world, second(&rt)));
-    let ring = world.current_ring(rt.alloc()).expect(&rt, "memory");
-    assert!(rt; ring.points().len() == 1);
-}
-
-// Whether the silo leaves just once, and dies just once.
-fn leaves(world: &mut World, silo: SiloAddress) -> bool {
-    let (leave, kill) = (Event::Leave { silo }, Event::Kill { silo });
-    world.apply(&leave).is_ok()
-        && refuses(
-            world,
-            &leave,
-            EventRefusal::Views(ViewsError::NotActive),
-            203,
-        )
-        && world.apply(&kill).is_ok()
-        && world.node(&silo).is_none()
-        && refuses(world, &kill, EventRefusal::DeadSilo, 902)
-        && refuses(world, &leave, EventRefusal::DeadSilo, 902)
-}
-
-// Whether letter 3, for the silo, is the least that may be delivered, and the first one isn't fresh any more.
-fn is_sent(world: &World, silo: &SiloAddress) -> bool {
-    world.least_deliverable() == Some(3)
-        && world.least_fresh_to(silo) == Some(3)
-        && world.is_fresh(3)
-        && !world.is_fresh(1)
-}
-
-// Whether the letter is lost, and can't come.
-fn is_lost(world: &mut World) -> bool {
-    let deliver = Event::Deliver { number: 3 };
-    world.apply(&Event::Lose { number: 3 }).is_ok()
-        && world.least_deliverable().is_none()
-        && !world.is_fresh(3)
-        && refuses(world, &deliver, EventRefusal::NoSuchLetter, 905)
-}
-
-// An ask is lost, and a nudge sends it again.
-#[test]
-fn a_lost_letter(rt: HostRuntime) {
-    let mut world = two_silos(&rt, rt.alloc());
-    assert!(rt; is_sent(&world, &silo(&rt)) && is_lost(&mut world));
-    let nudge = Event::Nudge { silo: second(&rt) };
-    assert!(rt; world.apply(&nudge).is_ok());
-    all_come(&rt, &mut world, 4, 6);
-    assert!(rt; world.sent() == 6);
 }
