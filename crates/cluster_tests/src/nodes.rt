@@ -2,7 +2,7 @@ ghost use Rattle.directory_node.specs.Placed.{ArePlaced, IsPlaced};
 ghost use Rattle.directory_node.specs.InputModel.{input_of};
 
 use directory_letters::{Body, Letter};
-use directory_node::{Input, Node};
+use directory_node::{Input, Node, Stepped};
 use directory_rules::{Effect, Settings};
 use hash_ring::{Hashing, Places, Ring};
 use membership_view::{View, Views};
@@ -61,11 +61,19 @@ pub(crate) fn check_placed(
     assert!(rt; node.ring().same(&own));
 }
 
+// The step beside the node.
+fn stepped(rt: &impl Abort, alloc: Global, node: &Node, input: &Input<'_>) -> Box<Stepped>
+    requires { IsPlaced node.now (input_of input.now) }
+{
+    let stepped = node.step(alloc, input).expect(rt, "a step");
+    Box::new(alloc, stepped).expect(rt, "memory")
+}
+
 // The step beside the node, and its plan carried out, say and leave the same: this effect, and one letter.
 fn check_plan(rt: &impl Abort, alloc: Global, node: &mut Node, input: &Input<'_>, effect: Effect)
     requires { IsPlaced node.old (input_of input.now) }
 {
-    let stepped = node.step(alloc, input).expect(rt, "a step");
+    let stepped = stepped(rt, alloc, node, input);
     carry_out(rt, alloc, node, input, effect);
     assert!(rt; node.same(&stepped.node) && stepped.effect == effect && stepped.letters.len() == 1);
 }
