@@ -1,28 +1,36 @@
-use anyhow::{Result, bail};
+use crate::stop::Stop;
 use directory_core::World;
 use dump_verdict::{Judgement, judge, judge_dump};
 use rebuild_checker::write_dump;
-use std::alloc::{AllocError, Global};
+use std::alloc::AllocError;
 use world_dump::dump;
 
 /// The lists of the world's dump are judged, and are right.
-pub(crate) fn judge_listed(alloc: Global, world: &World) -> Result<()> {
-    let dump = dump(alloc, world)?;
-    expect_right(alloc, judge_dump(alloc, &dump))
+pub(crate) fn judge_listed(rt: &HostRuntime, world: &World) -> Result<(), Stop> {
+    let dump = dump(rt.alloc(), world)?;
+    expect_right(rt, judge_dump(rt.alloc(), &dump))
 }
 
 /// The text of the world's dump is read again and judged, and is right.
-pub(crate) fn judge_written(alloc: Global, world: &World) -> Result<()> {
-    let listed = dump(alloc, world)?;
-    let text = write_dump(alloc, &listed)?;
-    expect_right(alloc, judge(alloc, &text))
+pub(crate) fn judge_written(rt: &HostRuntime, world: &World) -> Result<(), Stop> {
+    let listed = dump(rt.alloc(), world)?;
+    let text = write_dump(rt.alloc(), &listed)?;
+    expect_right(rt, judge(rt.alloc(), &text))
 }
 
 // Whether the judgement is that all is right.
-fn expect_right(alloc: Global, judgement: Result<Judgement, AllocError>) -> Result<()> {
+fn expect_right(rt: &HostRuntime, judgement: Result<Judgement, AllocError>) -> Result<(), Stop> {
     match judgement {
         Ok(Judgement::Right) => Ok(()),
-        Ok(judgement) => bail!("of its dump: {}", judgement.text(alloc)?),
-        Err(AllocError) => bail!("out of memory"),
+        Ok(judgement) => Err(told(rt, &judgement)),
+        Err(AllocError) => Err(Stop::OutOfMemory),
+    }
+}
+
+// Tells on standard error what a dump was judged that isn't right, since the program ends with it.
+fn told(rt: &HostRuntime, judgement: &Judgement) -> Stop {
+    match eprintln!(rt; "of its dump: {judgement}") {
+        Ok(()) => Stop::Dump,
+        Err(_) => Stop::System,
     }
 }

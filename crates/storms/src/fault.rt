@@ -1,32 +1,38 @@
-use thiserror::Error;
-
 /// What is wrong with a world.
-#[derive(Clone, Copy, Debug, PartialEq, Eq, Error)]
+#[derive(Clone, Copy)]
 pub(crate) enum Fault {
-    #[error("the nodes aren't those of the silos that live")]
     Nodes,
-    #[error("a silo has seen another version than it was shown")]
     Version,
-    #[error("a ring isn't that of its view, sorted anew")]
     Ring,
-    #[error("a silo's pieces don't have what it owns")]
     Pieces,
-    #[error("an entry lies in a piece of other hashes, or is of no grain")]
     Misplaced,
-    #[error("a silo holds an activation of no grain")]
     Held,
-    #[error("a grain is firm on two silos")]
     TwoFirm,
-    #[error("a firm activation is gone that nobody closed")]
     LostFirm,
-    #[error("two silos have a hash settled")]
     TwoSettled,
-    #[error("a settled piece lacks a firm activation")]
     MissingFirm,
-    #[error("a settled piece has an entry that no silo holds")]
     Stranger,
-    #[error("what isn't settled was answered")]
     Answered,
-    #[error("a settled piece answers something else than its entry")]
     WrongAnswer,
+}
+
+impl Fault {
+    /// In words.
+    pub(crate) fn words(self) -> &'static str {
+        match self {
+            Fault::Nodes => "the nodes aren't those of the silos that live",
+            Fault::Version => "a silo has seen another version than it was shown",
+            Fault::Ring => "a ring isn't that of its view, sorted anew",
+            Fault::Pieces => "a silo's pieces don't have what it owns",
+            Fault::Misplaced => "an entry lies in a piece of other hashes, or is of no grain",
+            Fault::Held => "a silo holds an activation of no grain",
+            Fault::TwoFirm => "a grain is firm on two silos",
+            Fault::LostFirm => "a firm activation is gone that nobody closed",
+            Fault::TwoSettled => "two silos have a hash settled",
+            Fault::MissingFirm => "a settled piece lacks a firm activation",
+            Fault::Stranger => "a settled piece has an entry that no silo holds",
+            Fault::Answered => "what isn't settled was answered",
+            Fault::WrongAnswer => "a settled piece answers something else than its entry",
+        }
+    }
 }

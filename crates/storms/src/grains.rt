@@ -1,5 +1,5 @@
 use crate::random::Random;
-use anyhow::Result;
+use crate::stop::Stop;
 use silo_address::GrainId;
 use std::alloc::Global;
 
@@ -7,7 +7,7 @@ use std::alloc::Global;
 pub(crate) const FEW: usize = 12;
 
 /// A grain, and the hash that its key states.
-#[derive(Clone, Copy, Debug)]
+#[derive(Clone, Copy)]
 pub(crate) struct Grain {
     pub(crate) id: GrainId,
     pub(crate) hash: u32,
@@ -15,7 +15,11 @@ pub(crate) struct Grain {
 
 /// The grains of a world: 4 to 12, anywhere on the circle. In a crowd, which has a home, they are 300 to 459, and most of them are
 /// hashed from there on, so that a range has more entries than a page.
-pub(crate) fn grains(alloc: Global, random: &mut Random, home: Option<u32>) -> Result<Vec<Grain>> {
+pub(crate) fn grains(
+    alloc: Global,
+    random: &mut Random,
+    home: Option<u32>,
+) -> Result<Vec<Grain>, Stop> {
     let count = match home {
         Some(_) => random.below(160).wrapping_add(300),
         None => random.below(9).wrapping_add(4),
@@ -34,19 +38,19 @@ pub(crate) fn grains(alloc: Global, random: &mut Random, home: Option<u32>) -> R
 }
 
 // The grain of a number, whose key states the hash.
-fn numbered(alloc: Global, number: u64, hash: u32) -> Result<Grain> {
+fn numbered(alloc: Global, number: u64, hash: u32) -> Result<Grain, Stop> {
     let text = format!(in alloc; "user/{number}#{hash}")?;
     stated(text.as_bytes(), hash)
 }
 
 // The grain of a text that states the hash.
-fn stated(text: &[u8], hash: u32) -> Result<Grain> {
+fn stated(text: &[u8], hash: u32) -> Result<Grain, Stop> {
     let id = GrainId::parse(text)?;
     Ok(Grain { id, hash })
 }
 
 /// Eight grains, hashed to where the eighths of the circle begin.
-pub(crate) fn eighths(alloc: Global) -> Result<Vec<Grain>> {
+pub(crate) fn eighths(alloc: Global) -> Result<Vec<Grain>, Stop> {
     let mut grains = Vec::new(alloc);
     for eighth in 0..8_u32 {
         let hash = eighth << 29;

@@ -16,17 +16,27 @@ const ROUND: u64 = 64;
 const WINDOW: usize = 8;
 
 /// Tests the headline of a world by plain code that uses nothing of the directory's but identities, and reads its nodes.
-#[derive(Clone, Copy, Debug)]
+#[derive(Clone, Copy)]
 pub(crate) struct Judge {
     events: u64,
     turn: usize,
 }
 
 /// Whom an event was of: the silo whose step it was, and the grain.
-#[derive(Clone, Copy, Debug)]
+#[derive(Clone, Copy)]
 pub(crate) struct Touched {
     pub(crate) silo: Option<SiloAddress>,
     pub(crate) grain: Option<usize>,
+}
+
+impl Touched {
+    /// An event that was of no silo, and of no grain.
+    pub(crate) fn nobody() -> Touched {
+        Touched {
+            silo: None,
+            grain: None,
+        }
+    }
 }
 
 impl Judge {
@@ -47,11 +57,15 @@ impl Judge {
         if self.events % ROUND == 0 {
             return judge_all(world, chronicle, grains);
         }
-        let step = if grains.len() <= FEW { 1 } else { WINDOW };
-        let next = self.turn.wrapping_add(step);
-        self.turn = next.checked_rem(grains.len()).unwrap_or(0);
+        self.turn = next_turn(self.turn, grains.len());
         judge_some(world, chronicle, grains, touched, self.turn)
     }
+}
+
+// The grain whose turn is next, of so many.
+fn next_turn(turn: usize, count: usize) -> usize {
+    let step = if count <= FEW { 1 } else { WINDOW };
+    turn.wrapping_add(step).checked_rem(count).unwrap_or(0)
 }
 
 // Every silo, every grain and every answer.
@@ -74,6 +88,16 @@ fn judge_some(
         judge_answers(world, chronicle, grains, index, 1)?;
         judge_grains(world, chronicle, grains, index, 1)?;
     }
+    judge_turn(world, chronicle, grains, turn)
+}
+
+// The grains whose turn it is, from one on.
+fn judge_turn(
+    world: &World,
+    chronicle: &mut Chronicle,
+    grains: &[Grain],
+    turn: usize,
+) -> Result<(), Fault> {
     judge_answers(world, chronicle, grains, turn, 1)?;
     let window = if grains.len() <= FEW {
         grains.len()
@@ -124,17 +148,27 @@ fn judge_nodes(
     only: &Option<SiloAddress>,
 ) -> Result<(), Fault> {
     for live in &chronicle.live {
-        if let Some(silo) = only
-            && !silo.same(&live.silo)
-        {
-            continue;
+        if is_meant(only, live) {
+            judge_node(world, grains, live)?;
         }
-        let node = world.node(&live.silo).ok_or(Fault::Nodes)?;
-        judge_pieces(node, live)?;
-        judge_entries(node, grains)?;
-        judge_held(node, grains)?;
     }
     Ok(())
+}
+
+// Whether the silo is to be tested: that one alone, if one is named.
+fn is_meant(only: &Option<SiloAddress>, live: &Live) -> bool {
+    match only {
+        Some(silo) => silo.same(&live.silo),
+        None => true,
+    }
+}
+
+// The pieces, entries and activations of a silo.
+fn judge_node(world: &World, grains: &[Grain], live: &Live) -> Result<(), Fault> {
+    let node = world.node(&live.silo).ok_or(Fault::Nodes)?;
+    judge_pieces(node, live)?;
+    judge_entries(node, grains)?;
+    judge_held(node, grains)
 }
 
 // So many grains from one on, going on with the first after the last.
@@ -150,13 +184,25 @@ fn judge_grains(
             .wrapping_add(step)
             .checked_rem(grains.len())
             .unwrap_or(0);
-        if let Some(grain) = grains.get(index) {
-            let last = chronicle.firm.get(index).copied().unwrap_or(None);
-            let firm = judge_grain(world, chronicle, grain, last)?;
-            if let Some(known) = chronicle.firm.get_mut(index) {
-                *known = firm;
-            }
-        }
+        judge_numbered(world, chronicle, grains, index)?;
+    }
+    Ok(())
+}
+
+// The grain of an index, and where it is firm is noted.
+fn judge_numbered(
+    world: &World,
+    chronicle: &mut Chronicle,
+    grains: &[Grain],
+    index: usize,
+) -> Result<(), Fault> {
+    let Some(grain) = grains.get(index) else {
+        return Ok(());
+    };
+    let last = chronicle.firm.get(index).copied().unwrap_or(None);
+    let firm = judge_grain(world, chronicle, grain, last)?;
+    if let Some(known) = chronicle.firm.get_mut(index) {
+        *known = firm;
     }
     Ok(())
 }

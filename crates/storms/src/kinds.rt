@@ -1,7 +1,7 @@
 use crate::random::Random;
 
 /// What may come next.
-#[derive(Clone, Copy, Debug, PartialEq, Eq)]
+#[derive(Clone, Copy)]
 pub(crate) enum Kind {
     Join,
     Leave,
@@ -21,7 +21,7 @@ pub(crate) enum Kind {
 }
 
 /// How a stretch of events goes.
-#[derive(Clone, Copy, Debug, PartialEq, Eq)]
+#[derive(Clone, Copy, PartialEq, Eq)]
 pub(crate) enum Weather {
     /// Views are seen one after another and most letters come soon, so that ranges settle.
     Calm,

@@ -1,4 +1,4 @@
-use anyhow::Result;
+use crate::stop::Stop;
 use silo_address::SiloAddress;
 use std::alloc::Global;
 
@@ -7,7 +7,7 @@ pub(crate) const MOST_POINTS: usize = 4;
 
 /// A silo that joined, as the storm remembers it: its endpoint's number, the versions in which it joined, left and died, and the
 /// places of its points.
-#[derive(Clone, Copy, Debug)]
+#[derive(Clone, Copy)]
 pub(crate) struct Member {
     pub(crate) silo: SiloAddress,
     pub(crate) endpoint: u64,
@@ -39,7 +39,7 @@ fn is_by(happened: Option<u64>, version: u64) -> bool {
 }
 
 /// The silo at the endpoint of a number, with that generation.
-pub(crate) fn silo_at(alloc: Global, endpoint: u64, generation: u32) -> Result<SiloAddress> {
+pub(crate) fn silo_at(alloc: Global, endpoint: u64, generation: u32) -> Result<SiloAddress, Stop> {
     let text = format!(in alloc; "10.0.0.{endpoint}:1000@{generation}")?;
     Ok(SiloAddress::parse(text.as_bytes())?)
 }

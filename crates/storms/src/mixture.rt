@@ -5,7 +5,7 @@ use crate::members::{MOST_POINTS, silo_at};
 use crate::pieces::count_waiting;
 use crate::random::Random;
 use crate::ring::{RingPoint, nearest, owner};
-use anyhow::Result;
+use crate::stop::Stop;
 use cluster_events::Event;
 use directory_core::World;
 use silo_address::{GrainId, SiloAddress};
@@ -36,10 +36,19 @@ pub(crate) struct Scene<'a> {
 
 impl Scene<'_> {
     /// An event that may come next, or none where there is none of the kind that was drawn.
-    pub(crate) fn event(&self, random: &mut Random) -> Result<Option<Event>> {
+    pub(crate) fn event(&self, random: &mut Random) -> Result<Option<Event>, Stop> {
         if self.chronicle.live.len() < LEAST_SILOS {
             return self.join(random);
         }
+        match self.kind(random) {
+            Some(Kind::Join) => self.join(random),
+            Some(kind) => Ok(self.other(random, kind)),
+            None => Ok(None),
+        }
+    }
+
+    // The kind that is drawn, unless it is to wait.
+    fn kind(&self, random: &mut Random) -> Option<Kind> {
         let hurry = if self.weather == Weather::Rush {
             240
         } else {
@@ -51,11 +60,9 @@ impl Scene<'_> {
             drawn_kind(random, self.weather)
         };
         if self.is_to_wait(random, kind) {
-            return Ok(None);
-        }
-        match kind {
-            Kind::Join => self.join(random),
-            kind => Ok(self.other(random, kind)),
+            None
+        } else {
+            Some(kind)
         }
     }
 
@@ -104,26 +111,51 @@ impl Scene<'_> {
     // An event other than a join.
     fn other(&self, random: &mut Random, kind: Kind) -> Option<Event> {
         match kind {
-            Kind::Join => None,
-            Kind::Leave => self.leave(random),
-            Kind::Kill => self.kill(random),
-            Kind::SeeNext => self.see_next(random),
-            Kind::SeeAny => self.see_any(random),
+            Kind::Wake | Kind::Close | Kind::Offer | Kind::Find | Kind::Forget => {
+                self.of_grain(random, kind)
+            }
+            Kind::DeliverRecent | Kind::DeliverOldest | Kind::DeliverAny | Kind::Lose => {
+                self.of_letter(random, kind)
+            }
+            _ => self.of_silo(random, kind),
+        }
+    }
+
+    // An event of a silo and a grain.
+    fn of_grain(&self, random: &mut Random, kind: Kind) -> Option<Event> {
+        match kind {
             Kind::Wake => self.wake(random),
             Kind::Close => self.close(random),
             Kind::Offer => self.offer(random),
             Kind::Find => self.find(random),
-            Kind::Forget => self.forget(random),
-            Kind::Nudge => self.nudge(random),
+            _ => self.forget(random),
+        }
+    }
+
+    // A letter comes, or is lost.
+    fn of_letter(&self, random: &mut Random, kind: Kind) -> Option<Event> {
+        match kind {
             Kind::DeliverRecent => self.deliver_recent(random),
             Kind::DeliverOldest => self.deliver_oldest(random),
             Kind::DeliverAny => self.deliver_any(random),
-            Kind::Lose => self.lose(random),
+            _ => self.lose(random),
+        }
+    }
+
+    // An event of a silo alone.
+    fn of_silo(&self, random: &mut Random, kind: Kind) -> Option<Event> {
+        match kind {
+            Kind::Leave => self.leave(random),
+            Kind::Kill => self.kill(random),
+            Kind::SeeNext => self.see_next(random),
+            Kind::SeeAny => self.see_any(random),
+            Kind::Nudge => self.nudge(random),
+            _ => None,
         }
     }
 
     // A silo joins at some endpoint, mostly at one that is free.
-    fn join(&self, random: &mut Random) -> Result<Option<Event>> {
+    fn join(&self, random: &mut Random) -> Result<Option<Event>, Stop> {
         let endpoint = random.below(ENDPOINTS).wrapping_add(1);
         if self.chronicle.occupant(endpoint).is_some() && !random.once_in(4) {
             return Ok(None);

@@ -1,5 +1,5 @@
 /// A small generator of random numbers, SplitMix64: a seed gives the same numbers everywhere.
-#[derive(Clone, Copy, Debug)]
+#[derive(Clone, Copy)]
 pub(crate) struct Random {
     state: u64,
 }

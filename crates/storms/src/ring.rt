@@ -6,7 +6,7 @@ use std::alloc::{AllocError, Global};
 const CIRCLE: u64 = 1 << 32;
 
 /// A point as the storm has it, in the order in which points stand in a ring.
-#[derive(Clone, Copy, Debug, PartialEq, Eq, PartialOrd, Ord)]
+#[derive(Clone, Copy, PartialEq, Eq, PartialOrd, Ord)]
 pub(crate) struct RingPoint {
     pub(crate) place: u32,
     pub(crate) silo: SiloAddress,

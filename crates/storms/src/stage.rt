@@ -3,14 +3,13 @@ use crate::chronicle::Chronicle;
 use crate::dumps::{judge_listed, judge_written};
 use crate::fault::Fault;
 use crate::grains::Grain;
-use crate::judge::Judge;
+use crate::judge::{Judge, Touched};
+use crate::stop::Stop;
 use crate::tally::Tally;
-use anyhow::{Context, Result, bail};
 use cluster_events::{Event, Outcome};
 use directory_core::{EventRefusal, World};
 use directory_rules::Settings;
-use hash_ring::Hashing;
-use std::alloc::Global;
+use std::alloc::{AllocError, Global};
 
 /// A world that events happen to, with what is remembered of it, and what tests it.
 #[derive(Drop)]
@@ -22,24 +21,31 @@ pub(crate) struct Stage {
     judge: Judge,
     // After how many events each letter was sent, from the first one on.
     sent: Vec<u64>,
+    // Whom the last accepted event was of.
+    touched: Touched,
 }
 
 impl Stage {
-    /// A world before its first event, with these grains, whose silos keep so many hints each.
-    pub(crate) fn new(alloc: Global, grains: Vec<Grain>, hints: usize) -> Result<Stage> {
-        let settings = Settings::of_directory(Hashing::Stated, 1, hints).context("no settings")?;
+    /// A world before its first event, with these grains.
+    pub(crate) fn new(
+        alloc: Global,
+        settings: Settings,
+        grains: Vec<Grain>,
+    ) -> Result<Stage, AllocError> {
+        let chronicle = Chronicle::new(alloc, grains.len())?;
         Ok(Stage {
             alloc,
             world: World::new(alloc, settings),
-            chronicle: Chronicle::new(alloc, grains.len())?,
             grains,
+            chronicle,
             judge: Judge::new(),
             sent: Vec::new(alloc),
+            touched: Touched::nobody(),
         })
     }
 
-    /// Tries an event: what was known before it, if it is accepted.
-    pub(crate) fn attempt(&mut self, tally: &mut Tally, event: &Event) -> Result<Option<Before>> {
+    /// Tries an event: whether it is accepted.
+    pub(crate) fn attempt(&mut self, tally: &mut Tally, event: &Event) -> Result<bool, Stop> {
         let before = look_before(
             self.alloc,
             &self.world,
@@ -49,27 +55,27 @@ impl Stage {
         )?;
         match self.world.apply(event) {
             Ok(outcome) => self.note(tally, event, &before, &outcome)?,
-            Err(EventRefusal::OutOfMemory) => bail!("out of memory"),
-            Err(_) => return Ok(None),
+            Err(EventRefusal::OutOfMemory) => return Err(Stop::OutOfMemory),
+            Err(_) => return Ok(false),
         }
-        Ok(Some(before))
+        Ok(true)
     }
 
     /// Tests the headline of the world after the accepted event.
-    pub(crate) fn judge(&mut self, before: &Before) -> Result<(), Fault> {
+    pub(crate) fn judge(&mut self) -> Result<(), Fault> {
         let (world, grains) = (&self.world, &self.grains);
         self.judge
-            .judge(world, &mut self.chronicle, grains, &before.touched)
+            .judge(world, &mut self.chronicle, grains, &self.touched)
     }
 
     /// Tests the world's dump as lists, which is to be right.
-    pub(crate) fn judge_dump(&self) -> Result<()> {
-        judge_listed(self.alloc, &self.world)
+    pub(crate) fn judge_dump(&self, rt: &HostRuntime) -> Result<(), Stop> {
+        judge_listed(rt, &self.world)
     }
 
     /// Tests the world's dump as a text that is read again, which is to be right.
-    pub(crate) fn judge_dump_text(&self) -> Result<()> {
-        judge_written(self.alloc, &self.world)
+    pub(crate) fn judge_dump_text(&self, rt: &HostRuntime) -> Result<(), Stop> {
+        judge_written(rt, &self.world)
     }
 
     // The event was accepted.
@@ -79,7 +85,8 @@ impl Stage {
         event: &Event,
         before: &Before,
         outcome: &Outcome,
-    ) -> Result<()> {
+    ) -> Result<(), Stop> {
+        self.touched = before.touched;
         self.note_letters(tally, before, outcome)?;
         tally.note(&self.world, &self.grains, before, outcome);
         self.chronicle.note(&self.grains, event)?;
@@ -92,7 +99,7 @@ impl Stage {
         tally: &mut Tally,
         before: &Before,
         outcome: &Outcome,
-    ) -> Result<()> {
+    ) -> Result<(), Stop> {
         let now = self.world.accepted();
         if let Some(number) = before.letter {
             let index = number.wrapping_sub(1) as usize;

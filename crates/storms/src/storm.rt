@@ -1,36 +1,58 @@
-use crate::before::Before;
-use crate::grains::grains;
-use crate::kinds::Weather;
-use crate::mixture::Scene;
+use crate::climate::Climate;
+use crate::course::Course;
+use crate::grains::{Grain, eighths, grains};
+use crate::plan::Plan;
+use crate::progress::Progress;
 use crate::random::Random;
+use crate::script_lines::tell;
+use crate::seeded::Seeded;
 use crate::stage::Stage;
-use crate::tally::Tally;
-use anyhow::Result;
+use crate::stop::Stop;
 use cluster_events::Event;
+use directory_rules::Settings;
+use hash_ring::Hashing;
 use std::alloc::Global;
+use std::io;
 
-/// After so many events the lists of the world's dump are judged.
-const DUMP: u64 = 100;
+/// How many hints each silo keeps in a seeded storm.
+const SEEDED_HINTS: usize = 1_024;
 
-/// After so many its text is.
-const DUMP_TEXT: u64 = 10_000;
+/// Where the events of a storm come from.
+#[derive(Clone, Copy)]
+enum Source {
+    World(Climate),
+    Seeded(Seeded),
+}
 
-/// One world and the storm in it.
+impl Source {
+    // An event that may come next.
+    fn event(&mut self, stage: &Stage) -> Result<Option<Event>, Stop> {
+        match self {
+            Source::World(climate) => climate.event(stage),
+            Source::Seeded(seeded) => seeded.event(stage),
+        }
+    }
+}
+
+/// A world, and the storm in it.
 #[derive(Drop)]
 pub(crate) struct Storm {
-    random: Random,
+    plan: Plan,
+    source: Source,
     stage: Stage,
-    home: Option<u32>,
-    weather: Weather,
-    laggard: u64,
-    // How many turns this weather lasts.
-    lasts: u64,
 }
 
 impl Storm {
-    /// A world before its first event. The seed decides all that will happen to it.
-    pub(crate) fn new(alloc: Global, seed: u64) -> Result<Storm> {
-        let mut random = Random::new(seed);
+    /// A storm before its first turn. The seed decides all that will happen in it.
+    pub(crate) fn new(alloc: Global, plan: &Plan) -> Result<Storm, Stop> {
+        match plan.course {
+            Course::World => Storm::of_world(alloc, plan),
+            Course::Views | Course::Offers => Storm::of_seed(alloc, plan),
+        }
+    }
+
+    fn of_world(alloc: Global, plan: &Plan) -> Result<Storm, Stop> {
+        let mut random = Random::new(plan.seed);
         let home = if random.once_in(2) {
             None
         } else {
@@ -38,96 +60,106 @@ impl Storm {
         };
         let grains = grains(alloc, &mut random, home)?;
         let hints = random.index(3).wrapping_mul(8);
+        let source = Source::World(Climate::new(random, home));
+        Storm::over(alloc, plan, source, grains, hints)
+    }
+
+    fn of_seed(alloc: Global, plan: &Plan) -> Result<Storm, Stop> {
+        let source = Source::Seeded(Seeded::new(plan.course, plan.seed));
+        Storm::over(alloc, plan, source, eighths(alloc)?, SEEDED_HINTS)
+    }
+
+    // A storm over these grains, whose silos keep so many hints each.
+    fn over(
+        alloc: Global,
+        plan: &Plan,
+        source: Source,
+        grains: Vec<Grain>,
+        hints: usize,
+    ) -> Result<Storm, Stop> {
+        let Some(settings) = Settings::of_directory(Hashing::Stated, 1, hints) else {
+            return Err(Stop::NoSettings);
+        };
+        let stage = Stage::new(alloc, settings, grains)?;
         Ok(Storm {
-            random,
-            stage: Stage::new(alloc, grains, hints)?,
-            home,
-            weather: Weather::Rush,
-            laggard: 0,
-            lasts: 200,
+            plan: *plan,
+            source,
+            stage,
         })
     }
 
-    /// How many hints each silo's cache keeps.
-    pub(crate) fn hints(&self) -> usize {
-        self.stage.world.settings().cache()
-    }
-
-    /// How many events were accepted.
-    pub(crate) fn accepted(&self) -> u64 {
-        self.stage.world.accepted()
-    }
-
-    /// Whether hardly any more silo may ever join.
-    pub(crate) fn is_over(&self) -> bool {
-        self.stage.chronicle.members.len() >= 250
-    }
-
-    /// Tries an event: what was known before it if it is accepted, and the event.
-    pub(crate) fn attempt(&mut self, tally: &mut Tally) -> Result<Option<(Event, Before)>> {
-        self.change_weather();
-        let Some(event) = self.event()? else {
-            return Ok(None);
-        };
-        match self.stage.attempt(tally, &event)? {
-            Some(before) => Ok(Some((event, before))),
-            None => Ok(None),
+    /// Goes on to its end, with the headline tested after each accepted event, and the dump when the plan says so.
+    pub(crate) fn run(&mut self, rt: &HostRuntime, progress: &mut Progress) -> Result<(), Stop> {
+        if self.plan.is_script && self.plan.course == Course::World {
+            self.tell_hints(rt)?;
         }
-    }
-
-    /// Tests the world after the accepted event, and from time to time its dump.
-    pub(crate) fn judge(&mut self, before: &Before) -> Result<()> {
-        self.stage.judge(before)?;
-        if self.accepted() % DUMP == 0 {
-            self.stage.judge_dump()?;
+        for _ in 0..self.plan.turns {
+            if self.is_over() {
+                break;
+            }
+            progress.turns = progress.turns.saturating_add(1);
+            self.turn(rt, progress)?;
         }
-        if self.accepted() % DUMP_TEXT == 0 {
-            self.stage.judge_dump_text()?;
+        if self.plan.ends_with_text {
+            self.stage.judge_dump_text(rt)?;
         }
         Ok(())
     }
 
-    // An event that may come next.
-    fn event(&mut self) -> Result<Option<Event>> {
-        let mut random = self.random;
-        let event = Scene {
-            alloc: self.stage.alloc,
-            weather: self.weather,
-            laggard: self.laggard,
-            world: &self.stage.world,
-            chronicle: &self.stage.chronicle,
-            grains: &self.stage.grains,
-            home: self.home,
-        }
-        .event(&mut random);
-        self.random = random;
-        event
+    // How many hints each silo's cache keeps, as a comment of a script.
+    fn tell_hints(&self, rt: &HostRuntime) -> io::Result<()> {
+        println!(rt;
+            "; each cache keeps {} hints",
+            self.stage.world.settings().cache()
+        )
     }
 
-    // Other weather, and another laggard, once this one has lasted long enough.
-    fn change_weather(&mut self) {
-        if self.lasts > 0 {
-            self.lasts = self.lasts.saturating_sub(1);
-            return;
-        }
-        (self.weather, self.lasts) = match self.random.below(3) {
-            0 => (Weather::Gale, self.random.below(30).wrapping_add(5)),
-            1 => (Weather::Fog, self.random.below(120)),
-            _ => self.fair_weather(),
-        };
-        self.laggard = if self.lasts < 400 {
-            self.random.below(10)
-        } else {
-            0
-        };
+    // Whether there are no more turns.
+    fn is_over(&self) -> bool {
+        self.stage.world.accepted() >= self.plan.events
+            || self.stage.chronicle.members.len() >= self.plan.silos
+            || self.stage.world.current() >= self.plan.version
     }
 
-    // Calm, or in a crowd a long rush, since it takes many events to wake all its grains.
-    fn fair_weather(&mut self) -> (Weather, u64) {
-        match self.home {
-            Some(_) => (Weather::Rush, self.random.below(3_000)),
-            None if self.random.once_in(4) => (Weather::Rush, self.random.below(1_000)),
-            None => (Weather::Calm, self.random.below(900)),
+    // An event is drawn, if there is one, and tried.
+    fn turn(&mut self, rt: &HostRuntime, progress: &mut Progress) -> Result<(), Stop> {
+        match self.source.event(&self.stage)? {
+            Some(event) => self.attempt(rt, progress, &event),
+            None => Ok(()),
         }
     }
+
+    // Where the event is accepted, a script has its line, and the world is tested.
+    fn attempt(
+        &mut self,
+        rt: &HostRuntime,
+        progress: &mut Progress,
+        event: &Event,
+    ) -> Result<(), Stop> {
+        if !self.stage.attempt(&mut progress.tally, event)? {
+            return Ok(());
+        }
+        progress.accepted = self.stage.world.accepted();
+        if self.plan.is_script {
+            tell(rt, event)?;
+        }
+        self.judge(rt, progress.accepted)
+    }
+
+    // Tests the world after so many events, and from time to time its dump.
+    fn judge(&mut self, rt: &HostRuntime, accepted: u64) -> Result<(), Stop> {
+        self.stage.judge()?;
+        if is_due(self.plan.lists, accepted) {
+            self.stage.judge_dump(rt)?;
+        }
+        if is_due(self.plan.text, accepted) {
+            self.stage.judge_dump_text(rt)?;
+        }
+        Ok(())
+    }
+}
+
+// Whether what happens after so many events, and again after as many, happens now; after 0 it never does.
+fn is_due(every: u64, accepted: u64) -> bool {
+    accepted.checked_rem(every) == Some(0)
 }

@@ -9,7 +9,7 @@ use silo_address::SiloAddress;
 use std::io;
 
 /// A thing that storms are to make happen often.
-#[derive(Clone, Copy, Debug, PartialEq, Eq)]
+#[derive(Clone, Copy)]
 pub(crate) enum Thing {
     Install,
     InstallOfPages,
@@ -92,7 +92,7 @@ impl Thing {
 }
 
 /// How often each thing happened.
-#[derive(Clone, Copy, Debug)]
+#[derive(Clone, Copy)]
 pub(crate) struct Tally {
     counts: [u64; COUNT],
 }
