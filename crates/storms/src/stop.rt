@@ -13,7 +13,7 @@ pub(crate) enum Stop {
     NoSettings,
     /// The text of a silo or of a grain is none.
     BadName,
-    /// There are no words, or nowhere to print.
+    /// The words of the command line can't be read, or nothing can be printed.
     System,
     /// The headline doesn't hold.
     Fault(Fault),
@@ -31,7 +31,7 @@ impl fmt::Display for Stop {
             Stop::OutOfMemory => f.write_str("out of memory"),
             Stop::NoSettings => f.write_str("no settings"),
             Stop::BadName => f.write_str("a bad name"),
-            Stop::System => f.write_str("the system has no words, or doesn't print"),
+            Stop::System => f.write_str("no words can be read, or nothing can be printed"),
             Stop::Fault(fault) => f.write_str(fault.words()),
             Stop::Dump => f.write_str("the dump isn't right"),
         }
