@@ -9,7 +9,7 @@ use silo_address::{GrainId, SiloAddress};
 use std::alloc::Global;
 
 /// What a silo does with a grain.
-#[derive(Clone, Copy, Debug)]
+#[derive(Clone, Copy)]
 pub(crate) enum Deed {
     /// It starts an activation.
     Wake,

@@ -7,7 +7,7 @@ use silo_address::GrainId;
 pub(crate) const PORTION: u64 = 16;
 
 /// Deeds one after another, the silos doing them in turn.
-#[derive(Clone, Copy, Debug)]
+#[derive(Clone, Copy)]
 pub(crate) struct Course {
     pub(crate) deed: Deed,
     /// How many deeds there are.

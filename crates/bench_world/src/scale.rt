@@ -1,5 +1,5 @@
 /// How much is played in the scenarios.
-#[derive(Clone, Copy, Debug)]
+#[derive(Clone, Copy)]
 pub(crate) struct Scale {
     /// How many grains are woken.
     pub(crate) grains: u64,

@@ -13,7 +13,7 @@ const JOINING_POINTS: u64 = 50;
 const HINTS: usize = 1_024;
 
 /// What is measured.
-#[derive(Clone, Copy, Debug)]
+#[derive(Clone, Copy)]
 pub(crate) enum Scenario {
     /// Grains are woken on four silos.
     Wakes,

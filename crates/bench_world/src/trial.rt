@@ -12,7 +12,7 @@ pub(crate) struct Trial {
 }
 
 /// What was measured: how many events there were, the nanoseconds that the calls took, and a sum of what all events have left.
-#[derive(Clone, Copy, Debug)]
+#[derive(Clone, Copy)]
 pub(crate) struct Report {
     pub(crate) events: u64,
     pub(crate) spent: u128,

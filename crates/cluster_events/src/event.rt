@@ -6,7 +6,7 @@ ghost use Rattle.cluster_events.specs.EventModel.{event_of};
 use silo_address::{GrainId, SiloAddress};
 
 /// What may happen to a cluster (`docs/RULES.md#the-world`).
-#[derive(Debug, Drop)]
+#[derive(Drop)]
 pub enum Event {
     /// A silo joins, with the places of its points where they are stated and not hashed.
     Join {

@@ -2,7 +2,7 @@ use directory_rules::{Effect, LetterKind};
 use silo_address::SiloAddress;
 
 /// What happened at an accepted event.
-#[derive(Clone, Copy, Debug, PartialEq, Eq)]
+#[derive(Clone, Copy, PartialEq, Eq)]
 pub enum Happening {
     /// A silo joined; this made the version, and the older silo of its endpoint became Dead in it, if there was one alive.
     Joined {
@@ -44,14 +44,14 @@ pub enum Happening {
 }
 
 /// The first and the last number of the letters that an event sent.
-#[derive(Clone, Copy, Debug, PartialEq, Eq)]
+#[derive(Clone, Copy, PartialEq, Eq)]
 pub struct Span {
     pub first: u64,
     pub last: u64,
 }
 
 /// What an accepted event tells: what happened, and the letters that it sent, if it sent any.
-#[derive(Clone, Copy, Debug, PartialEq, Eq)]
+#[derive(Clone, Copy, PartialEq, Eq)]
 pub struct Outcome {
     pub happening: Happening,
     pub sent: Option<Span>,

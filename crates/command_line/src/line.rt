@@ -14,7 +14,7 @@ use std::alloc::Global;
 use std::convert::AsStr;
 
 /// What an accepted command line asks for.
-#[derive(Clone, Copy, Debug, PartialEq, Eq)]
+#[derive(Clone, Copy, PartialEq, Eq)]
 pub enum Line {
     /// Play the script that comes on standard input.
     Play {

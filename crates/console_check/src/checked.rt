@@ -2,7 +2,7 @@ ghost use Rattle.std.specs.Prelude.{◌≡◌};
 ghost use Rattle.console_check.specs.Checks.{status_of};
 
 /// How a check ends (`docs/RULES.md#the-program`).
-#[derive(Clone, Copy, Debug, PartialEq, Eq)]
+#[derive(Clone, Copy, PartialEq, Eq)]
 pub enum Checked {
     /// All is right in the dump, and it is said so.
     Right,

@@ -14,7 +14,7 @@ const CHUNK: usize = 65_536;
 const MOST_READ: usize = 268_435_456;
 
 /// Why not all that a source has is read.
-#[derive(Clone, Copy, Debug, PartialEq, Eq)]
+#[derive(Clone, Copy)]
 pub(crate) enum Unread {
     /// There are more than 268435456 bytes.
     TooLong,

@@ -5,7 +5,7 @@ use console_check::Checked;
 use script_loop::Ended;
 
 /// How the program ends.
-#[derive(Clone, Copy, Debug, PartialEq, Eq)]
+#[derive(Clone, Copy, PartialEq, Eq)]
 pub enum Exit {
     /// The script was played, up to its end or to what ended it before.
     Played(Ended),

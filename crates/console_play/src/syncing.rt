@@ -16,7 +16,7 @@ use silo_address::SiloAddress;
 use std::alloc::{AllocError, Global};
 
 /// The versions that a silo hasn't seen: all after the one that it has, and none from before it joined.
-#[derive(Clone, Copy, Debug)]
+#[derive(Clone, Copy)]
 pub(crate) struct Unseen {
     silo: SiloAddress,
     /// The version that the silo has seen, or the last before it joined.

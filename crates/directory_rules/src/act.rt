@@ -3,7 +3,7 @@ ghost use Rattle.std.specs.Prelude.{◌≡◌, ◌↔◌, IsTrue};
 use silo_address::{ActivationId, Entry, GrainId, SiloAddress};
 
 /// What a request asks of the owner of a grain's hash (`docs/RULES.md#requests`).
-#[derive(Clone, Copy, Debug, PartialEq, Eq)]
+#[derive(Clone, Copy)]
 pub enum Act {
     /// To enter the activation, where the grain has no entry, or that of the previous activation.
     Register {
@@ -58,7 +58,7 @@ fn same_previous(one: &Option<ActivationId>, other: &Option<ActivationId>) -> bo
 }
 
 /// A request, as it travels.
-#[derive(Clone, Copy, Debug, PartialEq, Eq)]
+#[derive(Clone, Copy)]
 pub struct Request {
     pub sender: SiloAddress,
     /// The version that the sender has seen.

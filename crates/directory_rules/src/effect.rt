@@ -4,7 +4,7 @@ use crate::Why;
 use silo_address::{Entry, GrainId, SiloAddress};
 
 /// What a silo's step did (`docs/RULES.md#effects`).
-#[derive(Clone, Copy, Debug, PartialEq, Eq)]
+#[derive(Clone, Copy, PartialEq, Eq)]
 pub enum Effect {
     /// See: the version is the next one after the one seen, or the one in which the silo joined.
     Next,

@@ -3,7 +3,7 @@ ghost use Rattle.std.specs.Prelude.{◌≡◌, ◌↔◌, IsTrue};
 use silo_address::ActivationId;
 
 /// The phase of an activation on its silo (`docs/RULES.md#phases`).
-#[derive(Clone, Copy, Debug, PartialEq, Eq)]
+#[derive(Clone, Copy, PartialEq, Eq)]
 pub enum Phase {
     /// Its Register is outstanding, under this number.
     Asking(u64),
@@ -30,7 +30,7 @@ impl Phase {
 }
 
 /// An activation on its own silo, where it is kept under its grain.
-#[derive(Clone, Copy, Debug, PartialEq, Eq)]
+#[derive(Clone, Copy, PartialEq, Eq)]
 pub struct Held {
     /// The silo's count of activations when this one began, from 1 to 2^60.
     pub count: u64,

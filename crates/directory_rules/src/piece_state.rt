@@ -3,7 +3,7 @@ ghost use Rattle.std.specs.Prelude.{◌≡◌, ◌↔◌, IsTrue};
 use silo_address::SiloAddress;
 
 /// What a silo has of a piece that it owns (`docs/RULES.md#pieces`).
-#[derive(Clone, Copy, Debug, PartialEq, Eq)]
+#[derive(Clone, Copy, PartialEq, Eq)]
 pub enum PieceState {
     /// Its entries, from which it answers requests.
     Settled,

@@ -1,7 +1,7 @@
 ghost use Rattle.std.specs.Prelude.{◌≡◌, ◌↔◌, IsTrue};
 
 /// How a silo is chosen for a new activation (`docs/RULES.md#placement`).
-#[derive(Clone, Copy, Debug, PartialEq, Eq)]
+#[derive(Clone, Copy, PartialEq, Eq)]
 pub enum Policy {
     /// The silo that asks, if it is Active, and otherwise as `HashBased`.
     PreferLocal,

@@ -4,7 +4,7 @@ ghost use Rattle.directory_rules.specs.Answer.{why_number};
 use silo_address::Entry;
 
 /// Why a request has to be made again (`docs/RULES.md#requests`).
-#[derive(Clone, Copy, Debug, PartialEq, Eq)]
+#[derive(Clone, Copy, PartialEq, Eq)]
 pub enum Why {
     /// 601: the asked silo has seen another version, this one.
     View { seen: u64 },
@@ -45,7 +45,7 @@ impl Why {
 }
 
 /// What a request is answered (`docs/RULES.md#requests`).
-#[derive(Clone, Copy, Debug, PartialEq, Eq)]
+#[derive(Clone, Copy, PartialEq, Eq)]
 pub enum Reply {
     /// To a Register: the entry is in.
     Registered(Entry),

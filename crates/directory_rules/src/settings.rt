@@ -11,7 +11,7 @@ const MOST_CACHED: usize = 65_536;
 const MOST_LETTERS: u64 = 1_000_000;
 
 /// What a directory is set up with: how it hashes, and its limits (`docs/RULES.md#settings`).
-#[derive(Clone, Copy, Debug, PartialEq, Eq)]
+#[derive(Clone, Copy, PartialEq, Eq)]
 pub struct Settings {
     hashing: Hashing,
     points: usize,

@@ -5,7 +5,7 @@ use silo_address::{ActivationId, SiloAddress};
 use std::marker::Model;
 
 /// The phase of an activation.
-#[derive(Clone, Copy, Debug, PartialEq, Eq)]
+#[derive(Clone, Copy, PartialEq, Eq)]
 pub enum Phase {
     Asking,
     Firm,
@@ -13,7 +13,7 @@ pub enum Phase {
 }
 
 /// The state of a piece. From whom an awaiting piece expects its entries is said beside it.
-#[derive(Clone, Copy, Debug, PartialEq, Eq)]
+#[derive(Clone, Copy, PartialEq, Eq)]
 pub enum State {
     Settled,
     Awaiting,

@@ -2,7 +2,7 @@ use silo_address::{GrainId, SiloAddress};
 use std::fmt;
 
 /// What is wrong with a dump (`docs/RULES.md#the-dump-and-the-verdict`).
-#[derive(Clone, Copy, Debug, PartialEq, Eq)]
+#[derive(Clone, Copy)]
 pub enum Fault {
     /// The silo's ring isn't that of the view that it has seen: 973.
     RingDiffers(SiloAddress),

@@ -8,7 +8,7 @@ const NOT_JSON: u16 = 971;
 const NOT_A_DUMP: u16 = 972;
 
 /// What is said of bytes that should tell a dump.
-#[derive(Clone, Copy, Debug, PartialEq, Eq)]
+#[derive(Clone, Copy)]
 pub enum Judgement {
     /// They tell a dump, and all in it is as it must be.
     Right,

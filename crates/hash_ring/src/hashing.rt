@@ -5,7 +5,7 @@ use sha2::{Digest, Sha256};
 use silo_address::GrainId;
 
 /// How a cluster hashes: where its points are, and which hash a grain has (`docs/RULES.md#hashes`).
-#[derive(Clone, Copy, Debug, PartialEq, Eq)]
+#[derive(Clone, Copy, PartialEq, Eq)]
 pub enum Hashing {
     /// Points and grains are hashed by their texts.
     Sha256,

@@ -3,7 +3,7 @@ ghost use Rattle.std.specs.Prelude.{◌≡◌, ◌↔◌, IsTrue};
 use silo_address::SiloAddress;
 
 /// A point of a silo on the circle of hashes. Points are ordered by place, then silo, then index.
-#[derive(Clone, Copy, Debug, PartialEq, Eq, PartialOrd, Ord)]
+#[derive(Clone, Copy, PartialEq, Eq, PartialOrd, Ord)]
 pub struct Point {
     /// The hash at which the point stands.
     pub place: u32,

@@ -6,7 +6,7 @@ use directory_rules::Phase;
 use silo_address::GrainId;
 
 /// What a host has outstanding under a number.
-#[derive(Clone, Copy, Debug, PartialEq, Eq)]
+#[derive(Clone, Copy, PartialEq, Eq)]
 pub enum Asked {
     /// The request of the grain's activation: to be entered, or to be taken out.
     Activation(GrainId),

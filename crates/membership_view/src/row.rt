@@ -4,7 +4,7 @@ ghost use Rattle.membership_view.specs.Row.{has_come, status_in};
 use crate::Status;
 
 /// What is kept of a silo forever: the versions in which it joined, began to leave and became Dead.
-#[derive(Clone, Copy, Debug, PartialEq, Eq)]
+#[derive(Clone, Copy, PartialEq, Eq)]
 pub struct Row {
     /// The version in which the silo joined, above 0.
     pub joined: u64,

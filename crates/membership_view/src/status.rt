@@ -2,7 +2,7 @@ ghost use Rattle.std.specs.Prelude.{◌≡◌};
 ghost use Rattle.membership_view.specs.Row.{is_active};
 
 /// What a silo is in a view (`docs/RULES.md#membership`).
-#[derive(Clone, Copy, Debug, PartialEq, Eq)]
+#[derive(Clone, Copy, PartialEq, Eq)]
 pub enum Status {
     /// It serves, and has its points on the ring.
     Active,

@@ -40,7 +40,7 @@ impl Model for Views {
 }
 
 /// The outcome of a join.
-#[derive(Clone, Copy, Debug, PartialEq, Eq)]
+#[derive(Clone, Copy, PartialEq, Eq)]
 pub struct Joined {
     /// The version that the join made.
     pub version: u64,

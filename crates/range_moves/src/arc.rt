@@ -5,7 +5,7 @@ use ring_range::RingRange;
 use silo_address::SiloAddress;
 
 /// Hashes that one silo owned before and one owns after, of two rings; `None` where a ring has no point.
-#[derive(Clone, Copy, Debug, PartialEq, Eq)]
+#[derive(Clone, Copy, PartialEq, Eq)]
 pub struct Arc {
     /// From one place of the rings to the next.
     pub range: RingRange,
@@ -16,7 +16,7 @@ pub struct Arc {
 }
 
 /// An arc that another silo owns after than before.
-#[derive(Clone, Copy, Debug, PartialEq, Eq)]
+#[derive(Clone, Copy, PartialEq, Eq)]
 pub struct Move {
     /// The hashes that move.
     pub range: RingRange,

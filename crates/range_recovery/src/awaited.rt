@@ -1,7 +1,7 @@
 use silo_address::SiloAddress;
 
 /// A silo that is asked for its report.
-#[derive(Clone, Copy, Debug, PartialEq, Eq)]
+#[derive(Clone, Copy, PartialEq, Eq)]
 pub(crate) struct Awaited {
     pub(crate) silo: SiloAddress,
     /// Whether its report has been taken.

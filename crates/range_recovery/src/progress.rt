@@ -1,5 +1,5 @@
 /// What comes of a report that is taken (`docs/RULES.md#recovery`).
-#[derive(Clone, Copy, Debug, PartialEq, Eq)]
+#[derive(Clone, Copy, PartialEq, Eq)]
 pub enum Progress {
     /// More silos are awaited.
     More,

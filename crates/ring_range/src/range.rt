@@ -34,7 +34,7 @@ impl RangeError {
 ///
 /// A range of size 0 is empty, and one of size 4294967296 is the full circle. Ranges are equal where their starts and
 /// sizes are; so are full circles of two starts two ranges.
-#[derive(Clone, Copy, Debug, PartialEq, Eq, PartialOrd, Ord, Hash)]
+#[derive(Clone, Copy, PartialEq, Eq, PartialOrd, Ord)]
 pub struct RingRange {
     start: u32,
     size: u64,

@@ -3,7 +3,7 @@ use directory_rules::Policy;
 use silo_address::{GrainId, SiloAddress};
 
 /// What a line of a script asks for (`docs/RULES.md#scripts`).
-#[derive(Debug, Drop)]
+#[derive(Drop)]
 pub enum Command {
     /// An event of the cluster.
     Happen(Event),

@@ -4,7 +4,7 @@ ghost use Rattle.script_loop.specs.Endings.{status_of};
 use script_commands::ScriptFault;
 
 /// How playing a script ends (`docs/RULES.md#scripts`).
-#[derive(Clone, Copy, Debug, PartialEq, Eq)]
+#[derive(Clone, Copy, PartialEq, Eq)]
 pub enum Ended {
     /// The whole script was played, and all that it prints is written.
     Played,
@@ -19,7 +19,7 @@ pub enum Ended {
 }
 
 /// The fault of a line.
-#[derive(Clone, Copy, Debug, PartialEq, Eq)]
+#[derive(Clone, Copy, PartialEq, Eq)]
 pub struct LineFault {
     /// The line's number, from 1; lines that are passed over count.
     pub line: u64,

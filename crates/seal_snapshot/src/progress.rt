@@ -1,5 +1,5 @@
 /// What comes of a page that is taken (`docs/RULES.md#transfer`).
-#[derive(Clone, Copy, Debug, PartialEq, Eq)]
+#[derive(Clone, Copy, PartialEq, Eq)]
 pub enum Progress {
     /// More pages are wanted.
     More,

@@ -1,5 +1,5 @@
 /// What decides which events come.
-#[derive(Clone, Copy, PartialEq, Eq)]
+#[derive(Clone, Copy)]
 pub(crate) enum Course {
     /// The weather of a world.
     World,

@@ -21,7 +21,7 @@ pub(crate) enum Kind {
 }
 
 /// How a stretch of events goes.
-#[derive(Clone, Copy, PartialEq, Eq)]
+#[derive(Clone, Copy)]
 pub(crate) enum Weather {
     /// Views are seen one after another and most letters come soon, so that ranges settle.
     Calm,
