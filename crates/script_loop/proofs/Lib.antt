@@ -1,5 +1,4 @@
 mod Causes
-mod Echoed
 mod Filled
 mod Pieces
 mod Stands

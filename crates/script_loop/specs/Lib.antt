@@ -1,5 +1,4 @@
 pub mod Calls
-pub mod Echoes
 pub mod Endings
 pub mod Lines
 pub mod Progress

@@ -19,6 +19,3 @@ pub use playing::play;
 pub use sending::send;
 pub use sink::Sink;
 pub use source::Source;
-
-#[cfg(test)]
-mod tests;

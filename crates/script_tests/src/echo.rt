@@ -1,14 +1,14 @@
 //! A player that prints each line as it stands.
 
-ghost use Rattle.script_loop.specs.Echoes.{echoed, long_lines_fault, nothing_echoed};
+ghost use Rattle.script_tests.specs.Echoes.{echoed, long_lines_fault, nothing_echoed};
 
-use crate::{LineFault, LinePlayer};
 use script_commands::ScriptFault;
+use script_loop::{LineFault, LinePlayer};
 use script_output::write_fault;
 use std::alloc::{AllocError, Global};
 
 #[derive(Drop)]
-pub(super) struct Echo;
+pub(crate) struct Echo;
 
 impl LinePlayer for Echo {
     ghost output = { λ _. echoed };

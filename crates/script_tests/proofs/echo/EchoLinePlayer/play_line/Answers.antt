@@ -1,8 +1,8 @@
 use Rattle.std.proofs.Common.{ℕ, List, [], ◌∷◌, ◌++◌, ap, arith, ◌∙◌}
 use Rattle.script_output.specs.Printed.{printed}
 use Rattle.script_rules.specs.Lines.{fault_line}
-use Rattle.script_loop.proofs.Echoed.{echoes, echoes_fault}
-use Rattle.script_loop.proofs.tests.echo.EchoLinePlayer.play_line.Goals as goal
+use Rattle.script_tests.proofs.Echoed.{echoes, echoes_fault}
+use Rattle.script_tests.proofs.echo.EchoLinePlayer.play_line.Goals as goal
 
 pub returns-then-line-gt8192-clause-played : goal.returns-then-line-gt8192-clause-played
 returns-then-line-gt8192-clause-played c = echoes_fault c.args.number c.args.line.now c.args.out.now.items c.write_fault.new.out.items (omega arith)

@@ -7,7 +7,7 @@ use Rattle.script_rules.specs.Lines.{fault_line}
 use Rattle.script_rules.specs.Script.{longest_line}
 use Rattle.script_commands.specs.declared.error.ScriptFault.TheVariants.{LineTooLong}
 use Rattle.script_output.specs.Printed.{printed}
-use Rattle.script_loop.specs.Echoes.{echoed, long_lines_fault}
+use Rattle.script_tests.specs.Echoes.{echoed, long_lines_fault}
 use Rattle.script_loop.specs.Lines.{PlaysLine, behind}
 
 -- a line as it stands

@@ -7,13 +7,13 @@ use std::io::{self, Read, Write};
 
 /// Gives some bytes at a time. Once it was read so many times, a read fails; the next one is well again.
 #[derive(Drop)]
-pub(super) struct SparseReader<'a> {
+pub(crate) struct SparseReader<'a> {
     /// What is still to be given.
-    pub(super) rest: &'a [u8],
+    pub(crate) rest: &'a [u8],
     /// How many bytes a read gives at most; at least one comes.
-    pub(super) most: usize,
+    pub(crate) most: usize,
     /// How many reads are well before one that fails.
-    pub(super) reads: u64,
+    pub(crate) reads: u64,
 }
 
 impl Read for SparseReader<'_> {
@@ -32,7 +32,7 @@ impl Read for SparseReader<'_> {
 
 /// How a writer refuses.
 #[derive(Clone, Copy)]
-pub(super) enum Refusal {
+pub(crate) enum Refusal {
     /// It fails.
     Fails,
     /// It takes no byte, and says so.
@@ -41,20 +41,20 @@ pub(super) enum Refusal {
 
 /// Takes some bytes at a time and keeps them. Once it was written to so many times, it refuses a write, and takes the next one.
 #[derive(Drop)]
-pub(super) struct SparseWriter {
+pub(crate) struct SparseWriter {
     /// What it took.
-    pub(super) taken: Vec<u8>,
+    pub(crate) taken: Vec<u8>,
     /// How many bytes a write takes at most.
-    pub(super) most: usize,
+    pub(crate) most: usize,
     /// How many writes are well before one that is refused.
-    pub(super) writes: u64,
+    pub(crate) writes: u64,
     /// How that is refused.
-    pub(super) refusal: Refusal,
+    pub(crate) refusal: Refusal,
 }
 
 impl SparseWriter {
     /// Takes all that comes.
-    pub(super) fn willing(alloc: Global) -> SparseWriter {
+    pub(crate) fn willing(alloc: Global) -> SparseWriter {
         SparseWriter {
             taken: Vec::new(alloc),
             most: usize::MAX,
@@ -91,14 +91,14 @@ const REMARK: usize = 8192;
 
 /// Gives so many bytes of remarks, of which it holds one.
 #[derive(Drop)]
-pub(super) struct Remarks {
+pub(crate) struct Remarks {
     remark: [u8; REMARK],
     /// How many more bytes there are.
-    pub(super) left: u64,
+    pub(crate) left: u64,
 }
 
 impl Remarks {
-    pub(super) fn of(left: u64) -> Remarks {
+    pub(crate) fn of(left: u64) -> Remarks {
         let mut remark = [b' '; REMARK];
         remark[0] = b';';
         remark[REMARK - 1] = b'\n';
@@ -120,8 +120,8 @@ impl Read for Remarks {
 
 /// Counts the bytes that it takes.
 #[derive(Drop)]
-pub(super) struct Counter {
-    pub(super) taken: u64,
+pub(crate) struct Counter {
+    pub(crate) taken: u64,
 }
 
 impl Write for Counter {

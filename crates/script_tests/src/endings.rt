@@ -1,7 +1,7 @@
 //! The exit status of each ending.
 
-use crate::{Ended, LineFault};
 use script_commands::ScriptFault;
+use script_loop::{Ended, LineFault};
 
 #[test]
 fn statuses(rt: HostRuntime) {

@@ -1,9 +1,9 @@
 //! Reads and writes: in pieces, failing, and of very much.
 
-use super::echo::Echo;
-use super::fakes::{Counter, Refusal, Remarks, SparseReader, SparseWriter};
-use crate::{Ended, LineFault, Sink, Source, play, send};
+use crate::echo::Echo;
+use crate::fakes::{Counter, Refusal, Remarks, SparseReader, SparseWriter};
 use script_commands::ScriptFault;
+use script_loop::{Ended, LineFault, Sink, Source, play, send};
 use std::alloc::Global;
 use std::process::Abort;
 

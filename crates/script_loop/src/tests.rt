@@ -1,4 +1,0 @@
-mod echo;
-mod endings;
-mod fakes;
-mod transfers;
