@@ -1,10 +1,10 @@
 -- Lines written behind what stood there, and what begins with it.
-use Rattle.std.proofs.Common.{◌≡◌, ℕ, ◌++◌, List, [], ◌∷◌, length, take, ap, refl, sym, ◌∙◌, append_assoc, append-nil}
-use Rattle.std.proofs.Math.Seq.{take-append_seam}
+use Rattle.std.proofs.Common.{◌≡◌, ℕ, ◌++◌, List, [], ◌∷◌, ap, refl, sym, ◌∙◌, append_assoc, append-nil}
 use Rattle.script_rules.specs.Output.{Performed, before, printing}
 use Rattle.texts.specs.Printed.{text_of_lines}
 use Rattle.directory_rules.specs.World.{World}
 use Rattle.script_output.specs.Printed.{printed}
+use Rattle.script_output.proofs.Fronts.{begins_with_the_first}
 use Rattle.script_output.specs.Spaced.{BeginsWith}
 use Rattle.console_play.specs.Performing.{Performs, in_session}
 
@@ -34,14 +34,4 @@ begins performed world start text performs = record { more = text_of_lines perfo
 pub begins_with_itself : (text after : List ℕ) → after ≡ text → BeginsWith text after
 begins_with_itself text after same = record { more = []; joined = same ∙ sym (append-nil text) }
 
-pub begins_and_begins : (start middle text : List ℕ) → BeginsWith start middle → BeginsWith middle text → BeginsWith start text
-begins_and_begins start middle text one other = record {
-  more = one.more ++ other.more;
-  joined = other.joined ∙ (ap (λ t. t ++ other.more) one.joined ∙ append_assoc start one.more other.more);
-}
-
--- what is cut off where the front ends is the front
-pub front_taken : (front text : List ℕ) → BeginsWith front text → take (length front) text ≡ front
-front_taken front text begins = ap (λ t. take (length front) t) begins.joined ∙ take-append_seam front begins.more
-
-pub ruleset line_by_line = (nothing_printed, one_printed, then_printed, begins_with_itself, begins_and_begins, front_taken)
+pub ruleset line_by_line = (nothing_printed, one_printed, then_printed, begins_with_itself, begins_with_the_first)

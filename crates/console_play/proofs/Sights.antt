@@ -14,7 +14,8 @@ use Rattle.script_rules.specs.Output.{events_in_turn, unseen_versions}
 use Rattle.script_output.specs.Spaced.{BeginsWith}
 use Rattle.console_play.specs.Performing.{Performs, TakesTurn, TakeTurns, event_turn, in_session, sights}
 use Rattle.console_play.specs.declared.syncing.Unseen.{Unseen}
-use Rattle.console_play.proofs.Lines.{begins, begins_and_begins, nothing_printed}
+use Rattle.script_output.proofs.Fronts.{begins_with_the_first}
+use Rattle.console_play.proofs.Lines.{begins, nothing_printed}
 
 -- ---- turns
 -- the turn of one event
@@ -35,7 +36,7 @@ turns_alone events world start new text false turns =
 pub turns_begin : (events : List Event) (world : World) (first start : List ℕ) (new : World) (text : List ℕ) (accepted : Bool)
     → BeginsWith first start → TakeTurns events world start new text accepted → BeginsWith first text
 turns_begin events world first start new text accepted begun turns =
-    begins_and_begins first start text begun (begins (events_in_turn events (in_session world)) new start text (turns_alone events world start new text accepted turns))
+    begins_with_the_first first start text begun (begins (events_in_turn events (in_session world)) new start text (turns_alone events world start new text accepted turns))
 
 -- what the events that are left would print from here on, behind what is printed now, is what all would from the start
 pub record GoesOn (all : List Event) (first : World) (start : List ℕ) (rest : List Event) (world : World) (text : List ℕ) : Type 0 where

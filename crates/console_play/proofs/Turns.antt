@@ -4,7 +4,8 @@ use Rattle.directory_rules.specs.World.{World}
 use Rattle.script_rules.specs.Output.{Session, Performed, printing, delivered_all, delivered_within}
 use Rattle.script_output.specs.Spaced.{BeginsWith}
 use Rattle.console_play.specs.Performing.{Performs, TakesTurn, delivery_turn, in_session}
-use Rattle.console_play.proofs.Lines.{nothing_printed, begins, begins_and_begins}
+use Rattle.script_output.proofs.Fronts.{begins_with_the_first}
+use Rattle.console_play.proofs.Lines.{nothing_printed, begins}
 
 -- a turn after which nothing is performed
 pub alone : (rule : (Session → Performed) → Performed) (start : List ℕ) (new : World) (text : List ℕ) (accepted : Bool)
@@ -48,4 +49,4 @@ settles_at_most first start most done world text all settles =
 pub turn_begins : (rule : (Session → Performed) → Performed) (first start : List ℕ) (new : World) (text : List ℕ) (accepted : Bool)
     → BeginsWith first start → TakesTurn rule start new text accepted → BeginsWith first text
 turn_begins rule first start new text accepted begun turn =
-    begins_and_begins first start text begun (begins (rule (λ next. printing [] next)) new start text (alone rule start new text accepted turn))
+    begins_with_the_first first start text begun (begins (rule (λ next. printing [] next)) new start text (alone rule start new text accepted turn))

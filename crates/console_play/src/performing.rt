@@ -2,7 +2,7 @@
 
 #![tactic(auto, using(crate::proofs::Lines::line_by_line))]
 
-ghost use Rattle.std.specs.Prelude.{◌≡◌, ℕ, List, [], ◌∷◌, IfOk, OnOk, OnErr, length};
+ghost use Rattle.std.specs.Prelude.{◌≡◌, [], ◌∷◌, IfOk, OnOk, OnErr};
 ghost use Rattle.script_rules.specs.Output.{events_in_turn, performed, delivered_all};
 ghost use Rattle.cluster_events.specs.EventModel.{event_of};
 ghost use Rattle.script_commands.specs.CommandModel.{command_of};
@@ -17,7 +17,7 @@ use crate::syncing::sync;
 use cluster_events::Event;
 use directory_core::World;
 use script_commands::Command;
-use script_output::{write_outcome, write_refusal};
+use script_output::{taken_back_at_error, write_outcome, write_refusal};
 use std::alloc::{AllocError, Global};
 
 /// Does what a command asks for, and writes what it prints behind what is written already. Fails only for want of memory; then
@@ -34,22 +34,6 @@ pub(crate) fn perform(
     let start = out.len();
     let done = carry_out(alloc, world, command, out);
     taken_back_at_error(out, start, done)
-}
-
-// What was written behind the first `start` bytes is taken back where its writing failed.
-fn taken_back_at_error(
-    out: &mut Vec<u8>,
-    start: usize,
-    done: Result<(), AllocError>,
-) -> Result<(), AllocError>
-    ensures passed_on { result ≡ done }
-    ensures kept { OnOk done (out.new.items ≡ out.old.items) }
-    ensures taken_back { OnErr done ((front : List ℕ) → start ≡ length front → BeginsWith front out.old.items → out.new.items ≡ front) }
-{
-    if done.is_err() {
-        out.truncate(start);
-    }
-    done
 }
 
 // One function a command.

@@ -1,4 +1,4 @@
-//! How a line ends: its last space becomes the line feed.
+//! How a line ends: its last space becomes the line feed. What failed is taken back.
 
 ghost use Rattle.std.specs.Prelude.{◌≡◌, ◌<◌, ℕ, List, [], ◌∷◌, ◌++◌, length, OnOk, OnErr};
 ghost use Rattle.texts.specs.Words.{line_feed, sentence};
@@ -6,6 +6,23 @@ ghost use Rattle.script_output.specs.Printed.{printed};
 ghost use Rattle.script_output.specs.Spaced.{spaced, BeginsWith};
 
 use std::alloc::AllocError;
+
+/// Passes on how a writing ended. What was written behind the first `start` bytes is taken back if it failed, and else stays
+/// (`docs/RULES.md#what-a-script-prints`).
+pub fn taken_back_at_error(
+    out: &mut Vec<u8>,
+    start: usize,
+    written: Result<(), AllocError>,
+) -> Result<(), AllocError>
+    ensures passed_on { result ≡ written }
+    ensures kept { OnOk result (out.new.items ≡ out.old.items) }
+    ensures taken_back { OnErr result ((front : List ℕ) → start ≡ length front → BeginsWith front out.old.items → out.new.items ≡ front) }
+{
+    if written.is_err() {
+        out.truncate(start);
+    }
+    written
+}
 
 /// Ends the line whose words were written behind the first `start` bytes, or takes back what was written of it.
 pub(crate) fn end_line(
@@ -18,16 +35,9 @@ pub(crate) fn end_line(
     ensures taken_back { OnErr result ((front : List ℕ) → start ≡ length front → BeginsWith front out.old.items → out.new.items ≡ front) }
     ensures passed_on { result ≡ written }
 {
-    match written {
-        Ok(()) => {
-            end_by_line_feed(out);
-            Ok(())
-        }
-        Err(failure) => {
-            out.truncate(start);
-            Err(failure)
-        }
-    }
+    taken_back_at_error(out, start, written)?;
+    end_by_line_feed(out);
+    Ok(())
 }
 
 /// Makes the last byte a line feed.
