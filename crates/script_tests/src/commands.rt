@@ -56,90 +56,93 @@ fn event_name(event: &Event) -> &'static str {
     }
 }
 
+const NAMES: [(&str, &str); 21] = [
+    ("join 10.0.0.1:1000@1", "join"),
+    ("leave 10.0.0.1:1000@1", "leave"),
+    ("kill 10.0.0.1:1000@1", "kill"),
+    ("nudge 10.0.0.1:1000@1", "nudge"),
+    ("see 10.0.0.1:1000@1 1", "see"),
+    ("sync", "sync"),
+    ("wake 10.0.0.1:1000@1 user/ann", "wake"),
+    ("close 10.0.0.1:1000@1 user/ann", "close"),
+    ("find 10.0.0.1:1000@1 user/ann", "find"),
+    ("forget 10.0.0.1:1000@1 user/ann", "forget"),
+    ("offer 10.0.0.1:1000@1 user/ann 10.0.0.2:1000@1", "offer"),
+    ("deliver 7", "deliver"),
+    ("lose 7", "lose"),
+    ("settle", "settle"),
+    ("owner 7", "owner"),
+    ("place 10.0.0.1:1000@1 least_held user/ann", "place"),
+    ("show", "show"),
+    ("mail", "mail"),
+    ("dump", "dump"),
+    ("check", "check"),
+    ("; show", ""),
+];
+
 // A line of each command.
 #[test]
 fn names(rt: HostRuntime) {
-    let table: [(&str, &str); 21] = [
-        ("join 10.0.0.1:1000@1", "join"),
-        ("leave 10.0.0.1:1000@1", "leave"),
-        ("kill 10.0.0.1:1000@1", "kill"),
-        ("nudge 10.0.0.1:1000@1", "nudge"),
-        ("see 10.0.0.1:1000@1 1", "see"),
-        ("sync", "sync"),
-        ("wake 10.0.0.1:1000@1 user/ann", "wake"),
-        ("close 10.0.0.1:1000@1 user/ann", "close"),
-        ("find 10.0.0.1:1000@1 user/ann", "find"),
-        ("forget 10.0.0.1:1000@1 user/ann", "forget"),
-        ("offer 10.0.0.1:1000@1 user/ann 10.0.0.2:1000@1", "offer"),
-        ("deliver 7", "deliver"),
-        ("lose 7", "lose"),
-        ("settle", "settle"),
-        ("owner 7", "owner"),
-        ("place 10.0.0.1:1000@1 least_held user/ann", "place"),
-        ("show", "show"),
-        ("mail", "mail"),
-        ("dump", "dump"),
-        ("check", "check"),
-        ("; show", ""),
-    ];
-    for (line, name) in table {
-        assert!(rt; name_in(&rt, rt.alloc(), line) == name, "{line}");
+    for (line, name) in &NAMES {
+        assert!(rt; name_in(&rt, rt.alloc(), line) == *name, "{line}");
     }
 }
 
+const NUMBERS: [(&str, Option<u64>); 11] = [
+    ("join 10.0.0.1:1000@1", Some(0)),
+    ("  join   10.0.0.1:1000@1  5   6 ", Some(2)),
+    ("see 10.0.0.1:1000@1 18446744073709551615", Some(u64::MAX)),
+    ("owner 4294967295", Some(4_294_967_295)),
+    ("deliver 18446744073709551615", Some(u64::MAX)),
+    (" lose  0 ", Some(0)),
+    ("find 10.0.0.1:1000@1 ;/;", None),
+    ("   settle", None),
+    ("", None),
+    (" ", None),
+    ("   ;join x", None),
+];
+
 #[test]
 fn commands(rt: HostRuntime) {
-    let table: [(&str, Option<u64>); 11] = [
-        ("join 10.0.0.1:1000@1", Some(0)),
-        ("  join   10.0.0.1:1000@1  5   6 ", Some(2)),
-        ("see 10.0.0.1:1000@1 18446744073709551615", Some(u64::MAX)),
-        ("owner 4294967295", Some(4_294_967_295)),
-        ("deliver 18446744073709551615", Some(u64::MAX)),
-        (" lose  0 ", Some(0)),
-        ("find 10.0.0.1:1000@1 ;/;", None),
-        ("   settle", None),
-        ("", None),
-        (" ", None),
-        ("   ;join x", None),
-    ];
-    for (line, number) in table {
-        assert!(rt; number_in(&rt, rt.alloc(), line) == number, "{line}");
+    for (line, number) in &NUMBERS {
+        assert!(rt; number_in(&rt, rt.alloc(), line) == *number, "{line}");
     }
 }
+
+const FAULTS: [(&str, u16); 25] = [
+    ("SHOW", 921),
+    ("show; now", 921),
+    ("sync x y z", 922),
+    ("show ;", 922),
+    ("nudge x y", 922),
+    ("kill", 922),
+    ("lose x 7", 922),
+    ("offer x ann", 922),
+    ("offer x ann y z", 922),
+    ("place x y", 922),
+    ("leave x", 101),
+    ("place 10.0.0.1:1000@0 least ann", 103),
+    ("place 10.0.0.1:1000@1 Prefer_local ann", 926),
+    ("place 10.0.0.1:1000@1 hash_based ann", 111),
+    ("offer 10.0.0.1:1000@0 ann x", 103),
+    ("offer 10.0.0.1:1000@1 ann x", 111),
+    ("offer 10.0.0.1:1000@1 user/ann x", 101),
+    ("see x", 922),
+    ("find 10.0.0.1:1000@1 user/ann ; a remark", 922),
+    ("wake x ann", 101),
+    ("see 10.0.0.1:x@1 01", 102),
+    ("find 10.0.0.1:0@1 ann", 103),
+    ("wake 10.0.0.1:1000@1 ann", 111),
+    ("join 10.0.0.1:1000@1 1 2 x 3", 923),
+    ("deliver 18446744073709551616", 923),
+];
 
 // Of two faults the first: the name before the number of words, that before a word, and words from the left.
 #[test]
 fn faults(rt: HostRuntime) {
-    let table: [(&str, u16); 25] = [
-        ("SHOW", 921),
-        ("show; now", 921),
-        ("sync x y z", 922),
-        ("show ;", 922),
-        ("nudge x y", 922),
-        ("kill", 922),
-        ("lose x 7", 922),
-        ("offer x ann", 922),
-        ("offer x ann y z", 922),
-        ("place x y", 922),
-        ("leave x", 101),
-        ("place 10.0.0.1:1000@0 least ann", 103),
-        ("place 10.0.0.1:1000@1 Prefer_local ann", 926),
-        ("place 10.0.0.1:1000@1 hash_based ann", 111),
-        ("offer 10.0.0.1:1000@0 ann x", 103),
-        ("offer 10.0.0.1:1000@1 ann x", 111),
-        ("offer 10.0.0.1:1000@1 user/ann x", 101),
-        ("see x", 922),
-        ("find 10.0.0.1:1000@1 user/ann ; a remark", 922),
-        ("wake x ann", 101),
-        ("see 10.0.0.1:x@1 01", 102),
-        ("find 10.0.0.1:0@1 ann", 103),
-        ("wake 10.0.0.1:1000@1 ann", 111),
-        ("join 10.0.0.1:1000@1 1 2 x 3", 923),
-        ("deliver 18446744073709551616", 923),
-    ];
-    for (line, number) in table {
+    for (line, number) in &FAULTS {
         assert!(rt;
-            fault_of(rt.alloc(), line.as_bytes()) == Some(number),
+            fault_of(rt.alloc(), line.as_bytes()) == Some(*number),
             "{line}"
         );
     }
@@ -214,40 +217,41 @@ fn is_told(rt: &impl Abort, alloc: Global, fault: ScriptFault, words: &str) {
     assert!(rt; told.as_str() == words);
 }
 
+const WORDS: [(ScriptFault, &str); 8] = [
+    (ScriptFault::LineTooLong, "a line has at most 8192 bytes"),
+    (
+        ScriptFault::NotText,
+        "a line is written in ASCII without controls, bytes 32 to 126",
+    ),
+    (
+        ScriptFault::UnknownCommand,
+        "a command is join SILO PLACE.., leave SILO, kill SILO, nudge SILO, see SILO VERSION, sync, wake SILO GRAIN, close SILO GRAIN, find SILO GRAIN, forget SILO GRAIN, offer SILO GRAIN SILO, deliver LETTER, lose LETTER, settle, owner HASH, place SILO POLICY GRAIN, show, mail, dump or check",
+    ),
+    (
+        ScriptFault::WordCount,
+        "too few words or too many: a command is join SILO PLACE.., leave SILO, kill SILO, nudge SILO, see SILO VERSION, sync, wake SILO GRAIN, close SILO GRAIN, find SILO GRAIN, forget SILO GRAIN, offer SILO GRAIN SILO, deliver LETTER, lose LETTER, settle, owner HASH, place SILO POLICY GRAIN, show, mail, dump or check",
+    ),
+    (
+        ScriptFault::Silo(SiloError::Shape),
+        "a silo is written a.b.c.d:port@generation",
+    ),
+    (
+        ScriptFault::Grain(GrainError::Shape),
+        "a grain is written kind/key, neither of them empty",
+    ),
+    (
+        ScriptFault::NotANumber,
+        "a version or the number of a letter is a number up to 18446744073709551615, a place or a hash one up to 4294967295, each in decimal digits without a leading zero",
+    ),
+    (
+        ScriptFault::UnknownPolicy,
+        "a policy is prefer_local, hash_based or least_held",
+    ),
+];
+
 #[test]
 fn words_of_faults(rt: HostRuntime) {
-    let table: [(ScriptFault, &str); 8] = [
-        (ScriptFault::LineTooLong, "a line has at most 8192 bytes"),
-        (
-            ScriptFault::NotText,
-            "a line is written in ASCII without controls, bytes 32 to 126",
-        ),
-        (
-            ScriptFault::UnknownCommand,
-            "a command is join SILO PLACE.., leave SILO, kill SILO, nudge SILO, see SILO VERSION, sync, wake SILO GRAIN, close SILO GRAIN, find SILO GRAIN, forget SILO GRAIN, offer SILO GRAIN SILO, deliver LETTER, lose LETTER, settle, owner HASH, place SILO POLICY GRAIN, show, mail, dump or check",
-        ),
-        (
-            ScriptFault::WordCount,
-            "too few words or too many: a command is join SILO PLACE.., leave SILO, kill SILO, nudge SILO, see SILO VERSION, sync, wake SILO GRAIN, close SILO GRAIN, find SILO GRAIN, forget SILO GRAIN, offer SILO GRAIN SILO, deliver LETTER, lose LETTER, settle, owner HASH, place SILO POLICY GRAIN, show, mail, dump or check",
-        ),
-        (
-            ScriptFault::Silo(SiloError::Shape),
-            "a silo is written a.b.c.d:port@generation",
-        ),
-        (
-            ScriptFault::Grain(GrainError::Shape),
-            "a grain is written kind/key, neither of them empty",
-        ),
-        (
-            ScriptFault::NotANumber,
-            "a version or the number of a letter is a number up to 18446744073709551615, a place or a hash one up to 4294967295, each in decimal digits without a leading zero",
-        ),
-        (
-            ScriptFault::UnknownPolicy,
-            "a policy is prefer_local, hash_based or least_held",
-        ),
-    ];
-    for (fault, words) in table {
-        is_told(&rt, rt.alloc(), fault, words);
+    for (fault, words) in &WORDS {
+        is_told(&rt, rt.alloc(), *fault, words);
     }
 }

@@ -159,89 +159,95 @@ fn lines_of_grains(rt: HostRuntime) {
     tells(&rt, alloc, Effect::Nudged, "nudged 10.0.0.1:1000@1");
 }
 
+// A letter of this kind comes, and what it does is told so.
+fn is_delivered(rt: &impl Abort, alloc: Global, words: &str, kind: LetterKind, effect: Effect) {
+    let happening = Happening::Delivered {
+        number: 7,
+        kind,
+        effect,
+    };
+    let sent = span(9, 12);
+    let line = format!(in alloc; "delivered 7 {words} sent 9..12").expect(rt, "memory");
+    prints(rt, alloc, &Outcome { happening, sent }, line.as_str());
+}
+
+const LETTERS: [(&str, LetterKind, Effect); 34] = [
+    (
+        "register registered",
+        LetterKind::Register,
+        Effect::Registered,
+    ),
+    ("register taken", LetterKind::Register, Effect::Taken),
+    (
+        "register retry 602",
+        LetterKind::Register,
+        Effect::Retry(Why::Unsettled),
+    ),
+    (
+        "register retry 603",
+        LetterKind::Register,
+        Effect::Retry(Why::OldNumber { last: 9 }),
+    ),
+    (
+        "deregister removed",
+        LetterKind::Deregister,
+        Effect::Removed,
+    ),
+    ("deregister absent", LetterKind::Deregister, Effect::Absent),
+    ("find found", LetterKind::Find, Effect::Found),
+    ("find nothing", LetterKind::Find, Effect::Nothing),
+    (
+        "find retry 601",
+        LetterKind::Find,
+        Effect::Retry(Why::View { seen: 4 }),
+    ),
+    (
+        "find retry 604",
+        LetterKind::Find,
+        Effect::Retry(Why::NotOwner),
+    ),
+    ("registered firm", LetterKind::Registered, Effect::Firm),
+    (
+        "registered ignored",
+        LetterKind::Registered,
+        Effect::Ignored,
+    ),
+    ("taken yielded", LetterKind::Taken, Effect::Yielded),
+    ("removed ended", LetterKind::Removed, Effect::Ended),
+    ("absent ended", LetterKind::Absent, Effect::Ended),
+    ("found learnt", LetterKind::Found, Effect::Learnt),
+    ("nothing noted", LetterKind::Nothing, Effect::Noted),
+    ("retry noted", LetterKind::Retry, Effect::Noted),
+    ("ask page", LetterKind::Ask, Effect::Page),
+    ("ask missing", LetterKind::Ask, Effect::Missing),
+    ("ask behind", LetterKind::Ask, Effect::Behind),
+    ("page installed", LetterKind::Page, Effect::Installed),
+    ("page gathering", LetterKind::Page, Effect::Gathering),
+    ("page refused 701", LetterKind::Page, Effect::Refused(701)),
+    (
+        "missing recovering",
+        LetterKind::Missing,
+        Effect::Recovering,
+    ),
+    ("done deleted", LetterKind::Done, Effect::Deleted),
+    ("query report", LetterKind::Query, Effect::Report),
+    ("query ahead", LetterKind::Query, Effect::Ahead),
+    ("report more", LetterKind::Report, Effect::More),
+    ("report complete", LetterKind::Report, Effect::Complete),
+    ("behind noted", LetterKind::Behind, Effect::Noted),
+    ("ahead noted", LetterKind::Ahead, Effect::Noted),
+    ("offer ignored", LetterKind::Offer, Effect::Ignored),
+    ("page ignored", LetterKind::Page, Effect::Ignored),
+];
+
 // Each kind of letter, and each of its effects.
 #[test]
 fn lines_of_letters(rt: HostRuntime) {
-    let started = Effect::Started(entry(&rt));
-    let table: [(&str, LetterKind, Effect); 35] = [
-        (
-            "register registered",
-            LetterKind::Register,
-            Effect::Registered,
-        ),
-        ("register taken", LetterKind::Register, Effect::Taken),
-        (
-            "register retry 602",
-            LetterKind::Register,
-            Effect::Retry(Why::Unsettled),
-        ),
-        (
-            "register retry 603",
-            LetterKind::Register,
-            Effect::Retry(Why::OldNumber { last: 9 }),
-        ),
-        (
-            "deregister removed",
-            LetterKind::Deregister,
-            Effect::Removed,
-        ),
-        ("deregister absent", LetterKind::Deregister, Effect::Absent),
-        ("find found", LetterKind::Find, Effect::Found),
-        ("find nothing", LetterKind::Find, Effect::Nothing),
-        (
-            "find retry 601",
-            LetterKind::Find,
-            Effect::Retry(Why::View { seen: 4 }),
-        ),
-        (
-            "find retry 604",
-            LetterKind::Find,
-            Effect::Retry(Why::NotOwner),
-        ),
-        ("registered firm", LetterKind::Registered, Effect::Firm),
-        (
-            "registered ignored",
-            LetterKind::Registered,
-            Effect::Ignored,
-        ),
-        ("taken yielded", LetterKind::Taken, Effect::Yielded),
-        ("removed ended", LetterKind::Removed, Effect::Ended),
-        ("absent ended", LetterKind::Absent, Effect::Ended),
-        ("found learnt", LetterKind::Found, Effect::Learnt),
-        ("nothing noted", LetterKind::Nothing, Effect::Noted),
-        ("retry noted", LetterKind::Retry, Effect::Noted),
-        ("ask page", LetterKind::Ask, Effect::Page),
-        ("ask missing", LetterKind::Ask, Effect::Missing),
-        ("ask behind", LetterKind::Ask, Effect::Behind),
-        ("page installed", LetterKind::Page, Effect::Installed),
-        ("page gathering", LetterKind::Page, Effect::Gathering),
-        ("page refused 701", LetterKind::Page, Effect::Refused(701)),
-        (
-            "missing recovering",
-            LetterKind::Missing,
-            Effect::Recovering,
-        ),
-        ("done deleted", LetterKind::Done, Effect::Deleted),
-        ("query report", LetterKind::Query, Effect::Report),
-        ("query ahead", LetterKind::Query, Effect::Ahead),
-        ("report more", LetterKind::Report, Effect::More),
-        ("report complete", LetterKind::Report, Effect::Complete),
-        ("behind noted", LetterKind::Behind, Effect::Noted),
-        ("ahead noted", LetterKind::Ahead, Effect::Noted),
-        ("offer started", LetterKind::Offer, started),
-        ("offer ignored", LetterKind::Offer, Effect::Ignored),
-        ("page ignored", LetterKind::Page, Effect::Ignored),
-    ];
-    for (words, kind, effect) in table {
-        let happening = Happening::Delivered {
-            number: 7,
-            kind,
-            effect,
-        };
-        let sent = span(9, 12);
-        let line = format!(in rt.alloc(); "delivered 7 {words} sent 9..12").expect(&rt, "memory");
-        prints(&rt, rt.alloc(), &Outcome { happening, sent }, line.as_str());
+    for (words, kind, effect) in &LETTERS {
+        is_delivered(&rt, rt.alloc(), words, *kind, *effect);
     }
+    let started = Effect::Started(entry(&rt));
+    is_delivered(&rt, rt.alloc(), "offer started", LetterKind::Offer, started);
 }
 
 #[test]
