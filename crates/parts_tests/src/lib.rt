@@ -1,6 +1,6 @@
 //! Tests of the parts of a directory node over their public calls: the types of the rule, tables, what a silo keeps for
-//! others, its activations, its recoveries, its cache, and placement. They stand in a crate of their own, since a crate with
-//! tests is proved twice.
+//! others and hands over by pages, its activations, its recoveries, its cache, and placement. They stand in a crate of their own,
+//! since a crate with tests is proved twice.
 #![tactic(auto)]
 
 #[cfg(test)]
@@ -10,6 +10,10 @@ mod holdings;
 #[cfg(test)]
 mod hosts;
 #[cfg(test)]
+mod made;
+#[cfg(test)]
+mod pages;
+#[cfg(test)]
 mod placement;
 #[cfg(test)]
 mod recoveries;
@@ -17,5 +21,7 @@ mod recoveries;
 mod rules;
 #[cfg(test)]
 mod samples;
+#[cfg(test)]
+mod shelf;
 #[cfg(test)]
 mod tables;

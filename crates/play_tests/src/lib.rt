@@ -1,5 +1,6 @@
-//! Tests of whole scripts, played to a cluster through the public calls of `console_play`, and of command lines, carried out
-//! through those of `console_command`. They are in a crate of their own so that those are proved once.
+//! Tests of whole scripts, played to a cluster through the public calls of `console_play`, of command lines, carried out through
+//! those of `console_command`, and of dumps, read, written and judged through those of `rebuild_checker` and `dump_verdict`. They
+//! are in a crate of their own so that those are proved once.
 #![tactic(auto)]
 
 #[cfg(test)]
@@ -17,6 +18,8 @@ mod examples;
 #[cfg(test)]
 mod fakes;
 #[cfg(test)]
+mod judged_rings;
+#[cfg(test)]
 mod limits;
 #[cfg(test)]
 mod offers;
@@ -29,6 +32,8 @@ mod plays;
 #[cfg(test)]
 mod ranges;
 #[cfg(test)]
+mod read_dumps;
+#[cfg(test)]
 mod recoveries;
 #[cfg(test)]
 mod requests;
@@ -38,3 +43,5 @@ mod rows;
 mod runs;
 #[cfg(test)]
 mod syncs;
+#[cfg(test)]
+mod verdicts;

@@ -1,7 +1,8 @@
 //! Entries, snapshots and pages for the tests, made again where memory is refused.
+use crate::samples::silo;
 use ring_range::RingRange;
 use seal_snapshot::{Page, Snapshot};
-use silo_address::{ActivationId, Entry, GrainId, SiloAddress};
+use silo_address::{ActivationId, Entry, GrainId};
 use std::alloc::{AllocError, Global};
 use std::process::Abort;
 
@@ -10,10 +11,6 @@ pub(crate) const OWNER: &str = "10.0.0.1:1000@1";
 pub(crate) const NEXT: &str = "10.0.0.2:1000@1";
 
 pub(crate) const VERSION: u64 = 5;
-
-pub(crate) fn silo(rt: &impl Abort, text: &str) -> SiloAddress {
-    SiloAddress::parse(text.as_bytes()).expect(rt, text)
-}
 
 pub(crate) fn range(rt: &impl Abort, start: u32) -> RingRange {
     RingRange::new(start, 1_000).expect(rt, "a range")

@@ -2,7 +2,8 @@
 //! changed nothing, and made again it gives its result. `rt try --test --fail-alloc N` refuses each test its Nth allocation.
 ghost use Rattle.std.specs.Prelude.{◌+◌, ◌≤◌};
 
-use crate::made::{NEXT, OWNER, VERSION, page, range, silo, snapshot};
+use crate::made::{NEXT, OWNER, VERSION, page, range, snapshot};
+use crate::samples::silo;
 use seal_snapshot::{Gathering, GatheringError, Page, Progress, Snapshot};
 use silo_address::{ActivationId, Entry, GrainId};
 use std::alloc::Global;

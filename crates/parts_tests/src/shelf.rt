@@ -1,6 +1,7 @@
 //! The shelf that keeps snapshots for their new owners, in a form that any one refusal of an allocation leaves true: what is refused
 //! has changed nothing, and made again it gives its result. `rt try --test --fail-alloc N` refuses each test its Nth allocation.
-use crate::made::{NEXT, OWNER, page, range, silo, snapshot};
+use crate::made::{NEXT, OWNER, page, range, snapshot};
+use crate::samples::silo;
 use membership_view::{View, Views};
 use ring_range::RingRange;
 use seal_snapshot::{Page, Shelf, ShelfAnswer, Snapshot};
