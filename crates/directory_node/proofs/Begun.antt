@@ -1,6 +1,6 @@
 -- What pieces begin with, under their starts.
 use Rattle.std.proofs.Common.{◌≡◌, refl, sym, subst, ap, ◌∙◌, ℕ, List, [], ◌∷◌, ◌++◌, append-nil}
-use Rattle.std.specs.Prelude.{true, false, Option, Some, None}
+use Rattle.std.specs.Prelude.{true, false, cond, Option, Some, None}
 use Rattle.std.specs.List.{All, filter_map, cons_option}
 use Rattle.std.specs.List.Sorted.{IsStrictlySortedBy}
 use Rattle.std.specs.Map.{keys_of, lookup}
@@ -12,6 +12,7 @@ use Rattle.std.proofs.lemmas.List.{append_assoc}
 use Rattle.std.proofs.lemmas.List.Elements.{All-head, All-tail, All-nil, All-cons, filter_map-append}
 use Rattle.membership_view.specs.View.{ViewValue}
 use Rattle.membership_view.proofs.Entries.{sorted-picked, lookup-picked}
+use Rattle.directory_rules.proofs.Cases.{on_bool}
 use Rattle.directory_rules.specs.declared.PieceState.{PieceState}
 use Rattle.directory_rules.specs.declared.PieceState.TheVariants.{Settled, Awaiting, Recovering}
 use Rattle.directory_rules.specs.Gathering.{Gathering, new_gathering}
@@ -138,6 +139,14 @@ gathers_not view piece is = by piece.state is
     by (Awaiting from) is = cc
     by Recovering is = refl
 
+-- one piece more is passed
+pub gathers_one : (view : ViewValue) (pieces rest : List (ℕ × Piece)) (start : ℕ) (piece : Piece) (had : List (ℕ × Gathering)) → ArePieces pieces → ArePassed (gathers view) pieces ((start, piece) ∷ rest) had
+    → ArePassed (gathers view) pieces rest (cond (is_awaiting piece.state) (insert_entry nat_cmp had start (new_gathering view.version piece.range)) had)
+gathers_one view pieces rest start piece had are before =
+    on_bool (λ b. ArePassed (gathers view) pieces rest (cond b (insert_entry nat_cmp had start (new_gathering view.version piece.range)) had)) (is_awaiting piece.state)
+    (λ waits. pass_one (gathers view) pieces rest start piece had are before (new_gathering view.version piece.range) (gathers_if view piece waits))
+    (λ not. pass_none (gathers view) pieces rest start piece had are before (gathers_not view piece not))
+
 pub emptied_gather : (view : ViewValue) (pieces : List (ℕ × Piece)) → new_gatherings view (emptied pieces) ≡ new_gatherings view pieces
 emptied_gather view pieces =
     new_gatherings_are view (emptied pieces) ∙ emptied_begin (gathers view) (λ state piece. by piece.state piece) pieces ∙ sym (new_gatherings_are view pieces)
@@ -190,6 +199,14 @@ recovers_not view piece is = by piece.state is
     by Settled is = refl
     by (Awaiting from) is = refl
     by Recovering is = cc
+
+-- one piece more is passed
+pub recovers_one : (view : ViewValue) (pieces rest : List (ℕ × Piece)) (start : ℕ) (piece : Piece) (had : List (ℕ × Recovery)) → ArePieces pieces → ArePassed (recovers view) pieces ((start, piece) ∷ rest) had
+    → ArePassed (recovers view) pieces rest (cond (is_recovering piece.state) (insert_entry nat_cmp had start (new_recovery view piece.range)) had)
+recovers_one view pieces rest start piece had are before =
+    on_bool (λ b. ArePassed (recovers view) pieces rest (cond b (insert_entry nat_cmp had start (new_recovery view piece.range)) had)) (is_recovering piece.state)
+    (λ waits. pass_one (recovers view) pieces rest start piece had are before (new_recovery view piece.range) (recovers_if view piece waits))
+    (λ not. pass_none (recovers view) pieces rest start piece had are before (recovers_not view piece not))
 
 pub emptied_recover : (view : ViewValue) (pieces : List (ℕ × Piece)) → new_recoveries view (emptied pieces) ≡ new_recoveries view pieces
 emptied_recover view pieces =

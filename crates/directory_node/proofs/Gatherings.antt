@@ -1,6 +1,6 @@
 -- What is gathered and reported, found again where it was put, and what a node sends then.
 use Rattle.std.proofs.Common.{arith, ◌≡◌, ◌-◌, refl, sym, subst, ap, ◌∙◌, ℕ, List, [], ◌∷◌, ◌++◌}
-use Rattle.std.specs.Prelude.{Bool, true, false, cond, ◌&&◌, ◌==◌, ◌+◌, All, Option, Some, None, Ok, IsSomeAnd, map, length, slice_index_or}
+use Rattle.std.specs.Prelude.{Bool, true, false, cond, ◌&&◌, ◌==◌, ◌+◌, All, Option, Some, None, Ok, Err, IsSomeAnd, map, length, slice_index_or}
 use Rattle.std.specs.Option.{unwrap_or}
 use Rattle.std.specs.Ordering.{is_eq, nat_cmp}
 use Rattle.std.proofs.lemmas.List.{length-map}
@@ -25,12 +25,12 @@ use Rattle.directory_rules.specs.Sending.{gathering_of, letter_to}
 use Rattle.directory_rules.specs.Snapshot.{Page}
 use Rattle.directory_rules.specs.Step.{Stepped, silently}
 use Rattle.directory_rules.specs.Table.{Table, is_before_first, rise_by_grain, table_of}
-use Rattle.directory_rules.specs.Transfer.{answer_to, awaits, gathered_by, has_range, missing, piece_at, querying, turned_to_recovery, with_gathering, with_settled}
+use Rattle.directory_rules.specs.Transfer.{answer_to, awaits, gathered_by, has_range, is_awaiting_from, is_page_awaited, missing, paged, piece_at, querying, turned_to_recovery, with_gathering, with_settled}
 use Rattle.grain_partition.specs.Holding.{HasPiece}
 use Rattle.directory_node.specs.Planning.{recovering_by}
 use Rattle.seal_snapshot.specs.Progress.{progress_of}
 use Rattle.seal_snapshot.specs.declared.progress.Progress.TheVariants.{Complete}
-use Rattle.directory_node.proofs.Pages.{WantsMore, has_all}
+use Rattle.directory_node.proofs.Pages.{WantsMore, has_all, is_wrong}
 
 -- what was put under a start is there
 put_is_there : {X : Type 0} (start : ℕ) (value other : X) (es : List (ℕ × X)) → unwrap_or (lookup (is_at (nat_cmp start)) (insert_entry nat_cmp es start value)) other ≡ value
@@ -116,3 +116,34 @@ found_rises (e ∷ es) at g all =
     let same : e.1 ≡ g = cc (found) in
     subst (λ (k : Gathering). rise_by_grain k.entries ≡ true) same (All-head (λ (e : ℕ × Gathering). rise_by_grain e.1.entries ≡ true) e es all))
     (λ f found. found_rises es at g (All-tail (λ (e : ℕ × Gathering). rise_by_grain e.1.entries ≡ true) e es all) found)
+
+-- what comes of a page that counts
+pub paged_is : (node : Node) (letter : Letter) (page : Page) → is_page_awaited node letter page ≡ true → paged node letter page ≡ gathered_by (gathered (gathering_of node page.range) page) letter page.range node
+paged_is node letter page awaited =
+    ap (λ b. cond b (gathered_by (gathered (gathering_of node page.range) page) letter page.range node) (silently node effect.Ignored)) awaited
+
+-- and of one that doesn't
+pub paged_ignored : (node : Node) (letter : Letter) (page : Page) → is_page_awaited node letter page ≡ false → paged node letter page ≡ silently node effect.Ignored
+paged_ignored node letter page ignored =
+    ap (λ b. cond b (gathered_by (gathered (gathering_of node page.range) page) letter page.range node) (silently node effect.Ignored)) ignored
+
+-- a page that counts is for a piece that is there, and its entries go on behind those gathered
+pub record Counts (node : Node) (page : Page) : Type 0 where
+  pub there : HasPiece page.range node.holding.pieces
+  pub rises : rise_by_grain ((gathering_of node page.range).entries ++ page.entries) ≡ true
+
+pub counts : (node : Node) (letter : Letter) (page : Page) → is_page_awaited node letter page ≡ true → Counts node page
+counts node letter page awaited =
+    let of_sender = first _ _ awaited in
+    record {
+      there = has_piece (is_awaiting_from letter.from) node page.range (rest _ _ (rest _ _ (first _ _ of_sender)));
+      rises = rest _ _ of_sender;
+    }
+
+-- a last page of another digest: its pages are gathered anew
+pub anew_planned : (node : Node) (page : Page) (letter : Letter) → progress_of (gathered (gathering_of node page.range) page) ≡ Err 701
+    → record { node = with_gathering node (new_gathering (gathering_of node page.range).version page.range); letters = []; effect = effect.Refused 701 } ≡ gathered_by (gathered (gathering_of node page.range) page) letter page.range node
+anew_planned node page letter refused =
+    let wrong = is_wrong (gathering_of node page.range) page refused in
+    ap (λ (r : Range). record { node = with_gathering node (new_gathering (gathering_of node page.range).version r); letters = []; effect = effect.Refused 701 }) wrong.its_range
+    ∙ ap (λ o. gathered_by o letter page.range node) (sym wrong.is)

@@ -19,28 +19,51 @@ impl Node {
         ensures unchanged { OnErr result (self.new ≡ self.old) }
     {
         match change {
-            Change::Nothing => {}
-            Change::Sees(sight) => self.see(Box::into_inner(sight))?,
-            Change::Renews(renewal) => self.renew(renewal),
-            Change::Starts { grain, previous } => self.host.start(grain, previous)?,
-            Change::Closes(grain) => self.close(&grain)?,
-            Change::Asks(grain) => self.host.ask(grain)?,
-            Change::Serves(request) => self.serve(&request)?,
-            Change::Confirms(number) => self.confirm(number),
-            Change::Yields { number, entry } => self.yield_to_other(number, entry)?,
-            Change::Ends(number) => self.end_closing(number),
-            Change::EndsFind(number) => self.end_find(number),
-            Change::Learns { number, entry } => self.learn(number, entry)?,
-            Change::UsesHint(grain) => use_hint(&mut self.cache, &grain),
-            Change::Forgets { grain, activation } => forget(&mut self.cache, &grain, &activation),
-            Change::Discards { version, range, to } => self.discard(version, range, &to),
-            Change::Gathers(page) => self.gather(&page)?,
-            Change::GathersAnew(range) => self.gather_anew(range)?,
-            Change::Installs { range, entries } => self.settle(range, entries),
-            Change::Recovers(recovery) => self.recover(recovery)?,
-            Change::Counts(report) => self.count(&report)?,
+            Change::Nothing => Ok(()),
+            Change::Sees(sight) => self.see(Box::into_inner(sight)),
+            Change::Renews(renewal) => {
+                self.renew(renewal);
+                Ok(())
+            }
+            Change::Starts { grain, previous } => self.host.start(grain, previous),
+            Change::Closes(grain) => self.close(&grain),
+            Change::Asks(grain) => self.host.ask(grain),
+            Change::Serves(request) => self.serve(&request),
+            Change::Confirms(number) => {
+                self.confirm(number);
+                Ok(())
+            }
+            Change::Yields { number, entry } => self.yield_to_other(number, entry),
+            Change::Ends(number) => {
+                self.end_closing(number);
+                Ok(())
+            }
+            Change::EndsFind(number) => {
+                self.end_find(number);
+                Ok(())
+            }
+            Change::Learns { number, entry } => self.learn(number, entry),
+            Change::UsesHint(grain) => {
+                use_hint(&mut self.cache, &grain);
+                Ok(())
+            }
+            Change::Forgets { grain, activation } => {
+                forget(&mut self.cache, &grain, &activation);
+                Ok(())
+            }
+            Change::Discards { version, range, to } => {
+                self.discard(version, range, &to);
+                Ok(())
+            }
+            Change::Gathers(page) => self.gather(&page),
+            Change::GathersAnew(range) => self.gather_anew(range),
+            Change::Installs { range, entries } => {
+                self.settle(range, entries);
+                Ok(())
+            }
+            Change::Recovers(recovery) => self.recover(recovery),
+            Change::Counts(report) => self.count(&report),
         }
-        Ok(())
     }
 
     // The grain's firm activation asks to be taken out.

@@ -56,8 +56,8 @@ impl Node {
         requires there { HasPiece range self.old.holding.pieces }
         ensures { self.new ≡ with_settled self.old range entries.entries }
     {
-        self.gatherings.remove(&range.start());
-        self.recoveries.remove(&range.start());
+        drop(self.gatherings.remove(&range.start()));
+        drop(self.recoveries.remove(&range.start()));
         self.holding.install(range, entries);
     }
 
@@ -68,8 +68,8 @@ impl Node {
         ensures unchanged { OnErr result (self.new ≡ self.old) }
     {
         let range = recovery.range();
-        self.recoveries.insert(range.start(), recovery)?;
-        self.gatherings.remove(&range.start());
+        drop(self.recoveries.insert(range.start(), recovery)?);
+        drop(self.gatherings.remove(&range.start()));
         self.holding.wait_for_reports(range);
         Ok(())
     }

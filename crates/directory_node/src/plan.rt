@@ -133,11 +133,17 @@ impl Plan {
         ensures planned { IfOk result (λ plan. (node : NodeValue) → step_by node plan ≡ record { node = changed change node; letters = letter ∷ []; effect = effect }) }
         ensures change { IfOk result (λ plan. plan.change ≡ change) }
     {
-        Ok(Plan {
-            letters: list_of(alloc, letter)?,
-            effect,
-            change,
-        })
+        match list_of(alloc, letter) {
+            Ok(letters) => Ok(Plan {
+                letters,
+                effect,
+                change,
+            }),
+            Err(error) => {
+                drop(change);
+                Err(error)
+            }
+        }
     }
 }
 

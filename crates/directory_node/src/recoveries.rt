@@ -132,7 +132,7 @@ impl Node {
         ensures { (recovery : RecoveryValue) → lookup (is_at (nat_cmp range.start)) self.old.recoveries ≡ Some recovery → self.new ≡ with_settled self.old range recovery.gathered }
     {
         if let Some(recovery) = self.recoveries.remove(&range.start()) {
-            self.gatherings.remove(&range.start());
+            drop(self.gatherings.remove(&range.start()));
             self.holding.install(range, recovery.into_entries());
         }
     }

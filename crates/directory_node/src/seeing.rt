@@ -1,18 +1,22 @@
 //! The change that a sight makes.
-ghost use Rattle.std.specs.Prelude.{◌≡◌, ◌+◌, ◌≤◌, ◌++◌, [], OnErr, OnOk, length, vec_capacity, true};
+ghost use Rattle.std.specs.Prelude.{◌≡◌, ◌+◌, ◌≤◌, ◌++◌, [], IfOk, OnErr, OnOk, length, vec_capacity, true};
 ghost use Rattle.directory_rules.specs.Cache.{cache_seeing};
 ghost use Rattle.directory_rules.specs.Host.{renewed};
-ghost use Rattle.directory_rules.specs.Sight.{shelf_after};
+ghost use Rattle.directory_rules.specs.Sight.{pieces_after, shelf_after};
+ghost use Rattle.grain_partition.specs.Sight.{AreOfRings};
 ghost use Rattle.directory_node.specs.NodeModel.{cache_of};
 ghost use Rattle.directory_node.specs.Planning.{FitsSight, MayRenew, seen_by};
 ghost use Rattle.seal_snapshot.specs.Shelf.{AreInOrder};
 
 use crate::{Node, Sight};
+use grain_partition::Holding;
+use hash_ring::Hashing;
 use host_activations::Renewal;
 use lookup_cache::Cache;
 use membership_view::View;
 use seal_snapshot::{Shelf, Snapshot, laws};
-use std::alloc::AllocError;
+use silo_address::SiloAddress;
+use std::alloc::{AllocError, Global};
 
 impl Node {
     // A view is seen. What needs memory comes first: room on the shelf, and then the pieces.
@@ -25,33 +29,40 @@ impl Node {
         self.shelf.in_order();
         self.settings.in_range();
         let (silo, hashing) = (self.host.silo(), self.settings.hashing());
-        let room = self.shelf.room(self.alloc, &sight.sealed)?;
-        self.holding.sight(
+        let room = see_in_holding(
             self.alloc,
-            sight.next,
+            &mut self.holding,
+            &self.shelf,
             hashing,
-            &sight.view,
-            &silo,
-            sight.transition.arcs(),
-        )?;
-        self.holding.whole();
-        let Sight {
-            next,
-            view,
-            transition,
-            sealed,
-            gatherings,
-            recoveries,
-            renewal,
-        } = sight;
-        see_on_shelf(&mut self.shelf, next, room, &view, sealed);
-        self.host.renew(renewal);
-        see_in_cache(&mut self.cache, &view);
-        self.view = view;
-        self.ring = transition.into_ring();
-        self.gatherings = gatherings;
-        self.recoveries = recoveries;
-        Ok(())
+            silo,
+            &sight,
+        );
+        match room {
+            Ok(room) => {
+                self.holding.whole();
+                let Sight {
+                    next,
+                    view,
+                    transition,
+                    sealed,
+                    gatherings,
+                    recoveries,
+                    renewal,
+                } = sight;
+                see_on_shelf(&mut self.shelf, next, room, &view, sealed);
+                self.host.renew(renewal);
+                see_in_cache(&mut self.cache, &view);
+                self.view = view;
+                self.ring = transition.into_ring();
+                self.gatherings = gatherings;
+                self.recoveries = recoveries;
+                Ok(())
+            }
+            Err(error) => {
+                drop(sight);
+                Err(error)
+            }
+        }
     }
 
     // Every outstanding request has its new number.
@@ -62,6 +73,27 @@ impl Node {
         self.settings.in_range();
         self.host.renew(renewal);
     }
+}
+
+// The pieces see the view. There is room on the shelf then for what is sealed.
+fn see_in_holding(
+    alloc: Global,
+    holding: &mut Holding,
+    shelf: &Shelf,
+    hashing: Hashing,
+    silo: SiloAddress,
+    sight: &Sight,
+) -> Result<Vec<Snapshot>, AllocError>
+    requires { AreOfRings sight.now.transition.arcs }
+    ensures seen { OnOk result (holding.new ≡ record { seen = sight.now.view.version; served = []; pieces = pieces_after sight.now.next hashing sight.now.view silo holding.old.pieces sight.now.transition.arcs }) }
+    ensures unchanged { OnErr result (holding.new ≡ holding.old) }
+    ensures empty { IfOk result (λ room. room.items ≡ []) }
+    ensures large { IfOk result (λ room. length shelf.now + length sight.now.sealed.items ≤ vec_capacity room) }
+{
+    let room = shelf.room(alloc, &sight.sealed)?;
+    let arcs = sight.transition.arcs();
+    holding.sight(alloc, sight.next, hashing, &sight.view, &silo, arcs)?;
+    Ok(room)
 }
 
 // What is sealed comes on the shelf, or nothing is kept there.

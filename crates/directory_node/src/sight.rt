@@ -2,7 +2,7 @@
 ghost use Rattle.std.specs.Prelude.{◌≡◌, ◌&&◌, ◌==◌, ◌<◌, ◌+◌, ◌++◌, if◌then◌else◌, IfErr, IfOk, IsOk, OnOk, flat_map, length, true};
 ghost use Rattle.directory_rules.specs.Host.{has_numbers, outstanding, renewed};
 ghost use Rattle.directory_rules.specs.Node.{Node as NodeValue};
-ghost use Rattle.directory_rules.specs.Sending.{all_wants, request_letters};
+ghost use Rattle.directory_rules.specs.Sending.{all_wants, request_letters, wants_by};
 ghost use Rattle.directory_rules.specs.Sight.{is_next, sealed};
 ghost use Rattle.directory_rules.specs.Step.{compared_points, having_nudged, new_gatherings, new_recoveries, nudge, see, sight};
 ghost use Rattle.directory_rules.specs.declared.Effect.TheVariants.{Next, Skip};
@@ -21,7 +21,7 @@ ghost use Rattle.directory_node.specs.Transition.{IsOfSight};
 ghost use Rattle.hash_ring.specs.Places.{PlacesValue};
 ghost use Rattle.membership_view.specs.View.{ViewValue};
 
-use crate::beginning::{new_gatherings, new_recoveries};
+use crate::beginning::new_waits;
 use crate::sending::Sender;
 use crate::{Change, Node, Plan, Sight, StepRefusal, Transition};
 use directory_letters::Letter;
@@ -155,8 +155,11 @@ impl Node {
         let pieces = self.pieces_seen(alloc, next, view, transition.arcs())?;
         let sight = self.sight(alloc, next, view, transition, &pieces)?;
         let letters = self.letters_after(alloc, &sight, &pieces)?;
-        let plan = plan_of(alloc, letters, seen_effect(next), sight)?;
-        Ok(plan)
+        Ok(Plan {
+            letters,
+            effect: seen_effect(next),
+            change: Change::Sees(sight),
+        })
     }
 
     // Whether the view is the next one after that seen, or the one in which the silo joined.
@@ -233,32 +236,33 @@ impl Node {
         view: &View,
         transition: &Transition,
         pieces: &BTreeMap<u32, Piece>,
-    ) -> Result<Sight, AllocError>
+    ) -> Result<Box<Sight>, AllocError>
         requires newer { self.now.view.version < view.now.version }
         requires numbers { has_numbers self.now.settings self.now.host (length (outstanding self.now.host)) ≡ true }
         requires arcs { AreOfRings transition.now.arcs }
         requires pieces { ArePieces pieces.now.entries }
         requires seen { pieces.now.entries ≡ pieces_seen next self.now.settings.hashing view.now self.now.host.silo self.now.holding.pieces transition.now.arcs }
-        ensures fits { IfOk result (λ sight. FitsSight sight self.now) }
-        ensures next { IfOk result (λ sight. sight.next ≡ next) }
-        ensures view { IfOk result (λ sight. sight.view ≡ view.now) }
-        ensures transition { IfOk result (λ sight. sight.transition ≡ transition.now) }
+        ensures fits { IfOk result (λ sight. FitsSight sight.value self.now) }
+        ensures next { IfOk result (λ sight. sight.value.next ≡ next) }
+        ensures view { IfOk result (λ sight. sight.value.view ≡ view.now) }
+        ensures transition { IfOk result (λ sight. sight.value.transition ≡ transition.now) }
     {
         let sealed = self.sealed(alloc, next, view, transition.arcs())?;
-        let gatherings = new_gatherings(alloc, view, pieces)?;
-        let recoveries = new_recoveries(alloc, &self.settings, view, pieces)?;
         let renewal = self.renewal(alloc)?;
-        let seen = view.copy()?;
-        let transition = transition.copy()?;
-        Ok(Sight {
+        let waits = new_waits(alloc, &self.settings, view, pieces)?;
+        let copies = copied_seen(view, transition)?;
+        let (gatherings, recoveries) = waits;
+        let (view, transition) = copies;
+        let sight = Sight {
             next,
-            view: seen,
+            view,
             transition,
             sealed,
             gatherings,
             recoveries,
             renewal,
-        })
+        };
+        boxed(alloc, sight)
     }
 
     // What a sight of the next version seals.
@@ -348,10 +352,7 @@ impl Node {
         ensures fits { IfOk result (λ plan. Fits plan.change self.now) }
     {
         let renewal = self.renewal(alloc)?;
-        let requests = self.renewed_requests(alloc, &renewal)?;
-        let mut letters = Vec::new(alloc);
-        self.sender().send_requests(&mut letters, &requests)?;
-        self.send_wants(alloc, &mut letters)?;
+        let letters = self.letters_again(alloc, &renewal)?;
         Ok(Plan {
             letters,
             effect: Effect::Nudged,
@@ -359,34 +360,57 @@ impl Node {
         })
     }
 
+    // The outstanding requests under their new numbers, and then what the pieces want.
+    fn letters_again(&self, alloc: Global, renewal: &Renewal) -> Result<Vec<Letter>, AllocError>
+        requires { renewal.now ≡ renewal_of self.now.host }
+        ensures { IfOk result (λ letters. letters.items ≡ flat_map (λ e. request_letters self.now e.0 e.1) (outstanding (renewed self.now.host)) ++ all_wants self.now) }
+    {
+        let requests = self.renewed_requests(alloc, renewal)?;
+        let mut letters = Vec::new(alloc);
+        self.sender().send_requests(&mut letters, &requests)?;
+        self.send_wants(alloc, &mut letters)?;
+        Ok(letters)
+    }
+
     // What the pieces want.
     fn send_wants(&self, alloc: Global, letters: &mut Vec<Letter>) -> Result<(), AllocError>
         ensures { OnOk result (letters.new.items ≡ letters.old.items ++ all_wants self.now) }
     {
-        let sender = self.sender();
         for (_, piece) in self.holding.pieces() {
-            sender.send_wanted(alloc, letters, piece)?;
+            self.send_wanted(alloc, letters, piece)?;
         }
         Ok(())
     }
+
+    // What a piece wants.
+    fn send_wanted(
+        &self,
+        alloc: Global,
+        letters: &mut Vec<Letter>,
+        piece: &Piece,
+    ) -> Result<(), AllocError>
+        ensures { OnOk result (letters.new.items ≡ letters.old.items ++ wants_by piece.now.state self.now piece.now.range) }
+    {
+        self.sender().send_wanted(alloc, letters, piece)
+    }
 }
 
-// The sight as a plan.
-fn plan_of(
-    alloc: Global,
-    letters: Vec<Letter>,
-    effect: Effect,
-    sight: Sight,
-) -> Result<Plan, AllocError>
-    ensures planned { IfOk result (λ plan. (node : NodeValue) → step_by node plan ≡ record { node = seen_by sight node; letters = letters.items; effect = effect }) }
-    ensures fits { IfOk result (λ plan. (node : NodeValue) → FitsSight sight node → Fits plan.change node) }
+// The sight in a box, as a plan has it.
+fn boxed(alloc: Global, sight: Sight) -> Result<Box<Sight>, AllocError>
+    ensures { IfOk result (λ boxed. boxed.value ≡ sight) }
 {
     let sight = Box::new(alloc, sight)?;
-    Ok(Plan {
-        letters,
-        effect,
-        change: Change::Sees(sight),
-    })
+    Ok(sight)
+}
+
+// The view and the transition once more.
+fn copied_seen(view: &View, transition: &Transition) -> Result<(View, Transition), AllocError>
+    ensures view { IfOk result (λ copied. copied.0 ≡ view.now) }
+    ensures transition { IfOk result (λ copied. copied.1 ≡ transition.now) }
+{
+    let view = view.copy()?;
+    let transition = transition.copy()?;
+    Ok((view, transition))
 }
 
 // What a sight tells.

@@ -9,9 +9,9 @@ ghost use Rattle.directory_node.specs.Placed.{IsPlaced};
 ghost use Rattle.directory_node.specs.InputModel.{input_of};
 ghost use Rattle.directory_node.specs.Follows.{Follows};
 ghost use Rattle.directory_node.specs.Numbers.{step_refusal_number};
-ghost use Rattle.directory_node.specs.Planning.{Excuses, Fits, Sends, answer_count, step_by, stepped_of};
+ghost use Rattle.directory_node.specs.Planning.{Excuses, Fits, Sends, answer_count, changed, step_by, stepped_of};
 
-use crate::{Input, Node, Plan, StepRefusal};
+use crate::{Change, Input, Node, Plan, StepRefusal};
 use directory_letters::{Body, Letter};
 use directory_rules::{Effect, Reply};
 use membership_view::{Status, View};
@@ -48,13 +48,37 @@ impl Node {
         requires fits { Fits plan.change self.now }
         ensures { IfOk result (λ stepped. stepped_of stepped ≡ step_by self.now plan) }
     {
-        let mut node = self.copy()?;
-        node.carry_out(plan.change)?;
+        let Plan {
+            letters,
+            effect,
+            change,
+        } = plan;
+        let node = self.changed_by(change)?;
         Ok(Stepped {
             node,
-            letters: plan.letters,
-            effect: plan.effect,
+            letters,
+            effect,
         })
+    }
+
+    // A copy of this node with the change made.
+    fn changed_by(&self, change: Change) -> Result<Node, AllocError>
+        requires fits { Fits change self.now }
+        ensures { IfOk result (λ node. node ≡ changed change self.now) }
+    {
+        match self.copy() {
+            Ok(mut node) => match node.carry_out(change) {
+                Ok(()) => Ok(node),
+                Err(error) => {
+                    drop(node);
+                    Err(error)
+                }
+            },
+            Err(error) => {
+                drop(change);
+                Err(error)
+            }
+        }
     }
 
     /// The silo's step with an input, as a plan: what it sends and does, and the change that `carry_out` then makes. Refused

@@ -137,7 +137,6 @@ impl Node {
     }
 
     // The last page comes: the piece has its entries.
-    #[tactic(auto, using(crate::proofs::Gatherings::installed))]
     fn plan_install(
         &self,
         alloc: Global,
@@ -206,12 +205,25 @@ impl Node {
             return Ok(Plan::idle(alloc, Effect::Ignored));
         }
         let recovery = Recovery::new(alloc, &self.settings, &self.view, range)?;
-        let letters = self.queries(alloc, range, &recovery.awaiting(alloc)?)?;
+        let letters = self.all_queries(alloc, range, &recovery)?;
         Ok(Plan {
             letters,
             effect: Effect::Recovering,
             change: Change::Recovers(recovery),
         })
+    }
+
+    // A query for the range to each silo whose report is missing.
+    fn all_queries(
+        &self,
+        alloc: Global,
+        range: RingRange,
+        recovery: &Recovery,
+    ) -> Result<Vec<Letter>, AllocError>
+        ensures { IfOk result (λ letters. letters.items ≡ map (λ silo. letter_to silo self.now (Query_letter range)) recovery.now.awaiting) }
+    {
+        let silos = recovery.awaiting(alloc)?;
+        self.queries(alloc, range, &silos)
     }
 
     // A query for the range to each of these silos.

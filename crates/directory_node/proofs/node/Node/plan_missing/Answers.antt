@@ -17,12 +17,6 @@ returns-in_err-recovery-clause-members c =
     cc (c.awaits.ensures, c.if-not-awaits.false, c.version.ensures, c.from.ensures) in
     on_err c.from_residual.result (missing_count c.args.self.now c.args.letter.now c.args.range awaited)
 
-pub returns-in_err-awaiting-clause-members : goal.returns-in_err-awaiting-clause-members
-returns-in_err-awaiting-clause-members c =
-    let awaited : awaits c.args.self.now c.args.letter.now.version c.args.range c.args.letter.now.from ≡ true =
-    cc (c.awaits.ensures, c.if-not-awaits.false, c.version.ensures, c.from.ensures) in
-    on_err c.from_residual-in_err-awaiting.result (missing_count c.args.self.now c.args.letter.now c.args.range awaited)
-
 pub returns-in_err-letters-clause-members : goal.returns-in_err-letters-clause-members
 returns-in_err-letters-clause-members c =
     let awaited : awaits c.args.self.now c.args.letter.now.version c.args.range c.args.letter.now.from ≡ true =
@@ -36,7 +30,6 @@ returns-clause-planned c =
     let awaited : awaits c.args.self.now c.args.letter.now.version c.args.range c.args.letter.now.from ≡ true =
     cc (c.awaits.ensures, c.if-not-awaits.false, c.version.ensures, c.from.ensures) in
     let recovery : c.in_ok-recovery.recovery ≡ new_recovery node.view range = c.in_ok-recovery.ensures ∙ ap (λ (n : Node). new_recovery n.view range) c.self.view_is in
-    let silos = c.deref.ensures.value ∙ c.in_ok-awaiting.ensures ∙ ap (λ (r : Recovery). r.awaiting) recovery in
-    let letters = c.in_ok-letters.ensures ∙ ap (λ l. map (λ silo. letter_to silo node (Query_letter range)) l) silos in
+    let letters = c.in_ok-letters.ensures ∙ ap (λ (r : Recovery). map (λ silo. letter_to silo node (Query_letter range)) r.awaiting) recovery in
     (λ i. record { node = recovering_by node (recovery i); letters = letters i; effect = Recovering })
     ∙ sym (missing_is node c.args.letter.now range awaited)

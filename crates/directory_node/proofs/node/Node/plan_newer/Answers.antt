@@ -14,12 +14,12 @@ use Rattle.directory_node.proofs.AfterSight.{letters_are, sight_is}
 use Rattle.directory_node.proofs.node.Node.plan_newer.Goals as goal
 
 pub returns-clause-fits : goal.returns-clause-fits
-returns-clause-fits c = c.in_ok-plan.ensures.fits c.args.self.now c.in_ok-sight.ensures.fits
+returns-clause-fits c = c.in_ok-sight.ensures.fits
 
 pub returns-clause-planned : goal.returns-clause-planned
 returns-clause-planned c = λ places of.
     let node = c.args.self.now in
-    let sight = c.in_ok-sight.sight in
+    let sight = c.in_ok-sight.sight.value in
     let before = c.args.before.now in
     let view = c.args.view.now in
     let transition = c.args.transition.now in
@@ -31,8 +31,10 @@ returns-clause-planned c = λ places of.
     moved ∙ of.arcs ∙ ap (λ (r : RingValue). arcs_of (compared_points next node before places) r.points) of.ring in
     let pieces : c.in_ok-pieces.pieces.entries ≡ pieces_seen sight.next node.settings.hashing sight.view node.host.silo node.holding.pieces sight.transition.arcs =
     c.in_ok-pieces.ensures.exact ∙ (λ i. pieces_seen (sym its.next i) node.settings.hashing (sym its.view i) node.host.silo node.holding.pieces ((c.arcs.ensures ∙ sym moved) i)) in
-    c.in_ok-plan.ensures.planned node
-    ∙ sight_is node sight its.fits next before view places c.in_ok-letters.letters.items c.seen_effect.result
+    let lent = c.deref.ensures in
+    sight_is node sight its.fits next before view places c.in_ok-letters.letters.items c.seen_effect.result
     (its.next ∙ c.is_next-next.ensures) its.view ring arcs
-    (c.in_ok-letters.ensures ∙ ap (λ l. wants_of (ahead sight node) l ++ flat_map (λ e. request_letters (ahead sight node) e.0 e.1) (outstanding (renewed node.host))) pieces ∙ letters_are node sight its.fits)
+    (c.in_ok-letters.ensures
+    ∙ (λ i. wants_of (ahead (lent i) node) (pieces i) ++ flat_map (λ e. request_letters (ahead (lent i) node) e.0 e.1) (outstanding (renewed node.host)))
+    ∙ letters_are node sight its.fits)
     (c.seen_effect.ensures ∙ ap (λ b. cond b Next Skip) c.is_next-next.ensures)

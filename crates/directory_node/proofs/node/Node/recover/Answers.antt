@@ -1,4 +1,4 @@
-use Rattle.std.proofs.Common.{◌≡◌, refl, sym, subst, ap, ◌∙◌, ℕ}
+use Rattle.std.proofs.Common.{◌≡◌, refl, rules, sym, subst, ap, ◌∙◌, ℕ}
 use Rattle.std.specs.Prelude.{All, true, []}
 use Rattle.std.specs.BTreeMap.{insert_entry, is_at}
 use Rattle.std.specs.Ordering.{nat_cmp}
@@ -31,3 +31,6 @@ invariant_of-self-2 c =
       rising = subst (λ l. All (λ e. rise_by_grain e.1.entries ≡ true) l) (sym c.remove.ensures.entries) (all_but_one (λ (e : ℕ × Gathering). rise_by_grain e.1.entries ≡ true) (is_at (nat_cmp c.start-2.result)) inside.gatherings.entries c.self.invariant.rising);
       shelved = c.self.invariant.shelved;
     }
+
+pub returns-clause-made : goal.returns-clause-made
+returns-clause-made c = search rules

@@ -25,13 +25,13 @@ renew-requires-clause-numbers c =
     numbers_fit inside.settings inside.host (length (outstanding inside.host)) c.in_range.ensures
     (ap (λ (n : Node). has_numbers n.settings n.host (length (outstanding n.host))) c.self.view_is ∙ c.requires.fits.renewal.numbers)
 
-pub invariant_of-self-2 : goal.invariant_of-self-2
-invariant_of-self-2 c =
+pub invariant_of-self : goal.invariant_of-self
+invariant_of-self c =
     let node = node_of c.self.inside in
     let sight = c.args.sight in
     let fits = subst (λ (n : Node). FitsSight sight n) (sym c.self.view_is) c.requires.fits in
-    let holding : c.sight.new.self ≡ (seen_by sight node).holding = c.in_ok-sight.ensures.seen
-    ∙ (λ i. record { seen = sight.view.version; served = []; pieces = pieces_after sight.next (c.hashing-hashing.ensures i) sight.view (c.silo-silo.ensures i) node.holding.pieces (c.arcs.ensures i) }) in
+    let holding : c.see_in_holding-room.new.holding ≡ (seen_by sight node).holding = c.in-Ok.ensures.seen
+    ∙ (λ i. record { seen = sight.view.version; served = []; pieces = pieces_after sight.next (c.hashing-hashing.ensures i) sight.view (c.silo-silo.ensures i) node.holding.pieces sight.transition.arcs }) in
     subst (λ (n : Node). IsNode n) (λ i. record node {
       view = sight.view;
       ring = sym c.into_ring.ensures i;
@@ -44,12 +44,12 @@ invariant_of-self-2 c =
     })
     (seen_keeps node sight fits c.self.invariant (subst (λ (h : Holding). ArePieces h.pieces) holding c.whole.ensures))
 
-pub returns-clause-made : goal.returns-clause-made
-returns-clause-made c =
+pub returns-in-Ok-clause-made : goal.returns-in-Ok-clause-made
+returns-in-Ok-clause-made c =
     let node = node_of c.self.inside in
     let sight = c.args.sight in
-    let holding : c.sight.new.self ≡ (seen_by sight node).holding = c.in_ok-sight.ensures.seen
-    ∙ (λ i. record { seen = sight.view.version; served = []; pieces = pieces_after sight.next (c.hashing-hashing.ensures i) sight.view (c.silo-silo.ensures i) node.holding.pieces (c.arcs.ensures i) }) in
+    let holding : c.see_in_holding-room.new.holding ≡ (seen_by sight node).holding = c.in-Ok.ensures.seen
+    ∙ (λ i. record { seen = sight.view.version; served = []; pieces = pieces_after sight.next (c.hashing-hashing.ensures i) sight.view (c.silo-silo.ensures i) node.holding.pieces sight.transition.arcs }) in
     (λ i. record node {
       view = sight.view;
       ring = c.into_ring.ensures i;

@@ -1,5 +1,4 @@
 use Rattle.std.proofs.Common.{sym, ap, ◌∙◌, ◌++◌, append_assoc, append-nil}
-use Rattle.directory_rules.specs.Node.{Node}
 use Rattle.directory_rules.specs.Sending.{wants_by}
 use Rattle.directory_node.specs.Sender.{wants_of}
 use Rattle.directory_node.proofs.node.Node.send_wants.Goals as goal
@@ -9,7 +8,7 @@ loop-piece-preserved c =
     let node = c.args.self.now in
     let sent = c.loop-piece.letters.items in
     let piece = c.in-Some.piece.now in
-    ap (λ l. l ++ wants_of node c.next.new.self) (c.in_ok-send_wanted.ensures ∙ ap (λ (n : Node). sent ++ wants_by piece.state n piece.range) c.sender-sender.ensures)
+    ap (λ l. l ++ wants_of node c.next.new.self) c.in_ok-send_wanted.ensures
     ∙ append_assoc sent (wants_by piece.state node piece.range) (wants_of node c.next.new.self)
     ∙ ap (λ l. sent ++ wants_of node l) (sym c.in-Some.ensures.steps) ∙ c.loop-piece.invariant
 
