@@ -1,8 +1,8 @@
 //! A range is handed over between two nodes that exchange letters by hand (`steps.rt`). Any one refusal of an allocation leaves the
 //! tests true: `rt try --test --fail-alloc N` refuses each its Nth.
 use crate::steps::{
-    does, does_alone, does_one, entry_on, first, joined, moved, second, sees, sees_one, sends,
-    settled, takes,
+    does, does_alone, does_one, entry_on, first, joined, moved, posted, second, sees, sees_one,
+    sends, settled, takes,
 };
 use directory_letters::{Body, Letter};
 use directory_node::{Input, Node};
@@ -28,7 +28,7 @@ fn joining(rt: &impl Abort, alloc: Global) -> Box<Node> {
 }
 
 // It sees version 2, by which it asks the first one; the page that comes.
-fn page_for(rt: &impl Abort, alloc: Global, old: &mut Node, new: &mut Node) -> Letter {
+fn page_for(rt: &impl Abort, alloc: Global, old: &mut Node, new: &mut Node) -> Box<Letter> {
     let ask = sees_one(rt, alloc, new, 2, Effect::Next);
     sends(rt, alloc, old, &ask, Effect::Page)
 }
@@ -102,14 +102,21 @@ fn list_of(rt: &impl Abort, alloc: Global, entry: &Entry) -> Vec<Entry> {
 }
 
 // The page's letter with one entry in place of its own, the first silo's activation of that count.
-fn changed(rt: &impl Abort, alloc: Global, letter: &Letter, grain: GrainId, count: u64) -> Letter {
+fn changed(
+    rt: &impl Abort,
+    alloc: Global,
+    letter: &Letter,
+    grain: GrainId,
+    count: u64,
+) -> Box<Letter> {
     let page = page_in(letter).expect(rt, "a page");
     let silo = first(rt);
     let activation = ActivationId { silo, count };
     let entries = list_of(rt, alloc, &Entry { grain, activation });
     let (version, range, digest) = (page.version(), page.range(), page.digest());
     let changed = Page::new(version, range, page.page(), page.pages(), digest, entries);
-    Letter::new(letter.from(), letter.to(), version, Body::Page(changed))
+    let changed = Letter::new(letter.from(), letter.to(), version, Body::Page(changed));
+    posted(rt, alloc, changed)
 }
 
 // The page comes with this entry in place of its own, which has that effect.
@@ -168,16 +175,17 @@ fn a_page_with_an_entry_outside_the_range(rt: HostRuntime) {
 // It is told that there is no snapshot, and asks both silos for reports: the first one, and then itself.
 fn recovers(rt: &impl Abort, alloc: Global, node: &mut Node) -> Vec<Letter> {
     sees_one(rt, alloc, node, 2, Effect::Next);
-    let missing = Letter::new(first(rt), second(rt), 2, Body::Missing(range(rt)));
-    let queries = does(
-        rt,
-        alloc,
-        node,
-        &Input::Receives(&missing),
-        Effect::Recovering,
-    );
+    let missing = missing(rt, alloc);
+    let input = Input::Receives(&missing);
+    let queries = does(rt, alloc, node, &input, Effect::Recovering);
     assert!(rt; queries.len() == 2);
     queries
+}
+
+// What the first silo tells, where it has no snapshot.
+fn missing(rt: &impl Abort, alloc: Global) -> Box<Letter> {
+    let missing = Letter::new(first(rt), second(rt), 2, Body::Missing(range(rt)));
+    posted(rt, alloc, missing)
 }
 
 #[test]
@@ -196,7 +204,7 @@ fn take_reports(rt: &impl Abort, alloc: Global, node: &mut Node, queries: &[Lett
 }
 
 // What the first silo reports.
-fn report_to(rt: &impl Abort, alloc: Global, query: &Letter) -> Letter {
+fn report_to(rt: &impl Abort, alloc: Global, query: &Letter) -> Box<Letter> {
     sends(rt, alloc, &mut sealed(rt, alloc), query, Effect::Report)
 }
 
@@ -222,18 +230,25 @@ fn reported(
     letter: &Letter,
     grain: GrainId,
     silo: SiloAddress,
-) -> Letter {
+) -> Box<Letter> {
     let activation = ActivationId { silo, count: 1 };
     let entries = list_of(rt, alloc, &Entry { grain, activation });
     let report = Report::new(2, range(rt), letter.from(), entries);
-    Letter::new(letter.from(), letter.to(), 2, Body::Report(report))
+    let reported = Letter::new(letter.from(), letter.to(), 2, Body::Report(report));
+    posted(rt, alloc, reported)
+}
+
+// The second silo offers its activation at version 2.
+fn later_offer(rt: &impl Abort, alloc: Global) -> Box<Letter> {
+    let (from, to) = (second(rt), first(rt));
+    let offer = Letter::new(from, to, 2, Body::Offer(entry_on(rt, from)));
+    posted(rt, alloc, offer)
 }
 
 #[test]
 fn an_offer_of_a_later_version_is_ignored(rt: HostRuntime) {
     let mut node = settled(&rt, rt.alloc());
-    let (from, to) = (second(&rt), first(&rt));
-    let offer = Letter::new(from, to, 2, Body::Offer(entry_on(&rt, from)));
+    let offer = later_offer(&rt, rt.alloc());
     takes(&rt, rt.alloc(), &mut node, &offer, Effect::Ignored);
 }
 

@@ -100,7 +100,13 @@ pub(crate) fn refuses(
         && world.sent() == sent
 }
 
-fn refuse(rt: &impl Abort, world: &mut World, event: Event, refusal: EventRefusal, number: u16) {
+pub(crate) fn refuse(
+    rt: &impl Abort,
+    world: &mut World,
+    event: Event,
+    refusal: EventRefusal,
+    number: u16,
+) {
     assert!(rt; refuses(world, &event, refusal, number));
 }
 

@@ -25,7 +25,7 @@ fn an_activation_closes(rt: HostRuntime) {
 }
 
 // What the first silo offers to the second one.
-fn offers(rt: &impl Abort, alloc: Global, node: &mut Node) -> Letter {
+fn offers(rt: &impl Abort, alloc: Global, node: &mut Node) -> Box<Letter> {
     let (grain, to) = (moved(rt), second(rt));
     let input = Input::Offers {
         grain: &grain,

@@ -1,6 +1,7 @@
 ghost use Rattle.directory_node.specs.Placed.{ArePlaced, IsPlaced};
 ghost use Rattle.directory_node.specs.InputModel.{input_of};
 
+use crate::steps::{copy_of, does};
 use directory_letters::{Body, Letter};
 use directory_node::{Input, Node, Stepped};
 use directory_rules::{Effect, Settings};
@@ -74,17 +75,13 @@ fn check_plan(rt: &impl Abort, alloc: Global, node: &mut Node, input: &Input<'_>
     requires { IsPlaced node.old (input_of input.now) }
 {
     let stepped = stepped(rt, alloc, node, input);
-    carry_out(rt, alloc, node, input, effect);
-    assert!(rt; node.same(&stepped.node) && stepped.effect == effect && stepped.letters.len() == 1);
+    let sent = does(rt, alloc, node, input, effect);
+    assert!(rt; sent.len() == 1 && is_after(node, &stepped, effect));
 }
 
-// The plan is carried out, by which one letter is sent.
-fn carry_out(rt: &impl Abort, alloc: Global, node: &mut Node, input: &Input<'_>, effect: Effect)
-    requires { IsPlaced node.old (input_of input.now) }
-{
-    let plan = node.plan(alloc, input).expect(rt, "a plan");
-    assert!(rt; plan.effect == effect && plan.letters.len() == 1);
-    node.carry_out(plan.change).expect(rt, "memory");
+// Whether the step beside the node says and leaves the same as its plan did.
+fn is_after(node: &Node, stepped: &Stepped, effect: Effect) -> bool {
+    node.same(&stepped.node) && stepped.effect == effect && stepped.letters.len() == 1
 }
 
 // The number that refuses an input.
@@ -143,14 +140,8 @@ fn is_recovering(node: &Node, circle: &RingRange) -> bool {
 #[test]
 fn a_first_sight(rt: HostRuntime) {
     let node = recovering(&rt, rt.alloc());
-    assert!(rt; is_node_copied(&node) && is_recovering(&node, &circle(&rt)));
-}
-
-fn is_node_copied(node: &Node) -> bool {
-    match node.copy() {
-        Ok(copy) => copy.same(node),
-        Err(_) => false,
-    }
+    let copy = copy_of(&rt, rt.alloc(), &node);
+    assert!(rt; copy.same(&node) && is_recovering(&node, &circle(&rt)));
 }
 
 fn is_copied(letter: &Letter) -> bool {

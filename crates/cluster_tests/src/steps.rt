@@ -121,7 +121,7 @@ fn plan(rt: &impl Abort, alloc: Global, node: &Node, input: &Input<'_>) -> Plan
     }
 }
 
-fn copy_of(rt: &impl Abort, alloc: Global, node: &Node) -> Box<Node> {
+pub(crate) fn copy_of(rt: &impl Abort, alloc: Global, node: &Node) -> Box<Node> {
     match node.copy() {
         Ok(copy) => boxed(rt, alloc, copy),
         Err(_) => boxed(rt, alloc, node.copy().expect(rt, "memory")),
@@ -164,10 +164,19 @@ fn carry_out_again(rt: &impl Abort, alloc: Global, node: &mut Node, input: &Inpu
 }
 
 // The one letter that was sent.
-fn only(rt: &impl Abort, letters: Vec<Letter>) -> Letter {
+fn only(rt: &impl Abort, alloc: Global, letters: Vec<Letter>) -> Box<Letter> {
     let mut letters = letters;
     assert!(rt; letters.len() == 1);
-    letters.pop().expect(rt, "a letter")
+    let letter = letters.pop().expect(rt, "a letter");
+    posted(rt, alloc, letter)
+}
+
+// The letter in a box, for the same reason as a node.
+pub(crate) fn posted(rt: &impl Abort, alloc: Global, letter: Letter) -> Box<Letter> {
+    match Box::new(alloc, letter) {
+        Ok(letter) => letter,
+        Err(refused) => Box::new(alloc, refused.value).expect(rt, "memory"),
+    }
 }
 
 // The node sees the version, by which it sends one letter.
@@ -177,10 +186,10 @@ pub(crate) fn sees_one(
     node: &mut Node,
     version: u64,
     effect: Effect,
-) -> Letter
+) -> Box<Letter>
     requires { 1 ≤ version }
 {
-    only(rt, sees(rt, alloc, node, version, effect))
+    only(rt, alloc, sees(rt, alloc, node, version, effect))
 }
 
 // The letter comes to the node; the one that it sends.
@@ -190,8 +199,9 @@ pub(crate) fn sends(
     node: &mut Node,
     letter: &Letter,
     effect: Effect,
-) -> Letter {
-    only(rt, does(rt, alloc, node, &Input::Receives(letter), effect))
+) -> Box<Letter> {
+    let sent = does(rt, alloc, node, &Input::Receives(letter), effect);
+    only(rt, alloc, sent)
 }
 
 // The letter comes to the node, which sends none.
@@ -213,10 +223,10 @@ pub(crate) fn does_one(
     node: &mut Node,
     input: &Input<'_>,
     effect: Effect,
-) -> Letter
+) -> Box<Letter>
     requires { IsPlaced node.old (input_of input.now) }
 {
-    only(rt, does(rt, alloc, node, input, effect))
+    only(rt, alloc, does(rt, alloc, node, input, effect))
 }
 
 // The node takes a step, by which it sends no letter.

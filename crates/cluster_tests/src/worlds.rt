@@ -1,4 +1,4 @@
-use crate::limits::{accept, boxed, refuses};
+use crate::limits::{accept, boxed, refuse};
 use cluster_events::{Event, Happening, Outcome, Span};
 use directory_core::{EventRefusal, Told, World};
 use directory_rules::{Effect, LetterKind, Settings};
@@ -61,11 +61,11 @@ fn find(rt: &impl Abort) -> Event {
 fn happens(
     rt: &impl Abort,
     world: &mut World,
-    event: &Event,
+    event: Event,
     happening: Happening,
     sent: Option<Span>,
 ) {
-    assert!(rt; world.apply(event) == Ok(Outcome { happening, sent }));
+    assert!(rt; world.apply(&event) == Ok(Outcome { happening, sent }));
 }
 
 // One letter of that number.
@@ -90,11 +90,11 @@ fn comes(
         kind,
         effect,
     };
-    happens(rt, world, &Event::Deliver { number }, happening, sent);
+    happens(rt, world, Event::Deliver { number }, happening, sent);
 }
 
 // The silo does something of its own accord, by which that letter is sent.
-fn does(rt: &impl Abort, world: &mut World, event: &Event, effect: Effect, letter: u64) {
+fn does(rt: &impl Abort, world: &mut World, event: Event, effect: Effect, letter: u64) {
     let did = Happening::Did {
         silo: silo(rt),
         effect,
@@ -103,7 +103,7 @@ fn does(rt: &impl Abort, world: &mut World, event: &Event, effect: Effect, lette
 }
 
 // It joins, sees its view, and recovers its range from itself.
-fn recovers(rt: &impl Abort, world: &mut World, join: &Event) {
+fn recovers(rt: &impl Abort, world: &mut World, join: Event) {
     let joined = Happening::Joined {
         version: 1,
         silo: silo(rt),
@@ -115,7 +115,7 @@ fn recovers(rt: &impl Abort, world: &mut World, join: &Event) {
         version: 1,
         effect: Effect::Next,
     };
-    happens(rt, world, &see(rt, 1), saw, one(1));
+    happens(rt, world, see(rt, 1), saw, one(1));
     comes(rt, world, 1, LetterKind::Query, Effect::Report, one(2));
     comes(rt, world, 2, LetterKind::Report, Effect::Complete, None);
 }
@@ -129,7 +129,7 @@ fn registers(rt: &impl Abort, world: &mut World) {
             count: 1,
         },
     };
-    does(rt, world, &wake(rt), Effect::Started(entry), 3);
+    does(rt, world, wake(rt), Effect::Started(entry), 3);
     comes(
         rt,
         world,
@@ -143,7 +143,7 @@ fn registers(rt: &impl Abort, world: &mut World) {
 
 // It is found.
 fn finds(rt: &impl Abort, world: &mut World) {
-    does(rt, world, &find(rt), Effect::Finding(grain(rt)), 5);
+    does(rt, world, find(rt), Effect::Finding(grain(rt)), 5);
     comes(rt, world, 5, LetterKind::Find, Effect::Found, one(6));
     comes(rt, world, 6, LetterKind::Found, Effect::Learnt, None);
 }
@@ -156,7 +156,7 @@ fn has_ended(world: &World) -> bool {
 #[test]
 fn the_first_run(rt: HostRuntime) {
     let mut world = first(&rt, rt.alloc(), 6);
-    recovers(&rt, &mut world, &join_with(&rt, rt.alloc(), 1));
+    recovers(&rt, &mut world, join_with(&rt, rt.alloc(), 1));
     registers(&rt, &mut world);
     finds(&rt, &mut world);
     assert!(rt; has_ended(&world));
@@ -254,10 +254,8 @@ fn is_owner(alloc: Global, world: &World, place: u32) -> bool {
 fn no_room_for_a_second_letter(rt: HostRuntime) {
     let mut world = seen(&rt, rt.alloc(), 1);
     let full = EventRefusal::MailFull;
-    assert!(rt;
-        refuses(&mut world, &wake(&rt), full, 909)
-            && refuses(&mut world, &find(&rt), full, 909)
-            && refuses(&mut world, &Event::Deliver { number: 1 }, full, 909)
-    );
+    refuse(&rt, &mut world, wake(&rt), full, 909);
+    refuse(&rt, &mut world, find(&rt), full, 909);
+    refuse(&rt, &mut world, Event::Deliver { number: 1 }, full, 909);
     assert!(rt; world.least_deliverable() == Some(1));
 }

@@ -40,6 +40,25 @@ const WORLD: u64 = 20_000;
 /// The seeded storms have the seeds from 1 to this one.
 const SEEDED: u64 = 20;
 
+/// What the command line asks for.
+#[derive(Clone, Copy)]
+struct Order {
+    seed: u64,
+    events: u64,
+    storms: Storms,
+}
+
+/// Which storms are to be.
+#[derive(Clone, Copy)]
+enum Storms {
+    /// So many events, in one world after another.
+    Worlds,
+    /// The seeded storms before that.
+    Seeded,
+    /// The first events of one storm, as a script.
+    Script(Course),
+}
+
 fn main(rt: HostRuntime) -> ExitCode {
     let mut progress = Progress::new();
     match carry_out(&rt, &mut progress) {
@@ -53,50 +72,57 @@ fn main(rt: HostRuntime) -> ExitCode {
 
 // Does what the command line says.
 fn carry_out(rt: &HostRuntime, progress: &mut Progress) -> Result<(), Stop> {
-    let words: Vec<String> = env::args(rt)?.collect(rt.alloc())?;
-    follow(rt, progress, &words)
-}
-
-// Does what the words say, of which the first is the program's name.
-fn follow(rt: &HostRuntime, progress: &mut Progress, words: &[String]) -> Result<(), Stop> {
-    let seed = number(words, 1).ok_or(Stop::Usage)?;
-    let events = number(words, 2).ok_or(Stop::Usage)?;
-    match words.get(3) {
-        None => all_worlds(rt, progress, seed, events),
-        Some(word) => of_kind(rt, progress, word.as_str(), seed, events),
+    let order = ordered(&mut env::args(rt)?).ok_or(Stop::Usage)?;
+    match order.storms {
+        Storms::Worlds => all_worlds(rt, progress, order.seed, order.events),
+        Storms::Seeded => {
+            seeded_storms(rt, progress, Course::Views)?;
+            seeded_storms(rt, progress, Course::Offers)?;
+            all_worlds(rt, progress, order.seed, order.events)
+        }
+        Storms::Script(course) => {
+            let plan = Plan::of_script(course, order.seed, order.events);
+            play(rt, progress, &plan)
+        }
     }
 }
 
-// The word at an index, read as a number.
-fn number(words: &[String], index: usize) -> Option<u64> {
-    words.get(index)?.as_str().parse().ok()
+// What the words ask for, of which the first is the program's name.
+fn ordered(words: &mut env::Args) -> Option<Order> {
+    words.next()?;
+    let seed = number(words.next())?;
+    let events = number(words.next())?;
+    let storms = asked(words.next())?;
+    Some(Order {
+        seed,
+        events,
+        storms,
+    })
 }
 
-// What the third word says.
-fn of_kind(
-    rt: &HostRuntime,
-    progress: &mut Progress,
-    word: &str,
-    seed: u64,
-    events: u64,
-) -> Result<(), Stop> {
+// The word, read as a number.
+fn number(word: Option<String>) -> Option<u64> {
+    word?.as_str().parse().ok()
+}
+
+// The storms that the last word asks for, if there is one.
+fn asked(word: Option<String>) -> Option<Storms> {
+    match word {
+        Some(word) => named(word.as_str()),
+        None => Some(Storms::Worlds),
+    }
+}
+
+// The storms of a name.
+fn named(word: &str) -> Option<Storms> {
     if word == "seeded" {
-        seeded_storms(rt, progress, Course::Views)?;
-        seeded_storms(rt, progress, Course::Offers)?;
-        return all_worlds(rt, progress, seed, events);
-    }
-    let course = scripted(word).ok_or(Stop::Usage)?;
-    play(rt, progress, &Plan::of_script(course, seed, events))
-}
-
-// The course of the storms whose events the word asks for, as a script.
-fn scripted(word: &str) -> Option<Course> {
-    if word == "script" {
-        Some(Course::World)
+        Some(Storms::Seeded)
+    } else if word == "script" {
+        Some(Storms::Script(Course::World))
     } else if word == "views" {
-        Some(Course::Views)
+        Some(Storms::Script(Course::Views))
     } else if word == "offers" {
-        Some(Course::Offers)
+        Some(Storms::Script(Course::Offers))
     } else {
         None
     }

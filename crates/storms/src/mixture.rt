@@ -69,12 +69,7 @@ impl Scene<'_> {
     // Whether nobody has seen the current version yet, and no piece waits: where another version follows at once, silos skip one
     // with all their entries.
     fn is_unseen(&self) -> bool {
-        for (_, node) in self.world.nodes() {
-            if node.view().version() == self.chronicle.version || count_waiting(node) > 0 {
-                return false;
-            }
-        }
-        true
+        self.all_agree(false)
     }
 
     // Whether an event of that kind is to wait in fair weather. There membership mostly changes, and grains mostly wake, close and
@@ -100,8 +95,14 @@ impl Scene<'_> {
 
     // Whether all silos have seen the current version, and all that they own is settled.
     fn is_settled(&self) -> bool {
+        self.all_agree(true)
+    }
+
+    // Whether all silos have seen the current version or, where none is to have, none has; and no piece waits.
+    fn all_agree(&self, have_seen: bool) -> bool {
         for (_, node) in self.world.nodes() {
-            if node.view().version() != self.chronicle.version || count_waiting(node) > 0 {
+            let has_seen = node.view().version() == self.chronicle.version;
+            if has_seen != have_seen || count_waiting(node) > 0 {
                 return false;
             }
         }

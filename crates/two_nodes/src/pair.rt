@@ -32,10 +32,10 @@ impl Pair {
         let settings = Settings::of_directory(Hashing::Stated, 1, 16).context("no settings")?;
         Ok(Pair {
             alloc,
-            views: views_of(alloc, first, second)?,
-            places: places_of(alloc, first, second)?,
             first: node_of(alloc, settings, first)?,
             second: node_of(alloc, settings, second)?,
+            views: views_of(alloc, first, second)?,
+            places: places_of(alloc, first, second)?,
         })
     }
 
@@ -81,14 +81,19 @@ impl Pair {
             let Some(letter) = waiting.pop() else {
                 break;
             };
-            kinds.push(letter.kind())?;
-            waiting.append(&mut self.deliver(&letter)?)?;
+            kinds.push(self.deliver(letter, &mut waiting)?)?;
         }
         Ok(kinds)
     }
 
-    // The letter comes to the silo that it is for: what that answers.
-    fn deliver(&mut self, letter: &Letter) -> Result<Vec<Letter>> {
+    // The letter comes, and what is answered waits beside the others: its kind.
+    fn deliver(&mut self, letter: Letter, waiting: &mut Vec<Letter>) -> Result<LetterKind> {
+        waiting.append(&mut self.answers(&letter)?)?;
+        Ok(letter.kind())
+    }
+
+    // What the silo answers that the letter is for.
+    fn answers(&mut self, letter: &Letter) -> Result<Vec<Letter>> {
         let input = Input::Receives(letter);
         if letter.to() == self.first.host().silo() {
             step(self.alloc, &mut self.first, &input)
