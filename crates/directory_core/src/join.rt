@@ -12,7 +12,7 @@ ghost use Rattle.directory_core.specs.Joining.{nodes_without, with_admitted};
 ghost use Rattle.directory_core.specs.Numbers.{event_refusal_number};
 ghost use Rattle.directory_core.specs.Whole.{IsWorld, LeavesWorld};
 
-use crate::nodes::{put_node, remove_node};
+use crate::nodes::{put_new_node, remove_node};
 use crate::{EventRefusal, World};
 use cluster_events::{Happening, Outcome};
 use directory_node::Node;
@@ -126,7 +126,7 @@ fn put_beside(
     ensures views_unchanged { OnErr result (views.new ≡ views.old) }
     ensures nodes_unchanged { OnErr result (nodes.new.entries ≡ nodes.old.entries) }
 {
-    put_node(nodes, silo, Node::new(alloc, settings, silo)?)?;
+    put_new_node(alloc, settings, nodes, silo)?;
     match views.join(silo) {
         Ok(joined) => {
             remove_replaced(nodes, joined.replaced);

@@ -4,22 +4,26 @@ ghost use Rattle.std.specs.Prelude.{◌≡◌, OnErr, OnOk};
 ghost use Rattle.std.specs.Map.{remove_entry};
 ghost use Rattle.std.specs.BTreeMap.{insert_entry, is_at};
 ghost use Rattle.silo_address.specs.Silo.{silo_cmp};
+ghost use Rattle.directory_rules.specs.Node.{new_node};
 
 use directory_node::Node;
+use directory_rules::Settings;
 use silo_address::SiloAddress;
-use std::alloc::AllocError;
+use std::alloc::{AllocError, Global};
 use std::collections::BTreeMap;
 
-/// The silo has this node, and no other one.
-pub(crate) fn put_node(
+/// The silo has a new node, and no other one.
+pub(crate) fn put_new_node(
+    alloc: Global,
+    settings: Settings,
     nodes: &mut BTreeMap<SiloAddress, Node>,
     silo: SiloAddress,
-    node: Node,
 ) -> Result<(), AllocError>
-    ensures put { OnOk result (nodes.new.entries ≡ insert_entry silo_cmp nodes.old.entries silo node) }
+    ensures put { OnOk result (nodes.new.entries ≡ insert_entry silo_cmp nodes.old.entries silo (new_node settings silo)) }
     ensures unchanged { OnErr result (nodes.new.entries ≡ nodes.old.entries) }
 {
-    nodes.insert(silo, node)?;
+    let node = Node::new(alloc, settings, silo)?;
+    drop(nodes.insert(silo, node)?);
     Ok(())
 }
 
@@ -27,5 +31,5 @@ pub(crate) fn put_node(
 pub(crate) fn remove_node(nodes: &mut BTreeMap<SiloAddress, Node>, silo: &SiloAddress)
     ensures { nodes.new.entries ≡ remove_entry (is_at (silo_cmp silo.now)) nodes.old.entries }
 {
-    let _node = nodes.remove(silo);
+    drop(nodes.remove(silo));
 }

@@ -14,6 +14,7 @@ use letter_mail::Mail;
 use silo_address::SiloAddress;
 use std::alloc::AllocError;
 use std::collections::BTreeMap;
+use std::mem;
 
 /// The silo's node makes the change, the letters are sent, and the letter of a number is fresh no more, since it was received.
 pub(crate) fn receive_at(
@@ -116,7 +117,8 @@ fn put_at(nodes: &mut BTreeMap<SiloAddress, Node>, silo: &SiloAddress, node: Nod
     requires there { IsSome (lookup (is_at (silo_cmp silo.now)) nodes.old.entries) }
     ensures { nodes.new.entries ≡ insert_entry silo_cmp nodes.old.entries silo.now node }
 {
-    if let Some(place) = nodes.get_mut(silo) {
-        *place = node;
-    }
+    let Some(place) = nodes.get_mut(silo) else {
+        unreachable!()
+    };
+    drop(mem::replace(place, node));
 }

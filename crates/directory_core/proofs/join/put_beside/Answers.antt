@@ -1,6 +1,6 @@
 use Rattle.std.proofs.Common.{◌∙◌, ap, List, Option}
 use Rattle.std.specs.Map.{remove_entry}
-use Rattle.std.specs.BTreeMap.{insert_entry, is_at}
+use Rattle.std.specs.BTreeMap.{is_at}
 use Rattle.silo_address.specs.Silo.{Silo, silo_cmp}
 use Rattle.silo_address.proofs.Order.{silo_cmp_total}
 use Rattle.membership_view.specs.Changes.{occupant}
@@ -13,14 +13,14 @@ use Rattle.directory_core.proofs.join.put_beside.Goals as goal
 pub returns-in-Err-clause-nodes_unchanged : goal.returns-in-Err-clause-nodes_unchanged
 returns-in-Err-clause-nodes_unchanged c =
     c.remove_node.ensures
-    ∙ ap (λ (l : List (Silo × Node)). remove_entry (is_at (silo_cmp c.args.silo)) l) c.in_ok-put_node.ensures.put
-    ∙ taken_back silo_cmp silo_cmp_total c.args.silo c.in_ok-new.field-0 c.args.nodes.now.entries
+    ∙ ap (λ (l : List (Silo × Node)). remove_entry (is_at (silo_cmp c.args.silo)) l) c.in_ok-put_new_node.ensures.put
+    ∙ taken_back silo_cmp silo_cmp_total c.args.silo _ c.args.nodes.now.entries
     (no_node c.args.views.now c.args.nodes.now.entries c.args.silo c.requires.peopled c.requires.may)
 
 pub returns-in-Ok-clause-nodes : goal.returns-in-Ok-clause-nodes
 returns-in-Ok-clause-nodes c =
     c.remove_replaced.ensures
-    ∙ ap (λ (o : Option Silo). nodes_without o c.put_node.new.nodes.entries) c.in-Ok.ensures.replaced
+    ∙ ap (λ (o : Option Silo). nodes_without o c.put_new_node.new.nodes.entries) c.in-Ok.ensures.replaced
     ∙ ap (λ (l : List (Silo × Node)). nodes_without (occupant c.args.silo c.args.views.now.rows) l)
-    (c.in_ok-put_node.ensures.put ∙ ap (λ (n : Node). insert_entry silo_cmp c.args.nodes.now.entries c.args.silo n) c.in_ok-new.ensures)
+    c.in_ok-put_new_node.ensures.put
     ∙ nodes_put c.args.views.now c.args.nodes.now.entries c.args.silo _ c.requires.peopled c.requires.may
