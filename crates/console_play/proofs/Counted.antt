@@ -77,6 +77,9 @@ all_counted held (row ∷ rows) counts = (
   all_counted held rows (insert_entry silo_cmp counts row.0 (held row.0)),
 )
 
+pub counts_none : (held : Silo → ℕ) (items rows : List (Silo × Status)) (counts : List (Silo × ℕ)) → items ≡ rows → counts ≡ [] → counted held items counts ≡ counted held rows []
+counts_none held items rows counts are none = ap (λ (es : List (Silo × Status)). counted held es counts) are ∙ ap (counted held rows) none
+
 pub counts_more : (held : Silo → ℕ) (all before after : List (Silo × ℕ)) (row : Silo × Status) (n : ℕ) (left rest : List (Silo × Status)) → left ≡ row ∷ rest
     → after ≡ insert_entry silo_cmp before row.0 n → n ≡ held row.0 → counted held left before ≡ all → counted held rest after ≡ all
 counts_more held all before after row n left rest is after_is n_is was =

@@ -105,6 +105,15 @@ numbers_left before sent less = ap (λ n. range_with_len (before + 1) n) (one_mo
     one_more : (a b : ℕ) → a < b → b - a ≡ suc (b - (a + 1))
     one_more a b less = omega (less, arith)
 
+pub one_above : (before sent : ℕ) → before < sent → before + 1 ≤ sent
+one_above before sent less = omega (less, arith)
+
+pub numbers_at_first : (sent : ℕ) → range_with_len (0 + 1) (sent - 0) ≡ range_with_len 1 sent
+numbers_at_first sent = ap (λ n. range_with_len 1 n) (all_left sent)
+  where
+    all_left : (a : ℕ) → a - 0 ≡ a
+    all_left a = omega arith
+
 pub no_number_left : (before sent : ℕ) → sent ≤ before → range_with_len (before + 1) (sent - before) ≡ []
 no_number_left before sent all = ap (λ n. range_with_len (before + 1) n) (none before sent all)
   where

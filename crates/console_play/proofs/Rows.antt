@@ -1,12 +1,14 @@
 -- Rows shown one after the other.
-use Rattle.std.proofs.Common.{◌≡◌, ℕ, ◌++◌, List, [], ◌∷◌, length, false, map, subst, ap, refl, sym, ◌∙◌, append_assoc, append-nil}
+use Rattle.std.proofs.Common.{◌≡◌, ℕ, ◌+◌, ◌<◌, ◌≤◌, ◌++◌, List, [], ◌∷◌, length, drop, get_or, drop-cons, add-one, false, map, subst, ap, refl, sym, ◌∙◌, append_assoc, append-nil}
 use Rattle.std.specs.Prelude.{filter, flat_map, ◌==◌}
+use Rattle.std.proofs.lemmas.List.{drop_all}
 use Rattle.std.proofs.lemmas.List.Concat.{flat_map-append}
 use Rattle.silo_address.specs.Silo.{Silo}
 use Rattle.ring_range.specs.Range.{Range}
 use Rattle.hash_ring.specs.declared.point.Point.{Point}
 use Rattle.hash_ring.specs.Ranges.{owned_range, owned_ranges, owns_its_place}
 use Rattle.directory_rules.specs.World.{World}
+use Rattle.script_output.specs.Printed.{printed}
 use Rattle.script_rules.specs.Show.{range_line, range_lines}
 use Rattle.texts.specs.Printed.{text_of_lines}
 use Rattle.texts.specs.Words.{line_feed}
@@ -34,6 +36,34 @@ shows_all lines start all now rest none shows =
 pub flat_map_lines : {X : Type 0} (line : X → List ℕ) (rows : List X) → flat_map (λ e. line e ∷ []) rows ≡ map line rows
 flat_map_lines line [] = refl
 flat_map_lines line (row ∷ rows) = ap (λ ls. line row ∷ ls) (flat_map_lines line rows)
+
+-- ---- the rows of a slice, from an index on
+pub row_left : {X : Type 0} (rows : List X) (index : ℕ) (row : X) → index < length rows → row ≡ get_or rows index row → drop index rows ≡ row ∷ drop (index + 1) rows
+row_left rows index row within is =
+    drop-cons rows index row within
+    ∙ (ap (λ (n : ℕ). get_or rows index row ∷ drop n rows) (sym (add-one index)) ∙ ap (λ r. r ∷ drop (index + 1) rows) (sym is))
+
+pub shows_from_start : {X : Type 0} (lines : X → List (List ℕ)) (start : List ℕ) (all rows : List X) → rows ≡ all → Shows lines start all start rows
+shows_from_start lines start all rows are = ap (λ rows. start ++ text_of_lines (flat_map lines rows)) are
+
+pub shows_next : {X : Type 0} (lines : X → List (List ℕ)) (start : List ℕ) (all rows : List X) (now next : List ℕ) (index : ℕ) (row : X) → index < length rows
+    → row ≡ get_or rows index row → next ≡ now ++ text_of_lines (lines row) → Shows lines start all now (drop index rows) → Shows lines start all next (drop (index + 1) rows)
+shows_next lines start all rows now next index row within is shown shows =
+    shows_more lines start all now next row (drop (index + 1) rows) (drop index rows) (row_left rows index row within is) shown shows
+
+pub shows_next_line : {X : Type 0} (line : X → List ℕ) (start : List ℕ) (all rows : List X) (now next : List ℕ) (index : ℕ) (row : X) → index < length rows
+    → row ≡ get_or rows index row → next ≡ now ++ printed (line row) → Shows (λ e. line e ∷ []) start all now (drop index rows) → Shows (λ e. line e ∷ []) start all next (drop (index + 1) rows)
+shows_next_line line start all rows now next index row within is written shows =
+    shows_next (λ e. line e ∷ []) start all rows now next index row within is (written ∙ ap (λ (t : List ℕ). now ++ t) (sym (append-nil (printed (line row))))) shows
+
+pub shows_whole : {X : Type 0} (lines : X → List (List ℕ)) (start : List ℕ) (all rows : List X) (now : List ℕ) (index : ℕ) → length rows ≤ index
+    → Shows lines start all now (drop index rows) → now ≡ start ++ text_of_lines (flat_map lines all)
+shows_whole lines start all rows now index past shows = shows_all lines start all now (drop index rows) (drop_all index rows past) shows
+
+pub shows_each : {X : Type 0} (line : X → List ℕ) (start : List ℕ) (rows : List X) (now : List ℕ) (index : ℕ) → length rows ≤ index
+    → Shows (λ e. line e ∷ []) start rows now (drop index rows) → now ≡ start ++ text_of_lines (map line rows)
+shows_each line start rows now index past shows =
+    shows_whole (λ e. line e ∷ []) start rows rows now index past shows ∙ ap (λ lines. start ++ text_of_lines lines) (flat_map_lines line rows)
 
 -- lines behind lines
 pub text_behind : (start middle text : List ℕ) (one other : List (List ℕ)) → middle ≡ start ++ text_of_lines one → text ≡ middle ++ text_of_lines other
