@@ -37,7 +37,7 @@ pub flat_map_lines : {X : Type 0} (line : X → List ℕ) (rows : List X) → fl
 flat_map_lines line [] = refl
 flat_map_lines line (row ∷ rows) = ap (λ ls. line row ∷ ls) (flat_map_lines line rows)
 
--- ---- the rows of a slice, from an index on
+-- the rows of a slice, from an index on
 pub row_left : {X : Type 0} (rows : List X) (index : ℕ) (row : X) → index < length rows → row ≡ get_or rows index row → drop index rows ≡ row ∷ drop (index + 1) rows
 row_left rows index row within is =
     drop-cons rows index row within
@@ -64,13 +64,6 @@ pub shows_each : {X : Type 0} (line : X → List ℕ) (start : List ℕ) (rows :
     → Shows (λ e. line e ∷ []) start rows now (drop index rows) → now ≡ start ++ text_of_lines (map line rows)
 shows_each line start rows now index past shows =
     shows_whole (λ e. line e ∷ []) start rows rows now index past shows ∙ ap (λ lines. start ++ text_of_lines lines) (flat_map_lines line rows)
-
--- lines behind lines
-pub text_behind : (start middle text : List ℕ) (one other : List (List ℕ)) → middle ≡ start ++ text_of_lines one → text ≡ middle ++ text_of_lines other
-    → text ≡ start ++ text_of_lines (one ++ other)
-text_behind start middle text one other first second =
-    second ∙ (ap (λ (t : List ℕ). t ++ text_of_lines other) first ∙ (append_assoc start (text_of_lines one) (text_of_lines other)
-    ∙ ap (λ (t : List ℕ). start ++ t) (sym (flat_map-append (λ (line : List ℕ). line ++ line_feed ∷ []) one other))))
 
 map_twice : {X Y : Type 0} (f : Y → List ℕ) (g : X → Y) (xs : List X) → map f (map g xs) ≡ map (λ x. f (g x)) xs
 map_twice f g [] = refl
