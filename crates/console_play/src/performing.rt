@@ -17,11 +17,13 @@ use crate::syncing::sync;
 use cluster_events::Event;
 use directory_core::World;
 use script_commands::Command;
-use script_output::{taken_back_at_error, write_outcome, write_refusal};
+use script_output::{write_outcome, write_refusal};
 use std::alloc::{AllocError, Global};
+use texts::taken_back_at_error;
 
 /// Does what a command asks for, and writes what it prints behind what is written already. Fails only for want of memory; then
 /// nothing is written, and the world may have changed.
+#[tactic(auto, using(script_output::proofs::Fronts::front_taken))]
 pub(crate) fn perform(
     alloc: Global,
     world: &mut World,

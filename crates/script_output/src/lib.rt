@@ -14,6 +14,5 @@ mod tables;
 mod words;
 
 pub use event_lines::{write_fault, write_outcome, write_refusal};
-pub use line::taken_back_at_error;
 pub use question_lines::{write_letter, write_owner, write_place};
 pub use show_lines::{write_held, write_no_owner, write_range, write_silo, write_version};

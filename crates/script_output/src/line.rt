@@ -6,25 +6,10 @@ ghost use Rattle.script_output.specs.Printed.{printed};
 ghost use Rattle.script_output.specs.Spaced.{spaced, BeginsWith};
 
 use std::alloc::AllocError;
-
-/// Passes on how a writing ended. What was written behind the first `start` bytes is taken back if it failed, and else stays
-/// (`docs/RULES.md#what-a-script-prints`).
-pub fn taken_back_at_error(
-    out: &mut Vec<u8>,
-    start: usize,
-    written: Result<(), AllocError>,
-) -> Result<(), AllocError>
-    ensures passed_on { result ≡ written }
-    ensures kept { OnOk result (out.new.items ≡ out.old.items) }
-    ensures taken_back { OnErr result ((front : List ℕ) → start ≡ length front → BeginsWith front out.old.items → out.new.items ≡ front) }
-{
-    if written.is_err() {
-        out.truncate(start);
-    }
-    written
-}
+use texts::taken_back_at_error;
 
 /// Ends the line whose words were written behind the first `start` bytes, or takes back what was written of it.
+#[tactic(auto, using(crate::proofs::Fronts::front_taken))]
 pub(crate) fn end_line(
     out: &mut Vec<u8>,
     start: usize,
