@@ -22,6 +22,10 @@ part-requires c =
     let below : c.in-Some.step.now < c.args.self.now.size = Rises-below c.in-Some.step.now c.next.new.self c.args.self.now.size rising.1 in
     omega arith
 
+pub returns-clause-exact : goal.returns-clause-exact
+unfolding cut_parts
+returns-clause-exact c = search rules
+
 pub returns-clause-cut : goal.returns-clause-cut
 unfolding cut_parts
 returns-clause-cut c =
