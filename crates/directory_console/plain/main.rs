@@ -9,7 +9,7 @@ mod json;
 #[path = "../../dump_verdict/plain/names.rs"]
 mod names;
 mod script;
-#[path = "../../bench_ring/plain/sha256.rs"]
+#[path = "../../benches/plain/sha256.rs"]
 mod sha256;
 mod text;
 #[path = "../../dump_verdict/plain/verdict.rs"]

@@ -9,7 +9,7 @@ mod dump;
 mod json;
 mod make;
 mod names;
-#[path = "../../bench_ring/plain/sha256.rs"]
+#[path = "../../benches/plain/sha256.rs"]
 mod sha256;
 mod verdict;
 

@@ -1,0 +1,90 @@
+use directory_core::EventRefusal;
+use hash_ring::RingError;
+use lookup_cache::CacheError;
+use membership_view::ViewsError;
+use seal_snapshot::GatheringError;
+use silo_address::{GrainError, SiloError};
+use std::alloc::{AllocError, AllocFailed};
+use std::io;
+
+/// Why nothing could be measured.
+#[derive(Clone, Copy, Debug)]
+pub(crate) enum Fault {
+    /// There is no measure of this name.
+    Usage,
+    /// There is no clock, there are no words or there is nowhere to print.
+    System,
+    /// Out of memory.
+    Memory,
+    /// A text is no silo.
+    Silo,
+    /// A text is no grain.
+    Grain,
+    /// A silo can't join or die.
+    Membership,
+    /// There is no ring, or it can't be advanced.
+    Ring,
+    /// There is no cache, or it can't learn a hint.
+    Cache,
+    /// A page was refused.
+    Page,
+    /// A cluster refused an event.
+    Event(EventRefusal),
+    /// Settings, a silo, a view, a piece, a snapshot or a page are missing.
+    Missing,
+}
+
+impl From<io::Error> for Fault {
+    fn from(_: io::Error) -> Fault {
+        Fault::System
+    }
+}
+
+impl From<AllocError> for Fault {
+    fn from(_: AllocError) -> Fault {
+        Fault::Memory
+    }
+}
+
+// A list that could not grow.
+impl<T: Drop> From<AllocFailed<T>> for Fault {
+    fn from(_: AllocFailed<T>) -> Fault {
+        Fault::Memory
+    }
+}
+
+impl From<SiloError> for Fault {
+    fn from(_: SiloError) -> Fault {
+        Fault::Silo
+    }
+}
+
+impl From<GrainError> for Fault {
+    fn from(_: GrainError) -> Fault {
+        Fault::Grain
+    }
+}
+
+impl From<ViewsError> for Fault {
+    fn from(_: ViewsError) -> Fault {
+        Fault::Membership
+    }
+}
+
+impl From<RingError> for Fault {
+    fn from(_: RingError) -> Fault {
+        Fault::Ring
+    }
+}
+
+impl From<CacheError> for Fault {
+    fn from(_: CacheError) -> Fault {
+        Fault::Cache
+    }
+}
+
+impl From<GatheringError> for Fault {
+    fn from(_: GatheringError) -> Fault {
+        Fault::Page
+    }
+}
