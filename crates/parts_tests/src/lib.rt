@@ -1,6 +1,6 @@
-//! Tests of the parts of a directory node over their public calls: the types of the rule, tables, what a silo keeps for
-//! others and hands over by pages, its activations, its recoveries, its cache, and placement. They stand in a crate of their own,
-//! since a crate with tests is proved twice.
+//! Tests of what a directory node stands on, over public calls: texts, identities, ranges, views, rings and their moves, the types
+//! of the rule, tables, what a silo keeps for others and hands over by pages, its activations, its recoveries, its cache, and
+//! placement. They stand in a crate of their own, since a crate with tests is proved twice.
 #![tactic(auto)]
 
 #[cfg(test)]
@@ -10,13 +10,23 @@ mod holdings;
 #[cfg(test)]
 mod hosts;
 #[cfg(test)]
+mod identities;
+#[cfg(test)]
 mod made;
+#[cfg(test)]
+mod moves;
+#[cfg(test)]
+mod numerals;
 #[cfg(test)]
 mod pages;
 #[cfg(test)]
 mod placement;
 #[cfg(test)]
+mod ranges;
+#[cfg(test)]
 mod recoveries;
+#[cfg(test)]
+mod rings;
 #[cfg(test)]
 mod rules;
 #[cfg(test)]
@@ -25,3 +35,5 @@ mod samples;
 mod shelf;
 #[cfg(test)]
 mod tables;
+#[cfg(test)]
+mod views;

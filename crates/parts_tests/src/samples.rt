@@ -1,6 +1,6 @@
 //! Values by their texts, for the tests. What needs memory is made again where that is refused.
 use directory_rules::Settings;
-use hash_ring::Hashing;
+use hash_ring::{Hashing, Places, Ring};
 use membership_view::{View, Views};
 use ring_range::RingRange;
 use silo_address::{ActivationId, Entry, GrainId, SiloAddress};
@@ -22,6 +22,10 @@ pub(crate) fn silo(rt: &impl Abort, text: &str) -> SiloAddress {
 
 pub(crate) fn grain(rt: &impl Abort, text: &str) -> GrainId {
     GrainId::parse(text.as_bytes()).expect(rt, "a grain")
+}
+
+pub(crate) fn activation(rt: &impl Abort, text: &str) -> ActivationId {
+    ActivationId::parse(text.as_bytes()).expect(rt, "an activation")
 }
 
 pub(crate) fn range(rt: &impl Abort, text: &str) -> RingRange {
@@ -70,6 +74,33 @@ pub(crate) fn view(rt: &impl Abort, alloc: Global, views: &Views, version: u64) 
         Err(_) => views.view(alloc, version).expect(rt, "memory"),
     };
     made.expect(rt, "this version was made")
+}
+
+// A cluster without silos, whose points have stated places.
+pub(crate) fn no_silos(rt: &impl Abort, alloc: Global) -> (Views, Places) {
+    let places = Places::new(alloc, Hashing::Stated, 30).expect(rt, "1 to 128 points");
+    (Views::new(alloc, 256), places)
+}
+
+// A silo joins, with these places.
+pub(crate) fn join_at(
+    rt: &impl Abort,
+    views: &mut Views,
+    places: &mut Places,
+    silo: SiloAddress,
+    given: &[u32],
+) {
+    views.join(silo).expect(rt, "a silo that may join");
+    places
+        .add(silo, given)
+        .expect(rt, "places that may be given");
+}
+
+// The ring of the current view.
+pub(crate) fn ring_now(rt: &impl Abort, alloc: Global, views: &Views, places: &Places) -> Ring {
+    let now = view(rt, alloc, views, views.current());
+    assert!(rt; places.has_active_of(&now));
+    Ring::anew(alloc, &now, places).expect(rt, "a ring")
 }
 
 // As many grains as a node of a map takes, which is 15, one that splits it, and one more.

@@ -1,0 +1,13 @@
+//! Tests of the whole directory over public calls: of a silo's node and of the cluster (`cluster`), of how a script's lines are
+//! read and written and of the loop between (`script`), and of whole scripts, command lines and dumps (`play`). They stand in a
+//! crate of their own, since a crate with tests is proved twice.
+#![tactic(auto)]
+
+#[cfg(test)]
+mod cluster;
+#[cfg(test)]
+mod fakes;
+#[cfg(test)]
+mod play;
+#[cfg(test)]
+mod script;
