@@ -6,7 +6,7 @@ ghost use Rattle.directory_rules.specs.Headline.{Headline};
 ghost use Rattle.directory_rules.specs.Letter.{Letter as LetterValue};
 ghost use Rattle.directory_rules.specs.Mail.{letter_of, with_delivered};
 ghost use Rattle.directory_node.specs.Follows.{Follows};
-ghost use Rattle.directory_node.specs.Planning.{stepped_of};
+ghost use Rattle.directory_node.specs.SteppedModel.{stepped_of};
 ghost use Rattle.directory_core.specs.Applying.{IsPlainlyTold, accepted_as};
 ghost use Rattle.directory_core.specs.Delivering.{IsStepWith, undelivered_number};
 ghost use Rattle.directory_core.specs.Stepping.{after_step};

@@ -1,14 +1,8 @@
 -- How the fields of the code's node are the rule's node.
-use Rattle.std.specs.Prelude.{Option, Some, None}
 use Rattle.std.specs.Arc.{arc_value}
-use Rattle.directory_rules.specs.Cache.{Cache, new_cache}
 use Rattle.directory_rules.specs.Node.{Node}
+use Rattle.node_plans.specs.CacheModel.{cache_of}
 use Rattle.directory_node.specs.declared.node.Node.TheInside.{Inside}
-
--- a node without a cache has one for no entry
-abbrev pub cache_of : Option Cache → Cache
-cache_of None = new_cache 0
-cache_of (Some cache) = cache
 
 abbrev pub node_of : Inside → Node
 node_of n = record {

@@ -3,11 +3,11 @@ ghost use Rattle.directory_rules.specs.Answer.{answered};
 ghost use Rattle.directory_rules.specs.Cache.{learnt};
 ghost use Rattle.directory_rules.specs.Host.{asking_under, closing_under, held_of, without_find};
 ghost use Rattle.directory_rules.specs.Reply.{confirmed_by, yielded_by};
-ghost use Rattle.directory_node.specs.Planning.{Fits, MayClose, changed, with_closing_of, without};
+ghost use Rattle.node_plans.specs.Planning.{Fits, MayClose, changed, with_closing_of, without};
 
-use crate::caching::{forget, learn, use_hint};
 use crate::{Change, Node};
 use directory_rules::Request;
+use node_plans::{forget, learn, use_hint};
 use silo_address::{Entry, GrainId};
 use std::alloc::AllocError;
 

@@ -1,16 +1,16 @@
 //! Closing an activation, and offering it to another silo.
 ghost use Rattle.std.specs.Prelude.{◌≡◌, IfOk, OnErr, Some, length};
-ghost use Rattle.directory_rules.specs.Host.{held_of, is_firm};
+ghost use Rattle.directory_rules.specs.Host.{held_of};
 ghost use Rattle.directory_rules.specs.Receive.{offered_to, takes_offer};
 ghost use Rattle.directory_rules.specs.Step.{close, closing, offer, offered};
-ghost use Rattle.directory_rules.specs.declared.Effect.TheVariants.{Offered};
-ghost use Rattle.directory_node.specs.Follows.{Follows};
-ghost use Rattle.directory_node.specs.Numbers.{step_refusal_number};
-ghost use Rattle.directory_node.specs.Planning.{Fits, Sends, step_by};
+ghost use Rattle.node_plans.specs.Follows.{Follows};
+ghost use Rattle.node_plans.specs.Numbers.{step_refusal_number};
+ghost use Rattle.node_plans.specs.Planning.{Fits, Sends, step_by};
 
 use crate::{Change, Node, Plan, StepRefusal};
 use directory_letters::{Body, Letter};
-use directory_rules::{Act, Effect, Held, Phase};
+use directory_rules::{Act, Effect, Held};
+use node_plans::{is_firm, offer_effect};
 use silo_address::{Entry, GrainId, SiloAddress};
 use std::alloc::{AllocError, Global};
 
@@ -94,7 +94,7 @@ impl Node {
         ensures change { IfOk result (λ plan. plan.change ≡ Change.Closes grain.now) }
     {
         let entry = self.entry_of(grain, held.count);
-        let effect = offered(&entry, to);
+        let effect = offer_effect(&entry, to);
         let offer = self.letter_to(*to, Body::Offer(entry));
         Plan::of_one(alloc, offer, effect, Change::Closes(*grain))
     }
@@ -128,25 +128,5 @@ impl Node {
             && !self.host.is_full_of_activations(&self.settings)
             && self.host.has_numbers(&self.settings, 1)
             && self.host.has_count(&self.settings)
-    }
-}
-
-// The entry was offered to the silo.
-fn offered(entry: &Entry, to: &SiloAddress) -> Effect
-    ensures { result ≡ Offered entry.now to.now }
-{
-    Effect::Offered {
-        entry: *entry,
-        to: *to,
-    }
-}
-
-// Whether the phase is firm.
-fn is_firm(phase: &Phase) -> bool
-    ensures { result ≡ is_firm phase.now }
-{
-    match phase {
-        Phase::Firm => true,
-        Phase::Asking(_) | Phase::Closing(_) => false,
     }
 }

@@ -2,17 +2,12 @@
 //! `docs/RULES.md#the-world`.
 #![tactic(auto)]
 
-mod beginning;
-mod caching;
 mod carrying;
 mod closing;
 mod gathering;
-mod input;
 mod node;
 mod own_steps;
-mod plan;
 mod recoveries;
-mod refusal;
 mod replies;
 mod requests;
 mod seeing;
@@ -20,11 +15,7 @@ mod sending;
 mod sight;
 mod step;
 mod transfers;
-mod transition;
 
-pub use input::Input;
 pub use node::Node;
-pub use plan::{Change, Plan, Sight};
-pub use refusal::StepRefusal;
+pub use node_plans::{Change, Input, Plan, Sight, StepRefusal, Transition};
 pub use step::Stepped;
-pub use transition::Transition;

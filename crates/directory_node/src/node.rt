@@ -1,16 +1,18 @@
-ghost use Rattle.std.specs.Prelude.{◌≡◌, ◌↔◌, ◌≤◌, IsTrue, IfOk, option_copied};
-ghost use Rattle.directory_rules.specs.Cache.{new_cache};
+ghost use Rattle.std.specs.Prelude.{◌≡◌, ◌↔◌, IsTrue, IfOk, option_copied};
 ghost use Rattle.directory_rules.specs.Node.{new_node};
-ghost use Rattle.directory_node.specs.Node.{IsNode};
-ghost use Rattle.directory_node.specs.NodeModel.{cache_of};
-ghost use Rattle.std.specs.Arc.{arc_value};
+ghost use Rattle.node_plans.specs.Node.{IsNode};
+ghost use Rattle.node_plans.specs.CacheModel.{cache_of};
 
 use directory_rules::Settings;
 use grain_partition::Holding;
 use hash_ring::Ring;
 use host_activations::Host;
-use lookup_cache::{Cache, CacheError};
+use lookup_cache::Cache;
 use membership_view::View;
+use node_plans::{
+    copied_own, copied_sight, copied_tables, copied_waits, new_cache, same_caches, same_gatherings,
+    same_recoveries,
+};
 use range_recovery::Recovery;
 use seal_snapshot::{Gathering, Shelf};
 use silo_address::SiloAddress;
@@ -41,7 +43,7 @@ impl Model for Node {
 
     ghost Value = { Node };
 
-    ghost use Rattle.directory_node.specs.Node.{IsNode};
+    ghost use Rattle.node_plans.specs.Node.{IsNode};
     ghost use Rattle.directory_node.specs.NodeModel.{node_of};
 
     ghost view = { node_of };
@@ -54,8 +56,7 @@ impl Node {
     pub fn new(alloc: Global, settings: Settings, silo: SiloAddress) -> Result<Node, AllocError>
         ensures { IfOk result (λ node. node ≡ new_node settings silo) }
     {
-        settings.in_range();
-        let cache = new_cache(alloc, settings.cache())?;
+        let cache = new_cache(alloc, &settings)?;
         let ring = sync::Arc::new(alloc, Ring::empty(alloc))?;
         Ok(Node {
             alloc,
@@ -180,118 +181,4 @@ impl Node {
             && same_gatherings(&self.gatherings, &other.gatherings)
             && same_recoveries(&self.recoveries, &other.recoveries)
     }
-}
-
-// A cache for so many entries, if they are any.
-fn new_cache(alloc: Global, capacity: usize) -> Result<Option<Cache>, AllocError>
-    requires { capacity ≤ 65536 }
-    ensures { IfOk result (λ cache. cache_of cache ≡ new_cache capacity) }
-{
-    if capacity == 0 {
-        return Ok(None);
-    }
-    match Cache::new(alloc, capacity) {
-        Ok(cache) => Ok(Some(cache)),
-        Err(CacheError::Capacity) => unreachable!(),
-        Err(CacheError::OutOfMemory) => Err(AllocError),
-    }
-}
-
-// An equal cache, if there is one.
-fn copy_of_cache(cache: &Option<Cache>) -> Result<Option<Cache>, AllocError>
-    ensures { IfOk result (λ copy. copy ≡ cache.now) }
-{
-    match cache {
-        Some(cache) => Ok(Some(cache.copy()?)),
-        None => Ok(None),
-    }
-}
-
-// Whether both have equal caches; one that isn't there is for no entry, and any other for at least one.
-fn same_caches(one: &Option<Cache>, other: &Option<Cache>) -> bool
-    ensures { IsTrue result ↔ (cache_of one.now ≡ cache_of other.now) }
-{
-    match (one, other) {
-        (Some(one), Some(other)) => one.same(other),
-        (Some(cache), None) | (None, Some(cache)) => {
-            cache.whole();
-            false
-        }
-        (None, None) => true,
-    }
-}
-
-// Whether both have equal gatherings under the same starts.
-fn same_gatherings(one: &BTreeMap<u32, Gathering>, other: &BTreeMap<u32, Gathering>) -> bool
-    ensures { IsTrue result ↔ (one.now.entries ≡ other.now.entries) }
-{
-    let mut others = other.iter();
-    for (start, gathering) in one {
-        let Some((its_start, its)) = others.next() else {
-            return false;
-        };
-        if start != its_start || !gathering.same(its) {
-            return false;
-        }
-    }
-    others.next().is_none()
-}
-
-// An equal view, and the same ring.
-fn copied_sight(view: &View, ring: &sync::Arc<Ring>) -> Result<(View, sync::Arc<Ring>), AllocError>
-    ensures view { IfOk result (λ copied. copied.0 ≡ view.now) }
-    ensures ring { IfOk result (λ copied. arc_value copied.1 ≡ arc_value ring.now) }
-{
-    let view = view.copy()?;
-    let ring = sync::Arc::try_clone(ring)?;
-    Ok((view, ring))
-}
-
-// What is kept for others, once more.
-fn copied_tables(holding: &Holding, shelf: &Shelf) -> Result<(Holding, Shelf), AllocError>
-    ensures holding { IfOk result (λ copied. copied.0 ≡ holding.now) }
-    ensures shelf { IfOk result (λ copied. copied.1 ≡ shelf.now) }
-{
-    let holding = holding.copy()?;
-    let shelf = shelf.copy()?;
-    Ok((holding, shelf))
-}
-
-// Equal gatherings and recoveries under the same starts.
-fn copied_waits(
-    gatherings: &BTreeMap<u32, Gathering>,
-    recoveries: &BTreeMap<u32, Recovery>,
-) -> Result<(BTreeMap<u32, Gathering>, BTreeMap<u32, Recovery>), AllocError>
-    ensures gatherings { IfOk result (λ copied. copied.0.entries ≡ gatherings.now.entries) }
-    ensures recoveries { IfOk result (λ copied. copied.1.entries ≡ recoveries.now.entries) }
-{
-    let gatherings = gatherings.clone()?;
-    let recoveries = recoveries.clone()?;
-    Ok((gatherings, recoveries))
-}
-
-// An equal host and an equal cache.
-fn copied_own(host: &Host, cache: &Option<Cache>) -> Result<(Host, Option<Cache>), AllocError>
-    ensures host { IfOk result (λ copied. copied.0 ≡ host.now) }
-    ensures cache { IfOk result (λ copied. copied.1 ≡ cache.now) }
-{
-    let host = host.copy()?;
-    let cache = copy_of_cache(cache)?;
-    Ok((host, cache))
-}
-
-// Whether both have equal recoveries under the same starts.
-fn same_recoveries(one: &BTreeMap<u32, Recovery>, other: &BTreeMap<u32, Recovery>) -> bool
-    ensures { IsTrue result ↔ (one.now.entries ≡ other.now.entries) }
-{
-    let mut others = other.iter();
-    for (start, recovery) in one {
-        let Some((its_start, its)) = others.next() else {
-            return false;
-        };
-        if start != its_start || !recovery.same(its) {
-            return false;
-        }
-    }
-    others.next().is_none()
 }

@@ -4,13 +4,13 @@ ghost use Rattle.directory_rules.specs.Node.{Node as NodeValue};
 ghost use Rattle.directory_rules.specs.Step.{finding, find_grain, forget, silently, started, wake};
 ghost use Rattle.directory_rules.specs.declared.Effect.TheVariants.{Cached};
 ghost use Rattle.hash_ring.specs.Ring.{is_active_in};
-ghost use Rattle.directory_node.specs.Follows.{Follows};
-ghost use Rattle.directory_node.specs.Numbers.{step_refusal_number};
-ghost use Rattle.directory_node.specs.Planning.{Fits, Sends, step_by};
+ghost use Rattle.node_plans.specs.Follows.{Follows};
+ghost use Rattle.node_plans.specs.Numbers.{step_refusal_number};
+ghost use Rattle.node_plans.specs.Planning.{Fits, Sends, step_by};
 
-use crate::caching::hint_in;
 use crate::{Change, Node, Plan, StepRefusal};
 use directory_rules::{Act, Effect};
+use node_plans::hint_in;
 use silo_address::{ActivationId, Entry, GrainId, SiloAddress};
 use std::alloc::{AllocError, Global};
 
@@ -148,18 +148,5 @@ fn use_of(alloc: Global, grain: &GrainId, activation: ActivationId) -> Result<Pl
     ensures change { IfOk result (λ plan. plan.change ≡ Change.UsesHint grain.now) }
     ensures accepted { IsOk result }
 {
-    Ok(cached(alloc, grain, activation))
-}
-
-// The cache had a hint, which is used.
-fn cached(alloc: Global, grain: &GrainId, activation: ActivationId) -> Plan
-    ensures planned { (node : NodeValue) → hint_of node.cache grain.now ≡ Some activation → step_by node result ≡ silently (record node { cache = in_front node.cache grain.now activation }) (Cached (record { grain = grain.now; activation = activation })) }
-    ensures change { result.change ≡ Change.UsesHint grain.now }
-{
-    let grain = *grain;
-    Plan::silent(
-        alloc,
-        Effect::Cached(Entry { grain, activation }),
-        Change::UsesHint(grain),
-    )
+    Ok(Plan::of_hint(alloc, grain, activation))
 }

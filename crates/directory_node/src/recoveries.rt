@@ -1,26 +1,21 @@
 ghost use Rattle.std.specs.BTreeMap.{is_at};
-ghost use Rattle.std.specs.List.Sorted.{IsStrictlySortedBy};
-ghost use Rattle.std.specs.Map.{keys_of, lookup, set_value};
+ghost use Rattle.std.specs.Map.{lookup};
 ghost use Rattle.std.specs.Ordering.{nat_cmp};
-ghost use Rattle.std.specs.Prelude.{◌≡◌, ◌↔◌, if◌then◌else◌, is_ok, IsTrue, IfOk, OnOk, OnErr, Ok, Some, length, true};
-ghost use Rattle.std.specs.List.{list_all};
-ghost use Rattle.silo_address.specs.Silo.{silo_eq};
-ghost use Rattle.directory_rules.specs.Recovery.{Recovery as RecoveryValue, recovered, with_report};
-ghost use Rattle.range_recovery.specs.Progress.{progress_of};
-ghost use Rattle.directory_rules.specs.Table.{is_before_first, lie_in, rise_by_grain};
+ghost use Rattle.std.specs.Prelude.{◌≡◌, if◌then◌else◌, IsTrue, IfOk, OnOk, OnErr, Ok, Some, length, true};
+ghost use Rattle.directory_rules.specs.Recovery.{Recovery as RecoveryValue, recovered};
+ghost use Rattle.directory_rules.specs.Table.{lie_in, rise_by_grain};
 ghost use Rattle.directory_rules.specs.Sending.{recovery_of};
 ghost use Rattle.directory_rules.specs.Transfer.{answer_to, answering, has_range, is_recovering, is_report_awaited, piece_at, queried, recovered_by, recovers, report_of, reported, with_settled};
 ghost use Rattle.directory_letters.specs.LetterModel.{body_of};
-ghost use Rattle.directory_node.specs.Planning.{Fits, step_by};
+ghost use Rattle.node_plans.specs.Planning.{Fits, step_by};
 
 use crate::{Change, Node, Plan};
 use directory_letters::{Body, Letter};
-use directory_rules::{Effect, PieceState};
-use range_recovery::{Progress, Recovery, RecoveryError, Report};
+use directory_rules::Effect;
+use node_plans::{are_all_of, is_recovering, lie_in, rise_by_grain, take_report};
+use range_recovery::{Progress, Report};
 use ring_range::RingRange;
-use silo_address::{Entry, SiloAddress};
 use std::alloc::{AllocError, Global};
-use std::collections::BTreeMap;
 
 impl Node {
     // A query comes. Nothing changes in it.
@@ -146,7 +141,7 @@ impl Node {
             && report.silo() == letter.from()
             && self.recovers(letter.version(), report.range())
             && rise_by_grain(report.entries())
-            && self.has_hashes_in(report.range(), report.entries())
+            && lie_in(self.settings.hashing(), report.range(), report.entries())
             && are_all_of(letter.from(), report.entries())
     }
 
@@ -162,82 +157,4 @@ impl Node {
             None => false,
         }
     }
-
-    // Whether the entries are all hashed into the range.
-    pub(crate) fn has_hashes_in(&self, range: RingRange, entries: &[Entry]) -> bool
-        ensures { result ≡ lie_in self.now.settings.hashing range entries.now }
-    {
-        let hashing = self.settings.hashing();
-        entries
-            .iter()
-            .all(|entry| range.contains(hashing.hash_grain(&entry.grain)))
-    }
-}
-
-// The report goes to the recovery of its range: whether all have reported now.
-fn take_report(
-    recoveries: &mut BTreeMap<u32, Recovery>,
-    report: &Report,
-) -> Result<bool, AllocError>
-    ensures complete { IfOk result (λ complete. (recovery : RecoveryValue) → lookup (is_at (nat_cmp report.now.range.start)) recoveries.old.entries ≡ Some recovery →
-        IsTrue complete ↔ (progress_of (recovered recovery report.now) ≡ Ok Progress.Complete)) }
-
-    // It is taken unless it is refused.
-    ensures taken { OnOk result ((recovery : RecoveryValue) → lookup (is_at (nat_cmp report.now.range.start)) recoveries.old.entries ≡ Some recovery →
-        recoveries.new.entries ≡ (if is_ok (progress_of (recovered recovery report.now)) then set_value (is_at (nat_cmp report.now.range.start)) recoveries.old.entries (with_report recovery report.now) else recoveries.old.entries)) }
-    ensures unchanged { OnErr result (recoveries.new.entries ≡ recoveries.old.entries) }
-    ensures in_order { IsStrictlySortedBy nat_cmp (keys_of recoveries.old.entries) }
-{
-    let Some(recovery) = recoveries.get_mut(&report.range().start()) else {
-        return Ok(false);
-    };
-    match recovery.take(report) {
-        Ok(Progress::Complete) => Ok(true),
-        Ok(Progress::More) => Ok(false),
-        Err(RecoveryError::WrongVersion) => Ok(false),
-        Err(RecoveryError::Stranger) => Ok(false),
-        Err(RecoveryError::Twice) => Ok(false),
-        Err(RecoveryError::OutOfMemory) => Err(AllocError),
-    }
-}
-
-// Whether the state recovers.
-pub(crate) fn is_recovering(state: PieceState) -> bool
-    ensures { result ≡ is_recovering state }
-{
-    match state {
-        PieceState::Recovering => true,
-        PieceState::Settled | PieceState::Awaiting(_) => false,
-    }
-}
-
-// Whether the entries stand in the order of their grains, each grain once.
-pub(crate) fn rise_by_grain(entries: &[Entry]) -> bool
-    ensures { result ≡ rise_by_grain entries.now }
-{
-    let mut rest = entries;
-    while let Some((entry, behind)) = rest.split_first() {
-        if !is_before_first(entry, behind) {
-            return false;
-        }
-        rest = behind;
-    }
-    true
-}
-
-// Whether the entry's grain is below that of the first one.
-pub(crate) fn is_before_first(entry: &Entry, entries: &[Entry]) -> bool
-    ensures { result ≡ is_before_first entry.now entries.now }
-{
-    match entries.first() {
-        Some(next) => entry.grain < next.grain,
-        None => true,
-    }
-}
-
-// Whether the entries are all of activations on that silo.
-fn are_all_of(silo: SiloAddress, entries: &[Entry]) -> bool
-    ensures { result ≡ list_all (λ e. silo_eq e.activation.silo silo) entries.now }
-{
-    entries.iter().all(|entry| entry.activation.silo == silo)
 }

@@ -1,13 +1,13 @@
 ghost use Rattle.std.specs.Prelude.{◌≡◌, ◌&&◌, ◌==◌, IfOk, OnErr, length};
 ghost use Rattle.silo_address.specs.Silo.{silo_eq};
 ghost use Rattle.directory_rules.specs.Answer.{answered};
-ghost use Rattle.directory_rules.specs.Receive.{reply_effect, requested};
-ghost use Rattle.directory_node.specs.Planning.{Fits, changed, step_by};
+ghost use Rattle.directory_rules.specs.Receive.{requested};
+ghost use Rattle.node_plans.specs.Planning.{Fits, changed, step_by};
 
-use crate::plan::list_of;
 use crate::{Change, Node, Plan};
 use directory_letters::{Body, Letter};
-use directory_rules::{Act, Effect, Reply, Request};
+use directory_rules::{Act, Effect, Request};
+use node_plans::{list_of, reply_effect};
 use std::alloc::{AllocError, Global};
 
 impl Node {
@@ -55,19 +55,4 @@ fn is_senders(letter: &Letter, request: &Request) -> bool
     ensures { result ≡ (silo_eq request.now.sender letter.now.from && (request.now.version == letter.now.version)) }
 {
     request.sender == letter.from() && request.version == letter.version()
-}
-
-// The effect of a request that is answered so.
-fn reply_effect(reply: &Reply) -> Effect
-    ensures { result ≡ reply_effect reply.now }
-{
-    match reply {
-        Reply::Registered(_) => Effect::Registered,
-        Reply::Taken(_) => Effect::Taken,
-        Reply::Removed => Effect::Removed,
-        Reply::Absent => Effect::Absent,
-        Reply::Found(_) => Effect::Found,
-        Reply::Nothing => Effect::Nothing,
-        Reply::Retry(why) => Effect::Retry(*why),
-    }
 }

@@ -1,22 +1,16 @@
 //! The change that a sight makes.
-ghost use Rattle.std.specs.Prelude.{◌≡◌, ◌+◌, ◌≤◌, ◌++◌, [], IfOk, OnErr, OnOk, length, vec_capacity, true};
-ghost use Rattle.directory_rules.specs.Cache.{cache_seeing};
+ghost use Rattle.std.specs.Prelude.{◌≡◌, ◌+◌, ◌≤◌, ◌++◌, [], OnErr, OnOk, length, vec_capacity, true};
 ghost use Rattle.directory_rules.specs.Host.{renewed};
-ghost use Rattle.directory_rules.specs.Sight.{pieces_after, shelf_after};
-ghost use Rattle.grain_partition.specs.Sight.{AreOfRings};
-ghost use Rattle.directory_node.specs.NodeModel.{cache_of};
-ghost use Rattle.directory_node.specs.Planning.{FitsSight, MayRenew, seen_by};
+ghost use Rattle.directory_rules.specs.Sight.{shelf_after};
+ghost use Rattle.node_plans.specs.Planning.{FitsSight, MayRenew, seen_by};
 ghost use Rattle.seal_snapshot.specs.Shelf.{AreInOrder};
 
 use crate::{Node, Sight};
-use grain_partition::Holding;
-use hash_ring::Hashing;
 use host_activations::Renewal;
-use lookup_cache::Cache;
 use membership_view::View;
+use node_plans::{see_in_cache, see_in_holding};
 use seal_snapshot::{Shelf, Snapshot, laws};
-use silo_address::SiloAddress;
-use std::alloc::{AllocError, Global};
+use std::alloc::AllocError;
 
 impl Node {
     // A view is seen. What needs memory comes first: room on the shelf, and then the pieces.
@@ -75,27 +69,6 @@ impl Node {
     }
 }
 
-// The pieces see the view. There is room on the shelf then for what is sealed.
-fn see_in_holding(
-    alloc: Global,
-    holding: &mut Holding,
-    shelf: &Shelf,
-    hashing: Hashing,
-    silo: SiloAddress,
-    sight: &Sight,
-) -> Result<Vec<Snapshot>, AllocError>
-    requires { AreOfRings sight.now.transition.arcs }
-    ensures seen { OnOk result (holding.new ≡ record { seen = sight.now.view.version; served = []; pieces = pieces_after sight.now.next hashing sight.now.view silo holding.old.pieces sight.now.transition.arcs }) }
-    ensures unchanged { OnErr result (holding.new ≡ holding.old) }
-    ensures empty { IfOk result (λ room. room.items ≡ []) }
-    ensures large { IfOk result (λ room. length shelf.now + length sight.now.sealed.items ≤ vec_capacity room) }
-{
-    let room = shelf.room(alloc, &sight.sealed)?;
-    let arcs = sight.transition.arcs();
-    holding.sight(alloc, sight.next, hashing, &sight.view, &silo, arcs)?;
-    Ok(room)
-}
-
 // What is sealed comes on the shelf, or nothing is kept there.
 fn see_on_shelf(
     shelf: &mut Shelf,
@@ -113,14 +86,5 @@ fn see_on_shelf(
         shelf.sight(room, view, sealed);
     } else {
         shelf.skip();
-    }
-}
-
-// The hints at silos that are Dead in the view go.
-fn see_in_cache(cache: &mut Option<Cache>, view: &View)
-    ensures { cache_of cache.new ≡ cache_seeing view.now (cache_of cache.old) }
-{
-    if let Some(cache) = cache {
-        cache.see(view);
     }
 }

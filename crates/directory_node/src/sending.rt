@@ -1,40 +1,23 @@
-ghost use Rattle.std.specs.List.{cons_option};
-ghost use Rattle.std.specs.Prelude.{◌≡◌, ◌++◌, [], IfOk, OnErr, OnOk, flat_map, length};
-ghost use Rattle.directory_rules.specs.Sending.{ask_letters, gathering_of, grain_of, letter_to, owner_by, query_letters, recovery_of, request_letters, request_of, wants_by};
+ghost use Rattle.std.specs.Prelude.{◌≡◌, IfOk, OnErr, length};
+ghost use Rattle.directory_rules.specs.Sending.{letter_to, request_letters};
 ghost use Rattle.directory_letters.specs.LetterModel.{body_of};
-ghost use Rattle.directory_node.specs.Sender.{sending, wants_of};
+ghost use Rattle.node_plans.specs.Sender.{bare, sending};
 
 use crate::Node;
-use crate::plan::list_of;
 use directory_letters::{Body, Letter};
-use directory_rules::{Act, PieceState, Request};
-use grain_partition::Piece;
-use hash_ring::Ring;
-use membership_view::View;
-use range_recovery::Recovery;
-use ring_range::RingRange;
-use seal_snapshot::Gathering;
-use silo_address::{GrainId, SiloAddress};
+use directory_rules::Act;
+use node_plans::Sender;
+use silo_address::SiloAddress;
 use std::alloc::{AllocError, Global};
-use std::collections::BTreeMap;
-
-/// Who writes letters: a node, as it is or as it will be once it has seen a view, as far as its letters depend on that.
-#[derive(Clone, Copy)]
-pub(crate) struct Sender<'a> {
-    pub(crate) node: &'a Node,
-    pub(crate) view: &'a View,
-    pub(crate) ring: &'a Ring,
-    pub(crate) gatherings: &'a BTreeMap<u32, Gathering>,
-    pub(crate) recoveries: &'a BTreeMap<u32, Recovery>,
-}
 
 impl Node {
     // The node as it is.
     pub(crate) fn sender(&self) -> Sender<'_>
-        ensures { sending result ≡ self.now }
+        ensures { sending result ≡ bare self.now }
     {
         Sender {
-            node: self,
+            settings: &self.settings,
+            host: &self.host,
             view: &self.view,
             ring: &self.ring,
             gatherings: &self.gatherings,
@@ -52,10 +35,7 @@ impl Node {
         ensures sent { IfOk result (λ letters. letters.items ≡ request_letters self.now number act) }
         ensures one { OnErr result (length (request_letters self.now number act) ≡ 1) }
     {
-        match self.sender().request_letter(number, act) {
-            Some(letter) => list_of(alloc, letter),
-            None => Ok(Vec::new(alloc)),
-        }
+        self.sender().request_letters(alloc, number, act)
     }
 
     // A letter of this silo, of the version that it has seen.
@@ -63,176 +43,5 @@ impl Node {
         ensures { result ≡ letter_to silo self.now (body_of body) }
     {
         Letter::new(self.host.silo(), silo, self.view.version(), body)
-    }
-}
-
-// Requests.
-impl Sender<'_> {
-    // The letters of requests, each under its number.
-    pub(crate) fn send_requests(
-        &self,
-        letters: &mut Vec<Letter>,
-        requests: &[(u64, Act)],
-    ) -> Result<(), AllocError>
-        ensures { OnOk result (letters.new.items ≡ letters.old.items ++ flat_map (λ e. request_letters (sending self.now) e.0 e.1) requests.now) }
-    {
-        let mut rest = requests;
-        while let Some((request, behind)) = rest.split_first() {
-            self.send_request(letters, request.0, request.1)?;
-            rest = behind;
-        }
-        Ok(())
-    }
-
-    // The letter of a request behind others.
-    fn send_request(
-        &self,
-        letters: &mut Vec<Letter>,
-        number: u64,
-        act: Act,
-    ) -> Result<(), AllocError>
-        ensures { OnOk result (letters.new.items ≡ letters.old.items ++ request_letters (sending self.now) number act) }
-    {
-        if let Some(letter) = self.request_letter(number, act) {
-            letters.push(letter)?;
-        }
-        Ok(())
-    }
-
-    // The letter of a request to the owner of its hash, by the ring of the view seen; none where nobody owns it.
-    fn request_letter(&self, number: u64, act: Act) -> Option<Letter>
-        ensures { cons_option result [] ≡ request_letters (sending self.now) number act }
-    {
-        let request = self.request_of(number, act);
-        match self.owner_of(request.hash) {
-            Some(owner) => Some(self.letter_to(owner, Body::Request(request))),
-            None => None,
-        }
-    }
-
-    // The request of that number.
-    fn request_of(&self, number: u64, act: Act) -> Request
-        ensures { result ≡ request_of (sending self.now) number act }
-    {
-        Request {
-            sender: self.node.host().silo(),
-            version: self.view.version(),
-            number,
-            hash: self.node.settings().hashing().hash_grain(&grain_of(&act)),
-            act,
-        }
-    }
-
-    // Who owns a hash, by the ring of the view seen.
-    fn owner_of(&self, hash: u32) -> Option<SiloAddress>
-        ensures { result ≡ owner_by (sending self.now) hash }
-    {
-        self.ring.owner(hash).map(|point| point.silo)
-    }
-
-    // A letter of the silo, of the version seen.
-    fn letter_to(&self, silo: SiloAddress, body: Body) -> Letter
-        ensures { result ≡ letter_to silo (sending self.now) (body_of body) }
-    {
-        Letter::new(self.node.host().silo(), silo, self.view.version(), body)
-    }
-}
-
-// What pieces want.
-impl Sender<'_> {
-    // What the pieces want, piece by piece.
-    pub(crate) fn send_wants(
-        &self,
-        alloc: Global,
-        letters: &mut Vec<Letter>,
-        pieces: &BTreeMap<u32, Piece>,
-    ) -> Result<(), AllocError>
-        ensures { OnOk result (letters.new.items ≡ letters.old.items ++ wants_of (sending self.now) pieces.now.entries) }
-    {
-        for (_, piece) in pieces {
-            self.send_wanted(alloc, letters, piece)?;
-        }
-        Ok(())
-    }
-
-    // What a piece wants: a settled one nothing, one that awaits a snapshot its next page, and one that recovers the reports that
-    // are missing.
-    pub(crate) fn send_wanted(
-        &self,
-        alloc: Global,
-        letters: &mut Vec<Letter>,
-        piece: &Piece,
-    ) -> Result<(), AllocError>
-        ensures { OnOk result (letters.new.items ≡ letters.old.items ++ wants_by piece.now.state (sending self.now) piece.now.range) }
-    {
-        match piece.state() {
-            PieceState::Settled => Ok(()),
-            PieceState::Awaiting(from) => self.send_ask(letters, from, piece.range()),
-            PieceState::Recovering => self.send_queries(alloc, letters, piece.range()),
-        }
-    }
-
-    // The ask for the next page of a snapshot.
-    fn send_ask(
-        &self,
-        letters: &mut Vec<Letter>,
-        from: SiloAddress,
-        range: RingRange,
-    ) -> Result<(), AllocError>
-        ensures { OnOk result (letters.new.items ≡ letters.old.items ++ ask_letters (sending self.now) range from) }
-    {
-        let page = self.next_page(range);
-        letters.push(self.letter_to(from, Body::Ask { range, page }))?;
-        Ok(())
-    }
-
-    // The number of the page that is wanted next.
-    fn next_page(&self, range: RingRange) -> u64
-        ensures { result ≡ (gathering_of (sending self.now) range).next }
-    {
-        match self.gatherings.get(&range.start()) {
-            Some(gathering) => gathering.next(),
-            None => 0,
-        }
-    }
-
-    // A query to each silo whose report for the piece is missing.
-    fn send_queries(
-        &self,
-        alloc: Global,
-        letters: &mut Vec<Letter>,
-        range: RingRange,
-    ) -> Result<(), AllocError>
-        ensures { OnOk result (letters.new.items ≡ letters.old.items ++ query_letters (sending self.now) range) }
-    {
-        let awaiting = self.awaited(alloc, range)?;
-        for silo in &awaiting {
-            letters.push(self.letter_to(*silo, Body::Query(range)))?;
-        }
-        Ok(())
-    }
-
-    // The silos whose report for the piece is missing.
-    fn awaited(&self, alloc: Global, range: RingRange) -> Result<Vec<SiloAddress>, AllocError>
-        ensures { IfOk result (λ silos. silos.items ≡ (recovery_of (sending self.now) range).awaiting) }
-    {
-        match self.recoveries.get(&range.start()) {
-            Some(recovery) => recovery.awaiting(alloc),
-            None => {
-                let settings = self.node.settings();
-                Recovery::new(alloc, &settings, self.view, range)?.awaiting(alloc)
-            }
-        }
-    }
-}
-
-// The grain that an act is about.
-fn grain_of(act: &Act) -> GrainId
-    ensures { result ≡ grain_of act.now }
-{
-    match act {
-        Act::Register { entry, .. } => entry.grain,
-        Act::Deregister { entry } => entry.grain,
-        Act::Find { grain } => *grain,
     }
 }

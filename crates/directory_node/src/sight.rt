@@ -1,35 +1,32 @@
 //! A sight as a plan: what it sends, and the change that it makes.
-ghost use Rattle.std.specs.Prelude.{◌≡◌, ◌&&◌, ◌==◌, ◌<◌, ◌+◌, ◌++◌, if◌then◌else◌, IfErr, IfOk, IsOk, OnOk, flat_map, length, true};
+ghost use Rattle.std.specs.Prelude.{◌≡◌, ◌&&◌, ◌==◌, ◌<◌, ◌+◌, ◌++◌, if◌then◌else◌, IfErr, IfOk, IsOk, flat_map, length, true};
 ghost use Rattle.directory_rules.specs.Host.{has_numbers, outstanding, renewed};
-ghost use Rattle.directory_rules.specs.Node.{Node as NodeValue};
-ghost use Rattle.directory_rules.specs.Sending.{all_wants, request_letters, wants_by};
+ghost use Rattle.directory_rules.specs.Sending.{all_wants, request_letters};
 ghost use Rattle.directory_rules.specs.Sight.{is_next, sealed};
-ghost use Rattle.directory_rules.specs.Step.{compared_points, having_nudged, new_gatherings, new_recoveries, nudge, see, sight};
-ghost use Rattle.directory_rules.specs.declared.Effect.TheVariants.{Next, Skip};
+ghost use Rattle.directory_rules.specs.Step.{compared_points, having_nudged, nudge, see, sight};
 ghost use Rattle.grain_partition.specs.Holding.{ArePieces};
 ghost use Rattle.grain_partition.specs.Seen.{pieces_seen};
-ghost use Rattle.hash_ring.specs.Ring.{IsRingBy, are_added, ring_of};
+ghost use Rattle.hash_ring.specs.Ring.{are_added, ring_of};
 ghost use Rattle.host_activations.specs.Renewal.{renewal_of};
 ghost use Rattle.range_moves.specs.Arcs.{AreArcs, arcs_of};
 ghost use Rattle.grain_partition.specs.Sight.{AreOfRings};
-ghost use Rattle.directory_node.specs.Follows.{Follows, RefusesBy};
-ghost use Rattle.directory_node.specs.Numbers.{step_refusal_number};
-ghost use Rattle.directory_node.specs.Placed.{ArePlaced};
-ghost use Rattle.directory_node.specs.Planning.{Fits, FitsSight, seen_by, step_by};
-ghost use Rattle.directory_node.specs.Sender.{ahead, wants_of};
-ghost use Rattle.directory_node.specs.Transition.{IsOfSight};
+ghost use Rattle.node_plans.specs.Follows.{Follows, RefusesBy};
+ghost use Rattle.node_plans.specs.Numbers.{step_refusal_number};
+ghost use Rattle.node_plans.specs.Placed.{ArePlaced};
+ghost use Rattle.node_plans.specs.Planning.{Fits, FitsSight, step_by};
+ghost use Rattle.node_plans.specs.Sender.{ahead, wants_of};
+ghost use Rattle.node_plans.specs.Transition.{IsOfSight};
 ghost use Rattle.hash_ring.specs.Places.{PlacesValue};
 ghost use Rattle.membership_view.specs.View.{ViewValue};
 
-use crate::beginning::new_waits;
-use crate::sending::Sender;
 use crate::{Change, Node, Plan, Sight, StepRefusal, Transition};
 use directory_letters::Letter;
 use directory_rules::{Act, Effect};
 use grain_partition::{ArcsBySilo, Piece};
-use hash_ring::{Places, Ring, RingError};
+use hash_ring::{Places, Ring};
 use host_activations::Renewal;
 use membership_view::View;
+use node_plans::{Sender, advanced, copied_seen, new_waits, ring_of, seen_effect};
 use range_moves::{Arc, arcs};
 use seal_snapshot::Snapshot;
 use std::alloc::{AllocError, Global};
@@ -262,7 +259,7 @@ impl Node {
             recoveries,
             renewal,
         };
-        boxed(alloc, sight)
+        sight.boxed(alloc)
     }
 
     // What a sight of the next version seals.
@@ -314,18 +311,16 @@ impl Node {
         requires { sight.now.renewal ≡ renewal_of self.now.host }
         ensures { IfOk result (λ letters. letters.items ≡ wants_of (ahead sight.now self.now) pieces.now.entries ++ flat_map (λ e. request_letters (ahead sight.now self.now) e.0 e.1) (outstanding (renewed self.now.host))) }
     {
+        let requests = self.renewed_requests(alloc, &sight.renewal)?;
         let sender = Sender {
-            node: self,
+            settings: &self.settings,
+            host: &self.host,
             view: &sight.view,
             ring: sight.transition.ring(),
             gatherings: &sight.gatherings,
             recoveries: &sight.recoveries,
         };
-        let mut letters = Vec::new(alloc);
-        sender.send_wants(alloc, &mut letters, pieces)?;
-        let requests = self.renewed_requests(alloc, &sight.renewal)?;
-        sender.send_requests(&mut letters, &requests)?;
-        Ok(letters)
+        sender.sight_letters(alloc, pieces, &requests)
     }
 }
 
@@ -366,83 +361,6 @@ impl Node {
         ensures { IfOk result (λ letters. letters.items ≡ flat_map (λ e. request_letters self.now e.0 e.1) (outstanding (renewed self.now.host)) ++ all_wants self.now) }
     {
         let requests = self.renewed_requests(alloc, renewal)?;
-        let mut letters = Vec::new(alloc);
-        self.sender().send_requests(&mut letters, &requests)?;
-        self.send_wants(alloc, &mut letters)?;
-        Ok(letters)
-    }
-
-    // What the pieces want.
-    fn send_wants(&self, alloc: Global, letters: &mut Vec<Letter>) -> Result<(), AllocError>
-        ensures { OnOk result (letters.new.items ≡ letters.old.items ++ all_wants self.now) }
-    {
-        for (_, piece) in self.holding.pieces() {
-            self.send_wanted(alloc, letters, piece)?;
-        }
-        Ok(())
-    }
-
-    // What a piece wants.
-    fn send_wanted(
-        &self,
-        alloc: Global,
-        letters: &mut Vec<Letter>,
-        piece: &Piece,
-    ) -> Result<(), AllocError>
-        ensures { OnOk result (letters.new.items ≡ letters.old.items ++ wants_by piece.now.state self.now piece.now.range) }
-    {
-        self.sender().send_wanted(alloc, letters, piece)
-    }
-}
-
-// The sight in a box, as a plan has it.
-fn boxed(alloc: Global, sight: Sight) -> Result<Box<Sight>, AllocError>
-    ensures { IfOk result (λ boxed. boxed.value ≡ sight) }
-{
-    let sight = Box::new(alloc, sight)?;
-    Ok(sight)
-}
-
-// The view and the transition once more.
-fn copied_seen(view: &View, transition: &Transition) -> Result<(View, Transition), AllocError>
-    ensures view { IfOk result (λ copied. copied.0 ≡ view.now) }
-    ensures transition { IfOk result (λ copied. copied.1 ≡ transition.now) }
-{
-    let view = view.copy()?;
-    let transition = transition.copy()?;
-    Ok((view, transition))
-}
-
-// What a sight tells.
-fn seen_effect(next: bool) -> Effect
-    ensures { result ≡ (if next then Next else Skip) }
-{
-    if next { Effect::Next } else { Effect::Skip }
-}
-
-// The ring of the view that comes next, by that of the view before it.
-fn advanced(ring: &Ring, view: &View, places: &Places) -> Result<Ring, AllocError>
-    requires by { IsRingBy ring.now places.now }
-    requires next { view.now.version ≡ ring.now.version + 1 }
-    requires added { are_added view.now places.now ≡ true }
-    ensures { IfOk result (λ ring. ring ≡ ring_of view.now places.now) }
-{
-    let mut ring = ring.copy()?;
-    match ring.advance(view, places) {
-        Ok(()) => Ok(ring),
-        Err(RingError::OutOfMemory) => Err(AllocError),
-        Err(_) => unreachable!(),
-    }
-}
-
-// The ring of a view.
-fn ring_of(alloc: Global, view: &View, places: &Places) -> Result<Ring, AllocError>
-    requires { are_added view.now places.now ≡ true }
-    ensures { IfOk result (λ ring. ring ≡ ring_of view.now places.now) }
-{
-    match Ring::anew(alloc, view, places) {
-        Ok(ring) => Ok(ring),
-        Err(RingError::PointsMissing) => unreachable!(),
-        Err(_) => Err(AllocError),
+        self.sender().nudge_letters(alloc, &requests, &self.holding)
     }
 }

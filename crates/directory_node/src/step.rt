@@ -1,22 +1,22 @@
-ghost use Rattle.std.specs.Prelude.{◌≡◌, [], IfOk, IsOk, OnErr, Ok, filter, length, not};
+ghost use Rattle.std.specs.Prelude.{◌≡◌, [], IfOk, IsOk, OnErr, Ok, length};
 ghost use Rattle.directory_rules.specs.Input.{step};
-ghost use Rattle.directory_rules.specs.Membership.{is_dead_status, members_of};
 ghost use Rattle.directory_rules.specs.Receive.{received};
 ghost use Rattle.directory_rules.specs.Reply.{replied};
 ghost use Rattle.directory_rules.specs.Step.{forget};
 ghost use Rattle.directory_rules.specs.Transfer.{done};
-ghost use Rattle.directory_node.specs.Placed.{IsPlaced};
-ghost use Rattle.directory_node.specs.InputModel.{input_of};
-ghost use Rattle.directory_node.specs.Follows.{Follows};
-ghost use Rattle.directory_node.specs.Numbers.{step_refusal_number};
-ghost use Rattle.directory_node.specs.Planning.{Excuses, Fits, Sends, answer_count, changed, step_by, stepped_of};
+ghost use Rattle.node_plans.specs.Placed.{IsPlaced};
+ghost use Rattle.node_plans.specs.InputModel.{input_of};
+ghost use Rattle.node_plans.specs.Follows.{Follows};
+ghost use Rattle.node_plans.specs.Numbers.{step_refusal_number};
+ghost use Rattle.node_plans.specs.Planning.{Excuses, Fits, Sends, answer_count, changed, step_by};
+ghost use Rattle.directory_node.specs.SteppedModel.{stepped_of};
 
 use crate::{Change, Input, Node, Plan, StepRefusal};
 use directory_letters::{Body, Letter};
 use directory_rules::{Effect, Reply};
-use membership_view::{Status, View};
+use node_plans::member_count;
 use ring_range::RingRange;
-use silo_address::{GrainId, SiloAddress};
+use silo_address::GrainId;
 use std::alloc::{AllocError, Global};
 
 /// What a step makes: the new node, the letters that it sends, in order, and what it did.
@@ -203,29 +203,5 @@ impl Node {
             | Body::Ahead(_)
             | Body::Offer(_) => 1,
         }
-    }
-}
-
-// How many silos of the view aren't Dead there.
-fn member_count(view: &View) -> usize
-    ensures { result ≡ length (members_of view.now) }
-{
-    living_count(view.rows())
-}
-
-// How many of the rows aren't Dead.
-fn living_count(rows: &[(SiloAddress, Status)]) -> usize
-    ensures { result ≡ length (filter (λ row. not (is_dead_status row.1)) rows.now) }
-{
-    rows.iter().filter(|row| !is_dead(row.1)).count()
-}
-
-// Whether a status is Dead.
-fn is_dead(status: Status) -> bool
-    ensures { result ≡ is_dead_status status }
-{
-    match status {
-        Status::Dead => true,
-        Status::Active | Status::Leaving => false,
     }
 }

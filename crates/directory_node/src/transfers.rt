@@ -1,22 +1,19 @@
 //! The letters of transfers: how the previous owner hands its snapshot out page by page, and what the new owner makes of each.
-ghost use Rattle.std.specs.Prelude.{◌≡◌, ◌++◌, IfOk, OnErr, OnOk, Ok, fold, map, length, true};
+ghost use Rattle.std.specs.Prelude.{◌≡◌, ◌++◌, IfOk, OnErr, Ok, length, true};
 ghost use Rattle.directory_rules.specs.Gathering.{gathered};
-ghost use Rattle.directory_rules.specs.Letter.{Query_letter};
-ghost use Rattle.directory_rules.specs.Sending.{gathering_of, letter_to};
-ghost use Rattle.directory_rules.specs.Table.{rise_by_grain, table_of, with_entry};
+ghost use Rattle.directory_rules.specs.Sending.{gathering_of};
+ghost use Rattle.directory_rules.specs.Table.{rise_by_grain};
 ghost use Rattle.directory_rules.specs.Transfer.{asked, awaits, done, gathered_by, is_awaiting_from, is_page_awaited, missing, paged};
-ghost use Rattle.directory_node.specs.Planning.{Fits, answer_count, step_by};
+ghost use Rattle.node_plans.specs.Planning.{Fits, answer_count, step_by};
 ghost use Rattle.directory_rules.specs.Letter.{Missing_letter};
 ghost use Rattle.seal_snapshot.specs.Progress.{progress_of};
 ghost use Rattle.seal_snapshot.specs.declared.progress.Progress.TheVariants.{Complete, More};
 ghost use Rattle.grain_partition.specs.Holding.{HasPiece};
 
-use crate::recoveries::{is_before_first, rise_by_grain};
 use crate::{Change, Node, Plan};
 use directory_letters::{Body, Letter};
 use directory_rules::{Effect, PieceState};
-use grain_table::Table;
-use hash_ring::Hashing;
+use node_plans::{go_on, lie_in, table_of};
 use range_recovery::Recovery;
 use ring_range::RingRange;
 use seal_snapshot::{Gathering, GatheringError, Page, Progress, ShelfAnswer};
@@ -153,8 +150,7 @@ impl Node {
         ensures one { length (gathered_by (gathered gathering.now page.now) letter.now page.now.range self.now).letters ≡ 1 }
     {
         let range = page.range();
-        let hashing = self.settings.hashing();
-        let entries = table_of(alloc, hashing, gathering.entries(), page.entries())?;
+        let entries = table_of(alloc, &self.settings, gathering.entries(), page.entries())?;
         let done = self.answer_letter(letter, Body::Done(range));
         Plan::of_one(
             alloc,
@@ -174,7 +170,7 @@ impl Node {
         page.version() == letter.version()
             && self.awaits(letter.version(), page.range(), letter.from())
             && go_on(gathered, page.entries())
-            && self.has_hashes_in(page.range(), page.entries())
+            && lie_in(self.settings.hashing(), page.range(), page.entries())
     }
 
     // Whether the node has seen the version, and there awaits the snapshot of a piece of just that range from the silo.
@@ -205,40 +201,12 @@ impl Node {
             return Ok(Plan::idle(alloc, Effect::Ignored));
         }
         let recovery = Recovery::new(alloc, &self.settings, &self.view, range)?;
-        let letters = self.all_queries(alloc, range, &recovery)?;
+        let letters = self.sender().queries(alloc, &recovery)?;
         Ok(Plan {
             letters,
             effect: Effect::Recovering,
             change: Change::Recovers(recovery),
         })
-    }
-
-    // A query for the range to each silo whose report is missing.
-    fn all_queries(
-        &self,
-        alloc: Global,
-        range: RingRange,
-        recovery: &Recovery,
-    ) -> Result<Vec<Letter>, AllocError>
-        ensures { IfOk result (λ letters. letters.items ≡ map (λ silo. letter_to silo self.now (Query_letter range)) recovery.now.awaiting) }
-    {
-        let silos = recovery.awaiting(alloc)?;
-        self.queries(alloc, range, &silos)
-    }
-
-    // A query for the range to each of these silos.
-    fn queries(
-        &self,
-        alloc: Global,
-        range: RingRange,
-        silos: &[SiloAddress],
-    ) -> Result<Vec<Letter>, AllocError>
-        ensures { IfOk result (λ letters. letters.items ≡ map (λ silo. letter_to silo self.now (Query_letter range)) silos.now) }
-    {
-        silos
-            .iter()
-            .map(|silo| self.letter_to(*silo, Body::Query(range)))
-            .collect(alloc)
     }
 }
 
@@ -250,42 +218,4 @@ fn is_awaiting_from(silo: SiloAddress, state: PieceState) -> bool
         PieceState::Awaiting(from) => from == silo,
         PieceState::Settled | PieceState::Recovering => false,
     }
-}
-
-// Whether entries go on in the order of their grains behind those gathered, which stand in it.
-fn go_on(gathered: &[Entry], entries: &[Entry]) -> bool
-    requires { rise_by_grain gathered.now ≡ true }
-    ensures { result ≡ rise_by_grain (gathered.now ++ entries.now) }
-{
-    if gathered.is_empty() {
-        return rise_by_grain(entries);
-    }
-    let last = &gathered[gathered.len() - 1];
-    is_before_first(last, entries) && rise_by_grain(entries)
-}
-
-// The table of entries gathered and of those of the last page, which stand in the order of their grains.
-fn table_of(
-    alloc: Global,
-    hashing: Hashing,
-    gathered: &[Entry],
-    entries: &[Entry],
-) -> Result<Table, AllocError>
-    requires { rise_by_grain (gathered.now ++ entries.now) ≡ true }
-    ensures { IfOk result (λ table. table.entries ≡ table_of (gathered.now ++ entries.now)) }
-{
-    let mut table = Table::new(alloc, hashing);
-    put_all(&mut table, gathered)?;
-    put_all(&mut table, entries)?;
-    Ok(table)
-}
-
-// The entries are put in, each in place of one of its grain.
-fn put_all(table: &mut Table, entries: &[Entry]) -> Result<(), AllocError>
-    ensures { OnOk result (table.new ≡ record table.old { entries = fold with_entry table.old.entries entries.now }) }
-{
-    for entry in entries {
-        table.insert(entry)?;
-    }
-    Ok(())
 }

@@ -8,8 +8,8 @@ use Rattle.directory_rules.specs.Gathering.{Gathering, gathered, new_gathering, 
 use Rattle.directory_rules.specs.Node.{Node}
 use Rattle.directory_rules.specs.Table.{rise_by_grain}
 use Rattle.seal_snapshot.specs.Progress.{progress_of}
-use Rattle.directory_node.specs.Planning.{GoesOn}
-use Rattle.directory_node.proofs.Writing.{all_put}
+use Rattle.node_plans.specs.Planning.{GoesOn}
+use Rattle.node_plans.proofs.Writing.{all_put}
 use Rattle.directory_node.proofs.node.Node.gather.Goals as goal
 
 pub gather_among-requires : goal.gather_among-requires

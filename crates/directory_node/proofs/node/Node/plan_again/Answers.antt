@@ -1,4 +1,4 @@
-use Rattle.directory_node.proofs.AfterSight.{nudge_is}
+use Rattle.node_plans.proofs.AfterSight.{nudge_is}
 use Rattle.directory_node.proofs.node.Node.plan_again.Goals as goal
 
 pub returns-clause-planned : goal.returns-clause-planned

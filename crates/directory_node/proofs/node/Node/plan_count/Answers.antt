@@ -6,7 +6,7 @@ use Rattle.std.specs.BTreeMap.{is_at}
 use Rattle.std.specs.Ordering.{nat_cmp}
 use Rattle.ring_range.specs.Range.{Range}
 use Rattle.directory_node.specs.NodeModel.{node_of}
-use Rattle.directory_node.proofs.Reports.{recovers_in, its_recovery}
+use Rattle.node_plans.proofs.Reports.{recovers_in, its_recovery}
 use Rattle.directory_node.proofs.node.Node.plan_count.Goals as goal
 
 -- the recovery of a report that counts is there

@@ -6,10 +6,10 @@ use Rattle.directory_rules.specs.Letter.{Done_letter}
 use Rattle.directory_rules.specs.Table.{table_of}
 use Rattle.directory_rules.specs.Transfer.{answer_to, gathered_by, with_settled}
 use Rattle.grain_partition.specs.Holding.{HasPiece}
-use Rattle.directory_node.specs.Planning.{Fits}
-use Rattle.directory_node.specs.declared.plan.Change.{Change}
-use Rattle.directory_node.proofs.Gatherings.{installed}
-use Rattle.directory_node.proofs.Pages.{has_all}
+use Rattle.node_plans.specs.Planning.{Fits}
+use Rattle.node_plans.specs.declared.plan.Change.{Change}
+use Rattle.node_plans.proofs.Gatherings.{installed}
+use Rattle.node_plans.proofs.Pages.{has_all}
 use Rattle.directory_node.proofs.node.Node.plan_install.Goals as goal
 
 pub returns-clause-planned : goal.returns-clause-planned

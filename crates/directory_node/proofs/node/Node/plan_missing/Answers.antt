@@ -3,12 +3,12 @@ use Rattle.std.specs.Prelude.{map}
 use Rattle.directory_rules.specs.declared.Effect.TheVariants.{Recovering}
 use Rattle.directory_rules.specs.Letter.{Query_letter}
 use Rattle.directory_rules.specs.Node.{Node}
-use Rattle.directory_rules.specs.Recovery.{Recovery, new_recovery}
+use Rattle.directory_rules.specs.Recovery.{new_recovery}
 use Rattle.directory_rules.specs.Sending.{letter_to}
 use Rattle.directory_rules.specs.Transfer.{awaits}
-use Rattle.directory_node.specs.Planning.{recovering_by}
-use Rattle.directory_node.proofs.Gatherings.{missing_count, missing_is}
-use Rattle.directory_node.proofs.Results.{on_err}
+use Rattle.node_plans.specs.Planning.{recovering_by}
+use Rattle.node_plans.proofs.Gatherings.{missing_count, missing_is}
+use Rattle.node_plans.proofs.Results.{on_err}
 use Rattle.directory_node.proofs.node.Node.plan_missing.Goals as goal
 
 pub returns-in_err-recovery-clause-members : goal.returns-in_err-recovery-clause-members
@@ -30,6 +30,6 @@ returns-clause-planned c =
     let awaited : awaits c.args.self.now c.args.letter.now.version c.args.range c.args.letter.now.from ≡ true =
     cc (c.awaits.ensures, c.if-not-awaits.false, c.version.ensures, c.from.ensures) in
     let recovery : c.in_ok-recovery.recovery ≡ new_recovery node.view range = c.in_ok-recovery.ensures ∙ ap (λ (n : Node). new_recovery n.view range) c.self.view_is in
-    let letters = c.in_ok-letters.ensures ∙ ap (λ (r : Recovery). map (λ silo. letter_to silo node (Query_letter range)) r.awaiting) recovery in
+    let letters = c.in_ok-letters.ensures ∙ (λ i. map (λ silo. letter_to silo (c.sender.ensures i) (Query_letter (recovery i).range)) (recovery i).awaiting) in
     (λ i. record { node = recovering_by node (recovery i); letters = letters i; effect = Recovering })
     ∙ sym (missing_is node c.args.letter.now range awaited)

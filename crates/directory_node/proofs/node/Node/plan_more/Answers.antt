@@ -6,8 +6,8 @@ use Rattle.directory_rules.specs.Letter.{Ask_letter}
 use Rattle.directory_rules.specs.Sending.{gathering_of, letter_to}
 use Rattle.directory_rules.specs.Step.{Stepped}
 use Rattle.directory_rules.specs.Transfer.{with_gathering}
-use Rattle.directory_node.proofs.Gatherings.{more_planned}
-use Rattle.directory_node.proofs.Pages.{wants_more}
+use Rattle.node_plans.proofs.Gatherings.{more_planned}
+use Rattle.node_plans.proofs.Pages.{wants_more}
 use Rattle.directory_node.proofs.node.Node.plan_more.Goals as goal
 
 pub overflow_add-next : goal.overflow_add-next

@@ -8,9 +8,9 @@ use Rattle.directory_rules.specs.Sight.{is_next}
 use Rattle.directory_rules.specs.Step.{compared_points}
 use Rattle.directory_rules.specs.declared.Effect.TheVariants.{Next, Skip}
 use Rattle.grain_partition.specs.Seen.{pieces_seen}
-use Rattle.directory_node.specs.Sender.{ahead, wants_of}
-use Rattle.directory_node.specs.Transition.{TransitionValue}
-use Rattle.directory_node.proofs.AfterSight.{letters_are, sight_is}
+use Rattle.node_plans.specs.Sender.{ahead, wants_of}
+use Rattle.node_plans.specs.Transition.{TransitionValue}
+use Rattle.node_plans.proofs.AfterSight.{letters_are, sight_is}
 use Rattle.directory_node.proofs.node.Node.plan_newer.Goals as goal
 
 pub returns-clause-fits : goal.returns-clause-fits

@@ -11,10 +11,10 @@ use Rattle.directory_rules.specs.Transfer.{gathered_by, with_gathering}
 use Rattle.seal_snapshot.specs.Progress.{IsRefused, progress_of}
 use Rattle.seal_snapshot.specs.declared.error.GatheringError.{GatheringError}
 use Rattle.seal_snapshot.specs.declared.progress.Progress.{Progress}
-use Rattle.directory_node.specs.Planning.{Fits}
-use Rattle.directory_node.specs.declared.plan.Change.{Change}
-use Rattle.directory_node.proofs.Gatherings.{anew_planned, counts, paged_ignored, paged_is}
-use Rattle.directory_node.proofs.Results.{on_err}
+use Rattle.node_plans.specs.Planning.{Fits}
+use Rattle.node_plans.specs.declared.plan.Change.{Change}
+use Rattle.node_plans.proofs.Gatherings.{anew_planned, counts, paged_ignored, paged_is}
+use Rattle.node_plans.proofs.Results.{on_err}
 use Rattle.directory_node.proofs.node.Node.plan_next_page.Goals as goal
 
 pub is_page_awaited-requires-clause-its : goal.is_page_awaited-requires-clause-its

@@ -1,7 +1,7 @@
 use Rattle.std.specs.BTreeMap.{is_at}
 use Rattle.std.specs.Ordering.{nat_cmp}
 use Rattle.std.proofs.Common.{sym}
-use Rattle.directory_node.proofs.Gatherings.{found_rises}
+use Rattle.node_plans.proofs.Gatherings.{found_rises}
 use Rattle.directory_node.proofs.node.Node.plan_page.Goals as goal
 
 pub plan_next_page-requires-clause-rises : goal.plan_next_page-requires-clause-rises

@@ -1,4 +1,4 @@
-use Rattle.directory_node.proofs.Reports.{answered_by_none}
+use Rattle.node_plans.proofs.Reports.{answered_by_none}
 use Rattle.directory_node.proofs.node.Node.plan_report.Goals as goal
 
 pub returns-clause-none : goal.returns-clause-none

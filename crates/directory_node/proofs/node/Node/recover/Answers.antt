@@ -8,9 +8,9 @@ use Rattle.directory_rules.specs.Piece.{Piece, Holding}
 use Rattle.directory_rules.specs.Gathering.{Gathering}
 use Rattle.directory_rules.specs.Table.{rise_by_grain}
 use Rattle.directory_rules.specs.declared.PieceState.TheVariants.{Recovering}
-use Rattle.directory_node.specs.Node.{HaveRecoveries}
-use Rattle.directory_node.proofs.Kept.{recovering_puts}
-use Rattle.directory_node.proofs.Writing.{all_but_one}
+use Rattle.node_plans.specs.Node.{HaveRecoveries}
+use Rattle.node_plans.proofs.Kept.{recovering_puts}
+use Rattle.node_plans.proofs.Writing.{all_but_one}
 use Rattle.directory_node.proofs.node.Node.recover.Goals as goal
 
 -- the piece has its recovery

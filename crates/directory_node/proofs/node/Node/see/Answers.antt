@@ -5,11 +5,11 @@ use Rattle.directory_rules.specs.Piece.{Holding}
 use Rattle.directory_rules.specs.Sight.{pieces_after}
 use Rattle.grain_partition.specs.Holding.{ArePieces}
 use Rattle.host_activations.specs.Renewal.{renewal_of}
-use Rattle.directory_node.specs.Node.{IsNode}
+use Rattle.node_plans.specs.Node.{IsNode}
 use Rattle.directory_node.specs.NodeModel.{node_of}
-use Rattle.directory_node.specs.Planning.{FitsSight, seen_by}
-use Rattle.directory_node.proofs.Numbers.{numbers_fit}
-use Rattle.directory_node.proofs.AfterSight.{behind, seen_keeps}
+use Rattle.node_plans.specs.Planning.{FitsSight, seen_by}
+use Rattle.node_plans.proofs.Numbers.{numbers_fit}
+use Rattle.node_plans.proofs.AfterSight.{behind, seen_keeps}
 use Rattle.directory_node.proofs.node.Node.see.Goals as goal
 
 pub see_on_shelf-requires-clause-behind : goal.see_on_shelf-requires-clause-behind

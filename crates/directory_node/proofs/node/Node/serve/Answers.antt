@@ -1,7 +1,7 @@
 use Rattle.std.proofs.Common.{subst, ap}
 use Rattle.directory_rules.specs.Answer.{Answered}
-use Rattle.directory_node.specs.Node.{HaveRecoveries}
-use Rattle.directory_node.proofs.Kept.{answered_keeps}
+use Rattle.node_plans.specs.Node.{HaveRecoveries}
+use Rattle.node_plans.proofs.Kept.{answered_keeps}
 use Rattle.directory_node.proofs.node.Node.serve.Goals as goal
 
 pub invariant_of-self-2 : goal.invariant_of-self-2

@@ -2,11 +2,11 @@ use Rattle.std.proofs.Common.{sym, ap, subst, ◌∙◌}
 use Rattle.directory_rules.specs.Sight.{sealed}
 use Rattle.grain_partition.specs.Seen.{pieces_seen}
 use Rattle.grain_partition.specs.Sight.{AreOfRings}
-use Rattle.directory_node.specs.Transition.{TransitionValue}
+use Rattle.node_plans.specs.Transition.{TransitionValue}
 use Rattle.std.proofs.lemmas.Result.{IfOk-weaker}
-use Rattle.directory_node.specs.Planning.{FitsSight}
-use Rattle.directory_node.specs.declared.plan.Sight.{Sight}
-use Rattle.directory_node.proofs.AfterSight.{fits_if}
+use Rattle.node_plans.specs.Planning.{FitsSight}
+use Rattle.node_plans.specs.declared.plan.Sight.{Sight}
+use Rattle.node_plans.proofs.AfterSight.{fits_if}
 use Rattle.directory_node.proofs.node.Node.sight.Goals as goal
 
 pub returns-clause-fits : goal.returns-clause-fits

@@ -1,7 +1,0 @@
-use Rattle.std.proofs.Common.{◌≡◌, fold, take}
-use Rattle.directory_rules.specs.Table.{with_entry}
-use Rattle.directory_node.proofs.transfers.put_all.Given as goal
-
--- the entries passed are in
-abbrev pub invariant-loop-entry : goal.invariant-loop-entry
-invariant-loop-entry l = l.table ≡ record l.fn.table { entries = fold with_entry l.fn.table.entries (take l.entry-index l.entries) }

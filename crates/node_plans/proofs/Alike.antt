@@ -1,0 +1,58 @@
+-- Nodes that differ only in what their letters don't depend on send the same; and so do pieces without their entries.
+use Rattle.std.proofs.Common.{◌≡◌, refl, sym, ap, ◌∙◌, ℕ, List, [], ◌∷◌, ◌++◌}
+use Rattle.std.specs.Prelude.{Option, Some, None, flat_map}
+use Rattle.silo_address.specs.Silo.{Silo}
+use Rattle.ring_range.specs.Range.{Range}
+use Rattle.directory_rules.specs.declared.Act.{Act}
+use Rattle.directory_rules.specs.declared.PieceState.{PieceState}
+use Rattle.directory_rules.specs.declared.PieceState.TheVariants.{Settled, Awaiting, Recovering}
+use Rattle.directory_rules.specs.Cache.{Cache}
+use Rattle.directory_rules.specs.Host.{outstanding, renewed}
+use Rattle.directory_rules.specs.Letter.{Request_letter}
+use Rattle.directory_rules.specs.Node.{Node}
+use Rattle.directory_rules.specs.Piece.{Piece, Holding}
+use Rattle.directory_rules.specs.Sending.{all_requests, hash_of, letter_if_owned, owner_by, request_letters, request_of, wants_by}
+use Rattle.directory_rules.specs.Snapshot.{Snapshot}
+use Rattle.grain_partition.specs.Seen.{emptied}
+use Rattle.node_plans.specs.Sender.{bare, wants_of}
+
+module _ (node : Node) (holding : Holding) (shelf : List Snapshot) (cache : Cache) where
+  -- the node with its requests renewed, and other pieces, snapshots and hints
+  abbrev pub other : Node
+  other = record node { holding = holding; shelf = shelf; host = renewed node.host; cache = cache }
+
+  owned : (owner : Option Silo) (number : ℕ) (act : Act)
+      → letter_if_owned owner node (Request_letter (request_of node number act)) ≡ letter_if_owned owner other (Request_letter (request_of other number act))
+  owned None number act = refl
+  owned (Some owner) number act = refl
+
+  same_request : (number : ℕ) (act : Act) → request_letters node number act ≡ request_letters other number act
+  same_request number act = owned (owner_by node (hash_of node act)) number act
+
+  same_wants : (state : PieceState) (range : Range) → wants_by state node range ≡ wants_by state other range
+  same_wants Settled range = refl
+  same_wants (Awaiting from) range = refl
+  same_wants Recovering range = refl
+
+  -- the renewed requests
+  pub same_requests : flat_map (λ e. request_letters node e.0 e.1) (outstanding (renewed node.host)) ≡ all_requests other
+  same_requests = λ i. flat_map (λ e. same_request e.0 e.1 i) (outstanding (renewed node.host))
+
+  -- what pieces want
+  pub same_wanted : (pieces : List (ℕ × Piece)) → wants_of node pieces ≡ wants_of other pieces
+  same_wanted pieces = λ i. flat_map (λ e. same_wants e.1.state e.1.range i) pieces
+
+-- entries are nothing to it
+pub emptied_want : (node : Node) (pieces : List (ℕ × Piece)) → wants_of node (emptied pieces) ≡ wants_of node pieces
+emptied_want node [] = refl
+emptied_want node (e ∷ es) = ap (λ l. wants_by e.1.state node e.1.range ++ l) (emptied_want node es)
+
+-- a node sends what it sends without its pieces, snapshots and hints
+pub bare_request : (node : Node) (number : ℕ) (act : Act) → request_letters (bare node) number act ≡ request_letters node number act
+bare_request node number act = same_request (bare node) node.holding node.shelf node.cache number act ∙ sym (same_request node node.holding node.shelf node.cache number act)
+
+pub bare_requests : (node : Node) (requests : List (ℕ × Act)) → flat_map (λ e. request_letters (bare node) e.0 e.1) requests ≡ flat_map (λ e. request_letters node e.0 e.1) requests
+bare_requests node requests = λ i. flat_map (λ e. bare_request node e.0 e.1 i) requests
+
+pub bare_wants : (node : Node) (pieces : List (ℕ × Piece)) → wants_of (bare node) pieces ≡ wants_of node pieces
+bare_wants node pieces = same_wanted (bare node) node.holding node.shelf node.cache pieces ∙ sym (same_wanted node node.holding node.shelf node.cache pieces)

@@ -1,0 +1,35 @@
+-- Whose letters a sender writes.
+use Rattle.std.specs.Prelude.{ℕ, List, [], flat_map}
+use Rattle.directory_rules.specs.Cache.{new_cache}
+use Rattle.directory_rules.specs.Letter.{Letter}
+use Rattle.directory_rules.specs.Node.{Node}
+use Rattle.directory_rules.specs.Piece.{Piece}
+use Rattle.directory_rules.specs.Sending.{wants_by}
+use Rattle.node_plans.specs.declared.plan.Sight.{Sight}
+use Rattle.node_plans.specs.declared.sending.Sender.{Sender}
+
+-- the node without pieces, snapshots and hints: its letters depend on none of them
+abbrev pub bare : Node → Node
+bare node = record node { holding = record { seen = 0; served = []; pieces = [] }; shelf = []; cache = new_cache 0 }
+
+-- the node, as it will be once it has seen the view, as far as its letters depend on it
+abbrev pub sending : Sender → Node
+sending s = record {
+  settings = s.settings.now;
+  view = s.view.now;
+  ring = s.ring.now;
+  holding = record { seen = 0; served = []; pieces = [] };
+  shelf = [];
+  gatherings = s.gatherings.now.entries;
+  recoveries = s.recoveries.now.entries;
+  host = s.host.now;
+  cache = new_cache 0;
+}
+
+-- what such pieces of a node want
+abbrev pub wants_of : Node → List (ℕ × Piece) → List Letter
+wants_of node pieces = flat_map (λ e. wants_by e.1.state node e.1.range) pieces
+
+-- the node with all of a sight on which its letters depend
+abbrev pub ahead : Sight → Node → Node
+ahead sight node = record node { view = sight.view; ring = sight.transition.ring; gatherings = sight.gatherings.entries; recoveries = sight.recoveries.entries }

@@ -1,0 +1,30 @@
+//! The silos that a recovery asks (`docs/RULES.md#recovery`).
+ghost use Rattle.std.specs.Prelude.{◌≡◌, filter, length, not};
+ghost use Rattle.directory_rules.specs.Membership.{is_dead_status, members_of};
+
+use membership_view::{Status, View};
+use silo_address::SiloAddress;
+
+/// How many silos of the view aren't Dead there.
+pub fn member_count(view: &View) -> usize
+    ensures { result ≡ length (members_of view.now) }
+{
+    living_count(view.rows())
+}
+
+// How many of the rows aren't Dead.
+fn living_count(rows: &[(SiloAddress, Status)]) -> usize
+    ensures { result ≡ length (filter (λ row. not (is_dead_status row.1)) rows.now) }
+{
+    rows.iter().filter(|row| !is_dead(row.1)).count()
+}
+
+// Whether a status is Dead.
+fn is_dead(status: Status) -> bool
+    ensures { result ≡ is_dead_status status }
+{
+    match status {
+        Status::Dead => true,
+        Status::Active | Status::Leaving => false,
+    }
+}

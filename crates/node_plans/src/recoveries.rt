@@ -1,0 +1,60 @@
+//! What has been reported for the pieces that recover, under their starts (`docs/RULES.md#recovery`).
+ghost use Rattle.std.specs.BTreeMap.{is_at};
+ghost use Rattle.std.specs.List.Sorted.{IsStrictlySortedBy};
+ghost use Rattle.std.specs.Map.{keys_of, lookup, set_value};
+ghost use Rattle.std.specs.Ordering.{nat_cmp};
+ghost use Rattle.std.specs.Prelude.{◌≡◌, ◌↔◌, if◌then◌else◌, false, is_ok, IsTrue, IfOk, OnErr, OnOk, None, Ok, Some};
+ghost use Rattle.directory_rules.specs.Recovery.{Recovery as RecoveryValue, recovered, with_report};
+ghost use Rattle.range_recovery.specs.Progress.{progress_of};
+
+use range_recovery::{Progress, Recovery, RecoveryError, Report};
+use std::alloc::AllocError;
+use std::collections::BTreeMap;
+
+/// The report goes to the recovery of its range, if there is one: whether all have reported now. Fails only when memory runs out, and
+/// then changes nothing.
+pub fn take_report(
+    recoveries: &mut BTreeMap<u32, Recovery>,
+    report: &Report,
+) -> Result<bool, AllocError>
+    ensures complete { IfOk result (λ complete. (recovery : RecoveryValue) → lookup (is_at (nat_cmp report.now.range.start)) recoveries.old.entries ≡ Some recovery →
+        IsTrue complete ↔ (progress_of (recovered recovery report.now) ≡ Ok Progress.Complete)) }
+
+    // It is taken unless it is refused.
+    ensures taken { OnOk result ((recovery : RecoveryValue) → lookup (is_at (nat_cmp report.now.range.start)) recoveries.old.entries ≡ Some recovery →
+        recoveries.new.entries ≡ (if is_ok (progress_of (recovered recovery report.now)) then set_value (is_at (nat_cmp report.now.range.start)) recoveries.old.entries (with_report recovery report.now) else recoveries.old.entries)) }
+
+    // Where there is no recovery, nothing comes of it.
+    ensures absent { IfOk result (λ complete. lookup (is_at (nat_cmp report.now.range.start)) recoveries.old.entries ≡ None → complete ≡ false) }
+    ensures left { OnOk result (lookup (is_at (nat_cmp report.now.range.start)) recoveries.old.entries ≡ None → recoveries.new.entries ≡ recoveries.old.entries) }
+    ensures unchanged { OnErr result (recoveries.new.entries ≡ recoveries.old.entries) }
+    ensures in_order { IsStrictlySortedBy nat_cmp (keys_of recoveries.old.entries) }
+{
+    let Some(recovery) = recoveries.get_mut(&report.range().start()) else {
+        return Ok(false);
+    };
+    match recovery.take(report) {
+        Ok(Progress::Complete) => Ok(true),
+        Ok(Progress::More) => Ok(false),
+        Err(RecoveryError::WrongVersion) => Ok(false),
+        Err(RecoveryError::Stranger) => Ok(false),
+        Err(RecoveryError::Twice) => Ok(false),
+        Err(RecoveryError::OutOfMemory) => Err(AllocError),
+    }
+}
+
+/// Whether both have equal recoveries under the same starts.
+pub fn same_recoveries(one: &BTreeMap<u32, Recovery>, other: &BTreeMap<u32, Recovery>) -> bool
+    ensures { IsTrue result ↔ (one.now.entries ≡ other.now.entries) }
+{
+    let mut others = other.iter();
+    for (start, recovery) in one {
+        let Some((its_start, its)) = others.next() else {
+            return false;
+        };
+        if start != its_start || !recovery.same(its) {
+            return false;
+        }
+    }
+    others.next().is_none()
+}
