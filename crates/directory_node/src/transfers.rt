@@ -129,8 +129,9 @@ impl Node {
             range: page.range(),
             page: page.page() + 1,
         };
+        let change = Change::Gathers(page.copy()?);
         let ask = self.letter_to(letter.from(), next);
-        Plan::of_one(alloc, ask, Effect::Gathering, Change::Gathers(page.copy()?))
+        Plan::of_one(alloc, ask, Effect::Gathering, change)
     }
 
     // The last page comes: the piece has its entries.
@@ -201,12 +202,17 @@ impl Node {
             return Ok(Plan::idle(alloc, Effect::Ignored));
         }
         let recovery = Recovery::new(alloc, &self.settings, &self.view, range)?;
-        let letters = self.sender().queries(alloc, &recovery)?;
-        Ok(Plan {
-            letters,
-            effect: Effect::Recovering,
-            change: Change::Recovers(recovery),
-        })
+        match self.sender().queries(alloc, &recovery) {
+            Ok(letters) => Ok(Plan {
+                letters,
+                effect: Effect::Recovering,
+                change: Change::Recovers(recovery),
+            }),
+            Err(error) => {
+                drop(recovery);
+                Err(error)
+            }
+        }
     }
 }
 

@@ -20,7 +20,7 @@ use std::collections::BTreeMap;
 
 /// What pieces wait by at first: the gatherings of those that await a snapshot, and the recoveries of those that recover, each under
 /// its piece's start. It asks that they are pieces, each under its start, as those that a sight makes. Fails only when memory runs
-/// out (`docs/RULES.md#transfers`).
+/// out (`docs/RULES.md#transfer`).
 pub fn new_waits(
     alloc: Global,
     settings: &Settings,

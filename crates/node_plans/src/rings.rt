@@ -6,8 +6,8 @@ use hash_ring::{Places, Ring, RingError};
 use membership_view::View;
 use std::alloc::{AllocError, Global};
 
-/// The ring of the view that comes next, by that of the view before it. It asks that this is made by the places, and that those are
-/// known of all who are Active in the view. Fails only when memory runs out.
+/// The ring of a view by that of the view before it. It asks that this one is made by the places, that the view is the next one, and
+/// that the places are known of all who are Active in it. Fails only when memory runs out.
 pub fn advanced(ring: &Ring, view: &View, places: &Places) -> Result<Ring, AllocError>
     requires by { IsRingBy ring.now places.now }
     requires next { view.now.version ≡ ring.now.version + 1 }

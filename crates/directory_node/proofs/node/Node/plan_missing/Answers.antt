@@ -17,19 +17,19 @@ returns-in_err-recovery-clause-members c =
     cc (c.awaits.ensures, c.if-not-awaits.false, c.version.ensures, c.from.ensures) in
     on_err c.from_residual.result (missing_count c.args.self.now c.args.letter.now c.args.range awaited)
 
-pub returns-in_err-letters-clause-members : goal.returns-in_err-letters-clause-members
-returns-in_err-letters-clause-members c =
+pub returns-in-Err-clause-members : goal.returns-in-Err-clause-members
+returns-in-Err-clause-members c =
     let awaited : awaits c.args.self.now c.args.letter.now.version c.args.range c.args.letter.now.from ≡ true =
     cc (c.awaits.ensures, c.if-not-awaits.false, c.version.ensures, c.from.ensures) in
-    on_err c.from_residual-in_err-letters.result (missing_count c.args.self.now c.args.letter.now c.args.range awaited)
+    missing_count c.args.self.now c.args.letter.now c.args.range awaited
 
-pub returns-clause-planned : goal.returns-clause-planned
-returns-clause-planned c =
+pub returns-in-Ok-clause-planned : goal.returns-in-Ok-clause-planned
+returns-in-Ok-clause-planned c =
     let node = c.args.self.now in
     let range = c.args.range in
     let awaited : awaits c.args.self.now c.args.letter.now.version c.args.range c.args.letter.now.from ≡ true =
     cc (c.awaits.ensures, c.if-not-awaits.false, c.version.ensures, c.from.ensures) in
     let recovery : c.in_ok-recovery.recovery ≡ new_recovery node.view range = c.in_ok-recovery.ensures ∙ ap (λ (n : Node). new_recovery n.view range) c.self.view_is in
-    let letters = c.in_ok-letters.ensures ∙ (λ i. map (λ silo. letter_to silo (c.sender.ensures i) (Query_letter (recovery i).range)) (recovery i).awaiting) in
+    let letters = c.in-Ok.ensures ∙ (λ i. map (λ silo. letter_to silo (c.sender.ensures i) (Query_letter (recovery i).range)) (recovery i).awaiting) in
     (λ i. record { node = recovering_by node (recovery i); letters = letters i; effect = Recovering })
     ∙ sym (missing_is node c.args.letter.now range awaited)

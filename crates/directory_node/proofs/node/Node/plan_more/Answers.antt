@@ -33,8 +33,8 @@ returns-clause-planned c =
     let g = gathering_of node page.range in
     let ask : c.letter_to-ask.result ≡ letter_to letter.from node (Ask_letter page.range (page.page + 1)) =
     c.letter_to-ask.ensures ∙ (λ i. letter_to (c.from.ensures i) node (Ask_letter (c.range.ensures i) (c.page.ensures i + 1))) in
-    IfOk-weaker c.of_one-2.result _ _
+    IfOk-weaker c.of_one.result _ _
     (λ plan planned. planned node
     ∙ (λ i. record { node = with_gathering node (with_page (gathering_of node (c.in_ok-copy.ensures i).range) (c.in_ok-copy.ensures i)); letters = ask i ∷ []; effect = effect.Gathering })
     ∙ sym (more_planned node g page letter refl (wants_more g page c.requires.more)))
-    c.of_one-2.ensures.planned
+    c.of_one.ensures.planned
