@@ -8,7 +8,7 @@ ghost use Rattle.dump_rules.specs.DumpShape.{has_entries_in_order};
 ghost use Rattle.dump_rules.specs.Verdict.{has_entries_inside, has_one_entry_a_grain, node_entries};
 ghost use Rattle.dump_index.specs.Lent.{entries_lent};
 ghost use Rattle.dump_verdict.specs.Ready.{is_by_grain};
-ghost use Rattle.rebuild_checker.specs.Mixed.{grains_lent};
+ghost use Rattle.distinct_grains.specs.Mixed.{grains_lent};
 
 use dump_lists::{Dump, Entry, Node, Piece};
 use lent_grains::LentGrain;

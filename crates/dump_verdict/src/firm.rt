@@ -5,7 +5,7 @@ ghost use Rattle.std.specs.BTreeSet.{contains, InsertsAll};
 ghost use Rattle.silo_address.specs.Grain.{grain_cmp};
 ghost use Rattle.dump_rules.specs.Verdict as rule;
 ghost use Rattle.dump_index.specs.Lent.{held_lent, held_on, nodes_lent};
-ghost use Rattle.rebuild_checker.specs.Mixed.{grains_lent};
+ghost use Rattle.distinct_grains.specs.Mixed.{grains_lent};
 
 use crate::least::{least_of, lesser};
 use dump_lists::{Held, Node, Phase};

@@ -1,10 +1,1 @@
-pub mod InOrder
-pub mod Joined
-pub mod ReadLists
-pub mod ReadValues
-pub mod Rising
-pub mod SetsMade
-pub mod Shaped
-pub mod Tests
-pub mod Ties
-pub mod ToldApart
+pub mod Telling

@@ -1,3 +1,1 @@
-pub mod Mixed
-pub mod Sets
 pub mod Told

@@ -2,18 +2,9 @@
 //! `docs/RULES.md#the-dump-and-the-verdict`.
 #![tactic(auto)]
 
-mod distinct;
-mod mixed;
-mod node_shape;
-mod numbers;
-mod piece_shape;
 mod reading;
-mod shape;
-mod values;
-mod words;
-mod writing;
 
-pub use mixed::are_distinct_grains;
+pub use distinct_grains::are_distinct_grains;
+pub use dump_shape::is_dump;
+pub use dump_writer::write_dump;
 pub use reading::read_dump;
-pub use shape::is_dump;
-pub use writing::write_dump;

@@ -1,7 +1,7 @@
 use Rattle.std.proofs.Common.{◌∙◌, ap, sym}
 use Rattle.silo_address.specs.Grain.{grain_eq}
 use Rattle.dump_rules.specs.DumpShape.{are_distinct_by}
-use Rattle.rebuild_checker.specs.Mixed.{grains_lent}
+use Rattle.distinct_grains.specs.Mixed.{grains_lent}
 use Rattle.dump_verdict.proofs.Grains.{grains_in, grains_listed, same_test}
 use Rattle.dump_verdict.proofs.entries.has_one_entry_a_grain.Goals as goal
 

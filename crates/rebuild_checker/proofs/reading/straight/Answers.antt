@@ -1,6 +1,6 @@
 use Rattle.std.proofs.Common.{◌≡◌, arith}
 use Rattle.std.specs.Str.{IsUtf8}
-use Rattle.rebuild_checker.proofs.ReadValues.{straight_told}
+use Rattle.rebuild_checker.proofs.Telling.{straight_told}
 use Rattle.rebuild_checker.proofs.reading.straight.Goals as goal
 
 pub returns-in-Ok : goal.returns-in-Ok

@@ -1,0 +1,5 @@
+pub mod InOrder
+pub mod Rising
+pub mod SetsMade
+pub mod Ties
+pub mod ToldApart

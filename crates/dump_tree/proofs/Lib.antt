@@ -1,0 +1,2 @@
+pub mod ReadLists
+pub mod Refused

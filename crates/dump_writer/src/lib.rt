@@ -1,0 +1,7 @@
+//! Dumps written as one line of JSON. The rules are in `docs/RULES.md#the-dump-and-the-verdict`.
+#![tactic(auto)]
+
+mod words;
+mod writing;
+
+pub use writing::write_dump;
