@@ -1,17 +1,7 @@
-pub mod Apart
-pub mod Covered
-pub mod FirmOnTwo
-pub mod Grains
-pub mod HashesBelow
-pub mod HeldAsOwned
 pub mod Kept
 pub mod LeastMoved
-pub mod LeastOf
 pub mod ListedEntries
 pub mod Missing
 pub mod NoneFailing
-pub mod OneAGrain
-pub mod OwnerFound
-pub mod ReadyNodes
 pub mod RightPieces
 pub mod Walked

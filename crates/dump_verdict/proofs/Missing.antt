@@ -22,12 +22,12 @@ use Rattle.dump_rules.specs.Verdict.{are_distinct, current_pieces, entry_of_held
 use Rattle.dump_index.specs.Named.{IsIndex, Named, entries_named}
 use Rattle.dump_index.specs.Tallies.{count_of}
 use Rattle.dump_verdict.specs.Lacking.{is_lacking}
-use Rattle.dump_verdict.specs.Covers.{IsCover, covering}
+use Rattle.dump_checks.specs.Covers.{IsCover, covering}
 use Rattle.dump_index.specs.Lent.{entries_in, held_on, nodes_lent, pieces_lent}
-use Rattle.dump_verdict.specs.Ready.{is_by_grain}
-use Rattle.dump_verdict.specs.declared.cover.Cover.{Cover}
-use Rattle.dump_verdict.proofs.Covered.{covering_is_count}
-use Rattle.dump_verdict.proofs.HashesBelow.{hash_is_below}
+use Rattle.dump_checks.specs.Ready.{is_by_grain}
+use Rattle.dump_checks.specs.declared.cover.Cover.{Cover}
+use Rattle.dump_checks.proofs.Covered.{covering_is_count}
+use Rattle.dump_checks.proofs.HashesBelow.{hash_is_below}
 use Rattle.dump_index.proofs.Listed.{filter-flat_map, filter-map, map-flat_map, map-map}
 use Rattle.dump_index.proofs.Named.{count_index}
 use Rattle.dump_verdict.proofs.RightPieces.{is_right}

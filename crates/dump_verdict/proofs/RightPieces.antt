@@ -18,7 +18,7 @@ use Rattle.dump_rules.specs.DumpShape as shape
 use Rattle.dump_rules.specs.DumpShape.{has_piece_numbers, has_point_numbers, has_node_numbers, has_row_numbers, has_numbers, has_shape, is_version, is_number_of_points, is_dump}
 use Rattle.dump_rules.specs.Verdict.{dump_view, live_nodes, has_its_ranges, has_entries_inside, are_distinct, has_one_entry_a_grain, has_right_pieces, is_settled_state, current_pieces}
 use Rattle.dump_index.specs.Lent.{pieces_lent}
-use Rattle.dump_verdict.specs.Ready.{is_by_grain}
+use Rattle.dump_checks.specs.Ready.{is_by_grain}
 
 abbrev pub is_right : DumpValue → DumpPiece → Bool
 is_right dump piece = has_piece_numbers piece && (has_entries_inside dump piece && is_by_grain piece)

@@ -5,8 +5,8 @@ use Rattle.hash_ring.specs.Hash.{hash_grain}
 use Rattle.hash_ring.specs.declared.Hashing.{Hashing}
 use Rattle.dump_index.specs.Named.{Named, entries_named}
 use Rattle.dump_index.specs.Tallies.{count_of}
-use Rattle.dump_verdict.specs.Covers.{covering}
-use Rattle.dump_verdict.specs.declared.cover.Cover.{Cover}
+use Rattle.dump_checks.specs.Covers.{covering}
+use Rattle.dump_checks.specs.declared.cover.Cover.{Cover}
 
 -- whether fewer pieces have the entry than have its hash
 abbrev pub is_lacking : Hashing → Cover → List Named → Entry → Bool

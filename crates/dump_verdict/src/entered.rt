@@ -1,22 +1,20 @@
 //! Whether each firm activation is entered where it has to be.
 
-ghost use Rattle.std.specs.Prelude.{◌≡◌, ◌≤◌, ◌++◌, List, All, IfOk, IsTrue, OnOk, drop, filter, length, map, nat_lt, take};
+ghost use Rattle.std.specs.Prelude.{◌≡◌, ◌≤◌, ◌++◌, List, All, IfOk, IsTrue, OnOk, drop, filter, length, map, take};
 ghost use Rattle.std.specs.List.{list_all};
 ghost use Rattle.std.specs.List.Sorted.{IsSorted};
 ghost use Rattle.ring_range.specs.Range.{IsRange, Range};
-ghost use Rattle.hash_ring.specs.Hash.{hash_grain};
 ghost use Rattle.dump_rules.specs.DumpShape.{is_dump};
 ghost use Rattle.dump_rules.specs.Verdict as rule;
-ghost use Rattle.dump_verdict.specs.Covers.{IsApart, IsCover, covering};
+ghost use Rattle.dump_checks.specs.Covers.{IsCover};
 ghost use Rattle.dump_index.specs.Lent.{entries_in, held_lent, held_on, nodes_lent, pieces_lent};
 ghost use Rattle.dump_index.specs.Named.{IsIndex, named_apart_from, named_cmp};
 ghost use Rattle.dump_verdict.specs.Lacking.{is_lacking};
 
-use crate::cover::{Cover, count_holding, cover_of, is_apart};
+use dump_checks::{Cover, cover_of, is_apart, is_lacking};
 use dump_index::{Named, places_of};
 use dump_lists::{Dump, Held, Node, Piece};
 use hash_ring::Hashing;
-use lent_grains::LentGrain;
 use ring_range::RingRange;
 use silo_address::GrainId;
 use std::alloc::{AllocError, Global};
@@ -122,17 +120,4 @@ fn pass<'a>(
         return Ok(());
     }
     passed.extend_from_slice(&entered[from..to])
-}
-
-/// Whether more pieces have the grain's hash than so many. Where no two have a hash in common, it is hashed only if there are none.
-fn is_lacking(hashing: Hashing, cover: &Cover, apart: bool, grain: &LentGrain, times: usize) -> bool
-    requires cover { (ranges : List Range) × IsCover ranges cover.now }
-    requires apart { IsTrue apart → IsApart cover.now }
-    ensures { result ≡ nat_lt times (covering cover.now (hash_grain hashing grain.now)) }
-{
-    if apart && times > 0 {
-        return false;
-    }
-    let hash = hashing.hash_grain(&grain.id());
-    times < count_holding(cover, u64::from(hash))
 }

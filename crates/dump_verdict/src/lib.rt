@@ -2,16 +2,10 @@
 //! directory but identities, ranges, hashes and their texts. The rules are in `docs/RULES.md#the-dump-and-the-verdict`.
 #![tactic(auto)]
 
-mod cover;
 mod entered;
-mod entries;
 mod fault;
-mod firm;
 mod judgement;
 mod judging;
-mod least;
-mod owners;
-mod ranges;
 mod strangers;
 mod verdict;
 

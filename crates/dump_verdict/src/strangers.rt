@@ -6,7 +6,7 @@ ghost use Rattle.dump_rules.specs.Verdict as rule;
 ghost use Rattle.dump_index.specs.Lent.{held_on};
 ghost use Rattle.dump_index.specs.Named.{entries_named, named_apart_from, named_cmp};
 
-use crate::least::least_of;
+use dump_checks::least_of;
 use dump_index::{Named, find_named, index_of_held};
 use dump_lists::Node;
 use silo_address::GrainId;

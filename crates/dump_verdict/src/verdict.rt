@@ -9,11 +9,9 @@ ghost use Rattle.dump_index.specs.Lent.{held_lent, held_on, nodes_lent};
 
 use crate::Fault;
 use crate::entered::walk;
-use crate::firm::{firm_on, twice_firm};
-use crate::least::least_of;
-use crate::ranges::wrong_pieces;
 use crate::strangers::stranger;
-use dump_index::{current_pieces, index_of_entries, live_nodes, wrong_ring};
+use dump_checks::{least_of, twice_firm, wrong_pieces};
+use dump_index::{current_pieces, firm_on, index_of_entries, live_nodes, wrong_ring};
 use dump_lists::{Dump, Held, Node};
 use std::alloc::{AllocError, Global};
 

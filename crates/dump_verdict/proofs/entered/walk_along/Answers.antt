@@ -5,7 +5,7 @@ use Rattle.silo_address.specs.Grain.{Grain}
 use Rattle.hash_ring.specs.Hash.{hash_grain}
 use Rattle.dump_rules.specs.Dump.{DumpHeld}
 use Rattle.dump_rules.specs.Verdict.{entry_of_held}
-use Rattle.dump_verdict.specs.Covers.{covering}
+use Rattle.dump_checks.specs.Covers.{covering}
 use Rattle.dump_index.specs.Lent.{held_lent}
 use Rattle.dump_index.specs.Named.{Named}
 use Rattle.dump_verdict.specs.Lacking.{is_lacking}

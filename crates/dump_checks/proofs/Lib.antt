@@ -1,0 +1,10 @@
+pub mod Apart
+pub mod Covered
+pub mod FirmOnTwo
+pub mod Grains
+pub mod HashesBelow
+pub mod HeldAsOwned
+pub mod LeastOf
+pub mod OneAGrain
+pub mod OwnerFound
+pub mod ReadyNodes
