@@ -16,7 +16,7 @@ use directory_rules::Settings;
 use hash_ring::Hashing;
 use script_commands::{Command, first_line, read_command};
 use script_output::{write_outcome, write_refusal};
-use std::alloc::Global;
+use std::alloc::{AllocError, Global};
 use std::process::Abort;
 
 /// As many lines as a script has at most here, and as many letters as a settle delivers.
@@ -123,11 +123,19 @@ fn play(rt: &impl Abort, alloc: Global, script: &[u8]) -> Story {
     story
 }
 
-// What a run of the events tells.
+// What a run of the events tells, in a world of its own.
+fn try_run(rt: &impl Abort, alloc: Global, events: &[Event]) -> Result<Vec<Told>, AllocError> {
+    let mut world = empty(rt, alloc);
+    let told = world.run(alloc, events);
+    drop(world);
+    told
+}
+
+// The same, which is asked again where it was refused memory.
 fn run(rt: &impl Abort, alloc: Global, events: &[Event]) -> Vec<Told> {
-    match empty(rt, alloc).run(alloc, events) {
+    match try_run(rt, alloc, events) {
         Ok(told) => told,
-        Err(_) => empty(rt, alloc).run(alloc, events).expect(rt, "memory"),
+        Err(_) => try_run(rt, alloc, events).expect(rt, "memory"),
     }
 }
 
@@ -140,6 +148,7 @@ fn check_run(rt: &impl Abort, alloc: Global, row: Row) {
         write(rt, &mut out, told.result());
     }
     assert!(rt; out == story.out);
+    drop(story);
 }
 
 #[test]
