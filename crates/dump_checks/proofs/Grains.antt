@@ -1,15 +1,12 @@
--- The grains of entries behind references.
-use Rattle.std.proofs.Common.{◌≡◌, not, List, [], ◌∷◌, map, refl, sym, ◌∙◌, ap}
+-- The grains of entries, and whether they are distinct.
+use Rattle.std.proofs.Common.{◌≡◌, not, List, [], ◌∷◌, map, refl, ap}
 use Rattle.std.specs.Prelude.{◌&&◌, flat_map}
-use Rattle.std.specs.Borrow.{Bor}
 use Rattle.std.specs.List.{list_any}
 use Rattle.silo_address.specs.Grain.{Grain, grain_eq}
 use Rattle.silo_address.specs.declared.Entry.{Entry}
 use Rattle.dump_rules.specs.Dump.{DumpPiece}
 use Rattle.dump_rules.specs.DumpShape.{are_distinct_by}
 use Rattle.dump_rules.specs.Verdict.{are_distinct}
-use Rattle.dump_index.specs.Lent.{entries_lent}
-use Rattle.dump_index.proofs.Listed.{map-map}
 
 pub same_test : (xs : List Grain) → are_distinct xs ≡ are_distinct_by grain_eq xs
 same_test [] = refl
@@ -21,8 +18,3 @@ grains_of entries = map (λ entry. entry.grain) entries
 -- the grains of what some pieces have
 abbrev pub grains_in : List DumpPiece → List Grain
 grains_in pieces = grains_of (flat_map (λ piece. piece.entries) pieces)
-
-pub grains_listed : (pieces : List DumpPiece) (entries : List (Bor Entry)) (grains : List Grain) → grains ≡ map (λ (one : Bor Entry). one.now.grain) entries
-    → entries_lent entries ≡ flat_map (λ (piece : DumpPiece). piece.entries) pieces → grains ≡ grains_in pieces
-grains_listed pieces entries grains is listed =
-    is ∙ (sym (map-map (λ (one : Entry). one.grain) (λ (one : Bor Entry). one.now) entries) ∙ ap grains_of listed)

@@ -6,7 +6,6 @@ ghost use Rattle.ring_range.specs.Range.{holds};
 ghost use Rattle.hash_ring.specs.Hash.{hash_grain};
 ghost use Rattle.dump_rules.specs.DumpShape.{has_entries_in_order};
 ghost use Rattle.dump_rules.specs.Verdict.{has_entries_inside, has_one_entry_a_grain, node_entries};
-ghost use Rattle.dump_index.specs.Lent.{entries_lent};
 ghost use Rattle.dump_checks.specs.Ready.{is_by_grain};
 ghost use Rattle.distinct_grains.specs.Mixed.{grains_lent};
 
@@ -71,32 +70,21 @@ fn has_rising_entries(piece: &Piece) -> bool
 pub(crate) fn has_one_entry_a_grain(alloc: Global, node: &Node) -> Result<bool, AllocError>
     ensures { IfOk result (λ answer. answer ≡ has_one_entry_a_grain node.now) }
 {
-    let entries = entries_of(alloc, node)?;
-    let grains = grains_of(alloc, &entries)?;
+    let grains = entry_grains(alloc, node)?;
     let once = are_distinct_grains(alloc, &grains)?;
     Ok(once)
 }
 
-/// The node's entries.
-fn entries_of<'a, 't>(alloc: Global, node: &'a Node<'t>) -> Result<Vec<&'a Entry<'t>>, AllocError>
-    ensures { IfOk result (λ entries. entries_lent entries.items ≡ node_entries node.now) }
+/// The grains of the node's entries.
+fn entry_grains<'a, 't>(
+    alloc: Global,
+    node: &'a Node<'t>,
+) -> Result<Vec<&'a LentGrain<'t>>, AllocError>
+    ensures { IfOk result (λ grains. grains_lent grains.items ≡ map (λ entry. entry.grain) (node_entries node.now)) }
 {
     node.pieces
         .iter()
         .flat_map(|piece| piece.entries.iter())
-        .collect(alloc)
-}
-
-/// The grains of entries.
-fn grains_of<'a>(
-    alloc: Global,
-    entries: &[&'a Entry<'a>],
-) -> Result<Vec<&'a LentGrain<'a>>, AllocError>
-    ensures { IfOk result (λ grains. grains_lent grains.items ≡ map (λ one. one.now.grain) entries.now) }
-{
-    entries
-        .iter()
-        .copied()
         .map(|entry| &entry.grain)
         .collect(alloc)
 }
