@@ -6,6 +6,7 @@
 mod dump;
 #[path = "../../dump_verdict/plain/json.rs"]
 mod json;
+mod judging;
 #[path = "../../dump_verdict/plain/names.rs"]
 mod names;
 mod script;
@@ -16,6 +17,7 @@ mod text;
 mod verdict;
 mod world;
 
+use judging::judged;
 use script::{Command, LONGEST_LINE, read_line};
 use std::io::{self, BufRead, Read, Write};
 use std::process::ExitCode;
@@ -77,22 +79,8 @@ impl Session {
         Ok(())
     }
 
-    /// Judges the world's dump as the program would that reads one.
     fn check(&mut self) {
-        let mut dumped = Output::default();
-        dumped.dump(&self.world);
-        let said = match dump::read_dump(&dumped.0) {
-            Err(json::NoValue) => "971".to_string(),
-            Ok(None) => "972".to_string(),
-            Ok(Some((dump, silos))) => match verdict::verdict(&dump, &silos) {
-                None => "ok".to_string(),
-                Some(verdict::Fault::RingDiffers(silo)) => format!("973 {silo}"),
-                Some(verdict::Fault::MissingFirm(grain)) => format!("974 {grain}"),
-                Some(verdict::Fault::Stranger(grain)) => format!("975 {grain}"),
-                Some(verdict::Fault::TwoFirm(grain)) => format!("976 {grain}"),
-                Some(verdict::Fault::WrongRange(silo)) => format!("977 {silo}"),
-            },
-        };
+        let said = judged(&self.world);
         self.faulted |= said != "ok";
         self.out.word("check ").word(&said).word("\n");
     }

@@ -165,7 +165,7 @@ impl Output {
     }
 
     pub fn mail(&mut self, world: &World) {
-        for (number, letter) in world.letters() {
+        for (number, letter) in world.mail().letters() {
             self.letter(world, number, letter);
         }
     }

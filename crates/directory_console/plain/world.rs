@@ -8,7 +8,7 @@
 mod cache;
 mod host;
 mod identities;
-mod mail;
+pub mod mail;
 mod mixer;
 mod node;
 mod pieces;
@@ -290,9 +290,9 @@ impl World {
         self.views().by_address.iter().filter_map(|silo| self.node(*silo))
     }
 
-    /// The letters in the mail, under their numbers.
-    pub fn letters(&self) -> impl Iterator<Item = (usize, &Letter)> {
-        self.commons.mail.letters()
+    /// Every letter that was ever sent.
+    pub fn mail(&self) -> &Mail {
+        &self.commons.mail
     }
 
     /// The least letter that is fresh and whose receiver isn't dead.

@@ -225,15 +225,17 @@ impl Node {
         commons.mail.has_room_for(1)?;
         let (reply, effect) = match self.may_serve(letter, commons.grains.hash(grain)) {
             Err(why) => (Body::Retry, Effect::Retry(why)),
-            Ok(()) => self.turn(letter, commons.grains.key(grain)),
+            Ok(()) => {
+                self.note_served(letter);
+                self.turn(letter, commons.grains.key(grain))
+            }
         };
         commons.mail.post(self.letter(letter.from, letter.number, reply));
         Ok(effect)
     }
 
-    /// Whether a request about a hash is served, and if not the number of the reason. A Register or a Deregister that is served is the
-    /// last one served to its sender.
-    fn may_serve(&mut self, letter: &Letter, hash: u32) -> Result<(), u16> {
+    /// Whether a request about a hash is served, and if not the number of the reason.
+    pub fn may_serve(&self, letter: &Letter, hash: u32) -> Result<(), u16> {
         if letter.version != self.seen {
             return Err(601);
         }
@@ -244,15 +246,20 @@ impl Node {
         if let Body::Find { .. } = letter.body {
             return Ok(());
         }
+        let last = self.served.get(usize::from(letter.from)).copied().unwrap_or(0);
+        if letter.number <= last { Err(603) } else { Ok(()) }
+    }
+
+    /// A Register or a Deregister that is served is the last one served to its sender.
+    fn note_served(&mut self, letter: &Letter) {
+        if let Body::Find { .. } = letter.body {
+            return;
+        }
         let sender = usize::from(letter.from);
         if self.served.len() <= sender {
             self.served.resize(sender + 1, 0);
         }
-        if letter.number <= self.served[sender] {
-            return Err(603);
-        }
         self.served[sender] = letter.number;
-        Ok(())
     }
 
     /// What the table answers to a request that is served, and how that is told.
@@ -260,12 +267,7 @@ impl Node {
         let (activation, previous) = match letter.body {
             Body::Register { activation, previous, .. } => (activation, previous),
             Body::Deregister { activation, .. } => return self.remove(key, activation),
-            _ => {
-                return match self.table.get(&key) {
-                    Some(by) => (Body::Found { by: *by }, Effect::Found),
-                    None => (Body::Nothing, Effect::Nothing),
-                };
-            }
+            _ => return self.look_up(key),
         };
         match self.table.entry(key) {
             btree_map::Entry::Vacant(vacant) => {
@@ -280,6 +282,14 @@ impl Node {
             }
         }
         (Body::Registered, Effect::Registered)
+    }
+
+    /// What a Find is answered that is served.
+    pub fn look_up(&self, key: u64) -> (Body, Effect) {
+        match self.table.get(&key) {
+            Some(by) => (Body::Found { by: *by }, Effect::Found),
+            None => (Body::Nothing, Effect::Nothing),
+        }
     }
 
     fn remove(&mut self, key: u64, activation: Activation) -> (Body, Effect) {

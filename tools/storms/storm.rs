@@ -1,0 +1,113 @@
+//! A storm: turn after turn in one world, with the headline tested after each accepted event.
+
+use crate::climate::Climate;
+use crate::fault::Fault;
+use crate::grains::{drawn_grains, eighths};
+use crate::random::Random;
+use crate::seeded::{Course, Seeded};
+use crate::stage::Stage;
+use crate::tally::Tally;
+use crate::turn::Turn;
+
+/// How many events a world takes.
+pub const WORLD: u64 = 20_000;
+
+/// When this many silos have joined a world, hardly any more ever may, and its storm ends.
+const WORLD_SILOS: usize = 250;
+
+/// After so many turns, or with that version, a seeded storm ends.
+const SEEDED_TURNS: u64 = 2_000;
+const SEEDED_VERSION: u64 = 40;
+
+/// How many hints each silo keeps in a seeded storm.
+const SEEDED_HINTS: usize = 1_024;
+
+/// After so many accepted events a world's dump is printed.
+const DUMPED: u64 = 10_000;
+
+/// Where the turns of a storm come from.
+enum Source {
+    World(Climate),
+    Seeded(Seeded),
+}
+
+/// Where a storm ends at the latest.
+struct End {
+    turns: u64,
+    events: u64,
+    silos: usize,
+    version: u64,
+}
+
+pub struct Storm {
+    pub stage: Stage,
+    /// How many hints each silo's cache keeps.
+    pub hints: usize,
+    /// How many turns there were.
+    pub turns: u64,
+    source: Source,
+    end: End,
+}
+
+impl Storm {
+    /// So many events at most in the world of a seed, which decides all that happens in it.
+    pub fn of_world(seed: u64, events: u64) -> Storm {
+        let mut random = Random::new(seed);
+        let home = if random.once_in(2) { None } else { Some(random.place()) };
+        let grains = drawn_grains(&mut random, home);
+        let hints = (random.index(3) * 8).max(1);
+        let end = End { turns: events.saturating_mul(8), events, silos: WORLD_SILOS, version: u64::MAX };
+        let source = Source::World(Climate::new(random, home));
+        Storm { stage: Stage::new(grains, hints), hints, turns: 0, source, end }
+    }
+
+    /// The seeded storm of a course and a seed, up to so many events.
+    pub fn of_seed(course: Course, seed: u64, events: u64) -> Storm {
+        let end = End { turns: SEEDED_TURNS, events, silos: usize::MAX, version: SEEDED_VERSION };
+        let source = Source::Seeded(Seeded::new(course, seed));
+        Storm { stage: Stage::new(eighths(), SEEDED_HINTS), hints: SEEDED_HINTS, turns: 0, source, end }
+    }
+
+    /// Goes on to its end, or to the first fault.
+    pub fn run(&mut self, tally: &mut Tally) -> Result<(), Fault> {
+        while !self.is_over() {
+            self.turns += 1;
+            if let Some(turn) = self.draw() {
+                self.take(tally, &turn)?;
+            }
+        }
+        if self.is_world() {
+            self.stage.show();
+        }
+        Ok(())
+    }
+
+    fn is_world(&self) -> bool {
+        matches!(self.source, Source::World(_))
+    }
+
+    fn is_over(&self) -> bool {
+        let Stage { accepted, chronicle, .. } = &self.stage;
+        let End { turns, events, silos, version } = self.end;
+        self.turns >= turns || *accepted >= events || chronicle.members.len() >= silos || chronicle.version >= version
+    }
+
+    fn draw(&mut self) -> Option<Turn> {
+        match &mut self.source {
+            Source::World(climate) => climate.turn(&self.stage),
+            Source::Seeded(seeded) => seeded.turn(&self.stage),
+        }
+    }
+
+    /// Plays what was drawn; where it is accepted, the world is tested.
+    fn take(&mut self, tally: &mut Tally, turn: &Turn) -> Result<(), Fault> {
+        if !self.stage.attempt(tally, turn) {
+            return Ok(());
+        }
+        self.stage.judge()?;
+        if self.is_world() && self.stage.accepted.is_multiple_of(DUMPED) {
+            self.stage.dump();
+        }
+        Ok(())
+    }
+}
