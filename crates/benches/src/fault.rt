@@ -1,7 +1,5 @@
-use directory_core::EventRefusal;
 use hash_ring::RingError;
 use lookup_cache::CacheError;
-use membership_view::ViewsError;
 use seal_snapshot::GatheringError;
 use silo_address::{GrainError, SiloError};
 use std::alloc::{AllocError, AllocFailed};
@@ -20,17 +18,15 @@ pub(crate) enum Fault {
     Silo,
     /// A text is no grain.
     Grain,
-    /// A silo can't join or die.
-    Membership,
     /// There is no ring, or it can't be advanced.
     Ring,
-    /// There is no cache, or it can't learn a hint.
+    /// There is no cache.
     Cache,
     /// A page was refused.
     Page,
-    /// A cluster refused an event.
-    Event(EventRefusal),
-    /// Settings, a silo, a view, a piece, a snapshot or a page are missing.
+    /// A cluster refused an event, by this number, or had no memory for it.
+    Event(Option<u16>),
+    /// Settings, a silo, a node, a view, a snapshot, a page or a range are missing.
     Missing,
 }
 
@@ -62,12 +58,6 @@ impl From<SiloError> for Fault {
 impl From<GrainError> for Fault {
     fn from(_: GrainError) -> Fault {
         Fault::Grain
-    }
-}
-
-impl From<ViewsError> for Fault {
-    fn from(_: ViewsError) -> Fault {
-        Fault::Membership
     }
 }
 

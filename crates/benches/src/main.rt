@@ -1,11 +1,15 @@
 //! Measures what is proved, by calls without text: `benches ring` the ring, `benches parts` the parts of a node, and
 //! `benches SCENARIO` a cluster; `benches` alone plays each scenario of a cluster on a small scale and measures nothing.
 //!
-//! Each line has a sum of answers, by which this program and the plain ones beside it (`plain`) are seen to have done the same
-//! work. `./bench` runs both and prints the ratios.
+//! Each line is a name, how many calls or events were measured, the nanoseconds that they took in all, and a sum of what they
+//! answered or left, by which this program and the plain ones beside it (`plain`) are seen to have done the same work. `./bench`
+//! runs both and prints the ratios.
 #![tactic(auto)]
 
+mod cluster;
+mod course;
 mod fault;
+mod naming;
 mod parts;
 mod ring;
 mod stopwatch;
@@ -24,6 +28,7 @@ fn main(rt: HostRuntime) -> Result<(), Fault> {
     }
 }
 
+// What each word measures.
 fn measure(rt: &HostRuntime, word: &str) -> Result<(), Fault> {
     match word {
         "--help" => Ok(println!(rt; "{USAGE}")?),

@@ -1,18 +1,18 @@
-//! Measures the parts of a node: a line for each measure, with a name, nanoseconds a call, and a sum of the answers.
+//! Measures the parts of a node: what is sealed and gathered, hints, a sight, and activations.
 
-mod cluster;
-mod entries;
+mod caches;
 mod handing;
-mod hints;
 mod hosts;
 mod sights;
+mod stage;
 
 use crate::fault::Fault;
 
-/// Measures what is sealed and gathered, hints, a sight, and activations.
+/// How many entries, activations or hints there are.
+const COUNT: u64 = 65_536;
+
 pub(crate) fn measure(rt: &HostRuntime) -> Result<(), Fault> {
     handing::measure(rt)?;
-    hints::measure(rt)?;
-    sights::measure(rt)?;
-    hosts::measure(rt)
+    caches::measure(rt)?;
+    sights::measure(rt)
 }

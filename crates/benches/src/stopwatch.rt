@@ -1,9 +1,10 @@
 use crate::fault::Fault;
 use std::time::Instant;
 
-/// Time that calls took, and a sum of their answers.
+/// How many calls were measured, what they took, and a sum of their answers.
 #[derive(Clone, Copy)]
 pub(crate) struct Stopwatch {
+    calls: u64,
     spent: u128,
     sum: u64,
 }
@@ -11,39 +12,54 @@ pub(crate) struct Stopwatch {
 impl Stopwatch {
     /// No call yet.
     pub(crate) fn new() -> Stopwatch {
-        Stopwatch { spent: 0, sum: 0 }
+        Stopwatch {
+            calls: 0,
+            spent: 0,
+            sum: 0,
+        }
     }
 
-    /// Notes what was spent on calls since a moment, and the sum of their answers.
-    pub(crate) fn note(&mut self, rt: &HostRuntime, since: Instant, sum: u64) -> Result<(), Fault> {
+    /// Notes what was spent since a moment.
+    pub(crate) fn note(&mut self, rt: &HostRuntime, since: Instant) -> Result<(), Fault> {
         let nanoseconds = since.elapsed(rt)?.as_nanos();
         self.spent = self.spent.wrapping_add(nanoseconds);
+        Ok(())
+    }
+
+    /// Counts so many calls, and the sum of their answers.
+    pub(crate) fn count(&mut self, calls: u64, sum: u64) {
+        self.calls = self.calls.wrapping_add(calls);
         self.sum = self.sum.wrapping_add(sum);
+    }
+
+    /// Prints the line of a measure.
+    pub(crate) fn report(&self, rt: &HostRuntime, name: &str) -> Result<(), Fault> {
+        println!(rt; "{name} {} {} {}", self.calls, self.spent, self.sum)?;
         Ok(())
     }
 
-    /// Prints the line of a measure: nanoseconds for each of so many calls.
-    pub(crate) fn report(&self, rt: &HostRuntime, name: &str, calls: u64) -> Result<(), Fault> {
-        println!(rt; "{name} {} {}", self.each(calls, 1), self.sum)?;
+    /// Prints the line of a measure without the time.
+    pub(crate) fn report_sum(&self, rt: &HostRuntime, name: &str) -> Result<(), Fault> {
+        println!(rt; "{name} {} {}", self.calls, self.sum)?;
         Ok(())
     }
+}
 
-    /// Prints the line of a measure of a ring of so many points. `scale` is 10 where tenths of a nanosecond are told.
-    pub(crate) fn report_ring(
-        &self,
-        rt: &HostRuntime,
-        name: &str,
-        points: usize,
-        calls: u64,
-        scale: u128,
-    ) -> Result<(), Fault> {
-        println!(rt; "{name} {points} {} {}", self.each(calls, scale), self.sum)?;
-        Ok(())
-    }
+/// The moment at which something begins.
+pub(crate) fn now(rt: &HostRuntime) -> Result<Instant, Fault> {
+    Ok(Instant::now(rt)?)
+}
 
-    // What each of so many calls took.
-    fn each(&self, calls: u64, scale: u128) -> u128 {
-        let spent = self.spent.wrapping_mul(scale);
-        spent.checked_div(u128::from(calls)).unwrap_or(0)
-    }
+/// Prints the line of calls that were made since a moment, and of the sum of their answers.
+pub(crate) fn report_since(
+    rt: &HostRuntime,
+    name: &str,
+    since: Instant,
+    calls: u64,
+    sum: u64,
+) -> Result<(), Fault> {
+    let mut stopwatch = Stopwatch::new();
+    stopwatch.note(rt, since)?;
+    stopwatch.count(calls, sum);
+    stopwatch.report(rt, name)
 }

@@ -1,8 +1,8 @@
 //! What `benches parts` measures, in plain Rust: the same entries, snapshots, pages, hints, sights and activations, with the
 //! same sums.
 //!
-//! Each line is a name, nanoseconds a call, and a sum of the answers, by which the two programs are seen to have done the same
-//! work. Built by `rustc -O`; `./bench` runs both and prints the ratios.
+//! Each line is a name, how many calls were measured, the nanoseconds that they took in all, and a sum of their answers, by which
+//! the two programs are seen to have done the same work. Built by `rustc -O`; `./bench` runs both and prints the ratios.
 
 mod cache;
 mod entry;
@@ -28,7 +28,7 @@ const ROUNDS: u64 = 5;
 const PAGE_ROUNDS: u64 = 20_000;
 
 fn report(name: &str, since: Instant, calls: u64, sum: u64) {
-    println!("{name} {} {sum}", since.elapsed().as_nanos() / u128::from(calls));
+    println!("{name} {calls} {} {sum}", since.elapsed().as_nanos());
 }
 
 fn silo(number: u8) -> Silo {
@@ -40,7 +40,7 @@ fn entries(silo: Silo, from: u64) -> Vec<Entry> {
         .map(|number| {
             let hash = number.wrapping_mul(2_654_435_761).wrapping_add(12_345) & 0xffff_ffff;
             let grain = Grain::parse(&format!("user/grain-{number}#{hash}")).unwrap();
-            Entry { grain, activation: Activation { silo, count: number } }
+            Entry { grain, activation: Activation { silo, count: number + 1 } }
         })
         .collect()
 }
@@ -68,7 +68,7 @@ fn given_up(silo: Silo, other: Silo) -> [Arc; 2] {
 }
 
 fn measure_handing() {
-    let (silo, other) = (silo(1), silo(2));
+    let (silo, other) = (silo(0), silo(1));
     let (holding, arcs) = (whole_circle(silo), given_up(silo, other));
     let view = View { version: 2, dead: BTreeSet::new() };
     let mut sum = 0u64;
@@ -113,7 +113,7 @@ fn measure_gathering(snapshot: &Snapshot) {
 }
 
 fn measure_hints() {
-    let (known, unknown) = (entries(silo(1), 0), shuffled(&entries(silo(1), COUNT)));
+    let (known, unknown) = (entries(silo(0), 0), shuffled(&entries(silo(0), COUNT)));
     let mut cache = Cache::new(COUNT as usize);
     for entry in &known {
         cache.learn(entry.clone());
@@ -173,7 +173,7 @@ fn arcs_of_cut(silo: Silo, other: Silo) -> Vec<Arc> {
 }
 
 fn measure_sight() {
-    let (silo, other) = (silo(1), silo(2));
+    let (silo, other) = (silo(0), silo(1));
     let (holding, arcs) = (thirty_pieces(silo), arcs_of_cut(silo, other));
     let view = View { version: 2, dead: BTreeSet::new() };
     let (mut spent, mut sum) = (0, 0u64);
@@ -181,10 +181,10 @@ fn measure_sight() {
         let mut seen = holding.clone();
         let start = Instant::now();
         seen.sight(true, &view, silo, black_box(&arcs));
-        sum += seen.pieces.values().map(|piece| 1 + piece.entries.len() as u64).sum::<u64>();
         spent += start.elapsed().as_nanos();
+        sum += seen.pieces.values().map(|piece| 1 + piece.entries.len() as u64).sum::<u64>();
     }
-    println!("sight {} {sum}", spent / u128::from(ROUNDS));
+    println!("sight {ROUNDS} {spent} {sum}");
 }
 
 /// How many activations end and start anew, how often is reported, and how many hashes a range has that has about a hundred.
@@ -198,11 +198,12 @@ fn start_firm(host: &mut Host, grain: &Grain) {
 }
 
 fn measure_host() {
-    let entries = shuffled(&entries(silo(1), 0));
-    let mut host = Host::new(silo(1));
+    let entries = entries(silo(0), 0);
+    let mut host = Host::new(silo(0));
     for entry in &entries {
         start_firm(&mut host, &entry.grain);
     }
+    let entries = shuffled(&entries);
     let start = Instant::now();
     for entry in &entries[..ENDS] {
         host.end(&entry.grain);

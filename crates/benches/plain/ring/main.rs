@@ -1,7 +1,8 @@
 //! What `benches ring` measures, in plain Rust: the same rings, look-ups and texts, with the same sums.
 //!
-//! Each line is a name, the number of points, nanoseconds a call, and a sum of the answers, by which the two programs
-//! are seen to have done the same work. Built by `rustc -O`; `./bench` runs both and prints the ratios.
+//! Each line is a name with the number of points, how many calls were measured, the nanoseconds that they took in all, and a sum of
+//! their answers, by which the two programs are seen to have done the same work. Built by `rustc -O`; `./bench` runs both and prints
+//! the ratios.
 
 #[path = "../sha256.rs"]
 mod sha256;
@@ -12,6 +13,9 @@ use std::time::Instant;
 
 const POINTS_A_SILO: usize = 30;
 const SILOS: usize = 256;
+
+/// From the place of a point to that of the next one, where they lie all over the circle, evenly.
+const EVENLY: u32 = 1_779_033_703;
 
 #[derive(Clone, Copy, PartialEq, Eq, PartialOrd, Ord)]
 struct Silo {
@@ -55,14 +59,12 @@ fn hash_text(text: &[u8]) -> u32 {
 }
 
 fn silo(number: usize) -> Silo {
-    Silo { ip: [10, 0, 0, number as u8], port: 1000, generation: 1 }
+    Silo { ip: [10, 0, (number / 200) as u8, (number % 200) as u8], port: 1000, generation: 1 }
 }
 
-fn points_of(silo: Silo) -> Vec<u32> {
-    let [a, b, c, d] = silo.ip;
-    (0..POINTS_A_SILO)
-        .map(|index| hash_text(format!("{a}.{b}.{c}.{d}:{}@{}#{index}", silo.port, silo.generation).as_bytes()))
-        .collect()
+fn places_of(number: usize) -> Vec<u32> {
+    let first = number * POINTS_A_SILO;
+    (first..first + POINTS_A_SILO).map(|point| (point as u32).wrapping_mul(EVENLY)).collect()
 }
 
 fn anew(places: &[(Silo, Vec<u32>)]) -> Vec<Point> {
@@ -127,8 +129,8 @@ fn next_random(x: &mut u64) -> u32 {
     (*x >> 32) as u32
 }
 
-fn report(name: &str, points: usize, nanoseconds: u128, calls: u128, sum: u64) {
-    println!("{name} {points} {} {sum}", nanoseconds / calls);
+fn report(name: &str, calls: u64, nanoseconds: u128, sum: u64) {
+    println!("{name} {calls} {nanoseconds} {sum}");
 }
 
 fn measure_owner(silos: usize, all: &[(Silo, Vec<u32>)]) {
@@ -141,8 +143,7 @@ fn measure_owner(silos: usize, all: &[(Silo, Vec<u32>)]) {
             sum = sum.wrapping_add(u64::from(point.place));
         }
     }
-    // tenths of a nanosecond, since a look-up takes few
-    report("owner_tenths", ring.len(), 10 * start.elapsed().as_nanos(), u128::from(calls), sum);
+    report(&format!("owner-{}", ring.len()), calls, start.elapsed().as_nanos(), sum);
 }
 
 fn measure_hash_text() {
@@ -158,48 +159,39 @@ fn measure_hash_text() {
         }
         sum = sum.wrapping_add(u64::from(hash_text(&text)));
     }
-    report("hash_text", 0, start.elapsed().as_nanos(), u128::from(calls), sum);
+    report("hash_text-0", calls, start.elapsed().as_nanos(), sum);
+}
+
+/// A hundred rounds, each of which has a ring of its own, that isn't measured.
+fn measure_rounds(name: &str, full: &[Point], round: impl Fn(&mut Vec<Point>) -> u64) {
+    let (mut spent, mut sum) = (0, 0u64);
+    for _ in 0..100 {
+        let mut ring = full.to_vec();
+        let start = Instant::now();
+        sum = sum.wrapping_add(round(black_box(&mut ring)));
+        spent += start.elapsed().as_nanos();
+    }
+    report(name, 100, spent, sum);
 }
 
 fn measure_rings(all: &[(Silo, Vec<u32>)]) {
-    let rounds = 100u128;
     let full = anew(all);
-    let gone = all[100].0;
-
-    let (mut spent, mut sum) = (0, 0u64);
-    for _ in 0..rounds {
-        let start = Instant::now();
-        let ring = black_box(anew(black_box(all)));
-        spent += start.elapsed().as_nanos();
-        sum = sum.wrapping_add(u64::from(ring[77].place));
-    }
-    report("anew", full.len(), spent, rounds, sum);
-
-    let (mut spent, mut sum) = (0, 0u64);
-    for _ in 0..rounds {
-        let mut ring = full.clone();
-        let start = Instant::now();
-        ring.retain(|point| point.silo != gone);
-        spent += start.elapsed().as_nanos();
-        sum = sum.wrapping_add(u64::from(black_box(&ring)[77].place));
-    }
-    report("advance", full.len(), spent, rounds, sum);
-
+    let gone = all[SILOS - 1].0;
     let mut fewer = full.clone();
     fewer.retain(|point| point.silo != gone);
-    let (mut spent, mut sum) = (0, 0u64);
-    for _ in 0..rounds {
-        let start = Instant::now();
-        let parts = black_box(arcs(&full, &fewer));
-        spent += start.elapsed().as_nanos();
-        let moved = parts.iter().filter(|arc| arc.from != arc.to).map(|arc| arc.size).sum::<u64>();
-        sum = sum.wrapping_add(moved + u64::from(parts[0].start));
-    }
-    report("arcs", full.len(), spent, rounds, sum);
+    measure_rounds("anew-7650", &full, |_| u64::from(black_box(anew(black_box(&all[..SILOS - 1])))[77].place));
+    measure_rounds("advance-7680", &full, |ring| {
+        ring.retain(|point| point.silo != gone);
+        u64::from(ring[77].place)
+    });
+    measure_rounds("arcs-7680", &full, |ring| {
+        let arcs = black_box(arcs(ring, &fewer));
+        arcs.iter().map(|arc| u64::from(arc.start) + if arc.from == arc.to { 0 } else { arc.size }).sum()
+    });
 }
 
 fn main() {
-    let all: Vec<(Silo, Vec<u32>)> = (0..SILOS).map(|number| (silo(number), points_of(silo(number)))).collect();
+    let all: Vec<(Silo, Vec<u32>)> = (0..SILOS).map(|number| (silo(number), places_of(number))).collect();
     for silos in [1, 4, 16, 64, 256] {
         measure_owner(silos, &all);
     }

@@ -1,4 +1,4 @@
-//! A cluster and what is done with it, as in the proved program's `cluster.rs`.
+//! A cluster and what is done with it, as in the proved program's `cluster.rt`.
 
 use crate::directory::world::{Event, Grain, Settings, SiloName, World};
 

@@ -1,87 +1,116 @@
 use crate::fault::Fault;
-use crate::parts::cluster::Owner;
-use crate::stopwatch::Stopwatch;
+use crate::parts::stage::{Sight, Stage};
+use crate::stopwatch::{Stopwatch, now};
+use grain_partition::Holding;
 use hash_ring::Hashing;
 use seal_snapshot::{Gathering, Page, Progress, Snapshot};
-use std::alloc::Global;
-use std::time::Instant;
+use std::alloc::{AllocError, Global};
 
 const ROUNDS: u64 = 5;
 
+/// How often each page is handed out that is measured by itself.
 const PAGE_ROUNDS: u64 = 20_000;
+
+/// Of 1,024 pages the first one, the middle one and the last one.
+const PAGES: [(&str, u64); 3] = [
+    ("page_first", 0),
+    ("page_middle", 511),
+    ("page_last", 1_023),
+];
+
+/// What is called in a round.
+#[derive(Clone, Copy)]
+enum Work<'a> {
+    /// What goes to the other silo is sealed.
+    Seal(&'a Sight, &'a Holding),
+    /// A page is handed out.
+    Page(&'a Snapshot, u64),
+    /// All pages are handed out one after another, and gathered.
+    Gather(&'a Snapshot),
+}
 
 /// Seals all that a silo keeps, since another one gets the whole circle but one hash; hands it out page by page, and gathers it.
 pub(crate) fn measure(rt: &HostRuntime) -> Result<(), Fault> {
-    let owner = Owner::of(rt.alloc(), &[0], &[1])?;
-    measure_seal(rt, &owner)?;
-    let snapshot = snapshot(rt.alloc(), &owner)?;
-    measure_pages(rt, &snapshot)
+    let stage = Stage::of(rt, 1, 1)?;
+    measure_stage(rt, &stage)
 }
 
-// What is sealed for the other silo.
-fn snapshot(alloc: Global, owner: &Owner) -> Result<Snapshot, Fault> {
-    let mut sealed = owner.holding.seal(
-        alloc,
-        Hashing::Stated,
-        &owner.view,
-        &owner.silo,
-        &owner.arcs,
-    )?;
-    sealed.pop().ok_or(Fault::Missing)
-}
-
-fn measure_seal(rt: &HostRuntime, owner: &Owner) -> Result<(), Fault> {
-    let mut stopwatch = Stopwatch::new();
-    for _ in 0..ROUNDS {
-        let start = Instant::now(rt)?;
-        let snapshot = snapshot(rt.alloc(), owner)?;
-        stopwatch.note(rt, start, sum_of(&snapshot))?;
+fn measure_stage(rt: &HostRuntime, stage: &Stage) -> Result<(), Fault> {
+    match stage.cluster.world.node(&stage.sight.silo) {
+        Some(node) => measure_seal(rt, &stage.sight, node.holding()),
+        None => Err(Fault::Missing),
     }
-    stopwatch.report(rt, "seal", ROUNDS)
 }
 
-// The first bytes of a snapshot's digest, as a number, and how many entries it has.
-fn sum_of(snapshot: &Snapshot) -> u64 {
-    let digest = snapshot.digest();
-    let first = u32::from_be_bytes([digest[0], digest[1], digest[2], digest[3]]);
-    u64::from(first).wrapping_add(snapshot.entries().len() as u64)
+fn measure_seal(rt: &HostRuntime, sight: &Sight, holding: &Holding) -> Result<(), Fault> {
+    measure_work(rt, "seal", &Work::Seal(sight, holding), ROUNDS)?;
+    let sealed = sealed(rt.alloc(), sight, holding)?;
+    match sealed.first() {
+        Some(snapshot) => measure_pages(rt, snapshot),
+        None => Err(Fault::Missing),
+    }
 }
 
 fn measure_pages(rt: &HostRuntime, snapshot: &Snapshot) -> Result<(), Fault> {
-    let last = snapshot.pages().wrapping_sub(1);
-    for (name, number) in [
-        ("page_first", 0),
-        ("page_middle", last / 2),
-        ("page_last", last),
-    ] {
-        measure_page(rt, name, snapshot, number)?;
+    for (name, number) in &PAGES {
+        measure_work(rt, name, &Work::Page(snapshot, *number), PAGE_ROUNDS)?;
     }
-    measure_gathering(rt, snapshot)
+    measure_work(rt, "page_and_take", &Work::Gather(snapshot), ROUNDS)
 }
 
-// The page of that number, again and again.
-fn measure_page(
-    rt: &HostRuntime,
-    name: &str,
-    snapshot: &Snapshot,
-    number: u64,
-) -> Result<(), Fault> {
+fn measure_work(rt: &HostRuntime, name: &str, work: &Work<'_>, rounds: u64) -> Result<(), Fault> {
     let mut stopwatch = Stopwatch::new();
-    let start = Instant::now(rt)?;
-    let mut sum = 0u64;
-    for _ in 0..PAGE_ROUNDS {
-        sum = sum.wrapping_add(sample(&page(rt.alloc(), snapshot, number)?));
+    let start = now(rt)?;
+    for _ in 0..rounds {
+        let (calls, sum) = round(rt.alloc(), work)?;
+        stopwatch.count(calls, sum);
     }
-    stopwatch.note(rt, start, sum)?;
-    stopwatch.report(rt, name, PAGE_ROUNDS)
+    stopwatch.note(rt, start)?;
+    stopwatch.report(rt, name)
 }
 
-fn page(alloc: Global, snapshot: &Snapshot, number: u64) -> Result<Page, Fault> {
-    snapshot.page(alloc, number)?.ok_or(Fault::Missing)
+// How many calls there were in a round, and the sum of their answers.
+fn round(alloc: Global, work: &Work<'_>) -> Result<(u64, u64), Fault> {
+    match work {
+        Work::Seal(sight, holding) => seal(alloc, sight, holding),
+        Work::Page(snapshot, number) => hand_out(alloc, snapshot, *number),
+        Work::Gather(snapshot) => gather(alloc, snapshot),
+    }
 }
 
-// The count of the last entry of the page, and how many there are.
-fn sample(page: &Page) -> u64 {
+// What is sealed for the other silo: one snapshot.
+fn sealed(alloc: Global, sight: &Sight, holding: &Holding) -> Result<Vec<Snapshot>, AllocError> {
+    let (view, silo, arcs) = (&sight.view, &sight.silo, &sight.arcs);
+    holding.seal(alloc, Hashing::Stated, view, silo, arcs)
+}
+
+// The sum is of the first bytes of the snapshot's digest, as a number, and how many entries it has.
+fn seal(alloc: Global, sight: &Sight, holding: &Holding) -> Result<(u64, u64), Fault> {
+    let sealed = sealed(alloc, sight, holding)?;
+    Ok((1, sum_of_sealed(&sealed)))
+}
+
+fn sum_of_sealed(sealed: &[Snapshot]) -> u64 {
+    let mut sum = 0u64;
+    for snapshot in sealed {
+        let digest = snapshot.digest();
+        let first = u32::from_be_bytes([digest[0], digest[1], digest[2], digest[3]]);
+        sum = sum
+            .wrapping_add(u64::from(first))
+            .wrapping_add(snapshot.entries().len() as u64);
+    }
+    sum
+}
+
+// The sum is of the count of the page's last entry, and how many there are.
+fn hand_out(alloc: Global, snapshot: &Snapshot, number: u64) -> Result<(u64, u64), Fault> {
+    match snapshot.page(alloc, number)? {
+        Some(page) => Ok((1, sum_of(&page))),
+        None => Err(Fault::Missing),
+    }
+}
+
+fn sum_of(page: &Page) -> u64 {
     match page.entries().last() {
         Some(entry) => entry
             .activation
@@ -91,29 +120,17 @@ fn sample(page: &Page) -> u64 {
     }
 }
 
-// All pages, handed out one after another and gathered.
-fn measure_gathering(rt: &HostRuntime, snapshot: &Snapshot) -> Result<(), Fault> {
-    let mut stopwatch = Stopwatch::new();
-    for _ in 0..ROUNDS {
-        let start = Instant::now(rt)?;
-        let sum = gathered(rt.alloc(), snapshot)?;
-        stopwatch.note(rt, start, sum)?;
-    }
-    let calls = ROUNDS.wrapping_mul(snapshot.pages());
-    stopwatch.report(rt, "page_and_take", calls)
-}
-
-// How many entries were gathered, if they are all.
-fn gathered(alloc: Global, snapshot: &Snapshot) -> Result<u64, Fault> {
+// The sum is how many entries were gathered, if they are all.
+fn gather(alloc: Global, snapshot: &Snapshot) -> Result<(u64, u64), Fault> {
     let mut gathering = Gathering::new(alloc, snapshot.version(), snapshot.range());
     let mut progress = Progress::More;
     for number in 0..snapshot.pages() {
         progress = take(alloc, &mut gathering, snapshot, number)?;
     }
-    if progress != Progress::Complete {
-        return Err(Fault::Missing);
+    match progress {
+        Progress::Complete => Ok((snapshot.pages(), gathering.entries().len() as u64)),
+        Progress::More => Err(Fault::Missing),
     }
-    Ok(gathering.entries().len() as u64)
 }
 
 // The page of that number is handed out and gathered.
@@ -123,6 +140,8 @@ fn take(
     snapshot: &Snapshot,
     number: u64,
 ) -> Result<Progress, Fault> {
-    let page = page(alloc, snapshot, number)?;
-    Ok(gathering.take(&page)?)
+    match snapshot.page(alloc, number)? {
+        Some(page) => Ok(gathering.take(&page)?),
+        None => Err(Fault::Missing),
+    }
 }

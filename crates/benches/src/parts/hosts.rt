@@ -1,19 +1,24 @@
 use crate::fault::Fault;
-use crate::parts::entries::{first_silo, shuffled_entries};
-use crate::stopwatch::Stopwatch;
-use directory_rules::Settings;
+use crate::naming::{Order, STRIDE};
+use crate::parts::COUNT;
+use crate::stopwatch::{now, report_since};
 use hash_ring::Hashing;
 use host_activations::Host;
 use ring_range::RingRange;
-use silo_address::{Entry, GrainId};
+use silo_address::GrainId;
 use std::alloc::Global;
-use std::time::Instant;
 
 /// The last number of a request, and the last count of an activation.
 const LAST: u64 = 1 << 60;
 
-/// How many activations end and start anew.
+/// How many activations end and start anew, of grains from all over the circle.
 const ENDS: u64 = 1_000;
+
+const ENDING: Order = Order {
+    from: 0,
+    among: COUNT,
+    stride: STRIDE,
+};
 
 const REPORTS: u64 = 20;
 
@@ -21,21 +26,47 @@ const REPORTS: u64 = 20;
 const REPORTED: u64 = 6_553_600;
 
 /// Ends activations and starts them anew, and reports those of a range.
-pub(crate) fn measure(rt: &HostRuntime) -> Result<(), Fault> {
-    let entries = shuffled_entries(rt.alloc(), 0)?;
-    let mut host = full_host(rt.alloc(), &entries)?;
-    measure_ends(rt, &mut host, &entries)?;
-    measure_report(rt, &host)
+pub(crate) fn measure(rt: &HostRuntime, kept: &Host) -> Result<(), Fault> {
+    let mut host = kept.copy()?;
+    measure_host(rt, &mut host)
 }
 
-// A host on which all of the grains have firm activations.
-fn full_host(alloc: Global, entries: &[Entry]) -> Result<Host, Fault> {
-    let settings = Settings::of_directory(Hashing::Stated, 1, 0).ok_or(Fault::Missing)?;
-    let mut host = Host::new(alloc, first_silo()?, &settings);
-    for entry in entries {
-        start(&mut host, entry.grain)?;
+fn measure_host(rt: &HostRuntime, host: &mut Host) -> Result<(), Fault> {
+    measure_ends(rt, host)?;
+    measure_report(rt, host)
+}
+
+fn measure_ends(rt: &HostRuntime, host: &mut Host) -> Result<(), Fault> {
+    let ending = ENDING.grains(rt.alloc(), 0, ENDS)?;
+    let start = now(rt)?;
+    end_all(host, &ending)?;
+    let sum = host.next_count().wrapping_add(host.held_count() as u64);
+    report_since(rt, "end_and_start", start, ENDS, sum)
+}
+
+fn measure_report(rt: &HostRuntime, host: &Host) -> Result<(), Fault> {
+    match RingRange::new(1 << 31, REPORTED) {
+        Ok(range) => measure_reports(rt, host, &range),
+        Err(_) => Err(Fault::Missing),
     }
-    Ok(host)
+}
+
+fn measure_reports(rt: &HostRuntime, host: &Host, range: &RingRange) -> Result<(), Fault> {
+    let start = now(rt)?;
+    let mut sum = 0u64;
+    for _ in 0..REPORTS {
+        sum = sum.wrapping_add(sum_of_report(rt.alloc(), host, range)?);
+    }
+    report_since(rt, "report", start, REPORTS, sum)
+}
+
+// The activations of the grains end, and others begin.
+fn end_all(host: &mut Host, grains: &[GrainId]) -> Result<(), Fault> {
+    for grain in grains {
+        host.end(grain);
+        start(host, *grain)?;
+    }
+    Ok(())
 }
 
 // An activation begins, and is firm.
@@ -47,29 +78,6 @@ fn start(host: &mut Host, grain: GrainId) -> Result<(), Fault> {
     host.start(grain, None)?;
     host.confirm(number);
     Ok(())
-}
-
-fn measure_ends(rt: &HostRuntime, host: &mut Host, entries: &[Entry]) -> Result<(), Fault> {
-    let mut stopwatch = Stopwatch::new();
-    let begin = Instant::now(rt)?;
-    for entry in entries.iter().take(ENDS as usize) {
-        host.end(&entry.grain);
-        start(host, entry.grain)?;
-    }
-    let sum = host.next_count().wrapping_add(host.held_count() as u64);
-    stopwatch.note(rt, begin, sum)?;
-    stopwatch.report(rt, "end_and_start", ENDS)
-}
-
-fn measure_report(rt: &HostRuntime, host: &Host) -> Result<(), Fault> {
-    let range = RingRange::new(1 << 31, REPORTED).map_err(|_| Fault::Missing)?;
-    let mut stopwatch = Stopwatch::new();
-    for _ in 0..REPORTS {
-        let begin = Instant::now(rt)?;
-        let sum = sum_of_report(rt.alloc(), host, &range)?;
-        stopwatch.note(rt, begin, sum)?;
-    }
-    stopwatch.report(rt, "report", REPORTS)
 }
 
 // The counts of what is reported of the range.
