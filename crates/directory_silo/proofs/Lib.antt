@@ -1,0 +1,4 @@
+pub mod Back
+pub mod Own
+pub mod Whole
+pub mod Lawful

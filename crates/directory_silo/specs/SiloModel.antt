@@ -1,0 +1,6 @@
+-- How the fields of the code's silo are a silo by itself.
+use Rattle.directory_silo.specs.SiloValue.{SiloValue}
+use Rattle.directory_silo.specs.declared.silo.Silo.TheInside.{Inside}
+
+abbrev pub silo_of : Inside → SiloValue
+silo_of s = record { membership = record { views = s.views; places = s.places }; node = s.node }

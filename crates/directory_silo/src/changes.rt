@@ -1,0 +1,107 @@
+ghost use Rattle.std.specs.Prelude.{◌≡◌, ◌==◌, ◌+◌, ◌<◌, Err, IsOk, IsTrue, Ok, OnErr, false};
+ghost use Rattle.directory_node.specs.Follows.{Follows};
+ghost use Rattle.directory_silo.specs.AnswerModel.{heard_as};
+ghost use Rattle.directory_silo.specs.Membership.{Join, Leave, Die, changed, replaced_by};
+ghost use Rattle.directory_silo.specs.Numbers.{silo_refusal_number};
+ghost use Rattle.directory_silo.specs.Telling.{IsNever, MakesVersion, heard_by, told};
+
+use crate::known::{is_known_death, is_known_join, is_known_leave};
+use crate::membership::join;
+use crate::{News, Silo, SiloRefusal};
+use membership_view::Views;
+use silo_address::SiloAddress;
+
+// Changes of membership, in the order in which they were decided. To know a change is not to see its view: nothing else changes until
+// `see`, but that a silo takes no step before its own join, and none once it is Dead.
+impl Silo {
+    /// The silo is told that a silo joined, which made that version, with the places stated for it; none are stated where they are
+    /// hashed. Refused by 207 where the version was told before and says otherwise, by 206 where it isn't the next one, then by
+    /// 201, 205, 402, 403 (`docs/RULES.md#a-silo-by-itself`). A refusal changes nothing.
+    pub fn joined(
+        &mut self,
+        version: u64,
+        silo: SiloAddress,
+        places: &[u32],
+    ) -> Result<News, SiloRefusal>
+        ensures told { Follows (heard_as self.new) silo_refusal_number (MakesVersion self.old.membership version) (told self.old.node.settings self.old.membership version (Join silo places.now)) result }
+        ensures node { self.new.node ≡ self.old.node }
+        ensures unchanged { OnErr result (self.new ≡ self.old) }
+    {
+        if version <= self.views.current() {
+            return again(is_known_join(&self.views, &self.places, version, &silo, places));
+        }
+        if !is_next(&self.views, version) {
+            return Err(SiloRefusal::Gap);
+        }
+        self.admit(silo, places)
+    }
+
+    /// The silo is told that a silo began to leave, which made that version. Refused by 207, 206, then by 202, and by 203 where the
+    /// silo is Leaving or Dead (`docs/RULES.md#a-silo-by-itself`). Needs no memory.
+    pub fn leaving(&mut self, version: u64, silo: &SiloAddress) -> Result<News, SiloRefusal>
+        ensures told { Follows (heard_as self.new) silo_refusal_number IsNever (told self.old.node.settings self.old.membership version (Leave silo.now)) result }
+        ensures node { self.new.node ≡ self.old.node }
+        ensures unchanged { OnErr result (self.new ≡ self.old) }
+    {
+        if version <= self.views.current() {
+            return again(is_known_leave(&self.views, &self.places, version, silo));
+        }
+        if !is_next(&self.views, version) {
+            return Err(SiloRefusal::Gap);
+        }
+        match self.views.leave(silo) {
+            Ok(_) => Ok(News::Made),
+            Err(refusal) => Err(SiloRefusal::of_views(refusal)),
+        }
+    }
+
+    /// The silo is told that a silo died, which made that version. Refused by 207, 206, then by 202, 204
+    /// (`docs/RULES.md#a-silo-by-itself`). Needs no memory.
+    pub fn dead(&mut self, version: u64, silo: &SiloAddress) -> Result<News, SiloRefusal>
+        ensures told { Follows (heard_as self.new) silo_refusal_number IsNever (told self.old.node.settings self.old.membership version (Die silo.now)) result }
+        ensures node { self.new.node ≡ self.old.node }
+        ensures unchanged { OnErr result (self.new ≡ self.old) }
+    {
+        if version <= self.views.current() {
+            return again(is_known_death(&self.views, &self.places, version, silo));
+        }
+        if !is_next(&self.views, version) {
+            return Err(SiloRefusal::Gap);
+        }
+        match self.views.declare_dead(silo) {
+            Ok(_) => Ok(News::Made),
+            Err(refusal) => Err(SiloRefusal::of_views(refusal)),
+        }
+    }
+
+    // A join of the next version is told.
+    fn admit(&mut self, silo: SiloAddress, places: &[u32]) -> Result<News, SiloRefusal>
+        ensures told { Follows (heard_as self.new) silo_refusal_number IsOk (heard_by (changed self.old.node.settings self.old.membership (Join silo places.now)) (replaced_by self.old.membership (Join silo places.now))) result }
+        ensures node { self.new.node ≡ self.old.node }
+        ensures unchanged { OnErr result (self.new ≡ self.old) }
+    {
+        let settings = self.node.settings();
+        let replaced = join(&settings, &mut self.views, &mut self.places, silo, places)?;
+        Ok(News::of_change(replaced))
+    }
+}
+
+// Whether the version, which isn't known, is the next one.
+fn is_next(views: &Views, version: u64) -> bool
+    requires { views.now.version < version }
+    ensures { result ≡ (version == views.now.version + 1) }
+{
+    version - 1 == views.current()
+}
+
+// What is told of a change of a version that is known.
+fn again(known: bool) -> Result<News, SiloRefusal>
+    ensures known { IsTrue known → result ≡ Ok News.Known }
+    ensures otherwise { known ≡ false → result ≡ Err SiloRefusal.SaysOtherwise }
+{
+    if known {
+        Ok(News::Known)
+    } else {
+        Err(SiloRefusal::SaysOtherwise)
+    }
+}

@@ -1,0 +1,86 @@
+//! Which change made a version, as the views and places tell it (`docs/RULES.md#a-silo-by-itself`).
+ghost use Rattle.std.specs.Prelude.{◌≡◌, ◌==◌, List, ℕ};
+ghost use Rattle.std.specs.List.{list_any};
+ghost use Rattle.hash_ring.specs.Places.{places_of};
+ghost use Rattle.directory_silo.specs.Known.{are_these, is_known, is_made_in, is_of_join, were_stated};
+ghost use Rattle.directory_silo.specs.Membership.{Join, Leave, Die};
+
+use hash_ring::{Hashing, Places};
+use membership_view::Views;
+use silo_address::SiloAddress;
+
+/// Whether the silo joined in that version, with these places.
+pub(crate) fn is_known_join(
+    views: &Views,
+    places: &Places,
+    version: u64,
+    silo: &SiloAddress,
+    stated: &[u32],
+) -> bool
+    ensures { result ≡ is_known (record { views = views.now; places = places.now }) version (Join silo.now stated.now) }
+{
+    is_made_in(version, views.joined_at(silo)) && were_stated(places, silo, stated)
+}
+
+/// Whether the silo began to leave in that version.
+pub(crate) fn is_known_leave(
+    views: &Views,
+    places: &Places,
+    version: u64,
+    silo: &SiloAddress,
+) -> bool
+    ensures { result ≡ is_known (record { views = views.now; places = places.now }) version (Leave silo.now) }
+{
+    let _places = places;
+    is_made_in(version, views.left_at(silo))
+}
+
+/// Whether the silo died in that version, and not by the join of another one.
+pub(crate) fn is_known_death(
+    views: &Views,
+    places: &Places,
+    version: u64,
+    silo: &SiloAddress,
+) -> bool
+    ensures { result ≡ is_known (record { views = views.now; places = places.now }) version (Die silo.now) }
+{
+    let _places = places;
+    is_made_in(version, views.dead_at(silo)) && !is_of_join(views, version)
+}
+
+// Whether that version is the one in which it was made, if it was.
+fn is_made_in(version: u64, made: Option<u64>) -> bool
+    ensures { result ≡ is_made_in version made }
+{
+    match made {
+        Some(made) => made == version,
+        None => false,
+    }
+}
+
+// Whether some silo joined in the version.
+fn is_of_join(views: &Views, version: u64) -> bool
+    ensures { result ≡ is_of_join views.now version }
+{
+    views.rows().any(|(_, row)| row.joined == version)
+}
+
+// Whether these places were stated when the silo joined.
+fn were_stated(places: &Places, silo: &SiloAddress, stated: &[u32]) -> bool
+    ensures { result ≡ were_stated places.now.hashing places.now silo.now stated.now }
+{
+    match places.hashing() {
+        Hashing::Sha256 => stated.is_empty(),
+        Hashing::Stated => are_these(places, silo, stated),
+    }
+}
+
+// Whether these are the silo's places.
+fn are_these(places: &Places, silo: &SiloAddress, stated: &[u32]) -> bool
+    ensures { result ≡ are_these (places_of places.now silo.now) stated.now }
+{
+    match places.of(silo) {
+        Some(list) => list == stated,
+        None => false,
+    }
+}

@@ -1,0 +1,37 @@
+-- What a publisher and a reader are to their callers.
+use Rattle.std.specs.Prelude.{◌≡◌, ℕ, ◌+◌, List, [], ◌∷◌, ◌++◌, Option, Some, None, true}
+use Rattle.membership_view.specs.View.{ViewValue}
+use Rattle.hash_ring.specs.Owner.{owner_of}
+use Rattle.hash_ring.specs.Places.{PlacesValue}
+use Rattle.hash_ring.specs.Ring.{RingValue, are_added, ring_of, sorted_ring}
+use Rattle.published_rings.specs.declared.route.Route.{Route}
+
+-- the rings that were published before the last one, oldest first, the last one, and how many readers are left to be handed out
+pub record PublisherValue : Type 0 where
+  pub earlier : List RingValue
+  pub last : RingValue
+  pub left : ℕ
+
+-- the publisher after one more publication
+abbrev pub after_publishing : PublisherValue → RingValue → PublisherValue
+after_publishing publisher ring = record publisher { earlier = publisher.earlier ++ publisher.last ∷ []; last = ring }
+
+-- the rings that had been published when the reader answered last, oldest first, and the newest version that it was told of
+pub record ReaderValue : Type 0 where
+  pub seen : List RingValue
+  pub told : ℕ
+
+-- how many rings there are up to one, of which it is told how many are before it; none where there is none
+abbrev pub count_up_to : Option ℕ → ℕ
+count_up_to None = 0
+count_up_to (Some before) = before + 1
+
+-- the route of a hash by the newest of the rings that were seen, which is that of a view: the view's version, and who owns the hash by it
+pub record IsRouteOf (seen : List RingValue) (hash : ℕ) (route : Route) : Type 0 where
+  pub earlier : List RingValue
+  pub view : ViewValue
+  pub places : PlacesValue
+  pub added : are_added view places ≡ true
+  pub newest : seen ≡ earlier ++ ring_of view places ∷ []
+  pub version : route.version ≡ view.version
+  pub owner : route.owner ≡ owner_of (sorted_ring view places) hash

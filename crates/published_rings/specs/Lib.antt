@@ -1,0 +1,5 @@
+pub mod Numbers
+pub mod Shown
+pub mod Rule
+pub mod Ends
+pub mod Looking

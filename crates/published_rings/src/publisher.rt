@@ -1,0 +1,178 @@
+ghost use Rattle.std.specs.Prelude.{◌≡◌, ◌≢◌, ◌↔◌, ◌⊎◌, ◌+◌, ◌-◌, ◌<◌, ◌≤◌, [], vec_len, vec_capacity, IsTrue, IfOk, IfErr, OnOk, OnErr, IsErrOf, MatchResult, length, false};
+ghost use Rattle.left_right.specs.Sides.{view as seen_at};
+ghost use Rattle.hash_ring.specs.Ring.{IsRingBy, are_added, ring_of};
+ghost use Rattle.published_rings.specs.Ends.{after_publishing};
+ghost use Rattle.published_rings.specs.Rule.{Adds};
+ghost use Rattle.published_rings.specs.Shown.{IsOfView};
+
+use crate::rule::{Add, RingReader, RingWriter};
+use crate::shown::Shown;
+use crate::{RouteError, RouteReader, Told};
+use core::mem::replace_with;
+use hash_ring::{Places, Ring, RingError};
+use left_right::writer::Writer;
+use membership_view::View;
+use std::alloc::{AllocError, Global};
+use std::marker::Model;
+use std::sync::Wait;
+
+/// The greatest number of readers that a publisher may have.
+pub const MOST_READERS: usize = 64;
+
+/// Publishes rings. It isn't `Drop`: end it by `close` (`docs/RULES.md#published-rings`).
+pub struct Publisher {
+    writer: RingWriter,
+    readers: Vec<RingReader>,
+}
+
+impl Model for Publisher {
+    ghost use Rattle.std.specs.Prelude.{◌≤◌, length, take, vec_len};
+    ghost use Rattle.left_right.specs.Sides.{view as seen_at};
+    ghost use Rattle.published_rings.specs.Ends.{PublisherValue};
+
+    ghost Value = { PublisherValue };
+
+    ghost view = { λ p. record { earlier = take p.writer.desk.shown.value.before (seen_at p.writer.desk.place); last = p.writer.desk.shown.value.ring; left = vec_len p.readers } };
+
+    ghost invariant = { λ p. p.writer.desk.shown.value.before ≤ length (seen_at p.writer.desk.place) };
+}
+
+impl Publisher {
+    /// Publishes the ring of a view, and makes all readers at once, 1 to 64 of them. Refused by 403 where a silo that is Active in
+    /// the view was not added to the places, then by 952 where fewer readers could be had.
+    pub fn new<R: Wait>(
+        rt: &R,
+        alloc: Global,
+        view: &View,
+        places: &Places,
+        readers: usize,
+    ) -> Result<Publisher, RouteError>
+        requires some { 0 < readers }
+        requires most { readers ≤ MOST_READERS }
+        ensures made { IfOk result (λ publisher. publisher ≡ record { earlier = []; last = ring_of view.now places.now; left = readers }) }
+        ensures missing { IsErrOf result RouteError.PointsMissing ↔ (are_added view.now places.now ≡ false) }
+        ensures only { IfErr result (λ refusal. (refusal ≡ RouteError.PointsMissing) ⊎ (refusal ≡ RouteError.NoReader) ⊎ (refusal ≡ RouteError.OutOfMemory)) }
+    {
+        let ring = Ring::anew(alloc, view, places)?;
+        let mut made = Vec::with_capacity(alloc, readers)?;
+        let first = Shown::first(alloc, ring)?;
+        let second = first.again()?;
+        let writer = Writer::new(alloc, first, second, readers)?;
+        if make_readers(&writer, &mut made, readers).is_err() {
+            writer.take(rt);
+            return Err(RouteError::NoReader);
+        }
+        Ok(Publisher {
+            writer,
+            readers: made,
+        })
+    }
+
+    /// The version of the last view whose ring was published.
+    pub fn version(&self) -> u64
+        ensures { result ≡ self.now.last.version }
+    {
+        self.writer.published().ring().version()
+    }
+
+    /// Hands out a reader that wasn't handed out yet. Refused by 952 where none is left.
+    pub fn reader(&mut self) -> Result<RouteReader, RouteError>
+        ensures given { IfOk result (λ reader. reader ≡ record { seen = []; told = 0 }) }
+        ensures fewer { OnOk result (self.old ≡ record self.new { left = self.new.left + 1 }) }
+        ensures none { IsErrOf result RouteError.NoReader ↔ (self.old.left ≡ 0) }
+        ensures only { IfErr result (λ refusal. refusal ≡ RouteError.NoReader) }
+        ensures unchanged { OnErr result (self.new ≡ self.old) }
+    {
+        match self.readers.pop() {
+            Some(reader) => Ok(RouteReader::new(reader)),
+            None => Err(RouteError::NoReader),
+        }
+    }
+
+    /// Publishes the ring of a newer view, and returns a note of it for readers. The ring is that of the last view, advanced, where the view
+    /// is the next one, and else made anew. The last ring has to be by these places. Refused by 403 where a silo that is
+    /// Active in the view was not added to the places.
+    pub fn publish<R: Wait>(
+        &mut self,
+        rt: &R,
+        alloc: Global,
+        view: &View,
+        places: &Places,
+    ) -> Result<Told, RouteError>
+        requires newer { self.old.last.version < view.now.version }
+        requires by_places { IsRingBy self.old.last places.now }
+        ensures published { OnOk result (self.new ≡ after_publishing self.old (ring_of view.now places.now)) }
+        ensures told { IfOk result (λ told. told ≡ view.now.version) }
+        ensures missing { IsErrOf result RouteError.PointsMissing ↔ (are_added view.now places.now ≡ false) }
+        ensures only { IfErr result (λ refusal. (refusal ≡ RouteError.PointsMissing) ⊎ (refusal ≡ RouteError.OutOfMemory)) }
+        ensures unchanged { OnErr result (self.new ≡ self.old) }
+    {
+        let last = self.writer.published();
+        let ring = ring_after(alloc, last.ring(), view, places)?;
+        let next = last.next(alloc, ring)?;
+        replace_with(&mut self.writer, (rt, next), show)?;
+        Ok(Told::of(view.version()))
+    }
+
+    /// Ends the publisher. Readers are not let in from then on.
+    pub fn close<R: Wait>(self, rt: &R) {
+        let Publisher {
+            writer,
+            readers: _readers,
+        } = self;
+        writer.take(rt);
+    }
+}
+
+// Makes that many readers, or fails.
+fn make_readers(
+    writer: &RingWriter,
+    readers: &mut Vec<RingReader>,
+    count: usize,
+) -> Result<(), AllocError>
+    requires { vec_len readers.old + count ≤ vec_capacity readers.old }
+    ensures { OnOk result (vec_len readers.new ≡ vec_len readers.old + count) }
+{
+    for _made in 0..count {
+        readers.push_reserved(writer.factory().reader()?);
+    }
+    Ok(())
+}
+
+// The ring of a view that is newer than that of the last ring.
+fn ring_after(alloc: Global, last: &Ring, view: &View, places: &Places) -> Result<Ring, RingError>
+    requires newer { last.now.version < view.now.version }
+    requires by_places { IsRingBy last.now places.now }
+    ensures made { IfOk result (λ ring. ring ≡ ring_of view.now places.now) }
+    ensures missing { IsErrOf result RingError.PointsMissing ↔ (are_added view.now places.now ≡ false) }
+    ensures only { IfErr result (λ refusal. (refusal ≡ RingError.PointsMissing) ⊎ (refusal ≡ RingError.OutOfMemory)) }
+{
+    if !places.has_active_of(view) {
+        return Err(RingError::PointsMissing);
+    }
+    if view.version() - last.version() > 1 {
+        return Ring::anew(alloc, view, places);
+    }
+    let Ok(mut ring) = last.copy() else {
+        return Err(RingError::OutOfMemory);
+    };
+    ring.advance(view, places)?;
+    Ok(ring)
+}
+
+// Shows readers one more ring. Where memory runs out, they see what they saw.
+fn show<R: Wait>(writer: RingWriter, given: (&R, Shown)) -> (RingWriter, Result<(), AllocError>)
+    requires seen { writer.desk.shown.value.before ≤ length (seen_at writer.desk.place) }
+    requires newer { writer.desk.shown.value.ring.version < given.1.ring.version }
+    requires counted { given.1.before ≡ writer.desk.shown.value.before + 1 }
+    requires made { IsOfView given.1.ring }
+    ensures shown { MatchResult result.1 (λ _. result.0.desk.shown.value ≡ given.entry.1) (λ _. result.0.desk.shown.value ≡ writer.desk.shown.value) }
+    ensures seen { MatchResult result.1 (λ _. Adds (seen_at writer.desk.place) writer.desk.shown.value given.entry.1 (seen_at result.0.desk.place)) (λ _. seen_at result.0.desk.place ≡ seen_at writer.desk.place) }
+{
+    let (rt, next) = given;
+    let mut writer = writer;
+    let Ok(()) = writer.append(next) else {
+        return (writer, Err(AllocError));
+    };
+    writer.publish_as::<Add, R>(rt)
+}
