@@ -1,9 +1,10 @@
 -- A dump checked to the end: what is read of it and what is written, by how the check ends.
-use Rattle.std.specs.Prelude.{◌≡◌, ◌≢◌, ◌⊎◌, ℕ, ◌<◌, ◌≤◌, List, [], length, Option, ⊤}
+use Rattle.std.specs.Prelude.{◌≡◌, ◌≢◌, ◌⊎◌, ℕ, ◌<◌, ◌≤◌, true, false, List, [], length, Option, ⊤}
 use Rattle.std.specs.Io.KnownBytes.{Appends, IsAtEnd}
 use Rattle.texts.specs.Printed.{Output}
 use Rattle.dump_rules.specs.Judged.{judged_text}
 use Rattle.script_output.specs.Spaced.{BeginsWith}
+use Rattle.script_loop.specs.Calls.{ReadsInTurn, WritesText}
 use Rattle.script_loop.specs.Endings.{most_read}
 use Rattle.console_check.specs.Reading.{HasRead}
 use Rattle.console_check.specs.declared.checked.Checked.{Checked}
@@ -47,7 +48,16 @@ pub record Tells (bytes : List ℕ) (begun written : Option (List ℕ)) (checked
   pub concludes : Concludes (judged_text bytes) text checked
   pub not_long : checked ≢ TooLong
 
--- what breaks is broken by the last read or write
-abbrev pub IsBrokenBy : (read write : Type 0) → Checked → Type 0
-IsBrokenBy read write Broken = read ⊎ write
-IsBrokenBy read write other = ⊤
+-- the writes of a check: those of the text that is said, and where the check breaks, the last of them failed or took nothing; none
+-- where nothing is said
+abbrev pub WritesSaid : {W : Type 0} → (writes : W → List ℕ → Option ℕ → W → Type 0) → (text : List ℕ) → (old new : W) → Checked → Type 0
+WritesSaid writes text old new Right = WritesText writes text old new true
+WritesSaid writes text old new Faulty = WritesText writes text old new true
+WritesSaid writes text old new Broken = WritesText writes text old new false
+WritesSaid writes text old new other = new ≡ old
+
+-- the calls of a check: reads, all well, and then the writes of one text; or reads of which the last failed, where the check breaks
+abbrev pub MakesCalls : {R W : Type 0} → (reads : R → Option (List ℕ) → R → Type 0) → (writes : W → List ℕ → Option ℕ → W → Type 0) → (old new : R × W) → Checked → Type 0
+MakesCalls reads writes old new Broken =
+    (ReadsInTurn reads old.0 new.0 false × (new.1 ≡ old.1)) ⊎ (ReadsInTurn reads old.0 new.0 true × ((text : List ℕ) × WritesSaid writes text old.1 new.1 Broken))
+MakesCalls reads writes old new other = ReadsInTurn reads old.0 new.0 true × ((text : List ℕ) × WritesSaid writes text old.1 new.1 other)

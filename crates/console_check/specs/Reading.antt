@@ -1,5 +1,5 @@
 -- All that a source has, read to its end.
-use Rattle.std.specs.Prelude.{◌≡◌, ℕ, ◌<◌, ◌≤◌, List, ◌++◌, length, Option, Some}
+use Rattle.std.specs.Prelude.{◌≡◌, ℕ, ◌<◌, ◌≤◌, Bool, true, false, List, ◌++◌, length, Option, Some, Result, Ok, Err}
 use Rattle.std.specs.Io.KnownBytes.{Consumes, IsAtEnd}
 use Rattle.script_loop.specs.Endings.{most_at_once, most_read}
 use Rattle.console_check.specs.declared.reading.Unread.{Unread}
@@ -25,3 +25,13 @@ abbrev pub IsUnread : (all : List ℕ) → (rest : Option (List ℕ)) → Unread
 IsUnread all rest TooLong = HasRead all rest × (most_read < length all)
 IsUnread all rest OutOfMemory = HasRead all rest
 IsUnread all rest Broken = HasRead all rest
+
+-- whether the reads were well, where not all is read; and whether they were
+abbrev pub were_well : Unread → Bool
+were_well Broken = false
+were_well TooLong = true
+were_well OutOfMemory = true
+
+abbrev pub are_well : {A : Type 0} → Result A Unread → Bool
+are_well (Ok bytes) = true
+are_well (Err unread) = were_well unread

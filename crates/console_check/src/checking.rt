@@ -1,7 +1,7 @@
 //! A dump judged from a source to a sink.
 ghost use Rattle.std.specs.Prelude.{IfSome};
-ghost use Rattle.script_loop.specs.Calls.{ReadFailed, WriteFailed};
-ghost use Rattle.console_check.specs.Checks.{Checks, IsBrokenBy, Tells};
+ghost use Rattle.dump_rules.specs.Judged.{judged_text};
+ghost use Rattle.console_check.specs.Checks.{Checks, MakesCalls, Tells, WritesSaid};
 
 use crate::Checked;
 use crate::reading::{Unread, read_all};
@@ -14,7 +14,7 @@ use std::alloc::Global;
 /// (`docs/RULES.md#the-dump-and-the-verdict`).
 pub fn check<R: Source, W: Sink>(alloc: Global, reader: &mut R, writer: &mut W) -> Checked
     ensures checks { IfSome (R.remaining reader.old) (λ bytes. Checks bytes (R.remaining reader.new) (W.contents writer.old) (W.contents writer.new) result) }
-    ensures cause { IsBrokenBy (ReadFailed R.reads reader.new) (WriteFailed W.writes writer.new) result }
+    ensures calls { MakesCalls R.reads W.writes (reader.old, writer.old) (reader.new, writer.new) result }
 {
     match read_all(alloc, reader) {
         Ok(bytes) => tell(alloc, &bytes, writer),
@@ -27,7 +27,7 @@ pub fn check<R: Source, W: Sink>(alloc: Global, reader: &mut R, writer: &mut W) 
 // Judges the bytes, and writes what is said of them.
 fn tell<W: Sink>(alloc: Global, bytes: &[u8], writer: &mut W) -> Checked
     ensures tells { Tells bytes.now (W.contents writer.old) (W.contents writer.new) result }
-    ensures cause { IsBrokenBy ⊥ (WriteFailed W.writes writer.new) result }
+    ensures calls { WritesSaid W.writes (judged_text bytes.now).text writer.old writer.new result }
 {
     let Ok(judgement) = judge(alloc, bytes) else {
         return Checked::OutOfMemory;

@@ -1,7 +1,7 @@
 //! All that a source has.
 ghost use Rattle.std.specs.Prelude.{◌≡◌, ◌≤◌, ◌<◌, ◌++◌, ◌+◌, IfErr, IfOk, IfSome, IsErrOf, OnOk, length, vec_len};
-ghost use Rattle.script_loop.specs.Calls.{ReadFailed};
-ghost use Rattle.console_check.specs.Reading.{IsRead, IsUnread};
+ghost use Rattle.script_loop.specs.Calls.{ReadsInTurn};
+ghost use Rattle.console_check.specs.Reading.{IsRead, IsUnread, are_well};
 ghost use Rattle.console_check.specs.declared.reading.Unread.TheVariants.{OutOfMemory};
 
 use script_loop::Source;
@@ -35,7 +35,7 @@ impl From<AllocError> for Unread {
 pub(crate) fn read_all<R: Source>(alloc: Global, reader: &mut R) -> Result<Vec<u8>, Unread>
     ensures read { IfOk result (λ bytes. IfSome (R.remaining reader.old) (λ all. IsRead all (R.remaining reader.new) bytes.items)) }
     ensures unread { IfErr result (λ unread. IfSome (R.remaining reader.old) (λ all. IsUnread all (R.remaining reader.new) unread)) }
-    ensures cause { IsErrOf result Unread.Broken → ReadFailed R.reads reader.new }
+    ensures calls { ReadsInTurn R.reads reader.old reader.new (are_well result) }
 {
     let mut chunk = vec![in alloc; 0; CHUNK]?;
     let mut bytes = Vec::new(alloc);

@@ -1,5 +1,5 @@
 -- What words mean that clap refuses.
-use Rattle.std.proofs.Common.{◌≢◌, List, Err, refl}
+use Rattle.std.proofs.Common.{◌≢◌, ℕ, List, Option, Err, refl}
 use Rattle.clap.specs.Walk.{Text}
 use Rattle.clap.specs.Values.{kind_of}
 use Rattle.clap.specs.declared.error.kind.ErrorKind.{ErrorKind}
@@ -7,6 +7,9 @@ use Rattle.command_line.specs.Line.{AskToBeTold, HaveFault, Reads}
 use Rattle.command_line.specs.Refusal.{IsAnswer, IsRequest}
 use Rattle.command_line.specs.declared.error.LineError.{LineError}
 use Rattle.command_line.specs.declared.error.LineError.TheVariants as errors
+use Rattle.console_command.specs.Exits.{MakesCalls, WritesAnswer}
+use Rattle.console_command.specs.declared.exit.Exit.{Exit}
+use Rattle.console_command.specs.declared.exit.Exit.TheVariants.{Played, Checked}
 
 -- they ask for help or for the version
 pub asked : (error : LineError) → IsAnswer error → (words : List Text) → Reads words (Err error) → AskToBeTold words
@@ -18,3 +21,10 @@ pub mistaken : (error : LineError) → ¬ (IsAnswer error) → error ≢ errors.
     → (kind : ErrorKind) × HaveFault words kind × (¬ (IsRequest kind))
 mistaken (errors.Usage e) not there words read = (kind_of e, read, not)
 mistaken errors.OutOfMemory not there words read = absurd (there refl)
+
+-- what is answered, or refused, is all that is called
+pub is_explained : {R W : Type 0} (reads : R → Option (List ℕ) → R → Type 0) (writes : W → List ℕ → Option ℕ → W → Type 0) (source : R) (old new : W) (exit : Exit)
+    → WritesAnswer writes old new exit → MakesCalls reads writes (source, old) (source, new) exit
+is_explained reads writes source old new (Played ended) written = absurd written
+is_explained reads writes source old new (Checked checked) written = absurd written
+is_explained reads writes source old new other written = (refl, written)

@@ -1,7 +1,8 @@
 -- How the program ends.
-use Rattle.std.specs.Prelude.{ℕ, ⊤}
+use Rattle.std.specs.Prelude.{◌≡◌, ℕ, ◌<◌, true, false, List, length, Option}
 use Rattle.std.specs.declared.io.ErrorKind.{ErrorKind}
 use Rattle.std.specs.declared.io.ErrorKind.TheVariants as kind
+use Rattle.script_loop.specs.Calls.{WritesText}
 use Rattle.script_loop.specs.Endings as play
 use Rattle.console_check.specs.Checks as check
 use Rattle.console_command.specs.declared.exit.Exit.{Exit}
@@ -16,12 +17,19 @@ status_of OutOfMemory = 3
 status_of Refused = 4
 status_of AnswerBroken = 5
 
--- what breaks is broken by the last read or write
-abbrev pub IsBrokenBy : (read write : Type 0) → Exit → Type 0
-IsBrokenBy read write (Played ended) = play.IsBrokenBy read write ended
-IsBrokenBy read write (Checked checked) = check.IsBrokenBy read write checked
-IsBrokenBy read write AnswerBroken = write
-IsBrokenBy read write other = ⊤
+-- the writes to the output where words ask for no play and no check: of an answer, which is not empty; else none
+abbrev pub WritesAnswer : {W : Type 0} → (writes : W → List ℕ → Option ℕ → W → Type 0) → (old new : W) → Exit → Type 0
+WritesAnswer writes old new Answered = (text : List ℕ) × (0 < length text) × WritesText writes text old new true
+WritesAnswer writes old new AnswerBroken = (text : List ℕ) × (0 < length text) × WritesText writes text old new false
+WritesAnswer writes old new Refused = new ≡ old
+WritesAnswer writes old new OutOfMemory = new ≡ old
+WritesAnswer writes old new other = ⊥
+
+-- the reads of the source and the writes to the output: those of a play, or of a check; else nothing is read
+abbrev pub MakesCalls : {R W : Type 0} → (reads : R → Option (List ℕ) → R → Type 0) → (writes : W → List ℕ → Option ℕ → W → Type 0) → (old new : R × W) → Exit → Type 0
+MakesCalls reads writes old new (Played ended) = play.MakesCalls reads writes old new ended
+MakesCalls reads writes old new (Checked checked) = check.MakesCalls reads writes old new checked
+MakesCalls reads writes old new other = (new.0 ≡ old.0) × WritesAnswer writes old.1 new.1 other
 
 -- how the program ends where the words of its command line can't be had
 abbrev pub exit_without_words : ErrorKind → Exit

@@ -1,11 +1,12 @@
 -- What the program does with the words of its command line.
-use Rattle.std.specs.Prelude.{◌≡◌, ℕ, List, Option, IfSome}
+use Rattle.std.specs.Prelude.{◌≡◌, ℕ, ◌<◌, List, length, Option, IfSome}
 use Rattle.std.specs.Io.KnownBytes.{Appends}
 use Rattle.clap.specs.Walk.{Text}
 use Rattle.clap.specs.declared.error.kind.ErrorKind.{ErrorKind}
 use Rattle.directory_rules.specs.Settings.{directory_settings}
 use Rattle.directory_rules.specs.World.{first_world}
 use Rattle.script_loop.specs.Endings.{Ends}
+use Rattle.script_loop.specs.Sending.{WritesFront}
 use Rattle.script_loop.specs.declared.ended.Ended.{Ended}
 use Rattle.console_play.specs.Playing.{lines_played}
 use Rattle.console_check.specs.Checks.{Checks}
@@ -33,15 +34,19 @@ Plays Check old new ended = ⊥
 abbrev pub ChecksDump : (old new : Streams) → Checked → Type 0
 ChecksDump old new checked = IfSome old.rest (λ dump. Checks dump new.rest old.output new.output checked)
 
--- nothing is read, and something is written to the output
+-- nothing is read, and a text that is not empty is written to the output
 abbrev pub Prints : (old new : Streams) → Type 0
-Prints old new = (new.rest ≡ old.rest) × ((text : List ℕ) × Appends old.output new.output text)
+Prints old new = (new.rest ≡ old.rest) × ((text : List ℕ) × (0 < length text) × Appends old.output new.output text)
+
+-- or a beginning of it
+abbrev pub PrintsFront : (old new : Streams) → Type 0
+PrintsFront old new = (new.rest ≡ old.rest) × ((text : List ℕ) × (0 < length text) × WritesFront text old.output new.output)
 
 -- what the words ask for is done; where they are a mistake, or memory runs out, nothing is read and nothing written to the output
 abbrev pub Does : (words : List Text) → (old new : Streams) → Exit → Type 0
 Does words old new (Played ended) = (line : Line) × AskFor words line × Plays line old new ended
 Does words old new (CheckedDump checked) = AskFor words Check × ChecksDump old new checked
 Does words old new Answered = AskToBeTold words × Prints old new
-Does words old new AnswerBroken = AskToBeTold words × Prints old new
+Does words old new AnswerBroken = AskToBeTold words × PrintsFront old new
 Does words old new Refused = (kind : ErrorKind) × HaveFault words kind × (¬ (IsRequest kind)) × (new ≡ old)
 Does words old new OutOfMemory = new ≡ old

@@ -1,11 +1,11 @@
 -- What the program tells on standard error.
-use Rattle.std.specs.Prelude.{◌≡◌, ◌⊎◌, ◌++◌, ℕ, List, [], Option, codes, ⊤}
+use Rattle.std.specs.Prelude.{◌≡◌, ◌++◌, ℕ, ◌<◌, Bool, List, [], length, Option, codes}
 use Rattle.std.specs.Fmt.{decimal}
-use Rattle.std.specs.Io.KnownBytes.{Appends}
 use Rattle.std.specs.declared.io.ErrorKind.{ErrorKind}
 use Rattle.std.specs.declared.io.ErrorKind.TheVariants as kind
 use Rattle.script_output.specs.Printed.{printed}
-use Rattle.script_loop.specs.Sending.{WritesFront}
+use Rattle.script_loop.specs.Calls.{WritesText}
+use Rattle.script_loop.specs.Sending.{Sends}
 use Rattle.script_loop.specs.declared.ended.Ended.{Ended}
 use Rattle.script_loop.specs.declared.ended.Ended.TheVariants as ended
 use Rattle.script_loop.specs.declared.ended.LineFault.{LineFault}
@@ -26,9 +26,9 @@ failed_call = printed (codes "error: a read or a write failed")
 abbrev pub fault_text : (line : ℕ) → (words : List ℕ) → List ℕ
 fault_text line words = codes "error: line " ++ (decimal line ++ (codes ": " ++ printed words))
 
--- a fault is told, in some words; or there was no memory for them
+-- a fault is told by its line, in some words
 abbrev pub TellsFault : LineFault → (text : List ℕ) → Type 0
-TellsFault fault text = ((words : List ℕ) × (text ≡ fault_text fault.line words)) ⊎ (text ≡ out_of_memory)
+TellsFault fault text = (words : List ℕ) × (0 < length words) × (text ≡ fault_text fault.line words)
 
 -- what a play's end tells: nothing where all was played
 abbrev pub TellsEnd : Ended → (text : List ℕ) → Type 0
@@ -46,22 +46,22 @@ TellsCheck checked.TooLong text = text ≡ printed (codes "error: the dump has m
 TellsCheck checked.OutOfMemory text = text ≡ out_of_memory
 TellsCheck checked.Broken text = text ≡ failed_call
 
--- what the program's end tells: of a mistake clap's words, of an answer nothing, unless it could not be written
+-- what the program's end tells: of a mistake some words, of an answer nothing, unless it could not be written
 abbrev pub Tells : Exit → (text : List ℕ) → Type 0
 Tells (Played ended) text = TellsEnd ended text
 Tells (Checked ending) text = TellsCheck ending text
 Tells AnswerBroken text = text ≡ failed_call
-Tells Refused text = ⊤
+Tells Refused text = 0 < length text
 Tells OutOfMemory text = text ≡ out_of_memory
 Tells other text = text ≡ []
 
--- a text is written; or a beginning of it, since the last write failed
-abbrev pub Writes : (failed : Type 0) → List ℕ → (begun written : Option (List ℕ)) → Type 0
-Writes failed text begun written = Appends begun written text ⊎ (WritesFront text begun written × failed)
+-- a text is written; or a beginning of it, since the last write failed or took nothing
+abbrev pub Writes : {E : Type 0} → (writes : E → List ℕ → Option ℕ → E → Type 0) → (contents : E → Option (List ℕ)) → (text : List ℕ) → (old new : E) → Type 0
+Writes writes contents text old new = (whole : Bool) × Sends text (contents old) (contents new) whole × WritesText writes text old new whole
 
 -- that is told
-abbrev pub IsTold : (failed : Type 0) → Exit → (begun written : Option (List ℕ)) → Type 0
-IsTold failed exit begun written = (text : List ℕ) × Tells exit text × Writes failed text begun written
+abbrev pub IsTold : {E : Type 0} → (writes : E → List ℕ → Option ℕ → E → Type 0) → (contents : E → Option (List ℕ)) → Exit → (old new : E) → Type 0
+IsTold writes contents exit old new = (text : List ℕ) × Tells exit text × Writes writes contents text old new
 
 -- what is told where the words of the command line can't be had
 abbrev pub told_without_words : ErrorKind → List ℕ

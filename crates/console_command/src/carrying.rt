@@ -4,14 +4,13 @@ ghost use Rattle.std.specs.Prelude.{◌≡◌, List, ℕ, Option, Err, map};
 ghost use Rattle.clap.specs.Walk.{Text};
 ghost use Rattle.command_line.specs.Line.{AskToBeTold, IsInRange, Reads};
 ghost use Rattle.command_line.specs.declared.line.Line.TheVariants.{Play};
-ghost use Rattle.script_loop.specs.Calls.{ReadFailed, WriteFailed};
 ghost use Rattle.script_loop.specs.Endings as play;
-ghost use Rattle.console_command.specs.Exits.{IsBrokenBy, exit_without_words};
+ghost use Rattle.console_command.specs.Exits.{MakesCalls, WritesAnswer, exit_without_words};
 ghost use Rattle.console_command.specs.Running.{Does, Plays};
 ghost use Rattle.console_command.specs.Telling.{IsTold, Writes, told_without_words};
 
 use crate::Exit;
-use crate::telling::{tell, tell_check, tell_end, tell_failed_call, tell_no_memory};
+use crate::telling::{tell, tell_check, tell_end, tell_failed_call, tell_no_memory, words_or};
 use command_line::{Line, LineError, read_line};
 use console_check::check;
 use console_play::play_to_new_cluster;
@@ -20,6 +19,12 @@ use script_loop::{Ended, Sink, Source, send};
 use std::alloc::Global;
 use std::convert::AsStr;
 use std::io::ErrorKind;
+
+/// What is printed where clap has no words for an answer.
+const NAME: &str = "grain-directory\n";
+
+/// What is told where clap has no words for a mistake.
+const MISTAKE: &str = "error: the command line is a mistake\n";
 
 /// Does what the words of a command line ask for, the program's name first: plays the script that comes from the source, judges the
 /// dump that does, or prints help or the version. What is wrong with the words, and what ends the script or the reading of the dump
@@ -34,8 +39,8 @@ pub fn carry_out<S: AsStr, R: Source, W: Sink, E: Sink>(
     ensures does { Does (map S.text words.now)
         (record { rest = R.remaining source.old; output = W.contents output.old })
         (record { rest = R.remaining source.new; output = W.contents output.new }) result }
-    ensures cause { IsBrokenBy (ReadFailed R.reads source.new) (WriteFailed W.writes output.new) result }
-    ensures told { IsTold (WriteFailed E.writes errors.new) result (E.contents errors.old) (E.contents errors.new) }
+    ensures calls { MakesCalls R.reads W.writes (source.old, output.old) (source.new, output.new) result }
+    ensures told { IsTold E.writes E.contents result errors.old errors.new }
 {
     match read_line(alloc, words) {
         Ok(
@@ -70,7 +75,7 @@ fn play<R: Source, W: Sink>(
     ensures plays { Plays (Play hashing points cache)
         (record { rest = R.remaining source.old; output = W.contents output.old })
         (record { rest = R.remaining source.new; output = W.contents output.new }) result }
-    ensures cause { play.IsBrokenBy (ReadFailed R.reads source.new) (WriteFailed W.writes output.new) result }
+    ensures calls { play.MakesCalls R.reads W.writes (source.old, output.old) (source.new, output.new) result }
 {
     match play_to_new_cluster(alloc, hashing, points, cache, source, output) {
         Some(ended) => ended,
@@ -88,8 +93,8 @@ fn explain<W: Sink, E: Sink>(
     ensures does { (words : List Text) → Reads words (Err error.now) → (rest : Option (List ℕ)) → Does words
         (record { rest = rest; output = W.contents output.old })
         (record { rest = rest; output = W.contents output.new }) result }
-    ensures cause { IsBrokenBy ⊥ (WriteFailed W.writes output.new) result }
-    ensures told { IsTold (WriteFailed E.writes errors.new) result (E.contents errors.old) (E.contents errors.new) }
+    ensures calls { WritesAnswer W.writes output.old output.new result }
+    ensures told { IsTold E.writes E.contents result errors.old errors.new }
 {
     if let LineError::OutOfMemory = error {
         return tell_no_memory(errors);
@@ -100,6 +105,7 @@ fn explain<W: Sink, E: Sink>(
     if error.is_request() {
         return answer(text.as_str(), output, errors);
     }
+    let text = words_or(text.as_str(), MISTAKE);
     tell(errors, text.as_bytes());
     Exit::Refused
 }
@@ -109,9 +115,10 @@ fn answer<W: Sink, E: Sink>(text: &str, output: &mut W, errors: &mut E) -> Exit
     ensures does { (words : List Text) → AskToBeTold words → (rest : Option (List ℕ)) → Does words
         (record { rest = rest; output = W.contents output.old })
         (record { rest = rest; output = W.contents output.new }) result }
-    ensures cause { IsBrokenBy ⊥ (WriteFailed W.writes output.new) result }
-    ensures told { IsTold (WriteFailed E.writes errors.new) result (E.contents errors.old) (E.contents errors.new) }
+    ensures calls { WritesAnswer W.writes output.old output.new result }
+    ensures told { IsTold E.writes E.contents result errors.old errors.new }
 {
+    let text = words_or(text, NAME);
     if send(output, text.as_bytes()) {
         return Exit::Answered;
     }
@@ -122,7 +129,7 @@ fn answer<W: Sink, E: Sink>(text: &str, output: &mut W, errors: &mut E) -> Exit
 /// Tells that the words of the command line can't be had: memory ran out, or one of them isn't text.
 pub fn carry_out_nothing<E: Sink>(kind: ErrorKind, errors: &mut E) -> Exit
     ensures exit { result ≡ exit_without_words kind }
-    ensures told { Writes (WriteFailed E.writes errors.new) (told_without_words kind) (E.contents errors.old) (E.contents errors.new) }
+    ensures told { Writes E.writes E.contents (told_without_words kind) errors.old errors.new }
 {
     if let ErrorKind::OutOfMemory = kind {
         return tell_no_memory(errors);

@@ -1,10 +1,9 @@
 //! Scripts played to a cluster.
 
-ghost use Rattle.std.specs.Prelude.{◌≤◌, ◌↔◌, IfSome, IsSome};
+ghost use Rattle.std.specs.Prelude.{◌≡◌, ◌≤◌, ◌↔◌, IfSome, IsSome, MatchOption};
 ghost use Rattle.directory_rules.specs.Settings.{directory_settings};
 ghost use Rattle.directory_rules.specs.World.{first_world};
-ghost use Rattle.script_loop.specs.Calls.{ReadFailed, WriteFailed};
-ghost use Rattle.script_loop.specs.Endings.{Ends, IsBrokenBy};
+ghost use Rattle.script_loop.specs.Endings.{Ends, MakesCalls};
 ghost use Rattle.console_play.specs.Playing.{lines_played};
 
 use crate::cluster::Cluster;
@@ -29,7 +28,8 @@ pub fn play_to_new_cluster<R: Source, W: Sink>(
     ensures ends { IfSome result (λ ended. IfSome (R.remaining reader.old) (λ script.
         Ends script (lines_played (first_world (directory_settings hashing points cache)) 1)
         (R.remaining reader.new) (W.contents writer.old) (W.contents writer.new) ended)) }
-    ensures cause { IfSome result (IsBrokenBy (ReadFailed R.reads reader.new) (WriteFailed W.writes writer.new)) }
+    ensures calls { MatchOption result ((reader.new ≡ reader.old) × (writer.new ≡ writer.old))
+        (MakesCalls R.reads W.writes (reader.old, writer.old) (reader.new, writer.new)) }
 {
     let settings = Settings::of_directory(hashing, points, cache)?;
     Some(play(alloc, World::new(alloc, settings), reader, writer))
@@ -44,7 +44,7 @@ pub fn play<R: Source, W: Sink>(
 ) -> Ended
     ensures ends { IfSome (R.remaining reader.old) (λ script.
         Ends script (lines_played world 1) (R.remaining reader.new) (W.contents writer.old) (W.contents writer.new) result) }
-    ensures cause { IsBrokenBy (ReadFailed R.reads reader.new) (WriteFailed W.writes writer.new) result }
+    ensures calls { MakesCalls R.reads W.writes (reader.old, writer.old) (reader.new, writer.new) result }
 {
     script_loop::play(alloc, &mut Cluster { world }, reader, writer)
 }

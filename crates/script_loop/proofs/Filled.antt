@@ -39,11 +39,14 @@ filled old new read rest chunk put n result consumes ends within room same taken
     taken_in old new read rest chunk n result consumes ends within room (subst (λ (c : List ℕ). TakesIn old (take n c) new result) same taken)
 
 -- by one read
-pub read_once : {R : Type 0} (reads : R → Option (List ℕ) → R → Type 0) (before after : R) (old new : Progress) (got put : List ℕ) (result : Option Ended)
-    → reads before (Some got) after → TakesIn old put new result → ReadsOnce reads before after result
-read_once reads before after old new got put None once taken = (got, once)
-read_once reads before after old new got put (Some ended.TooLong) once taken = (got, once)
-read_once reads before after old new got put (Some ended.OutOfMemory) once taken = (got, once)
-read_once reads before after old new got put (Some ended.Broken) once taken = absurd taken
-read_once reads before after old new got put (Some ended.Played) once taken = absurd taken
-read_once reads before after old new got put (Some (ended.Faulted fault)) once taken = absurd taken
+pub read_once : {R : Type 0} (reads : R → Option (List ℕ) → R → Type 0) (before after : R) (old new : Progress) (got put : List ℕ) (result : Option Ended) → put ≡ got
+    → reads before (Some got) after → TakesIn old put new result → ReadsOnce reads before after new.ended result
+read_once {R} reads before after old new got put result same once taken = made result (subst (λ (bytes : List ℕ). TakesIn old bytes new result) same taken)
+  where
+    made : (result : Option Ended) → TakesIn old got new result → ReadsOnce reads before after new.ended result
+    made None taken = (got, once, taken.at_end, taken.goes_on)
+    made (Some ended.TooLong) taken = (got, once, omega arith)
+    made (Some ended.OutOfMemory) taken = (got, once, taken)
+    made (Some ended.Broken) taken = absurd taken
+    made (Some ended.Played) taken = absurd taken
+    made (Some (ended.Faulted fault)) taken = absurd taken

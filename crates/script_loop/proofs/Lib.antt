@@ -1,4 +1,4 @@
-mod Causes
+mod CallsInTurn
 mod Filled
 mod Pieces
 mod Stands

@@ -8,7 +8,7 @@ use Rattle.texts.specs.Printed.{Output}
 use Rattle.script_output.specs.Spaced.{BeginsWith}
 use Rattle.script_loop.specs.declared.ended.Ended.{Ended}
 use Rattle.script_loop.specs.declared.ended.Ended.TheVariants as ended
-use Rattle.script_loop.specs.Endings.{Concludes, Ends, EndsReading, HasRead, most_read}
+use Rattle.script_loop.specs.Endings.{Concludes, Ends, EndsReading, HasRead, IsBegun, most_read}
 use Rattle.script_loop.specs.Lines.{Rule, behind, no_output}
 use Rattle.script_loop.specs.Progress.{EndsStep, HasEnded, HasPlayed, MayCome, Progress, first_progress, to_come}
 use Rattle.script_loop.specs.Sending.{WritesFront}
@@ -27,7 +27,8 @@ none_read first script nothing = record {
   chunk_fits = omega arith;
   whole = [];
   begun = [];
-  lines = refl;
+  is_begun = record { no_end = λ is. absurd (omega arith); fits = omega arith };
+  lines = λ more. refl;
   written = record { more = []; joined = sym (ap (λ (o : Output). o.text ++ []) nothing) };
 }
 
@@ -42,6 +43,7 @@ same_read output script rest text more read = record {
   chunk_fits = read.chunk_fits;
   whole = read.whole;
   begun = read.begun;
+  is_begun = read.is_begun;
   lines = read.lines;
   written = record {
     more = read.written.more ++ more;
@@ -60,6 +62,7 @@ kept_read output script read rest text keeps old = record {
   chunk_fits = old.chunk_fits;
   whole = old.whole;
   begun = old.begun;
+  is_begun = old.is_begun;
   lines = old.lines;
   written = old.written;
 }
@@ -71,20 +74,20 @@ all_sent sent waiting output whole none nothing is =
     let no_text : waiting ++ output.text ≡ [] = ap (λ (t : List ℕ). t ++ output.text) none ∙ ap (λ (o : Output). o.text) nothing in
     sym (append-nil (whole.text) ∙ (sym text ∙ (ap (λ (t : List ℕ). sent ++ t) no_text ∙ append-nil sent)))
 
--- a chunk more, where no line that is there is still to be played and nothing waits
-abbrev pub more_read : (first : Rule) (script : List ℕ) (begun : Option (List ℕ)) (rule : Rule) (at : Progress) (read rest written : Option (List ℕ)) (line got : List ℕ)
-    → rule at.line [] ≡ no_output → lines_of at.held ≡ line ∷ [] → at.waiting ≡ [] → HasGot read rest got
+-- a chunk more, where what is held is a line that is begun and nothing waits
+abbrev pub more_read : (first : Rule) (script : List ℕ) (begun : Option (List ℕ)) (rule : Rule) (at : Progress) (read rest written : Option (List ℕ)) (got : List ℕ)
+    → rule at.line [] ≡ no_output → IsBegun at.held → at.waiting ≡ [] → HasGot read rest got
     → (stands : Stands first script begun rule at read written) → HasRead script (first 1) rest stands.sent
-more_read first script begun rule at read rest written line got nothing only none chunk stands = record {
+more_read first script begun rule at read rest written got nothing is_begun none chunk stands = record {
   front = stands.has_read.front ++ stands.has_read.chunk;
   chunk = got;
   consumes = Consumes-trans (Some script) read rest (stands.has_read.front ++ stands.has_read.chunk) got stands.has_read.consumes chunk.consumes;
   front_fits = omega (arith, stands.counted);
   chunk_fits = chunk.fits;
   whole = stands.played;
-  begun = line;
-  lines = ap lines_of (sym (append-nil (stands.has_read.front ++ stands.has_read.chunk)))
-      ∙ (stands.lines [] ∙ (ap (λ (bs : List ℕ). stands.played ++ lines_of bs) (append-nil at.held) ∙ ap (λ (ls : List (List ℕ)). stands.played ++ ls) only));
+  begun = at.held;
+  is_begun = is_begun;
+  lines = stands.lines;
   written = record {
     more = [];
     joined = all_sent stands.sent at.waiting (rule at.line []) (first 1 stands.played) none nothing
@@ -150,15 +153,15 @@ stands_drained first script begun read before written rule old new drain stands 
     })
 
 -- more was read
-pub stands_filled : (first : Rule) (script : List ℕ) (begun read rest written : Option (List ℕ)) (rule : Rule) (old new : Progress) (line : List ℕ)
-    → rule old.line [] ≡ no_output → lines_of old.held ≡ line ∷ [] → old.waiting ≡ [] → HasFilled old read new rest
+pub stands_filled : (first : Rule) (script : List ℕ) (begun read rest written : Option (List ℕ)) (rule : Rule) (old new : Progress)
+    → rule old.line [] ≡ no_output → IsBegun old.held → old.waiting ≡ [] → HasFilled old read new rest
     → Stands first script begun rule old read written → Stands first script begun rule new rest written
-stands_filled first script begun read rest written rule old new line nothing only none fill stands =
+stands_filled first script begun read rest written rule old new nothing is_begun none fill stands =
     let consumed = stands.has_read.front ++ stands.has_read.chunk in
     record {
       sent = stands.sent;
       appends = stands.appends;
-      has_read = more_read first script begun rule old read rest written line fill.got nothing only none fill.chunk stands;
+      has_read = more_read first script begun rule old read rest written fill.got nothing is_begun none fill.chunk stands;
       at_end = fill.at_end;
       counted = omega (arith, fill.counted, stands.counted, length-append consumed fill.got);
       played = stands.played;
@@ -199,15 +202,15 @@ sent_first : (sent : List ℕ) (output whole : Output) → behind sent output �
 sent_first sent output whole is = record { more = output.text; joined = sym (ap (λ (o : Output). o.text) is) }
 
 -- a read failed, or memory ran out, or the script is too long
-pub ends_unread : (first : Rule) (script : List ℕ) (begun read rest written : Option (List ℕ)) (rule : Rule) (at new : Progress) (line : List ℕ) (ended : Ended)
-    → rule at.line [] ≡ no_output → lines_of at.held ≡ line ∷ [] → at.waiting ≡ [] → Fills at read new rest (Some ended)
+pub ends_unread : (first : Rule) (script : List ℕ) (begun read rest written : Option (List ℕ)) (rule : Rule) (at new : Progress) (ended : Ended)
+    → rule at.line [] ≡ no_output → IsBegun at.held → at.waiting ≡ [] → Fills at read new rest (Some ended)
     → Stands first script begun rule at read written → Ends script (first 1) rest begun written ended
-ends_unread first script begun read rest written rule at new line ended.Played nothing only none fill stands = absurd fill
-ends_unread first script begun read rest written rule at new line (ended.Faulted fault) nothing only none fill stands = absurd fill
-ends_unread first script begun read rest written rule at new line ended.TooLong nothing only none fill stands =
+ends_unread first script begun read rest written rule at new ended.Played nothing is_begun none fill stands = absurd fill
+ends_unread first script begun read rest written rule at new (ended.Faulted fault) nothing is_begun none fill stands = absurd fill
+ends_unread first script begun read rest written rule at new ended.TooLong nothing is_begun none fill stands =
     let h = stands.has_read in
     let before = rest_of script read (h.front ++ h.chunk) h.consumes in
-    let now = more_read first script begun rule at read rest written line fill.0 nothing only none fill.1 stands in
+    let now = more_read first script begun rule at read rest written fill.0 nothing is_begun none fill.1 stands in
     let after = rest_of script rest ((h.front ++ h.chunk) ++ fill.0) now.consumes in
     record {
       text = stands.sent;
@@ -216,17 +219,17 @@ ends_unread first script begun read rest written rule at new line ended.TooLong 
       read = now;
       reads = omega (arith, fill.2, stands.counted, ap length after.2, length-append ((h.front ++ h.chunk) ++ fill.0) after.0, length-append (h.front ++ h.chunk) fill.0);
     }
-ends_unread first script begun read rest written rule at new line ended.OutOfMemory nothing only none fill stands =
+ends_unread first script begun read rest written rule at new ended.OutOfMemory nothing is_begun none fill stands =
     let h = stands.has_read in
     let before = rest_of script read (h.front ++ h.chunk) h.consumes in
     record {
       text = stands.sent;
       writes = stands.appends;
       concludes = sent_first stands.sent _ _ (whole_output first script begun rule at read written before.0 stands before.2);
-      read = more_read first script begun rule at read rest written line fill.0 nothing only none fill.1 stands;
+      read = more_read first script begun rule at read rest written fill.0 nothing is_begun none fill.1 stands;
       reads = tt;
     }
-ends_unread first script begun read rest written rule at new line ended.Broken nothing only none fill stands =
+ends_unread first script begun read rest written rule at new ended.Broken nothing is_begun none fill stands =
     let h = stands.has_read in
     let before = rest_of script read (h.front ++ h.chunk) h.consumes in
     record {

@@ -3,7 +3,7 @@ use Rattle.std.proofs.Common.{◌≡◌, ℕ, ◌++◌, List, [], Option, Some, 
 use Rattle.script_rules.specs.Script.{lines_of}
 use Rattle.script_loop.specs.declared.ended.Ended.{Ended}
 use Rattle.script_loop.specs.declared.ended.Ended.TheVariants as ended
-use Rattle.script_loop.specs.Endings.{Ends}
+use Rattle.script_loop.specs.Endings.{Ends, IsBegun}
 use Rattle.script_loop.specs.Lines.{Rule, no_output}
 use Rattle.script_loop.specs.Progress.{HasEnded, HasPlayed, NeedsMore, Progress, first_progress, to_come}
 use Rattle.script_loop.specs.Transfers.{Drains, Fills, HasDrained}
@@ -30,17 +30,22 @@ same_stands first script begun rule old next same read before step stands =
     subst (λ (p : Progress). Stands first script begun next p read before) (sym step.same)
     (subst (λ (r : Rule). Stands first script begun r old read before) (sym step.same_rule) stands)
 
+-- what is begun is so still, once what waits was written
+pub begun_still : (rule : Rule) (old : Progress) (next : Rule) (same late : Progress) → NeedsMore rule old next same → late ≡ record same { waiting = [] } → IsBegun late.held
+begun_still rule old next same late step drained =
+    subst IsBegun (ap (λ (p : Progress). p.held) (sym step.same) ∙ ap (λ (p : Progress). p.held) (sym drained)) step.is_begun
+
 -- more has to come: what waits was written, and more read
 pub drained_and_filled : (rule : Rule) (old : Progress) (next : Rule) (same late new : Progress) (read rest before written : Option (List ℕ)) (result : Option Ended)
     → ((number : ℕ) → next number [] ≡ no_output) → NeedsMore rule old next same → HasDrained same before late written → Fills late read new rest result
     → Turns rule old read before next new rest written result
 drained_and_filled rule old next same late new read rest before written None nothing step drain fill = λ first script begun stands.
-    stands_filled first script begun read rest written next late new step.begun (nothing late.line)
-    (ap (λ (p : Progress). lines_of p.held) (drain.drained) ∙ (ap (λ (p : Progress). lines_of p.held) step.same ∙ step.only)) (ap (λ (p : Progress). p.waiting) drain.drained) fill
+    stands_filled first script begun read rest written next late new (nothing late.line)
+    (begun_still rule old next same late step drain.drained) (ap (λ (p : Progress). p.waiting) drain.drained) fill
     (stands_drained first script begun read before written next same late drain (same_stands first script begun rule old next same read before step stands))
 drained_and_filled rule old next same late new read rest before written (Some ended) nothing step drain fill = λ first script begun stands.
-    ends_unread first script begun read rest written next late new step.begun ended (nothing late.line)
-    (ap (λ (p : Progress). lines_of p.held) (drain.drained) ∙ (ap (λ (p : Progress). lines_of p.held) step.same ∙ step.only)) (ap (λ (p : Progress). p.waiting) drain.drained) fill
+    ends_unread first script begun read rest written next late new ended (nothing late.line)
+    (begun_still rule old next same late step drain.drained) (ap (λ (p : Progress). p.waiting) drain.drained) fill
     (stands_drained first script begun read before written next same late drain (same_stands first script begun rule old next same read before step stands))
 
 -- or the write failed

@@ -1,6 +1,8 @@
--- Reads and writes, one call at a time: what each gave or took, and which failed.
-use Rattle.std.specs.Prelude.{ℕ, ◌<◌, ◌⊎◌, List, length, take, Option, Some, None, Result, Ok, Err}
+-- Reads and writes: what each call gave or took, and how the calls of a source or of a sink follow one another.
+use Rattle.std.specs.Prelude.{ℕ, ◌<◌, ◌≤◌, Bool, true, false, List, [], length, take, drop, Option, Some, None, Result, Ok, Err}
 use Rattle.std.specs.Io.KnownBytes.{Appends, Consumes, Keeps}
+
+-- ---- One call.
 
 -- the bytes that a read gave; none where it failed
 abbrev pub given : {E : Type 0} → Result ℕ E → (chunk : List ℕ) → Option (List ℕ)
@@ -22,14 +24,25 @@ abbrev pub WritesKnown : (old : Option (List ℕ)) → (bytes : List ℕ) → (t
 WritesKnown old bytes None new = Keeps old new
 WritesKnown old bytes (Some count) new = Appends old new (take count bytes)
 
--- the last read of a source failed
-pub record ReadFailed {R : Type 0} (reads : R → Option (List ℕ) → R → Type 0) (now : R) : Type 0 where
-  pub before : R
-  pub failed : reads before None now
+-- ---- Calls one after the other.
 
--- the last write to a sink failed, or took nothing of the bytes that were there
-pub record WriteFailed {W : Type 0} (writes : W → List ℕ → Option ℕ → W → Type 0) (now : W) : Type 0 where
-  pub before : W
-  pub bytes : List ℕ
-  pub some : 0 < length bytes
-  pub failed : writes before bytes None now ⊎ writes before bytes (Some 0) now
+-- the reads of a source between two of its states, and whether all were well: none stands behind one that failed or gave nothing
+pub data ReadsInTurn {R : Type 0} (reads : R → Option (List ℕ) → R → Type 0) : R → R → Bool → Type 0 where
+  no_read : {source : R} → ReadsInTurn reads source source true
+  read_some : {old between new : R} {well : Bool} → (chunk : List ℕ) → 0 < length chunk → reads old (Some chunk) between → ReadsInTurn reads between new well → ReadsInTurn reads old new well
+  read_nothing : {old new : R} → reads old (Some []) new → ReadsInTurn reads old new true
+  read_failed : {old new : R} → reads old None new → ReadsInTurn reads old new false
+
+-- the writes of a text to a sink, and whether all of it was taken: each is given what is left of the text, and none stands behind one
+-- that failed or took nothing
+pub data WritesText {W : Type 0} (writes : W → List ℕ → Option ℕ → W → Type 0) : List ℕ → W → W → Bool → Type 0 where
+  wrote_all : {sink : W} → WritesText writes [] sink sink true
+  wrote_some : {old between new : W} {well : Bool} → (text : List ℕ) (count : ℕ) → 0 < count → count ≤ length text → writes old text (Some count) between → WritesText writes (drop count text) between new well → WritesText writes text old new well
+  wrote_nothing : {text : List ℕ} {old new : W} → 0 < length text → writes old text (Some 0) new → WritesText writes text old new false
+  write_failed : {text : List ℕ} {old new : W} → 0 < length text → writes old text None new → WritesText writes text old new false
+
+-- the writes of texts to a sink, and whether all of each was taken: none stands behind a text of which some was left
+pub data WritesTexts {W : Type 0} (writes : W → List ℕ → Option ℕ → W → Type 0) : W → W → Bool → Type 0 where
+  no_text : {sink : W} → WritesTexts writes sink sink true
+  text_written : {old between new : W} {well : Bool} → (text : List ℕ) → WritesText writes text old between true → WritesTexts writes between new well → WritesTexts writes old new well
+  text_broken : {old new : W} → (text : List ℕ) → WritesText writes text old new false → WritesTexts writes old new false

@@ -1,11 +1,13 @@
 -- A script played to its end: what is written of its output, and what was read of it, by the ending.
-use Rattle.std.specs.Prelude.{◌≡◌, ℕ, ◌<◌, ◌≤◌, ◌⊎◌, List, [], ◌∷◌, ◌++◌, length, Option, Some, ⊤}
+use Rattle.std.specs.Prelude.{◌≡◌, ℕ, ◌+◌, ◌<◌, ◌≤◌, ◌⊎◌, true, false, Contains, List, ◌++◌, length, Option, Some, ⊤}
 use Rattle.std.specs.Io.KnownBytes.{Appends, Consumes, IsAtEnd}
-use Rattle.script_rules.specs.Script.{lines_of}
 use Rattle.texts.specs.Printed.{Output}
+use Rattle.texts.specs.Words.{line_feed}
+use Rattle.script_rules.specs.Script.{lines_of, longest_line}
 use Rattle.script_output.specs.Spaced.{BeginsWith}
 use Rattle.script_loop.specs.declared.ended.Ended.{Ended}
 use Rattle.script_loop.specs.declared.ended.Ended.TheVariants.{Played, Faulted, TooLong, OutOfMemory, Broken}
+use Rattle.script_loop.specs.Calls.{ReadsInTurn, WritesTexts}
 use Rattle.script_loop.specs.Lines.{told_fault}
 
 -- the exit status of an ending
@@ -33,8 +35,14 @@ most_read = 268435456
 abbrev pub most_at_once : ℕ
 most_at_once = 65536
 
--- what was read of the script: the chunk that came by the last read, and the bytes in front of it. The lines of those are whole
--- but for the last, and the last chunk was read only after all was written that the whole lines print.
+-- a line that is begun and may still be well: no line feed ends it, and its bytes are no more than the longest line and a carriage
+-- return
+pub record IsBegun (bytes : List ℕ) : Type 0 where
+  pub no_end : ¬ (Contains bytes line_feed)
+  pub fits : length bytes ≤ longest_line + 1
+
+-- what was read of the script: the chunk that came by the last read, and the bytes in front of it. Those are whole lines, and then one
+-- that is begun; and the last chunk was read only after all was written that the whole lines print.
 pub record HasRead (script : List ℕ) (output : List (List ℕ) → Output) (rest : Option (List ℕ)) (text : List ℕ) : Type 0 where
   pub front : List ℕ
   pub chunk : List ℕ
@@ -43,7 +51,8 @@ pub record HasRead (script : List ℕ) (output : List (List ℕ) → Output) (re
   pub chunk_fits : length chunk ≤ most_at_once
   pub whole : List (List ℕ)
   pub begun : List ℕ
-  pub lines : lines_of front ≡ whole ++ begun ∷ []
+  pub is_begun : IsBegun begun
+  pub lines : (more : List ℕ) → lines_of (front ++ more) ≡ whole ++ lines_of (begun ++ more)
   pub written : BeginsWith (output whole).text text
 
 -- where the reading ends: at the script's end; by the read that made the line with the fault whole; or behind the limit
@@ -62,7 +71,8 @@ pub record Ends (script : List ℕ) (output : List (List ℕ) → Output) (rest 
   pub read : HasRead script output rest text
   pub reads : EndsReading script rest read.whole ended
 
--- a play breaks only by the last read or write
-abbrev pub IsBrokenBy : (read write : Type 0) → Ended → Type 0
-IsBrokenBy read write Broken = read ⊎ write
-IsBrokenBy read write other = ⊤
+-- the calls of a play: where it breaks, the last read or the last write failed or a write took nothing; else none did
+abbrev pub MakesCalls : {R W : Type 0} → (reads : R → Option (List ℕ) → R → Type 0) → (writes : W → List ℕ → Option ℕ → W → Type 0) → (old new : R × W) → Ended → Type 0
+MakesCalls reads writes old new Broken =
+    (ReadsInTurn reads old.0 new.0 false × WritesTexts writes old.1 new.1 true) ⊎ (ReadsInTurn reads old.0 new.0 true × WritesTexts writes old.1 new.1 false)
+MakesCalls reads writes old new other = ReadsInTurn reads old.0 new.0 true × WritesTexts writes old.1 new.1 true

@@ -1,13 +1,12 @@
 -- How far a script has come, and what steps make of that.
-use Rattle.std.specs.Prelude.{◌≡◌, ℕ, ◌+◌, ◌*◌, ◌<◌, Bool, true, false, if◌then◌else◌, List, [], ◌∷◌, ◌++◌, length, drop, Contains, ⊤}
-use Rattle.texts.specs.Words.{line_feed}
+use Rattle.std.specs.Prelude.{◌≡◌, ℕ, ◌+◌, ◌*◌, ◌<◌, Bool, true, false, if◌then◌else◌, List, [], ◌∷◌, ◌++◌, length, drop, ⊤}
 use Rattle.script_rules.specs.Script.{lines_of}
 use Rattle.script_loop.specs.declared.ended.Ended.{Ended}
 use Rattle.script_loop.specs.declared.ended.Ended.TheVariants as ended
 use Rattle.script_loop.specs.declared.session.Session.{Session}
 use Rattle.script_loop.specs.declared.step.Step.{Step}
 use Rattle.script_loop.specs.declared.step.Step.TheVariants.{Played, Wants, Ends}
-use Rattle.script_loop.specs.Endings.{Concludes, most_read}
+use Rattle.script_loop.specs.Endings.{Concludes, IsBegun, most_read}
 use Rattle.script_loop.specs.Lines.{Rule, behind}
 use Rattle.texts.specs.Printed.{Output}
 
@@ -58,14 +57,12 @@ pub record HasPlayed (rule : Rule) (old : Progress) (next : Rule) (new : Progres
   pub first : (more : List ℕ) → lines_of (old.held ++ more) ≡ line ∷ lines_of (new.held ++ more)
   pub plays : (lines : List (List ℕ)) → to_come next new lines ≡ to_come rule old (line ∷ lines)
 
--- no line can be played before more is read: one was begun
+-- no line can be played before more is read: one is begun, and may still be well
 pub record NeedsMore (rule : Rule) (old : Progress) (next : Rule) (new : Progress) : Type 0 where
   pub same : new ≡ old
   pub same_rule : next ≡ rule
   pub goes_on : old.ended ≡ false
-  pub no_line : ¬ (Contains old.held line_feed)
-  pub begun : List ℕ
-  pub only : lines_of old.held ≡ begun ∷ []
+  pub is_begun : IsBegun old.held
 
 -- how a step may end the script: at its end, at a fault of the line, or when memory runs out
 abbrev pub EndsStep : Progress → Ended → Type 0

@@ -1,5 +1,5 @@
 -- What reads and writes make of a script's progress.
-use Rattle.std.specs.Prelude.{◌≡◌, ℕ, ◌+◌, ◌<◌, ◌≤◌, true, List, [], ◌++◌, length, Option, Some, None, ⊤}
+use Rattle.std.specs.Prelude.{◌≡◌, ℕ, ◌+◌, ◌<◌, ◌≤◌, Bool, true, false, List, [], ◌++◌, length, Option, Some, None}
 use Rattle.std.specs.Io.KnownBytes.{Appends, Consumes, IsAtEnd, Keeps}
 use Rattle.script_loop.specs.declared.ended.Ended.{Ended}
 use Rattle.script_loop.specs.declared.ended.Ended.TheVariants as ended
@@ -24,11 +24,12 @@ pub record HasTakenIn (old : Progress) (got : List ℕ) (new : Progress) : Type 
   pub less : work new < work old
   pub held : new.held ≡ old.held ++ got
   pub at_end : new.ended ≡ true → got ≡ []
+  pub goes_on : new.ended ≡ false → 0 < length got
 
 abbrev pub TakesIn : Progress → List ℕ → Progress → Option Ended → Type 0
 TakesIn old got new None = HasTakenIn old got new
 TakesIn old got new (Some ended.TooLong) = old.left < length got
-TakesIn old got new (Some ended.OutOfMemory) = ⊤
+TakesIn old got new (Some ended.OutOfMemory) = 0 < length got
 TakesIn old got new (Some other) = ⊥
 
 -- a chunk was read
@@ -54,7 +55,8 @@ Fills old read new rest (Some ended.OutOfMemory) = (got : List ℕ) × HasGot re
 Fills old read new rest (Some ended.Broken) = Keeps read rest
 Fills old read new rest (Some other) = ⊥
 
--- one read was made, which failed where the play breaks
-abbrev pub ReadsOnce : {R : Type 0} → (R → Option (List ℕ) → R → Type 0) → R → R → Option Ended → Type 0
-ReadsOnce reads old new (Some ended.Broken) = reads old None new
-ReadsOnce reads old new other = (got : List ℕ) × reads old (Some got) new
+-- one read was made: it failed where the play breaks; else it gave something, or nothing at the end
+abbrev pub ReadsOnce : {R : Type 0} → (R → Option (List ℕ) → R → Type 0) → (old new : R) → (at_end : Bool) → Option Ended → Type 0
+ReadsOnce reads old new at_end None = (got : List ℕ) × reads old (Some got) new × (at_end ≡ true → got ≡ []) × (at_end ≡ false → 0 < length got)
+ReadsOnce reads old new at_end (Some ended.Broken) = reads old None new
+ReadsOnce reads old new at_end (Some other) = (got : List ℕ) × reads old (Some got) new × (0 < length got)

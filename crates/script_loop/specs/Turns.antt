@@ -1,9 +1,10 @@
 -- Turns: how far a play has come, and what a turn makes of it.
-use Rattle.std.specs.Prelude.{◌≡◌, ℕ, ◌+◌, ◌≤◌, true, List, ◌++◌, length, Option, Some, None}
+use Rattle.std.specs.Prelude.{◌≡◌, ℕ, ◌+◌, ◌≤◌, Bool, true, false, List, ◌++◌, length, Option, Some, None}
 use Rattle.std.specs.Io.KnownBytes.{Appends, IsAtEnd}
 use Rattle.script_rules.specs.Script.{lines_of}
 use Rattle.script_loop.specs.declared.ended.Ended.{Ended}
-use Rattle.script_loop.specs.Endings.{Ends, HasRead, most_read}
+use Rattle.script_loop.specs.Calls.{ReadsInTurn, WritesTexts}
+use Rattle.script_loop.specs.Endings.{Ends, HasRead, MakesCalls, most_read}
 use Rattle.script_loop.specs.Lines.{Rule, behind}
 use Rattle.script_loop.specs.Progress.{Progress, to_come}
 
@@ -27,3 +28,22 @@ Turns rule old read before next new rest written None =
     (first : Rule) (script : List ℕ) (begun : Option (List ℕ)) → Stands first script begun rule old read before → Stands first script begun next new rest written
 Turns rule old read before next new rest written (Some ended) =
     (first : Rule) (script : List ℕ) (begun : Option (List ℕ)) → Stands first script begun rule old read before → Ends script (first 1) rest begun written ended
+
+-- the reads so far, by whether the end was reached: if it wasn't, what is read from here on is read in turn with them
+abbrev pub ReadsSoFar : {R : Type 0} → (reads : R → Option (List ℕ) → R → Type 0) → (first now : R) → (at_end : Bool) → Type 0
+ReadsSoFar {R} reads first now false = (new : R) (well : Bool) → ReadsInTurn reads now new well → ReadsInTurn reads first new well
+ReadsSoFar {R} reads first now true = ReadsInTurn reads first now true
+
+-- the writes so far: the texts that are written from here on are written in turn with them
+abbrev pub WritesSoFar : {W : Type 0} → (writes : W → List ℕ → Option ℕ → W → Type 0) → (first now : W) → Type 0
+WritesSoFar {W} writes first now = (new : W) (well : Bool) → WritesTexts writes now new well → WritesTexts writes first new well
+
+-- the calls of a play so far
+pub record CallsSoFar {R W : Type 0} (reads : R → Option (List ℕ) → R → Type 0) (writes : W → List ℕ → Option ℕ → W → Type 0) (first now : R × W) (at_end : Bool) : Type 0 where
+  pub of_source : ReadsSoFar reads first.0 now.0 at_end
+  pub of_sink : WritesSoFar writes first.1 now.1
+
+-- the calls of a turn, behind those so far
+abbrev pub AddsCalls : {R W : Type 0} → (reads : R → Option (List ℕ) → R → Type 0) → (writes : W → List ℕ → Option ℕ → W → Type 0) → (old new : R × W) → (was_at_end at_end : Bool) → Option Ended → Type 0
+AddsCalls {R} {W} reads writes old new was_at_end at_end None = (first : R × W) → CallsSoFar reads writes first old was_at_end → CallsSoFar reads writes first new at_end
+AddsCalls {R} {W} reads writes old new was_at_end at_end (Some ended) = (first : R × W) → CallsSoFar reads writes first old was_at_end → MakesCalls reads writes first new ended

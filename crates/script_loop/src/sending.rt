@@ -1,16 +1,15 @@
 //! Bytes sent whole.
 
-ghost use Rattle.std.specs.Prelude.{◌≡◌, false};
-ghost use Rattle.script_loop.specs.Calls.{WriteFailed};
+ghost use Rattle.script_loop.specs.Calls.{WritesText};
 ghost use Rattle.script_loop.specs.Sending.{Sends};
 
 use crate::Sink;
 
-/// Writes all bytes, in as many writes as it takes; whether that was well. No write is tried again, and one that takes nothing
-/// is a failure.
+/// Writes all bytes, in as many writes as it takes; whether that was well. Each write is given all that is left, no write is tried
+/// again, and one that takes nothing is a failure (`docs/RULES.md#the-program`).
 pub fn send<W: Sink>(writer: &mut W, bytes: &[u8]) -> bool
     ensures sends { Sends bytes.now (W.contents writer.old) (W.contents writer.new) result }
-    ensures cause { result ≡ false → WriteFailed W.writes writer.new }
+    ensures calls { WritesText W.writes bytes.now writer.old writer.new result }
 {
     let mut sent = 0;
     while sent < bytes.len() {

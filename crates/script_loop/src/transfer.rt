@@ -1,8 +1,8 @@
 //! The source and the sink of a session.
 
-ghost use Rattle.std.specs.Prelude.{◌≡◌, ◌≤◌, ◌++◌, [], Contains, IfOk, IfSome, false, take};
-ghost use Rattle.texts.specs.Words.{line_feed};
-ghost use Rattle.script_loop.specs.Calls.{WriteFailed};
+ghost use Rattle.std.specs.Prelude.{◌≡◌, ◌≤◌, ◌++◌, [], IfOk, false, is_none, take};
+ghost use Rattle.script_loop.specs.Calls.{WritesText};
+ghost use Rattle.script_loop.specs.Endings.{IsBegun};
 ghost use Rattle.script_loop.specs.Transfers.{Drains, Fills, ReadsOnce, TakesIn};
 
 use crate::session::{Session, tail};
@@ -15,7 +15,7 @@ impl Session {
     /// Writes all that waits to be written; answers how the play ends where a write fails.
     pub(crate) fn drain<W: Sink>(&mut self, writer: &mut W) -> Option<Ended>
         ensures drains { Drains (progress self.old) (W.contents writer.old) (progress self.new) (W.contents writer.new) result }
-        ensures cause { IfSome result (λ _. WriteFailed W.writes writer.new) }
+        ensures calls { WritesText W.writes (progress self.old).waiting writer.old writer.new (is_none result) }
     {
         if !send(writer, &self.out) {
             return Some(Ended::Broken);
@@ -24,14 +24,14 @@ impl Session {
         None
     }
 
-    /// Reads more of the script, where no line that is held can be played and nothing waits to be written; answers how the play
+    /// Reads more of the script, where what is held is a line that is begun and nothing waits to be written; answers how the play
     /// ends where that fails.
     pub(crate) fn fill<R: Source>(&mut self, reader: &mut R) -> Option<Ended>
         requires goes_on { self.old.ended ≡ false }
         requires written { self.old.out.items ≡ [] }
-        requires no_line { ¬ (Contains (progress self.old).held line_feed) }
+        requires begun { IsBegun (progress self.old).held }
         ensures fills { Fills (progress self.old) (R.remaining reader.old) (progress self.new) (R.remaining reader.new) result }
-        ensures once { ReadsOnce R.reads reader.old reader.new result }
+        ensures once { ReadsOnce R.reads reader.old reader.new (progress self.new).ended result }
     {
         match reader.read_chunk(self.chunk.as_mut_slice()) {
             Ok(count) => self.take_in(count),

@@ -1,9 +1,7 @@
 //! One turn of a play.
 
-ghost use Rattle.std.specs.Prelude.{◌≡◌, ◌<◌, IfNone, IfSome};
-ghost use Rattle.script_loop.specs.Calls.{ReadFailed, WriteFailed};
-ghost use Rattle.script_loop.specs.Endings.{IsBrokenBy};
-ghost use Rattle.script_loop.specs.Turns.{Turns};
+ghost use Rattle.std.specs.Prelude.{◌<◌, IfNone};
+ghost use Rattle.script_loop.specs.Turns.{AddsCalls, Turns};
 
 use crate::session::Session;
 use crate::step::Step;
@@ -25,7 +23,7 @@ impl Session {
         ensures goes { Turns (P.output player.old) (progress self.old) (R.remaining reader.old) (W.contents writer.old)
             (P.output player.new) (progress self.new) (R.remaining reader.new) (W.contents writer.new) result }
         ensures less { IfNone result (work (progress self.new) < work (progress self.old)) }
-        ensures cause { IfSome result (IsBrokenBy (ReadFailed R.reads reader.new) (WriteFailed W.writes writer.new)) }
+        ensures calls { AddsCalls R.reads W.writes (reader.old, writer.old) (reader.new, writer.new) (progress self.old).ended (progress self.new).ended result }
     {
         match self.step(player) {
             Step::Played if self.out.len() < WRITTEN_AT => None,

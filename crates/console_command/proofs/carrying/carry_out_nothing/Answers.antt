@@ -4,5 +4,5 @@ use Rattle.console_command.proofs.carrying.carry_out_nothing.Goals as goal
 pub returns : goal.returns
 returns g c = record {
   exit = refused_without c.args.kind c.in_default.not-OutOfMemory;
-  told = told_so _ c.args.kind _ _ c.in_default.not-OutOfMemory c.tell.ensures;
+  told = told_so g.E.Sink.writes g.E.Sink.contents c.args.kind _ _ c.in_default.not-OutOfMemory c.tell.ensures;
 }
