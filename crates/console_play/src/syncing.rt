@@ -40,7 +40,7 @@ fn unseen_by_all(alloc: Global, world: &World) -> Result<Vec<Unseen>, AllocError
 {
     let mut silos = Vec::new(alloc);
     for (silo, node) in world.nodes() {
-        silos.push(unseen_by(world, silo, node))?;
+        silos.push(unseen_by(world, silo, node.node()))?;
     }
     Ok(silos)
 }
