@@ -115,13 +115,21 @@ fn publish<R: Wait + Abort>(
         Ok(told) => told,
         Err(refusal) => {
             assert_eq!(rt; refusal, RouteError::OutOfMemory);
-            publisher.publish(rt, alloc, &view, places).expect(rt, "memory")
+            publisher
+                .publish(rt, alloc, &view, places)
+                .expect(rt, "memory")
         }
     }
 }
 
 // The reader routes the hash by that version, to the first point of the silo of that number.
-fn check_route(rt: &impl Abort, alloc: Global, reader: &mut RouteReader, version: u64, number: u64) {
+fn check_route(
+    rt: &impl Abort,
+    alloc: Global,
+    reader: &mut RouteReader,
+    version: u64,
+    number: u64,
+) {
     let Route { version: by, owner } = reader.route(HASH).expect(rt, "a route");
     let owner = owner.expect(rt, "an owner");
     assert_eq!(rt; by, version);
@@ -215,7 +223,9 @@ fn watch(reader: RouteReader) -> Met {
     for _route in 0..ROUTES {
         match reader.route(HASH) {
             Ok(route) => {
-                met.falls = met.falls.saturating_add(u64::from(route.version < met.version));
+                met.falls = met
+                    .falls
+                    .saturating_add(u64::from(route.version < met.version));
                 met.version = route.version;
             }
             Err(_) => met.shut_out = met.shut_out.saturating_add(1),
