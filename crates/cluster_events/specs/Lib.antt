@@ -1,3 +1,2 @@
 pub mod EventModel
 pub mod OutcomeModel
-pub mod Copying

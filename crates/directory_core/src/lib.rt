@@ -6,7 +6,6 @@ mod delivering;
 mod join;
 mod leaving;
 mod nodes;
-mod planned;
 mod posting;
 mod refusal;
 mod run;
@@ -16,7 +15,6 @@ mod told;
 mod world;
 
 pub use delivering::Undelivered;
-pub use planned::UndeliveredPlan;
 pub use refusal::EventRefusal;
 pub use told::Told;
 pub use world::World;

@@ -1,6 +1,0 @@
-pub mod Staying
-pub mod MarksKept
-pub mod Fresh
-pub mod Deciding
-pub mod Boards
-pub mod Lent

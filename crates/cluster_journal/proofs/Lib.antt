@@ -1,2 +1,0 @@
-pub mod Giving
-pub mod Journal

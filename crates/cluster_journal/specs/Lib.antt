@@ -1,4 +1,0 @@
-pub mod Entry
-pub mod EntryModel
-pub mod Journal
-pub mod Agreeing
