@@ -166,7 +166,8 @@ impl Cluster {
     // A sum mixed from how many events were accepted and letters sent, and how many activations, pieces and entries each silo has.
     fn sum(&self) -> u64 {
         let mut sum = mixed(self.world.accepted(), self.world.sent());
-        for (_, node) in self.world.nodes() {
+        for (_, shared) in self.world.nodes() {
+            let node = shared.node();
             let held = node.host().held_count() as u64;
             sum = mixed(mixed(sum, held), sum_of(node.holding()));
         }

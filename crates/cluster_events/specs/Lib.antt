@@ -1,2 +1,3 @@
 pub mod EventModel
 pub mod OutcomeModel
+pub mod Copying

@@ -1,9 +1,11 @@
-ghost use Rattle.std.specs.Prelude.{All, ◌<◌};
+ghost use Rattle.std.specs.Prelude.{◌≡◌, ◌<◌, ◌↔◌, All, IfOk, IsTrue, OnErr};
 ghost use Rattle.directory_rules.specs.Event.{IsEvent};
 ghost use Rattle.ring_range.specs.Range.{circle};
+ghost use Rattle.cluster_events.specs.Copying.{NeedsMemory};
 ghost use Rattle.cluster_events.specs.EventModel.{event_of};
 
 use silo_address::{GrainId, SiloAddress};
+use std::alloc::AllocError;
 
 /// What may happen to a cluster (`docs/RULES.md#the-world`).
 #[derive(Drop)]
@@ -95,6 +97,122 @@ impl Event {
             }
         }
     }
+
+    /// An equal event. Fails only when memory runs out, and only at a join, whose places are copied.
+    pub fn copy(&self) -> Result<Event, AllocError>
+        ensures copied { IfOk result (λ event. event_of event ≡ event_of self.now) }
+        ensures memory { OnErr result (NeedsMemory (event_of self.now)) }
+    {
+        match self {
+            Event::Join { silo, places } => {
+                let places = places.clone()?;
+                Ok(Event::Join {
+                    silo: *silo,
+                    places,
+                })
+            }
+            Event::Leave { silo } => Ok(Event::Leave { silo: *silo }),
+            Event::Kill { silo } => Ok(Event::Kill { silo: *silo }),
+            Event::See { silo, version } => Ok(Event::See {
+                silo: *silo,
+                version: *version,
+            }),
+            Event::Wake { silo, grain } => Ok(Event::Wake {
+                silo: *silo,
+                grain: *grain,
+            }),
+            Event::Close { silo, grain } => Ok(Event::Close {
+                silo: *silo,
+                grain: *grain,
+            }),
+            Event::Find { silo, grain } => Ok(Event::Find {
+                silo: *silo,
+                grain: *grain,
+            }),
+            Event::Forget { silo, grain } => Ok(Event::Forget {
+                silo: *silo,
+                grain: *grain,
+            }),
+            Event::Deliver { number } => Ok(Event::Deliver { number: *number }),
+            Event::Lose { number } => Ok(Event::Lose { number: *number }),
+            Event::Nudge { silo } => Ok(Event::Nudge { silo: *silo }),
+            Event::Offer { silo, grain, to } => Ok(Event::Offer {
+                silo: *silo,
+                grain: *grain,
+                to: *to,
+            }),
+        }
+    }
+
+    /// Whether the two are one event.
+    pub fn same(&self, other: &Event) -> bool
+        ensures { IsTrue result ↔ (event_of self.now ≡ event_of other.now) }
+    {
+        match (self, other) {
+            (
+                Event::Join { silo, places },
+                Event::Join {
+                    silo: its,
+                    places: given,
+                },
+            ) => silo.same(its) && same_places(places, given),
+            (Event::Leave { silo }, Event::Leave { silo: its }) => silo.same(its),
+            (Event::Kill { silo }, Event::Kill { silo: its }) => silo.same(its),
+            (
+                Event::See { silo, version },
+                Event::See {
+                    silo: its,
+                    version: other,
+                },
+            ) => silo.same(its) && version == other,
+            (
+                Event::Wake { silo, grain },
+                Event::Wake {
+                    silo: its,
+                    grain: other,
+                },
+            ) => silo.same(its) && grain.same(other),
+            (
+                Event::Close { silo, grain },
+                Event::Close {
+                    silo: its,
+                    grain: other,
+                },
+            ) => silo.same(its) && grain.same(other),
+            (
+                Event::Find { silo, grain },
+                Event::Find {
+                    silo: its,
+                    grain: other,
+                },
+            ) => silo.same(its) && grain.same(other),
+            (
+                Event::Forget { silo, grain },
+                Event::Forget {
+                    silo: its,
+                    grain: other,
+                },
+            ) => silo.same(its) && grain.same(other),
+            (Event::Deliver { number }, Event::Deliver { number: its }) => number == its,
+            (Event::Lose { number }, Event::Lose { number: its }) => number == its,
+            (Event::Nudge { silo }, Event::Nudge { silo: its }) => silo.same(its),
+            (
+                Event::Offer { silo, grain, to },
+                Event::Offer {
+                    silo: its,
+                    grain: other,
+                    to: whom,
+                },
+            ) => silo.same(its) && grain.same(other) && to.same(whom),
+            _ => false,
+        }
+    }
+}
+
+fn same_places(one: &[u32], other: &[u32]) -> bool
+    ensures { IsTrue result ↔ (one.now ≡ other.now) }
+{
+    *one == *other
 }
 
 // A law: numbers of 32 bits are hashes.

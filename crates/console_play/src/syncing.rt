@@ -11,7 +11,7 @@ ghost use Rattle.console_play.specs.Performing.{Performs, TakeTurns, in_session,
 use crate::performing::take_turn;
 use cluster_events::Event;
 use directory_core::World;
-use directory_node::Node;
+use shared_node::SharedNode;
 use silo_address::SiloAddress;
 use std::alloc::{AllocError, Global};
 
@@ -45,11 +45,11 @@ fn unseen_by_all(alloc: Global, world: &World) -> Result<Vec<Unseen>, AllocError
     Ok(silos)
 }
 
-fn unseen_by(world: &World, silo: &SiloAddress, node: &Node) -> Unseen
+fn unseen_by(world: &World, silo: &SiloAddress, node: &SharedNode) -> Unseen
     ensures { sights world.now.views.version result ≡ map (See silo.now) (unseen_versions world.now silo.now node.now) }
 {
     let joined = world.views().joined_at(silo).unwrap_or(0);
-    let seen = node.view().version();
+    let seen = node.node().view().version();
     Unseen {
         silo: *silo,
         after: seen.max(joined.saturating_sub(1)),

@@ -116,6 +116,7 @@ impl World {
             return Err(stepped);
         };
         receive_with_at(
+            self.alloc,
             &mut self.nodes,
             &mut self.mail,
             to,

@@ -15,10 +15,10 @@ ghost use Rattle.directory_core.specs.Whole.{IsWorld, LeavesWorld};
 use crate::nodes::{put_new_node, remove_node};
 use crate::{EventRefusal, World};
 use cluster_events::{Happening, Outcome};
-use directory_node::Node;
 use directory_rules::Settings;
 use hash_ring::{Places, RingError};
 use membership_view::{Joined, Views};
+use shared_node::SharedNode;
 use silo_address::SiloAddress;
 use std::alloc::{AllocError, Global};
 use std::collections::BTreeMap;
@@ -81,7 +81,7 @@ fn put_in(
     settings: Settings,
     views: &mut Views,
     places: &mut Places,
-    nodes: &mut BTreeMap<SiloAddress, Node>,
+    nodes: &mut BTreeMap<SiloAddress, SharedNode>,
     silo: SiloAddress,
     given: &[u32],
 ) -> Result<Joined, EventRefusal>
@@ -114,7 +114,7 @@ fn put_beside(
     alloc: Global,
     settings: Settings,
     views: &mut Views,
-    nodes: &mut BTreeMap<SiloAddress, Node>,
+    nodes: &mut BTreeMap<SiloAddress, SharedNode>,
     silo: SiloAddress,
 ) -> Result<Joined, AllocError>
     requires may { after_join views.old silo ≡ Ok (with_join views.old silo) }
@@ -140,7 +140,7 @@ fn put_beside(
 }
 
 // The silo that is replaced, if there is one, has no node any more.
-fn remove_replaced(nodes: &mut BTreeMap<SiloAddress, Node>, replaced: Option<SiloAddress>)
+fn remove_replaced(nodes: &mut BTreeMap<SiloAddress, SharedNode>, replaced: Option<SiloAddress>)
     ensures { nodes.new.entries ≡ nodes_without replaced nodes.old.entries }
 {
     if let Some(old) = replaced {

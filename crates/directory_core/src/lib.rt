@@ -6,6 +6,7 @@ mod delivering;
 mod join;
 mod leaving;
 mod nodes;
+mod planned;
 mod posting;
 mod refusal;
 mod run;
@@ -15,6 +16,7 @@ mod told;
 mod world;
 
 pub use delivering::Undelivered;
+pub use planned::UndeliveredPlan;
 pub use refusal::EventRefusal;
 pub use told::Told;
 pub use world::World;

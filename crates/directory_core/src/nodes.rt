@@ -8,6 +8,7 @@ ghost use Rattle.directory_rules.specs.Node.{new_node};
 
 use directory_node::Node;
 use directory_rules::Settings;
+use shared_node::SharedNode;
 use silo_address::SiloAddress;
 use std::alloc::{AllocError, Global};
 use std::collections::BTreeMap;
@@ -16,19 +17,19 @@ use std::collections::BTreeMap;
 pub(crate) fn put_new_node(
     alloc: Global,
     settings: Settings,
-    nodes: &mut BTreeMap<SiloAddress, Node>,
+    nodes: &mut BTreeMap<SiloAddress, SharedNode>,
     silo: SiloAddress,
 ) -> Result<(), AllocError>
     ensures put { OnOk result (nodes.new.entries ≡ insert_entry silo_cmp nodes.old.entries silo (new_node settings silo)) }
     ensures unchanged { OnErr result (nodes.new.entries ≡ nodes.old.entries) }
 {
-    let node = Node::new(alloc, settings, silo)?;
+    let node = SharedNode::new(alloc, Node::new(alloc, settings, silo)?)?;
     drop(nodes.insert(silo, node)?);
     Ok(())
 }
 
 /// The silo has no node any more.
-pub(crate) fn remove_node(nodes: &mut BTreeMap<SiloAddress, Node>, silo: &SiloAddress)
+pub(crate) fn remove_node(nodes: &mut BTreeMap<SiloAddress, SharedNode>, silo: &SiloAddress)
     ensures { nodes.new.entries ≡ remove_entry (is_at (silo_cmp silo.now)) nodes.old.entries }
 {
     drop(nodes.remove(silo));

@@ -134,8 +134,8 @@ impl World {
         }
     }
 
-    // Whether these letters may still be sent; no letter always may.
-    pub(crate) fn has_room_for(&self, letters: &[Letter]) -> bool
+    /// Whether these letters may still be sent (909); no letter always may.
+    pub fn has_room_for(&self, letters: &[Letter]) -> bool
         ensures { result ≡ has_room_for self.now letters.now }
     {
         match letters {
@@ -235,7 +235,7 @@ impl World {
     }
 
     // The receiver of a letter carries its step out, and what is answered is sent.
-    fn receive(
+    pub(crate) fn receive(
         &mut self,
         to: &SiloAddress,
         number: u64,

@@ -21,6 +21,7 @@ use directory_rules::Settings;
 use hash_ring::{Places, Point, Ring};
 use letter_mail::{Mail, MailedLetter};
 use membership_view::Views;
+use shared_node::SharedNode;
 use silo_address::SiloAddress;
 use std::alloc::{AllocError, Global};
 use std::collections::BTreeMap;
@@ -36,7 +37,8 @@ pub struct World {
     pub(crate) accepted: u64,
     pub(crate) views: Views,
     pub(crate) places: Places,
-    pub(crate) nodes: BTreeMap<SiloAddress, Node>,
+    // Each may be held by others too, for which it stays as it is.
+    pub(crate) nodes: BTreeMap<SiloAddress, SharedNode>,
     pub(crate) mail: Mail,
     // To the version that a silo saw last: who sees it after the version before needs no ring and no arcs of its own.
     pub(crate) shared: Option<Transition>,
@@ -122,11 +124,19 @@ impl World {
     pub fn node(&self, silo: &SiloAddress) -> Option<&Node>
         ensures { option_copied result ≡ node_of self.now silo.now }
     {
+        let shared = self.shared_node(silo)?;
+        Some(shared.node())
+    }
+
+    /// That node, as it may be shared: a copy of it is a count, and stays as it is whatever happens to the world.
+    pub fn shared_node(&self, silo: &SiloAddress) -> Option<&SharedNode>
+        ensures { option_copied result ≡ node_of self.now silo.now }
+    {
         self.nodes.get(silo)
     }
 
     /// The node of each silo that isn't Dead, by address.
-    pub fn nodes(&self) -> Iter<'_, SiloAddress, Node>
+    pub fn nodes(&self) -> Iter<'_, SiloAddress, SharedNode>
         ensures rest { result ≡ self.now.nodes }
         ensures runs { ShowsInOrder (deref_pair {K = Silo} {X = NodeValue}) }
     {

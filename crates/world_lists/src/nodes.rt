@@ -21,7 +21,7 @@ pub fn listed_nodes(alloc: Global, world: &World) -> Result<Vec<DumpNode<'static
 {
     let mut nodes = Vec::new(alloc);
     for (silo, node) in world.nodes() {
-        let node = dumped(alloc, silo, node)?;
+        let node = dumped(alloc, silo, node.node())?;
         nodes.push(node)?;
     }
     Ok(nodes)

@@ -1,0 +1,6 @@
+pub mod Staying
+pub mod MarksKept
+pub mod Fresh
+pub mod Deciding
+pub mod Boards
+pub mod Lent

@@ -1,0 +1,71 @@
+ghost use Rattle.std.specs.Prelude.{◌≡◌, ◌∷◌, [], ◌++◌, ◌+◌, ◌<◌, IfOk, OnErr, OnOk, length, vec_capacity, vec_len};
+ghost use Rattle.cluster_events.specs.EventModel.{event_of};
+ghost use Rattle.directory_rules.specs.Happens.{happens};
+ghost use Rattle.directory_node.specs.Follows.{Follows};
+ghost use Rattle.directory_core.specs.Applying.{accepted_as};
+ghost use Rattle.directory_core.specs.Numbers.{event_refusal_number};
+
+use crate::Board;
+use crate::marking::forget_by;
+use cluster_events::{Event, Outcome};
+use cluster_journal::{Entry, Receipt};
+use directory_core::EventRefusal;
+use std::alloc::AllocError;
+use std::sync::ledger::{Ledger, Share};
+use value_marks::Names;
+
+impl<L: Ledger + Names> Board<L> {
+    /// An event happens, as `World::apply` says, and its entry is the journal's last one, which the receipt names. Out of memory
+    /// for the journal and for copies of the event may come before any other refusal. A refusal changes nothing. The caller has
+    /// a part of the share (`docs/RULES.md#the-board`).
+    pub fn post(&mut self, share: &mut Share<L>, event: &Event) -> Result<Receipt, EventRefusal>
+        requires { 0 < share.old.parts }
+        ensures told { Follows (λ receipt. accepted_as self.new.world receipt.entry.outcome) event_refusal_number (λ _. Unit {0}) (happens self.old.world (event_of event.now)) result }
+        ensures event { IfOk result (λ receipt. receipt.entry.event ≡ event_of event.now) }
+        ensures journaled { IfOk result (λ receipt. self.new ≡ record self.old { world = self.new.world; journal = self.old.journal ++ receipt.entry ∷ [] }) }
+        ensures number { IfOk result (λ receipt. receipt.number ≡ length self.old.journal + 1) }
+        ensures counted { OnOk result (share.new.amount ≡ share.old.amount + 1) }
+        ensures parts { share.new.parts ≡ share.old.parts }
+        ensures unchanged { OnErr result (self.new ≡ self.old) }
+        ensures not_counted { OnErr result (share.new.amount ≡ share.old.amount) }
+    {
+        let Ok((event_kept, event_told)) = twice(event) else {
+            return Err(EventRefusal::OutOfMemory);
+        };
+        if self.journal.reserve(1).is_err() {
+            return Err(EventRefusal::OutOfMemory);
+        }
+        forget_by(&mut self.marked, &self.world, event);
+        let outcome = self.world.apply(event)?;
+        self.book.add(share, 1);
+        Ok(entered(&mut self.journal, event_kept, event_told, &outcome))
+    }
+}
+
+// Two copies of the event.
+fn twice(event: &Event) -> Result<(Event, Event), AllocError>
+    ensures one { IfOk result (λ events. event_of events.0 ≡ event_of event.now) }
+    ensures other { IfOk result (λ events. event_of events.1 ≡ event_of event.now) }
+{
+    Ok((event.copy()?, event.copy()?))
+}
+
+/// The entry of an event that told this is the journal's last one. There is room for it.
+pub(crate) fn entered(
+    journal: &mut Vec<Entry>,
+    kept: Event,
+    told: Event,
+    outcome: &Outcome,
+) -> Receipt
+    requires room { vec_len journal.old < vec_capacity journal.old }
+    requires same { event_of kept ≡ event_of told }
+    ensures entry { result.entry ≡ record { event = event_of told; outcome = outcome.now } }
+    ensures journal { journal.new.items ≡ journal.old.items ++ result.entry ∷ [] }
+    ensures number { result.number ≡ vec_len journal.old + 1 }
+{
+    journal.push_reserved(Entry::new(kept, outcome.copy()));
+    Receipt {
+        number: journal.len() as u64,
+        entry: Entry::new(told, outcome.copy()),
+    }
+}

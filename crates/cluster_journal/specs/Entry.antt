@@ -1,0 +1,8 @@
+-- Entries of a journal.
+use Rattle.cluster_events.specs.declared.Outcome.{Outcome}
+use Rattle.directory_rules.specs.Event.{Event}
+
+-- an accepted event, and what it told
+pub record EntryValue : Type 0 where
+  pub event : Event
+  pub outcome : Outcome

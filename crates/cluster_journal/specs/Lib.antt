@@ -1,0 +1,4 @@
+pub mod Entry
+pub mod EntryModel
+pub mod Journal
+pub mod Agreeing

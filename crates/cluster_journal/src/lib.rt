@@ -1,0 +1,9 @@
+//! The journal of a cluster: the events that it accepted, in order, each with what it told; and the receipts of those who posted
+//! them (`docs/RULES.md#the-board`).
+#![tactic(auto)]
+
+mod comparing;
+mod entry;
+
+pub use comparing::agree;
+pub use entry::{Entry, Receipt};
