@@ -1,5 +1,6 @@
-//! Measures what is proved, by calls without text: `benches ring` the ring, `benches parts` the parts of a node, and
-//! `benches SCENARIO` a cluster; `benches` alone plays each scenario of a cluster on a small scale and measures nothing.
+//! Measures what is proved, by calls without text: `benches ring` the ring, `benches parts` the parts of a node, `benches routes`
+//! published rings, and `benches SCENARIO` a cluster; `benches` alone plays each scenario of a cluster on a small scale and
+//! measures nothing.
 //!
 //! Each line is a name, how many calls or events were measured, the nanoseconds that they took in all, and a sum of what they
 //! answered or left, by which this program and the plain ones beside it (`plain`) are seen to have done the same work. `./bench`
@@ -12,6 +13,7 @@ mod fault;
 mod naming;
 mod parts;
 mod ring;
+mod routes;
 mod stopwatch;
 mod world;
 
@@ -19,11 +21,12 @@ use fault::Fault;
 use std::env;
 
 /// How the program is called.
-const USAGE: &str = "usage: benches [ring|parts|SCENARIO]";
+const USAGE: &str = "usage: benches [ring|parts|routes|SCENARIO]";
 
 fn main(rt: HostRuntime) -> Result<(), Fault> {
     match env::args(&rt)?.nth(1) {
         None => world::play_all(&rt),
+        Some(word) if word.as_str() == "routes" => routes::measure(&rt),
         Some(word) => measure(&rt, word.as_str()),
     }
 }
