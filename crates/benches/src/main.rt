@@ -3,8 +3,8 @@
 //! measures nothing.
 //!
 //! Each line is a name, how many calls or events were measured, the nanoseconds that they took in all, and a sum of what they
-//! answered or left, by which this program and the plain ones beside it (`plain`) are seen to have done the same work. `./bench`
-//! runs both and prints the ratios.
+//! answered or left, by which this program and the plain ones beside it (`plain`) are seen to have done the same work.
+//! `tools/bench` runs both and prints the ratios.
 #![tactic(auto)]
 
 mod cluster;

@@ -1,6 +1,6 @@
 //! What `grain-directory play` does, in plain Rust written for speed: it plays any script, and prints the same byte for byte. The rule
 //! is in `world.rs`, without text; `script.rs` reads lines, and `text.rs` prints. `check` judges the cluster's dump by the plain
-//! program of `dump_verdict`. Built by `rustc --edition 2021 -O`; `./bench play` runs both and prints the ratios.
+//! program of `dump_verdict`. Built by `rustc --edition 2021 -O`; `tools/bench play` runs both and prints the ratios.
 
 #[path = "../../dump_verdict/plain/dump.rs"]
 mod dump;

@@ -1,5 +1,5 @@
 //! A library that is loaded before a program and refuses it one allocation: the one whose number, from 1, the variable REFUSE has. So
-//! `./refuse-memory` finds out what the program makes of it.
+//! `tools/refuse-memory` finds out what the program makes of it.
 use std::ffi::{c_char, c_int, c_void};
 use std::ptr::null_mut;
 use std::sync::atomic::{AtomicI32, AtomicPtr, Ordering::Relaxed};

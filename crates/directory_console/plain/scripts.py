@@ -1,5 +1,5 @@
 #!/usr/bin/env python3
-"""Writes a script for `./bench play` to standard output, with stated places and hashes:
+"""Writes a script for `tools/bench play` to standard output, with stated places and hashes:
 
   scripts.py cluster GRAINS   four silos of 30 points on which so many grains wake, are looked up, and close, while a fifth one joins
                               and one dies

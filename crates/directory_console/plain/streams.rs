@@ -1,6 +1,6 @@
 //! A library that is loaded before a program and comes between it and its standard input and output: a read or a write moves as many
 //! bytes as the variable MOST says at most (any number without it), and one call fails: the read whose number, from 1, READ has, and
-//! the write whose number WRITE has. So `./break-streams` finds out what the program makes of it.
+//! the write whose number WRITE has. So `tools/break-streams` finds out what the program makes of it.
 use std::ffi::{c_char, c_int, c_long, c_void};
 use std::sync::atomic::{AtomicUsize, Ordering::Relaxed};
 

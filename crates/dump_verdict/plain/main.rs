@@ -3,7 +3,7 @@
 //!
 //! The dump is read straight into lists, without a tree of JSON values before them; texts are parts of what was read, and silos and
 //! grains are numbered once. All costs grow with the length of the dump, times a logarithm at most. Built by `rustc -O`;
-//! `./bench check` runs both and prints the ratios. It also makes such dumps (`make.rs`).
+//! `tools/bench check` runs both and prints the ratios. It also makes such dumps (`make.rs`).
 
 mod dump;
 mod json;

@@ -2,7 +2,7 @@
 //! same sums.
 //!
 //! Each line is a name, how many calls were measured, the nanoseconds that they took in all, and a sum of their answers, by which
-//! the two programs are seen to have done the same work. Built by `rustc -O`; `./bench` runs both and prints the ratios.
+//! the two programs are seen to have done the same work. Built by `rustc -O`; `tools/bench` runs both and prints the ratios.
 
 mod cache;
 mod entry;

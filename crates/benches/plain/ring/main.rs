@@ -1,8 +1,8 @@
 //! What `benches ring` measures, in plain Rust: the same rings, look-ups and texts, with the same sums.
 //!
 //! Each line is a name with the number of points, how many calls were measured, the nanoseconds that they took in all, and a sum of
-//! their answers, by which the two programs are seen to have done the same work. Built by `rustc -O`; `./bench` runs both and prints
-//! the ratios.
+//! their answers, by which the two programs are seen to have done the same work. Built by `rustc -O`; `tools/bench` runs both and
+//! prints the ratios.
 
 #[path = "../sha256.rs"]
 mod sha256;

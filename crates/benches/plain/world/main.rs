@@ -2,7 +2,7 @@
 //! (`crates/directory_console/plain`). A line is a scenario's name, how many events were measured, the nanoseconds that they took, and
 //! a sum of what all events have left; without a word, all scenarios are played on a small scale, and their lines have no time.
 //!
-//! Built by `rustc -O`; `./bench world` runs both and prints the ratios.
+//! Built by `rustc -O`; `tools/bench world` runs both and prints the ratios.
 
 mod cluster;
 #[path = "../../../directory_console/plain"]
