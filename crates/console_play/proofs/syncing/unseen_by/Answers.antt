@@ -13,7 +13,7 @@ returns c =
     let joined = c.unwrap_or-joined.ensures
     ∙ ap (λ (o : Option ℕ). unwrap_or o 0) (c.joined_at.ensures ∙ ap (λ (v : ViewsValue). joining_version v silo) c.views.ensures) in
     let seen = c.version-seen.ensures ∙ ap (λ (v : ViewValue). v.version)
-        (c.view.ensures ∙ ap (λ (n : Node). n.view) c.node.ensures) in
+    (c.view.ensures ∙ ap (λ (n : Node). n.view) c.node.ensures) in
     unseen_are c.args.world.now silo node c.max.result
     (c.max.ensures ∙ (ap (λ (n : ℕ). max n c.saturating_sub.result) seen
     ∙ ap (λ (n : ℕ). max node.view.version n) (c.saturating_sub.ensures ∙ ap (λ (n : ℕ). n - 1) joined)))
