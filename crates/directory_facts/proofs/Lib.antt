@@ -21,3 +21,8 @@ pub mod Hashes
 pub mod Throughout
 pub mod Leaving
 pub mod Lawful
+pub mod Lookups
+pub mod Counting
+pub mod PagesTaken
+pub mod OneMap
+pub mod Transfers

@@ -4,3 +4,5 @@ pub mod Pieces
 pub mod Named
 pub mod Whole
 pub mod Laws
+pub mod OneMap
+pub mod Transfers

@@ -1,5 +1,7 @@
 //! The laws. Each holds for all settings and all lists of events, and says what it asks of them.
 ghost use Rattle.directory_facts.specs.Laws.{SettingsStay, NodesAreOwn, CountsAreApart, LettersAreOwn, NodesSeeTheirVersions, RowsHavePlaces, NodesHavePieces, PiecesAreOwned, NamesAreInRange, EventsNameHashes, GrainsHaveHashes};
+ghost use Rattle.directory_facts.specs.OneMap.{NodesHaveOneMap, NodesAnswerByOneMap};
+ghost use Rattle.directory_facts.specs.Transfers.{PagesAreTheSnapshot, LastPageSettles, LastReportSettles};
 ghost use Rattle.directory_facts.specs.Whole.{WasSettledIsSettled, AnswersLeaveOthers};
 
 /// The world keeps its settings. A silo's node is that silo's, by these settings, and it holds one activation a grain.
@@ -64,4 +66,26 @@ pub fn was_settled_is_settled()
 /// An answer leaves the version seen, the ranges and states of the pieces, and the entry of every other grain in any piece.
 pub fn answers_leave_others()
     ensures { AnswersLeaveOthers }
+{}
+
+/// A silo answers as from one map from grain to entry, however its entries lie in pieces: all entries of its settled pieces are such
+/// a map. A request that the silo serves is answered as the map answers it, and what the silo holds then has the map that is left.
+pub fn nodes_answer_by_one_map()
+    ensures one_map { NodesHaveOneMap }
+    ensures answers { NodesAnswerByOneMap }
+{}
+
+/// A snapshot's pages, taken one after the other, complete what is gathered with exactly the snapshot's entries, and none is refused.
+pub fn pages_are_the_snapshot()
+    ensures { PagesAreTheSnapshot }
+{}
+
+/// The page with which all entries are there settles its piece with exactly these entries.
+pub fn last_page_settles()
+    ensures { LastPageSettles }
+{}
+
+/// The report with which all silos have reported settles its piece with exactly what was reported.
+pub fn last_report_settles()
+    ensures { LastReportSettles }
 {}

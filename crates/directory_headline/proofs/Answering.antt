@@ -21,7 +21,7 @@ use Rattle.directory_rules.specs.Letter.{Letter}
 use Rattle.directory_rules.proofs.Cases.{on_bool}
 use Rattle.directory_rules.proofs.Removed.{lookup_removed}
 use Rattle.directory_headline.specs.Shown.{activation_in, reply_as, IsShownReply}
-use Rattle.directory_headline.proofs.Lookups.{found_put}
+use Rattle.directory_facts.proofs.Lookups.{found_put}
 
 -- the table's turn at a request about an entry, as the protocol has it
 pub record IsTurn (purpose : letters.Purpose) (entry : Entry) (previous : Option ActivationId) (table : Table) (turn : Turned) : Type 0 where

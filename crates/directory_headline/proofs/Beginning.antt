@@ -28,7 +28,7 @@ use Rattle.directory_facts.proofs.Ways.{MayBegin}
 use Rattle.directory_headline.specs.SiloState.{state_of}
 use Rattle.directory_headline.specs.Shown.{held_as, IsShownHost, IsShownBody, offer_as}
 use Rattle.directory_headline.proofs.Actors.{leaves_after}
-use Rattle.directory_headline.proofs.Lookups.{found_at_end, found_beside_end}
+use Rattle.directory_facts.proofs.Lookups.{found_at_end, found_beside_end}
 use Rattle.directory_headline.proofs.Frame.{Here, Comes, Moves, acts, alive, node_shown, host_is, seen_is, member_is}
 use Rattle.directory_headline.proofs.Hosts.{host_changes, request_shown, held_put, same_request}
 

@@ -27,7 +27,7 @@ use Rattle.directory_headline.specs.SiloState.{state_of}
 use Rattle.directory_headline.specs.Shown.{Shown, IsShownNode, IsShownLetter}
 use Rattle.directory_headline.proofs.Actors.{leaves_run}
 use Rattle.directory_headline.proofs.Growing.{letter_still, node_still}
-use Rattle.directory_headline.proofs.Lookups.{found_put, found_beside_put}
+use Rattle.directory_facts.proofs.Lookups.{found_put, found_beside_put}
 use Rattle.directory_headline.proofs.Events.{with_step}
 use Rattle.directory_headline.proofs.Frame.{Here, Moves, live_now}
 

@@ -24,7 +24,7 @@ use Rattle.directory_facts.proofs.Ways as way
 use Rattle.directory_headline.specs.SiloState.{state_of}
 use Rattle.directory_headline.specs.Shown.{held_in, held_as, IsShownHost, IsShownLetter}
 use Rattle.directory_headline.proofs.Actors.{leaves_after}
-use Rattle.directory_headline.proofs.Lookups.{found_set, found_beside_set}
+use Rattle.directory_facts.proofs.Lookups.{found_set, found_beside_set}
 use Rattle.directory_headline.proofs.Frame.{Here, Moves, acts, alive, node_shown, host_is, seen_is, one_letter}
 use Rattle.directory_headline.proofs.Hosts.{host_changes, request_shown, held_put, same_request}
 

@@ -21,7 +21,7 @@ use Rattle.directory_rules.specs.Host.{Host, entry_of, held_of, is_firm, firm_en
 use Rattle.directory_facts.proofs.Entries.{all_put}
 use Rattle.directory_headline.specs.Shown.{held_in, held_as}
 use Rattle.directory_headline.proofs.TableEntries.{table_again}
-use Rattle.directory_headline.proofs.Lookups.{found_put, found_beside_put, absent_found, lookup_first, lookup_later}
+use Rattle.directory_facts.proofs.Lookups.{found_put, found_beside_put, absent_found, lookup_first, lookup_later}
 use Rattle.directory_headline.proofs.KeptEntries.{or_nothing}
 
 -- entries that are put in stand under their own grains

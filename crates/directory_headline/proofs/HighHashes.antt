@@ -23,7 +23,7 @@ use Rattle.directory_rules.specs.Laws.{HoldOnce}
 use Rattle.directory_facts.proofs.Serving.{found_holds}
 use Rattle.directory_facts.proofs.Throughout.{some_counted}
 use Rattle.directory_headline.proofs.PieceAt.{of_found}
-use Rattle.directory_headline.proofs.Counting.{counted_first, found_counted, at_most_one}
+use Rattle.directory_facts.proofs.Counting.{counted_first, found_counted, at_most_one}
 use Rattle.directory_headline.proofs.HashPieces.{one_piece}
 
 -- the hash itself; for a number above the circle the highest hash

@@ -24,7 +24,7 @@ use Rattle.directory_facts.proofs.Ways.{IsPageTaken}
 use Rattle.directory_facts.proofs.Collecting.{GatheredSo, gathered_so}
 use Rattle.directory_headline.specs.Shown.{IsShownLetter, activation_in}
 use Rattle.directory_headline.proofs.SettledPiece.{lt_true, settling, settled_world, may_settle, node_settled}
-use Rattle.directory_headline.proofs.PagesTaken.{page_more, all_pages}
+use Rattle.directory_facts.proofs.PagesTaken.{page_more, all_pages}
 use Rattle.directory_headline.proofs.Paging.{next_page}
 use Rattle.directory_headline.proofs.Frame.{Here, Comes, Moves, acts, seen_is, one_letter}
 

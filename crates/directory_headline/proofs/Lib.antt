@@ -3,7 +3,6 @@ pub mod Growing
 pub mod Events
 pub mod Facts
 pub mod Frame
-pub mod Lookups
 pub mod Carrying
 pub mod Settings
 pub mod Going
@@ -27,7 +26,6 @@ pub mod Seeing
 pub mod FactsHold
 pub mod FirmEntries
 pub mod Telling
-pub mod Counting
 pub mod PieceAt
 pub mod Answering
 pub mod Serving
@@ -48,7 +46,6 @@ pub mod Recovering
 pub mod HashPieces
 pub mod NewRecoveries
 pub mod SameTables
-pub mod PagesTaken
 pub mod Paging
 pub mod Installing
 pub mod Steps

@@ -35,7 +35,7 @@ use Rattle.directory_headline.specs.SiloState.{state_of}
 use Rattle.directory_headline.specs.Shown.{IsShownNode, IsShownLetter, IsShownBody, IsShownSnapshot, IsShownPage, IsShownWhole, IsShownGathering, HasSealed, IsListOf}
 use Rattle.directory_headline.proofs.Facts.{IsPiece}
 use Rattle.directory_headline.proofs.SameTables.{one_list}
-use Rattle.directory_headline.proofs.PagesTaken.{page_more}
+use Rattle.directory_facts.proofs.PagesTaken.{page_more}
 use Rattle.directory_headline.proofs.Staying.{answers_so}
 use Rattle.directory_headline.proofs.Frame.{Here, Comes, Moves, stays, node_shown, node_facts, no_letters, one_letter}
 

@@ -25,7 +25,7 @@ use Rattle.directory_rules.specs.PlainMachine.{plain_of, PlainStep, Nothing_chan
 use Rattle.directory_headline.proofs.Events.{with_step, by_event}
 use Rattle.directory_headline.proofs.Facts.{WorldFacts}
 use Rattle.directory_headline.proofs.Settings.{GoesOnTo}
-use Rattle.directory_headline.proofs.Lookups.{found_put, found_beside_put}
+use Rattle.directory_facts.proofs.Lookups.{found_put, found_beside_put}
 use Rattle.directory_headline.proofs.PlainWays.{IsNodeStep, steps_plainly, sees_plainly}
 use Rattle.directory_headline.proofs.PlainSilo.{node_step}
 use Rattle.directory_headline.proofs.PlainViews.{view_changes, joining_kept, death_kept}

@@ -258,5 +258,6 @@ module _ (m : Setting) (f : World) (setting : IsSettingOf m f) (facts : WorldFac
     unsettled = unsettled_ranges_retry;
     pieces = λ silo node request piece has found not. unsettled_retries node.holding request piece found not;
     no_two_firm = no_two_are_firm;
+    none_firm_twice = λ silo node has i j d less below firm later. (facts.nodes silo node has).own.once i j d less below;
     one_settles = one_silo_has_it;
   }

@@ -31,7 +31,7 @@ use Rattle.directory_facts.proofs.Entries.{found_so, same_key}
 use Rattle.directory_headline.specs.SiloState.{state_of}
 use Rattle.directory_headline.specs.Shown.{held_in, held_as, IsShownHost}
 use Rattle.directory_headline.proofs.Actors.{IsBy, AllBy}
-use Rattle.directory_headline.proofs.Lookups.{find_looked}
+use Rattle.directory_facts.proofs.Lookups.{find_looked}
 use Rattle.directory_headline.proofs.Hosts.{LeavesHolding, same_request}
 use Rattle.directory_headline.proofs.Distinct.{is_new, many, many_found, only_one, few, none_above}
 

@@ -27,7 +27,7 @@ use Rattle.directory_rules.specs.World.{World}
 use Rattle.directory_facts.proofs.Ways.{IsReply}
 use Rattle.directory_headline.specs.Shown.{held_in, held_as, IsShownLetter, IsShownBody, reply_as}
 use Rattle.directory_headline.proofs.Actors.{leaves_after}
-use Rattle.directory_headline.proofs.Lookups.{find_looked, found_set, found_beside_set, found_beside_removed, once_removed}
+use Rattle.directory_facts.proofs.Lookups.{find_looked, found_set, found_beside_set, found_beside_removed, once_removed}
 use Rattle.directory_headline.proofs.Frame.{Here, Comes, Moves, acts, alive, node_shown, node_facts, seen_is, no_letters}
 use Rattle.directory_headline.proofs.Hosts.{host_changes, held_put}
 

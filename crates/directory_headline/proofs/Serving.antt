@@ -47,7 +47,7 @@ use Rattle.directory_headline.specs.Shown.{activation_in, is_settled_piece, requ
 use Rattle.directory_headline.proofs.Facts.{ArePieces, IsPiece}
 use Rattle.directory_headline.proofs.Actors.{leaves_after}
 use Rattle.directory_headline.proofs.Growing.{shelf_still, gatherings_still, recoveries_still}
-use Rattle.directory_headline.proofs.Lookups.{found_put, found_beside_put}
+use Rattle.directory_facts.proofs.Lookups.{found_put, found_beside_put}
 use Rattle.directory_headline.proofs.Frame.{Here, Comes, Moves, stays, acts, alive, node_facts, node_shown, seen_is, hash_is, one_letter}
 use Rattle.directory_headline.proofs.PieceAt.{rising_ranges, keys_rise, of_found, states_same}
 use Rattle.directory_headline.proofs.PieceSet.{set_found}

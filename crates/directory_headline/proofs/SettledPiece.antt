@@ -32,7 +32,7 @@ use Rattle.directory_facts.proofs.Ways.{HasPiece}
 use Rattle.directory_facts.proofs.Throughout.{some_counted}
 use Rattle.directory_headline.specs.SiloState.{state_of}
 use Rattle.directory_headline.specs.Shown.{IsShownNode, IsShownHolding, IsShownGathering, IsShownRecovery, is_settled_piece, has_settled, activation_in}
-use Rattle.directory_headline.proofs.Counting.{owner_silo_is}
+use Rattle.directory_facts.proofs.Counting.{owner_silo_is}
 use Rattle.directory_headline.proofs.PieceSet.{looked_counted, looked_found, set_found, set_elsewhere}
 use Rattle.directory_headline.proofs.Frame.{Here, node_shown, node_facts, host_is, hash_is, seen_is, owner_is, alive}
 use Rattle.directory_headline.proofs.HighHashes.{held_once}

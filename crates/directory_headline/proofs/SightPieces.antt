@@ -23,7 +23,7 @@ use Rattle.directory_rules.specs.Laws.{lies_settled}
 use Rattle.directory_rules.proofs.Cases.{on_bool}
 use Rattle.directory_rules.proofs.Pieces.{under}
 use Rattle.directory_headline.specs.Shown.{is_settled_piece, has_settled}
-use Rattle.directory_headline.proofs.Counting.{holding, counted, found_counted}
+use Rattle.directory_facts.proofs.Counting.{holding, counted, found_counted}
 
 -- ---- the settled piece that has a hash
 pub record HasSettledPiece (h : ℕ) (pieces : List (ℕ × Piece)) : Type 0 where

@@ -37,7 +37,7 @@ use Rattle.directory_headline.specs.Shown.{has_settled}
 use Rattle.directory_headline.proofs.Facts.{NodeFacts}
 use Rattle.directory_headline.proofs.Frame.{Here, alive, node_facts, node_shown, host_is, seen_is, live_now, owner_is}
 use Rattle.directory_headline.proofs.PieceAt.{of_found}
-use Rattle.directory_headline.proofs.Counting.{holding, found_counted, owner_silo_is}
+use Rattle.directory_facts.proofs.Counting.{holding, found_counted, owner_silo_is}
 use Rattle.directory_headline.proofs.Members.{live_since}
 use Rattle.directory_headline.proofs.SightPieces.{HasSettledPiece, has_piece, of_settled, lies_in_one, IsMade, all_made, IsSealed, all_sealed}
 use Rattle.directory_headline.proofs.HighHashes.{held_once}

@@ -17,7 +17,7 @@ use Rattle.directory_rules.specs.Table.{Table, entry_at, entries_of, table_of}
 use Rattle.directory_rules.proofs.Cases.{on_bool}
 use Rattle.directory_facts.proofs.Entries.{same_key}
 use Rattle.directory_facts.proofs.Tabling.{InOrder}
-use Rattle.directory_headline.proofs.Lookups.{absent_found, lookup_first, lookup_later}
+use Rattle.directory_facts.proofs.Lookups.{absent_found, lookup_first, lookup_later}
 
 -- ---- the first entry and the later ones
 apart_from : (grain : Grain) (es : Table) → AllByRecursion (λ other. grain_cmp grain other ≡ Less) (keys_of es) → All (λ e. grain ≢ e.0) es

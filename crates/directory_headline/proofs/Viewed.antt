@@ -35,7 +35,7 @@ use Rattle.directory_headline.specs.SiloState.{state_of, first_state}
 use Rattle.directory_headline.specs.Shown.{Shown, IsShownNode, IsShownLetter, IsShownSnapshot, IsShownGathering, IsShownRecovery}
 use Rattle.directory_headline.proofs.Actors.{Grows}
 use Rattle.directory_headline.proofs.Growing.{letter_still, node_still}
-use Rattle.directory_headline.proofs.Lookups.{found_put, found_beside_put, found_beside_removed}
+use Rattle.directory_facts.proofs.Lookups.{found_put, found_beside_put, found_beside_removed}
 use Rattle.directory_headline.proofs.Facts.{WorldFacts}
 
 -- what is carried through a run

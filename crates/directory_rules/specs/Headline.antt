@@ -2,13 +2,14 @@
 -- anew from the view that it has seen; every range settled at the current view has each firm activation hashed into it,
 -- otherwise only activations asking or closing on live silos, one a grain; unsettled ranges answer retry; and no grain has
 -- two firm activations.
-use Rattle.std.specs.Prelude.{◌≡◌, ℕ, List, All, Some, Ok}
+use Rattle.std.specs.Prelude.{◌≡◌, ◌≢◌, ℕ, List, All, AllPairs, Some, Ok}
 use Rattle.silo_address.specs.Silo.{Silo}
 use Rattle.silo_address.specs.Grain.{Grain}
 use Rattle.membership_view.specs.Views.{view_at}
 use Rattle.hash_ring.specs.Ring.{points_of, IsSortedAnew}
 use Rattle.directory_rules.specs.declared.act.Request.{Request}
 use Rattle.directory_rules.specs.declared.held.Held.{Held}
+use Rattle.directory_rules.specs.declared.held.Phase.TheVariants.{Firm}
 use Rattle.directory_rules.specs.declared.reply.Reply.{Reply}
 use Rattle.directory_rules.specs.declared.reply.Reply.TheVariants as reply
 use Rattle.directory_rules.specs.declared.reply.Why.{Why}
@@ -62,6 +63,11 @@ UnsettledPiecesRetry world =
 abbrev pub NoTwoFirm : World → Type 0
 NoTwoFirm world = (grain : Grain) (s t : Silo) (x y : Held) → IsFirmOn world grain s x → IsFirmOn world grain t y → s ≡ t
 
+-- and none is firm twice on one: of all the activations that a live silo holds, no two are firm and of one grain
+abbrev pub NoneFirmTwice : World → Type 0
+NoneFirmTwice world =
+    (silo : Silo) (node : Node) → HasNode world silo node → AllPairs (λ e later. e.1.phase ≡ Firm → later.1.phase ≡ Firm → e.0 ≢ later.0) node.host.held
+
 -- at most one silo has a hash settled, over all versions
 abbrev pub OneSettles : World → Type 0
 OneSettles world =
@@ -75,6 +81,7 @@ pub record Headline (world : World) : Type 0 where
   pub unsettled : UnsettledRangesRetry world
   pub pieces : UnsettledPiecesRetry world
   pub no_two_firm : NoTwoFirm world
+  pub none_firm_twice : NoneFirmTwice world
   pub one_settles : OneSettles world
 
 -- it holds of the world after each list of events

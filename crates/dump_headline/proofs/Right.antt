@@ -28,7 +28,7 @@ use Rattle.directory_rules.specs.Settled.{IsFirmOn, IsHeld, IsSettledAt, IsRight
 use Rattle.directory_facts.proofs.Entries.{same_key}
 use Rattle.directory_headline.specs.Setting.{IsSettingOf}
 use Rattle.directory_headline.proofs.Facts.{WorldFacts}
-use Rattle.directory_headline.proofs.Lookups.{lookup_first, lookup_later}
+use Rattle.directory_facts.proofs.Lookups.{lookup_first, lookup_later}
 use Rattle.directory_headline.proofs.HashPieces.{is_hashed_so}
 use Rattle.directory_headline.proofs.Promises.{headline, owns_in, piece_right}
 use Rattle.directory_headline.proofs.Viewed.{Carried}
