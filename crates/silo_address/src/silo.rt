@@ -78,6 +78,15 @@ impl SiloAddress {
         }
     }
 
+    /// The silo of these parts: the four bytes of its IP address, a port from 1 to 65535 and a generation from 1 to 2147483647. Parts out
+    /// of range are refused as their text would be, by 103 (`docs/RULES.md#identities-and-their-texts`).
+    pub fn new(ip: [u8; 4], port: u16, generation: u32) -> Result<SiloAddress, SiloError>
+        ensures made { IsSilo (record { ip = ip; port = port; generation = generation }) → result ≡ Ok (record { ip = ip; port = port; generation = generation }) }
+        ensures refused { ¬ (IsSilo (record { ip = ip; port = port; generation = generation })) → result ≡ Err SiloError.OutOfRange }
+    {
+        SiloAddress::from_parts(ip, port, generation).ok_or(SiloError::OutOfRange)
+    }
+
     /// The silo of these parts, if they are in range.
     pub(crate) fn from_parts(ip: [u8; 4], port: u16, generation: u32) -> Option<SiloAddress>
         ensures { SomeIff result (IsSilo (record { ip = ip; port = port; generation = generation })) (record { ip = ip; port = port; generation = generation }) }
