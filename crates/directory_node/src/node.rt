@@ -167,8 +167,24 @@ impl Node {
         })
     }
 
-    /// Whether the two know the same.
+    /// Whether the two know the same. What rises is looked at first, and no table where it differs; else the tables are walked once.
     pub fn same(&self, other: &Node) -> bool
+        ensures { IsTrue result ↔ (self.now ≡ other.now) }
+    {
+        self.rose_as_high(other) && self.knows_the_same(other)
+    }
+
+    // Whether both have had as many requests and activations of their own, and have seen the same version.
+    fn rose_as_high(&self, other: &Node) -> bool
+        ensures { IsTrue result ↔ (self.now.host.next_number ≡ other.now.host.next_number) × (self.now.host.next_count ≡ other.now.host.next_count) × (self.now.view.version ≡ other.now.view.version) }
+    {
+        self.host.next_number() == other.host.next_number()
+            && self.host.next_count() == other.host.next_count()
+            && self.view.version() == other.view.version()
+    }
+
+    // Whether the two know the same, one part after the other.
+    fn knows_the_same(&self, other: &Node) -> bool
         ensures { IsTrue result ↔ (self.now ≡ other.now) }
     {
         self.settings.same(&other.settings)

@@ -20,3 +20,4 @@ pub mod Joined
 pub mod KeyOrder
 pub mod KeysRead
 pub mod KeyEnds
+pub mod KeysSame

@@ -1,7 +1,7 @@
 //! Activations under hashed grains, in order of hash, then the grain's text. A grain takes as much memory as its text is long.
 ghost use Rattle.std.specs.BTreeMap.{insert_entry, is_at};
 ghost use Rattle.std.specs.Map.{lookup, remove_entry};
-ghost use Rattle.std.specs.Prelude.{◌≡◌, [], IfOk, OnOk, OnErr, length};
+ghost use Rattle.std.specs.Prelude.{◌≡◌, ◌↔◌, [], IfOk, IsTrue, OnOk, OnErr, length};
 ghost use Rattle.grain_table.specs.Hashed.{hashed_cmp};
 
 mod ends;
@@ -103,5 +103,12 @@ impl HashedMap {
             alloc: self.alloc,
             map,
         })
+    }
+
+    /// Whether both have the same activations under the same keys: one walk over both, in which no key is read.
+    pub(crate) fn same(&self, other: &HashedMap) -> bool
+        ensures { IsTrue result ↔ (self.now ≡ other.now) }
+    {
+        self.map == other.map
     }
 }

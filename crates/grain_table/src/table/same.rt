@@ -9,8 +9,27 @@ use crate::hashed_map::HashedMap;
 use silo_address::Entry;
 
 impl Table {
-    /// Whether both have the same entries, however they hash.
+    /// Whether both have the same entries, however they hash. One walk over both where they hash in the same way, in which nothing
+    /// is hashed; else each entry is looked for in the other table.
     pub fn has_same_entries(&self, other: &Table) -> bool
+        ensures { IsTrue result ↔ (self.now.entries ≡ other.now.entries) }
+    {
+        if self.hashing.same(&other.hashing) {
+            return self.has_same_own(other);
+        }
+        self.has_same_found(other)
+    }
+
+    // The same, of two that hash in the same way, and so keep their entries in the same order.
+    fn has_same_own(&self, other: &Table) -> bool
+        requires { self.now.hashing ≡ other.now.hashing }
+        ensures { IsTrue result ↔ (self.now.entries ≡ other.now.entries) }
+    {
+        self.map.same(&other.map)
+    }
+
+    // The same, of any two.
+    fn has_same_found(&self, other: &Table) -> bool
         ensures { IsTrue result ↔ (self.now.entries ≡ other.now.entries) }
     {
         other.has_all(&self.map) && self.has_all(&other.map)

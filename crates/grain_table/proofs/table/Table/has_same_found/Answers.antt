@@ -1,7 +1,7 @@
 use Rattle.std.proofs.Common.{◌≡◌, ◌∙◌, ap, sym, subst, false, true}
 use Rattle.grain_table.specs.Table.{TableValue}
 use Rattle.grain_table.proofs.Same.{HasAll, has_own, same_from}
-use Rattle.grain_table.proofs.table.Table.has_same_entries.Goals as goal
+use Rattle.grain_table.proofs.table.Table.has_same_found.Goals as goal
 
 pub returns-then-has_all : goal.returns-then-has_all
 returns-then-has_all c =
