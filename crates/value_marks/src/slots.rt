@@ -1,4 +1,5 @@
-ghost use Rattle.std.specs.Prelude.{◌≡◌, IfOk, IfSome, Some, length, slice_get};
+ghost use Rattle.std.specs.Prelude.{◌≡◌, IfOk, length, slice_get};
+ghost use Rattle.std.specs.Option.{option_map};
 
 use boxcar::slot::{OnceSlot, SlotRule};
 use boxcar::tag::Tag;
@@ -55,7 +56,7 @@ impl<T> Slots<T> {
 
     /// The slot at that index; `None` where there are no more than that.
     pub fn get(&self, index: usize) -> Option<&Slot<T>>
-        ensures { IfSome result (λ slot. slice_get self.now index ≡ Some slot.now.id) }
+        ensures { option_map (λ slot. slot.now.id) result ≡ slice_get self.now index }
     {
         self.slots.get(index)
     }
