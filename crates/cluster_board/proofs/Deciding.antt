@@ -11,7 +11,7 @@ use Rattle.directory_rules.specs.Mail.{has_room_for, letter_of, with_delivered}
 use Rattle.directory_rules.specs.Happens.{delivers, delivers_to, happens, taken}
 use Rattle.directory_node.specs.Planning.{step_by}
 use Rattle.directory_node.specs.declared.Plan.{Plan}
-use Rattle.directory_core.proofs.Happening.{full, has_room}
+use Rattle.directory_core.proofs.Happenings.{full, has_room}
 use Rattle.cluster_board.specs.Committing.{Declines, IsTaken}
 use Rattle.cluster_board.specs.Planned.{IsPlanOf}
 use Rattle.cluster_board.specs.Work.{IsCurrent, Work}

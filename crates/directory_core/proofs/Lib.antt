@@ -2,5 +2,5 @@ pub mod Entries
 pub mod Kept
 pub mod Made
 pub mod Tidied
-pub mod Happening
+pub mod Happenings
 pub mod Running

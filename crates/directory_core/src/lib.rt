@@ -1,4 +1,5 @@
-//! The cluster as one value: what happens in it, event by event, by the event rule (`docs/RULES.md#the-world`).
+//! The cluster as one value: what happens in it, event by event, by the event rule (`docs/RULES.md#the-world`). What its calls take
+//! and give is named here too, so that a user needs no other crate.
 #![tactic(auto)]
 
 mod apply;
@@ -15,8 +16,15 @@ mod steps;
 mod told;
 mod world;
 
+pub use cluster_events::{Event, Happening, Outcome, Span};
 pub use delivering::Undelivered;
+pub use directory_letters::{Body, Letter};
+pub use directory_node::Node;
+pub use directory_rules::{Effect, LetterKind, Policy, Settings};
+pub use hash_ring::Hashing;
+pub use membership_view::{Status, Views};
 pub use planned::UndeliveredPlan;
 pub use refusal::EventRefusal;
+pub use silo_address::{ActivationId, Entry, GrainId, SiloAddress};
 pub use told::Told;
 pub use world::World;

@@ -1,5 +1,5 @@
 //! One silo as a server has it: what it was told of the changes of membership, and its node. No call asks anything of its caller
-//! (`docs/RULES.md#a-silo-by-itself`).
+//! (`docs/RULES.md#a-silo-by-itself`). What its calls take and give is named here too, so that a user needs no other crate.
 #![tactic(auto)]
 
 mod answer;
@@ -15,6 +15,10 @@ mod silo;
 mod taking;
 
 pub use answer::Answer;
+pub use directory_letters::{Body, Letter};
+pub use directory_rules::{Effect, LetterKind, Policy, Settings};
+pub use hash_ring::Hashing;
 pub use news::News;
 pub use refusal::SiloRefusal;
 pub use silo::Silo;
+pub use silo_address::{ActivationId, GrainId, SiloAddress};

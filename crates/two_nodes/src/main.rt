@@ -5,7 +5,7 @@
 mod pair;
 
 use anyhow::{Context, Result};
-use directory_rules::LetterKind;
+use directory_silo::LetterKind;
 use pair::Pair;
 use std::io;
 

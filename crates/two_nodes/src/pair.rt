@@ -1,9 +1,7 @@
 use anyhow::{Context, Result, bail};
-use directory_letters::Letter;
-use directory_rules::{LetterKind, Settings};
-use directory_silo::{Answer, Silo};
-use hash_ring::Hashing;
-use silo_address::{ActivationId, GrainId, SiloAddress};
+use directory_silo::{
+    ActivationId, Answer, GrainId, Hashing, Letter, LetterKind, Settings, Silo, SiloAddress,
+};
 use std::alloc::Global;
 
 /// How many letters are delivered at most by one input: more than come of any here.

@@ -17,7 +17,7 @@ use Rattle.letter_mail.specs.declared.MailedLetter.{MailedLetter}
 use Rattle.directory_node.specs.Planning.{changed}
 use Rattle.directory_core.specs.Stepping.{after_step}
 use Rattle.directory_core.specs.Whole.{IsWorld}
-use Rattle.directory_core.proofs.Happening.{delivered_told, delivery_refused, leaves_delivered}
+use Rattle.directory_core.proofs.Happenings.{delivered_told, delivery_refused, leaves_delivered}
 use Rattle.directory_core.proofs.world.World.deliver.Goals as goal
 
 pub returns-in_default-plan_letter-clause-told : goal.returns-in_default-plan_letter-clause-told

@@ -4,7 +4,7 @@ use Rattle.directory_rules.specs.Happens.{does}
 use Rattle.directory_node.specs.Follows.{RefusesBy}
 use Rattle.directory_node.specs.InputModel.{input_of}
 use Rattle.directory_node.specs.Numbers.{step_refusal_number}
-use Rattle.directory_core.proofs.Happening.{refused_told}
+use Rattle.directory_core.proofs.Happenings.{refused_told}
 use Rattle.directory_core.proofs.world.World.does.Goals as goal
 
 pub returns-in-Err-clause-told : goal.returns-in-Err-clause-told

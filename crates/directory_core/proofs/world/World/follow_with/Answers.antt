@@ -6,7 +6,7 @@ use Rattle.directory_node.specs.Follows.{Follows}
 use Rattle.directory_core.specs.Applying.{accepted_as}
 use Rattle.directory_core.specs.Delivering.{undelivered_number}
 use Rattle.directory_core.specs.Whole.{LeavesWorld}
-use Rattle.directory_core.proofs.Happening.{full, has_room}
+use Rattle.directory_core.proofs.Happenings.{full, has_room}
 use Rattle.directory_core.proofs.world.World.follow_with.Goals as goal
 
 pub returns-then-accepted-events-clause-told : goal.returns-then-accepted-events-clause-told

@@ -14,7 +14,7 @@ use Rattle.cluster_events.specs.OutcomeModel.{span_of as code_span}
 use Rattle.directory_node.specs.Planning.{Fits, changed}
 use Rattle.directory_core.specs.Stepping.{after_step}
 use Rattle.directory_core.specs.Whole.{IsWorld}
-use Rattle.directory_core.proofs.Happening.{delivered_told, leaves_delivered}
+use Rattle.directory_core.proofs.Happenings.{delivered_told, leaves_delivered}
 use Rattle.directory_core.proofs.world.World.take_by.Goals as goal
 
 pub receive-requires-clause-fits : goal.receive-requires-clause-fits

@@ -10,7 +10,7 @@ use Rattle.directory_rules.specs.Mail.{has_room_for, letter_of, span_of, with_de
 use Rattle.cluster_events.specs.OutcomeModel.{span_of as code_span}
 use Rattle.directory_core.specs.Stepping.{after_step}
 use Rattle.directory_core.specs.Whole.{IsWorld}
-use Rattle.directory_core.proofs.Happening.{delivered_told, leaves_delivered, stepped_as}
+use Rattle.directory_core.proofs.Happenings.{delivered_told, leaves_delivered, stepped_as}
 use Rattle.directory_core.proofs.world.World.take_with.Goals as goal
 
 pub receive_with-requires-clause-leaves : goal.receive_with-requires-clause-leaves
