@@ -1,4 +1,4 @@
-ghost use Rattle.std.specs.Prelude.{◌≡◌, ◌↔◌, ◌∷◌, [], ◌++◌, ◌+◌, ◌<◌, IfErr, IfOk, IfSome, IsTrue, MatchOption, None, OnErr, OnOk, Ok, Some, length};
+ghost use Rattle.std.specs.Prelude.{◌≡◌, ◌⊎◌, ◌↔◌, ◌∷◌, [], ◌++◌, ◌+◌, ◌<◌, IfErr, IfOk, IfSome, IsTrue, MatchOption, None, OnErr, OnOk, Ok, Some, length};
 ghost use Rattle.directory_rules.specs.Event.{Deliver};
 ghost use Rattle.directory_rules.specs.Happens.{happens, node_of};
 ghost use Rattle.directory_rules.specs.Mail.{letter_of};
@@ -32,9 +32,9 @@ pub struct Uncommitted<N: Names> {
 impl<L: Ledger + Names> Board<L> {
     /// The letter of prepared work comes to its receiver, whose step was prepared: this is `World::apply` of the delivery, and its
     /// entry is the journal's last one, which the receipt names. Refused by 951 where the silo has no node equal to the lent one
-    /// or the mail no equal letter under that number, then by 908, then by 909; out of memory comes last, and then the job comes
-    /// back if its node can be lent again. A refusal changes nothing. The caller has a part of the share
-    /// (`docs/RULES.md#the-board`).
+    /// or the mail no equal letter under that number, then by 908, then by 909: of that work the lent node comes back alone. Out of
+    /// memory comes last, and then the job comes back if its node can be lent again. A refusal changes nothing. The caller has a
+    /// part of the share (`docs/RULES.md#the-board`).
     pub fn commit(
         &mut self,
         share: &mut Share<L>,
@@ -50,6 +50,7 @@ impl<L: Ledger + Names> Board<L> {
         ensures parts { share.new.parts ≡ share.old.parts }
         ensures declined { IfErr result (λ uncommitted. Declines self.old.world prepared uncommitted.refusal) }
         ensures back { IfErr result (λ uncommitted. IfSome uncommitted.job (λ job. (job ≡ prepared) × (uncommitted.refusal ≡ CommitRefusal.OutOfMemory))) }
+        ensures spent { IfErr result (λ uncommitted. (uncommitted.refusal ≡ CommitRefusal.OutOfMemory) ⊎ (uncommitted.node ≡ Some prepared.node)) }
         ensures unchanged { OnErr result (self.new ≡ self.old) }
         ensures not_counted { OnErr result (share.new.amount ≡ share.old.amount) }
     {
@@ -137,6 +138,7 @@ impl<L: Ledger + Names> Board<L> {
 fn spent<N: Names>(refusal: CommitRefusal, job: Job<N>) -> Uncommitted<N>
     ensures refusal { result.refusal ≡ refusal }
     ensures no_job { result.job ≡ None }
+    ensures node { result.node ≡ Some job.node }
 {
     let Job {
         number: _,
