@@ -107,11 +107,43 @@ impl Publisher {
         ensures only { IfErr result (λ refusal. (refusal ≡ RouteError.PointsMissing) ⊎ (refusal ≡ RouteError.OutOfMemory)) }
         ensures unchanged { OnErr result (self.new ≡ self.old) }
     {
+        let ring = ring_after(alloc, self.writer.published().ring(), view, places)?;
+        self.show_ring(rt, alloc, ring)?;
+        Ok(Told::of(view.version()))
+    }
+
+    /// As `publish`, whatever places the last ring is by: the ring is made anew, even if the view is the next one. Refused by 403
+    /// where a silo that is Active in the view was not added to the places.
+    pub fn publish_anew<R: Wait>(
+        &mut self,
+        rt: &R,
+        alloc: Global,
+        view: &View,
+        places: &Places,
+    ) -> Result<Told, RouteError>
+        requires { self.old.last.version < view.now.version }
+        ensures published { OnOk result (self.new ≡ after_publishing self.old (ring_of view.now places.now)) }
+        ensures told { IfOk result (λ told. told ≡ view.now.version) }
+        ensures missing { IsErrOf result RouteError.PointsMissing ↔ (are_added view.now places.now ≡ false) }
+        ensures only { IfErr result (λ refusal. (refusal ≡ RouteError.PointsMissing) ⊎ (refusal ≡ RouteError.OutOfMemory)) }
+        ensures unchanged { OnErr result (self.new ≡ self.old) }
+    {
+        let ring = Ring::anew(alloc, view, places)?;
+        self.show_ring(rt, alloc, ring)?;
+        Ok(Told::of(view.version()))
+    }
+
+    // Shows readers the ring of a newer view. Fails only when memory runs out.
+    fn show_ring<R: Wait>(&mut self, rt: &R, alloc: Global, ring: Ring) -> Result<(), AllocError>
+        requires newer { self.old.last.version < ring.version }
+        requires made { IsOfView ring }
+        ensures shown { OnOk result (self.new ≡ after_publishing self.old ring) }
+        ensures unchanged { OnErr result (self.new ≡ self.old) }
+    {
         let last = self.writer.published();
-        let ring = ring_after(alloc, last.ring(), view, places)?;
         let next = last.next(alloc, ring)?;
         replace_with(&mut self.writer, (rt, next), show)?;
-        Ok(Told::of(view.version()))
+        Ok(())
     }
 
     /// Ends the publisher. Readers are not let in from then on.

@@ -1,0 +1,46 @@
+use crate::turn::{Post, turn};
+use crate::{Cause, Gate, Site, Tally};
+use crossbeam_channel::Sender;
+use silo_address::SiloAddress;
+use std::alloc::Global;
+use std::sync::Wait;
+use std::sync::ledger::Ledger;
+use value_marks::Names;
+
+/// Delivers the letters to a silo, one after the other, until all are to stop, a worker gives up, or the silo is Dead. Where memory
+/// runs out, or a delivery is refused by 908 or 909, this worker gives up: it says so on the board, and sends why. Work that isn't
+/// current any more, 951, is lent again (`docs/RULES.md#running-silos`).
+pub fn work<L: Ledger + Names, G: Gate + Drop, R: Wait>(
+    rt: &R,
+    alloc: Global,
+    site: &Site<L, G>,
+    silo: SiloAddress,
+    tally: Tally<L>,
+    causes: &Sender<Cause>,
+) -> Tally<L> {
+    let post = Post { alloc, silo };
+    let mut tally = tally;
+    for _ in rt.forever() {
+        match turn(rt, site, &post, &mut tally) {
+            Ok(true) => {}
+            Ok(false) => return tally,
+            Err(cause) => {
+                give_up(rt, site, causes, cause);
+                return tally;
+            }
+        }
+    }
+    unreachable!()
+}
+
+// The worker gives up: the board has it, all are told, and the cause is sent. It is dropped where nobody takes it.
+fn give_up<L: Ledger + Names, G: Gate + Drop, R: Wait>(
+    rt: &R,
+    site: &Site<L, G>,
+    causes: &Sender<Cause>,
+    cause: Cause,
+) {
+    site.board.lock(rt).give_up();
+    site.bell.notify_all();
+    let _ = causes.send(rt, cause);
+}
