@@ -78,11 +78,7 @@ pub(crate) fn posted<L: Ledger + Names>(
 }
 
 // The silo's work.
-pub(crate) fn lent<L: Ledger + Names>(
-    rt: &impl Abort,
-    board: &mut Board<L>,
-    at: &str,
-) -> Job<L> {
+pub(crate) fn lent<L: Ledger + Names>(rt: &impl Abort, board: &mut Board<L>, at: &str) -> Job<L> {
     let silo = silo(rt, at);
     let lent = match board.lend(&silo) {
         Ok(lent) => lent,
@@ -141,11 +137,13 @@ fn committed_again<L: Ledger + Names>(
 {
     match board.commit(share, work) {
         Ok(receipt) => Ok(receipt.number),
-        Err(Uncommitted {
-            refusal,
-            job,
-            node: _,
-        }) => {
+        Err(
+            Uncommitted {
+                refusal,
+                job,
+                node: _,
+            },
+        ) => {
             if let Some(job) = job {
                 job.give_back();
             }
