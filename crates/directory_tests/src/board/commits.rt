@@ -93,8 +93,9 @@ fn agreed<L: Ledger + Names>(
 {
     let one = receipt(rt, board, share, &join(rt, alloc, A, 0));
     let other = receipt(rt, board, share, &see(rt, A, 1));
-    let receipts = [other, one];
-    agree(rt, alloc, board.journal(), &receipts)
+    let both = [other, one];
+    let receipts = &both[..];
+    agree(rt, alloc, board.journal(), receipts)
         && !agree(rt, alloc, board.journal(), &receipts[1..])
 }
 

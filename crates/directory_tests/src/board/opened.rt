@@ -152,8 +152,8 @@ fn committed_again<L: Ledger + Names>(
     }
 }
 
-// The first seven events: the first silo has half of the circle to hand over, and the second one asks for it by letter 3.
-pub(crate) fn asked<L: Ledger + Names>(
+// The first four events: the first silo is alone, and asks itself by letter 1 what it holds, which it tells by letter 2.
+fn began<L: Ledger + Names>(
     rt: &impl Abort,
     alloc: Global,
     board: &mut Board<L>,
@@ -166,12 +166,25 @@ pub(crate) fn asked<L: Ledger + Names>(
         && posted(rt, board, share, &see(rt, A, 1)) == 2
         && posted(rt, board, share, &Event::Deliver { number: 1 }) == 3
         && posted(rt, board, share, &Event::Deliver { number: 2 }) == 4
+}
+
+// The next three: the first silo has half of the circle to hand over, and the second one asks for it by letter 3.
+pub(crate) fn asked<L: Ledger + Names>(
+    rt: &impl Abort,
+    alloc: Global,
+    board: &mut Board<L>,
+    share: &mut Share<L>,
+) -> bool
+    requires { 0 < share.old.parts }
+    ensures { share.new.parts ≡ share.old.parts }
+{
+    began(rt, alloc, board, share)
         && posted(rt, board, share, &join(rt, alloc, B, 2_147_483_648)) == 5
         && posted(rt, board, share, &see(rt, A, 2)) == 6
         && posted(rt, board, share, &see(rt, B, 2)) == 7
 }
 
-// The next three, which hand it over; then the first silo wakes a grain of its own half, and asks itself by letter 6.
+// The next three events hand it over; then the first silo wakes a grain of its own half, and asks itself by letter 6.
 pub(crate) fn handed<L: Ledger + Names>(
     rt: &impl Abort,
     board: &mut Board<L>,
