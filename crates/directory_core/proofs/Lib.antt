@@ -4,3 +4,5 @@ pub mod Made
 pub mod Tidied
 pub mod Happenings
 pub mod Running
+pub mod CurrentView
+pub mod Numbered

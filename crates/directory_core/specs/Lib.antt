@@ -6,6 +6,7 @@ pub mod Leaving
 pub mod Whole
 pub mod WorldModel
 pub mod Sharing
+pub mod CurrentView
 pub mod Applying
 pub mod Delivering
 pub mod Moving

@@ -1,5 +1,5 @@
 -- The numbers by which events are refused.
-use Rattle.std.specs.Prelude.{ℕ, Option, Some, None}
+use Rattle.std.specs.Prelude.{◌≡◌, ℕ, Option, Some, None, IfNone}
 use Rattle.membership_view.specs.Refusal.{views_error_number}
 use Rattle.hash_ring.specs.Numbers.{ring_error_number}
 use Rattle.directory_node.specs.Numbers.{step_refusal_number}
@@ -18,3 +18,7 @@ event_refusal_number (Views refusal) = views_error_number refusal
 event_refusal_number (Ring refusal) = ring_error_number refusal
 event_refusal_number (Node refusal) = step_refusal_number refusal
 event_refusal_number OutOfMemory = None
+
+-- a refusal that has no number is out of memory, told as just that
+abbrev pub IsNumberedUnlessMemory : EventRefusal → Type 0
+IsNumberedUnlessMemory refusal = IfNone (event_refusal_number refusal) (refusal ≡ OutOfMemory)

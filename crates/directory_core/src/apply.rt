@@ -1,10 +1,10 @@
-ghost use Rattle.std.specs.Prelude.{◌≡◌, ◌<◌, IfOk, OnErr};
+ghost use Rattle.std.specs.Prelude.{◌≡◌, ◌<◌, IfErr, IfOk, OnErr};
 ghost use Rattle.cluster_events.specs.EventModel.{event_of};
 ghost use Rattle.directory_rules.specs.Happens.{attempted, happens};
 ghost use Rattle.directory_rules.specs.Headline.{Headline};
 ghost use Rattle.directory_node.specs.Follows.{Follows};
 ghost use Rattle.directory_core.specs.Applying.{IsPlainlyTold, accepted_as, excused};
-ghost use Rattle.directory_core.specs.Numbers.{event_refusal_number};
+ghost use Rattle.directory_core.specs.Numbers.{IsNumberedUnlessMemory, event_refusal_number};
 ghost use Rattle.directory_core.specs.Whole.{LeavesWorld};
 
 use crate::{EventRefusal, World};
@@ -13,13 +13,15 @@ use directory_node::Input;
 
 impl World {
     /// An event happens. It is accepted, with what it tells, or refused by a refusal with its number, and then nothing changes
-    /// (`docs/RULES.md#the-world`). Out of memory changes nothing either, and comes only where no number refuses the event; but
-    /// at a sight and a nudge, whose letters are known only when they are made, it may come before 909.
+    /// (`docs/RULES.md#the-world`). Out of memory changes nothing either, is told by `OutOfMemory` alone, and comes only where no
+    /// number refuses the event; but at a sight and a nudge, whose letters are known only when they are made, it may come before
+    /// 909 (`docs/RULES.md#memory`).
     ///
     /// The headline holds of the world that is left, and what is accepted is the step of the plain machine that it tells
     /// (`docs/RULES.md#what-is-to-hold-of-the-world`).
     pub fn apply(&mut self, event: &Event) -> Result<Outcome, EventRefusal>
         ensures told { Follows (accepted_as self.new) event_refusal_number (excused event.now) (happens self.old (event_of event.now)) result }
+        ensures numbered { IfErr result IsNumberedUnlessMemory }
         ensures unchanged { OnErr result (self.new ≡ self.old) }
         ensures headline { Headline self.new }
         ensures plain { IfOk result (λ outcome. IsPlainlyTold self.old outcome self.new) }
@@ -35,6 +37,7 @@ impl World {
     fn follow(&mut self, event: &Event) -> Result<Outcome, EventRefusal>
         requires leaves { LeavesWorld (happens self.old (event_of event.now)) }
         ensures told { Follows (accepted_as self.new) event_refusal_number (excused event.now) (happens self.old (event_of event.now)) result }
+        ensures numbered { IfErr result IsNumberedUnlessMemory }
         ensures unchanged { OnErr result (self.new ≡ self.old) }
     {
         if self.accepted() >= self.settings().events() {
@@ -48,6 +51,7 @@ impl World {
         requires room { self.old.accepted < self.old.settings.events }
         requires leaves { LeavesWorld (attempted self.old (event_of event.now)) }
         ensures told { Follows (accepted_as self.new) event_refusal_number (excused event.now) (attempted self.old (event_of event.now)) result }
+        ensures numbered { IfErr result IsNumberedUnlessMemory }
         ensures unchanged { OnErr result (self.new ≡ self.old) }
     {
         match event {

@@ -9,6 +9,7 @@ ghost use Rattle.directory_node.specs.Follows.{Follows};
 ghost use Rattle.directory_node.specs.SteppedModel.{stepped_of};
 ghost use Rattle.directory_core.specs.Applying.{IsPlainlyTold, accepted_as};
 ghost use Rattle.directory_core.specs.Delivering.{IsStepWith, undelivered_number};
+ghost use Rattle.directory_core.specs.Numbers.{IsNumberedUnlessMemory};
 ghost use Rattle.directory_core.specs.Stepping.{after_step};
 ghost use Rattle.directory_core.specs.Whole.{IsWorld, LeavesWorld};
 
@@ -34,6 +35,7 @@ impl World {
     pub fn deliver_with(&mut self, number: u64, stepped: Stepped) -> Result<Outcome, Undelivered>
         requires step { IsStepWith self.old number (stepped_of stepped) }
         ensures told { Follows (accepted_as self.new) undelivered_number IsOk (happens self.old (Deliver number)) result }
+        ensures numbered { IfErr result (λ undelivered. IsNumberedUnlessMemory undelivered.refusal) }
         ensures back { IfErr result (λ undelivered. undelivered.stepped ≡ stepped) }
         ensures unchanged { OnErr result (self.new ≡ self.old) }
         ensures headline { Headline self.new }
@@ -50,6 +52,7 @@ impl World {
         requires step { IsStepWith self.old number (stepped_of stepped) }
         requires leaves { LeavesWorld (happens self.old (Deliver number)) }
         ensures told { Follows (accepted_as self.new) undelivered_number IsOk (happens self.old (Deliver number)) result }
+        ensures numbered { IfErr result (λ undelivered. IsNumberedUnlessMemory undelivered.refusal) }
         ensures back { IfErr result (λ undelivered. undelivered.stepped ≡ stepped) }
         ensures unchanged { OnErr result (self.new ≡ self.old) }
     {
@@ -66,6 +69,7 @@ impl World {
         requires step { IsStepWith self.old number (stepped_of stepped) }
         requires leaves { LeavesWorld (deliver self.old number) }
         ensures told { Follows (accepted_as self.new) undelivered_number IsOk (deliver self.old number) result }
+        ensures numbered { IfErr result (λ undelivered. IsNumberedUnlessMemory undelivered.refusal) }
         ensures back { IfErr result (λ undelivered. undelivered.stepped ≡ stepped) }
         ensures unchanged { OnErr result (self.new ≡ self.old) }
     {

@@ -1,4 +1,4 @@
-ghost use Rattle.std.specs.Prelude.{◌≡◌, ◌<◌, IfOk, IsOk, Ok, OnErr, OnOk};
+ghost use Rattle.std.specs.Prelude.{◌≡◌, ◌<◌, IfErr, IfOk, IsOk, Ok, OnErr, OnOk};
 ghost use Rattle.std.specs.BTreeMap.{insert_entry};
 ghost use Rattle.silo_address.specs.Silo.{silo_cmp};
 ghost use Rattle.membership_view.specs.Changes.{after_join, occupant, with_join};
@@ -9,7 +9,7 @@ ghost use Rattle.directory_rules.specs.Node.{new_node};
 ghost use Rattle.directory_node.specs.Follows.{Follows};
 ghost use Rattle.directory_core.specs.Applying.{accepted_as};
 ghost use Rattle.directory_core.specs.Joining.{nodes_without, with_admitted};
-ghost use Rattle.directory_core.specs.Numbers.{event_refusal_number};
+ghost use Rattle.directory_core.specs.Numbers.{IsNumberedUnlessMemory, event_refusal_number};
 ghost use Rattle.directory_core.specs.Whole.{IsWorld, LeavesWorld};
 
 use crate::nodes::{put_new_node, remove_node};
@@ -30,6 +30,7 @@ impl World {
         requires room { self.old.accepted < self.old.settings.events }
         requires leaves { LeavesWorld (join self.old silo given.now) }
         ensures told { Follows (accepted_as self.new) event_refusal_number IsOk (join self.old silo given.now) result }
+        ensures numbered { IfErr result IsNumberedUnlessMemory }
         ensures unchanged { OnErr result (self.new ≡ self.old) }
     {
         if let Err(refusal) = self.views.may_join(&silo) {
@@ -55,6 +56,7 @@ impl World {
         requires room { self.old.accepted < self.old.settings.events }
         requires leaves { (places : PlacesValue) → after_add self.old.places silo given.now ≡ Ok places → IsWorld (with_admitted self.old silo places) }
         ensures places { Follows (λ _. self.new.places) event_refusal_number IsOk (after_add self.old.places silo given.now) result }
+        ensures numbered { IfErr result IsNumberedUnlessMemory }
         ensures made { OnOk result (self.new ≡ with_admitted self.old silo self.new.places) }
         ensures version { IfOk result (λ joined. joined.version ≡ self.new.views.version) }
         ensures replaced { IfOk result (λ joined. joined.replaced ≡ occupant silo self.old.views.rows) }
@@ -89,6 +91,7 @@ fn put_in(
     requires peopled { ArePeopled views.old nodes.old.entries }
     ensures views { OnOk result (views.new ≡ with_join views.old silo) }
     ensures places { Follows (λ _. places.new) event_refusal_number IsOk (after_add places.old silo given.now) result }
+    ensures numbered { IfErr result IsNumberedUnlessMemory }
     ensures nodes { OnOk result (nodes.new.entries ≡ insert_entry silo_cmp (nodes_without (occupant silo views.old.rows) nodes.old.entries) silo (new_node settings silo)) }
     ensures version { IfOk result (λ joined. joined.version ≡ views.new.version) }
     ensures replaced { IfOk result (λ joined. joined.replaced ≡ occupant silo views.old.rows) }

@@ -1,4 +1,4 @@
-ghost use Rattle.std.specs.Prelude.{◌≡◌, ◌≢◌, ◌+◌, ◌<◌, IsSome, OnErr, Some};
+ghost use Rattle.std.specs.Prelude.{◌≡◌, ◌≢◌, ◌+◌, ◌<◌, IfErr, IsSome, OnErr, Some};
 ghost use Rattle.membership_view.specs.Changes.{with_death, with_leave};
 ghost use Rattle.membership_view.specs.Views.{status_at};
 ghost use Rattle.membership_view.specs.declared.Status.TheVariants.{Active, Dead};
@@ -6,7 +6,7 @@ ghost use Rattle.directory_rules.specs.Happens.{died, kill, leave, status_now};
 ghost use Rattle.directory_node.specs.Follows.{Follows};
 ghost use Rattle.directory_core.specs.Applying.{IsNever, accepted_as};
 ghost use Rattle.directory_core.specs.Leaving.{with_leaving};
-ghost use Rattle.directory_core.specs.Numbers.{event_refusal_number};
+ghost use Rattle.directory_core.specs.Numbers.{IsNumberedUnlessMemory, event_refusal_number};
 ghost use Rattle.directory_core.specs.Whole.{IsWorld, LeavesWorld};
 
 use crate::nodes::remove_node;
@@ -22,6 +22,7 @@ impl World {
         requires room { self.old.accepted < self.old.settings.events }
         requires leaves { LeavesWorld (leave self.old silo.now) }
         ensures told { Follows (accepted_as self.new) event_refusal_number IsNever (leave self.old silo.now) result }
+        ensures numbered { IfErr result IsNumberedUnlessMemory }
         ensures unchanged { OnErr result (self.new ≡ self.old) }
     {
         match self.status(silo) {
@@ -38,6 +39,7 @@ impl World {
         requires room { self.old.accepted < self.old.settings.events }
         requires leaves { LeavesWorld (kill self.old silo.now) }
         ensures told { Follows (accepted_as self.new) event_refusal_number IsNever (kill self.old silo.now) result }
+        ensures numbered { IfErr result IsNumberedUnlessMemory }
         ensures unchanged { OnErr result (self.new ≡ self.old) }
     {
         match self.status(silo) {

@@ -6,6 +6,7 @@ ghost use Rattle.directory_rules.specs.Headline.{Headline};
 ghost use Rattle.directory_node.specs.Follows.{Follows};
 ghost use Rattle.directory_core.specs.Applying.{IsPlainlyTold, accepted_as};
 ghost use Rattle.directory_core.specs.Delivering.{IsPlanWith, plan_back, undelivered_plan_number};
+ghost use Rattle.directory_core.specs.Numbers.{IsNumberedUnlessMemory};
 ghost use Rattle.directory_core.specs.Whole.{LeavesWorld};
 
 use crate::{EventRefusal, World};
@@ -27,6 +28,7 @@ impl World {
     pub fn deliver_by(&mut self, number: u64, plan: Plan) -> Result<Outcome, UndeliveredPlan>
         requires its { IsPlanWith self.old number plan }
         ensures told { Follows (accepted_as self.new) undelivered_plan_number IsOk (happens self.old (Deliver number)) result }
+        ensures numbered { IfErr result (λ undelivered. IsNumberedUnlessMemory undelivered.refusal) }
         ensures back { IfErr result (λ undelivered. undelivered.plan ≡ plan_back (undelivered_plan_number undelivered) plan) }
         ensures unchanged { OnErr result (self.new ≡ self.old) }
         ensures headline { Headline self.new }
@@ -43,6 +45,7 @@ impl World {
         requires its { IsPlanWith self.old number plan }
         requires leaves { LeavesWorld (happens self.old (Deliver number)) }
         ensures told { Follows (accepted_as self.new) undelivered_plan_number IsOk (happens self.old (Deliver number)) result }
+        ensures numbered { IfErr result (λ undelivered. IsNumberedUnlessMemory undelivered.refusal) }
         ensures back { IfErr result (λ undelivered. undelivered.plan ≡ plan_back (undelivered_plan_number undelivered) plan) }
         ensures unchanged { OnErr result (self.new ≡ self.old) }
     {
@@ -61,6 +64,7 @@ impl World {
         requires its { IsPlanWith self.old number plan }
         requires leaves { LeavesWorld (deliver self.old number) }
         ensures told { Follows (accepted_as self.new) undelivered_plan_number IsOk (deliver self.old number) result }
+        ensures numbered { IfErr result (λ undelivered. IsNumberedUnlessMemory undelivered.refusal) }
         ensures back { IfErr result (λ undelivered. undelivered.plan ≡ plan_back (undelivered_plan_number undelivered) plan) }
         ensures unchanged { OnErr result (self.new ≡ self.old) }
     {

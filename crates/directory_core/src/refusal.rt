@@ -2,7 +2,7 @@ ghost use Rattle.std.specs.Prelude.{◌≡◌};
 ghost use Rattle.hash_ring.specs.Numbers.{ring_error_number};
 ghost use Rattle.membership_view.specs.Refusal.{views_error_number};
 ghost use Rattle.directory_node.specs.Numbers.{step_refusal_number};
-ghost use Rattle.directory_core.specs.Numbers.{event_refusal_number};
+ghost use Rattle.directory_core.specs.Numbers.{IsNumberedUnlessMemory, event_refusal_number};
 
 use directory_node::StepRefusal;
 use hash_ring::RingError;
@@ -39,7 +39,7 @@ pub enum EventRefusal {
     /// The silo refuses the step.
     #[error("{0}")]
     Node(StepRefusal),
-    /// There was no memory for the event.
+    /// There was no memory for the event. Whatever ran out of it, this is told.
     #[error("out of memory")]
     OutOfMemory,
 }
@@ -65,7 +65,8 @@ impl EventRefusal {
 
     // A refusal of membership. Out of memory is one refusal, wherever it was met.
     pub(crate) fn of_views(refusal: ViewsError) -> EventRefusal
-        ensures { event_refusal_number result ≡ views_error_number refusal }
+        ensures number { event_refusal_number result ≡ views_error_number refusal }
+        ensures numbered { IsNumberedUnlessMemory result }
     {
         match refusal {
             ViewsError::OutOfMemory => EventRefusal::OutOfMemory,
@@ -75,7 +76,8 @@ impl EventRefusal {
 
     // A refusal of the ring.
     pub(crate) fn of_ring(refusal: RingError) -> EventRefusal
-        ensures { event_refusal_number result ≡ ring_error_number refusal }
+        ensures number { event_refusal_number result ≡ ring_error_number refusal }
+        ensures numbered { IsNumberedUnlessMemory result }
     {
         match refusal {
             RingError::OutOfMemory => EventRefusal::OutOfMemory,
@@ -85,7 +87,8 @@ impl EventRefusal {
 
     // A refusal of a silo's step.
     pub(crate) fn of_node(refusal: StepRefusal) -> EventRefusal
-        ensures { event_refusal_number result ≡ step_refusal_number refusal }
+        ensures number { event_refusal_number result ≡ step_refusal_number refusal }
+        ensures numbered { IsNumberedUnlessMemory result }
     {
         match refusal {
             StepRefusal::OutOfMemory => EventRefusal::OutOfMemory,

@@ -7,7 +7,7 @@ ghost use Rattle.directory_node.specs.Follows.{Follows};
 ghost use Rattle.directory_node.specs.Planning.{Fits, step_by};
 ghost use Rattle.directory_node.specs.Transition.{IsOfSight};
 ghost use Rattle.directory_core.specs.Applying.{IsOkOrFull, accepted_as};
-ghost use Rattle.directory_core.specs.Numbers.{event_refusal_number};
+ghost use Rattle.directory_core.specs.Numbers.{IsNumberedUnlessMemory, event_refusal_number};
 ghost use Rattle.directory_core.specs.Sharing.{ComesNext, IsShared};
 ghost use Rattle.directory_core.specs.Whole.{LeavesWorld};
 
@@ -25,6 +25,7 @@ impl World {
         requires room { self.old.accepted < self.old.settings.events }
         requires leaves { LeavesWorld (sees self.old silo.now version) }
         ensures told { Follows (accepted_as self.new) event_refusal_number IsOkOrFull (sees self.old silo.now version) result }
+        ensures numbered { IfErr result IsNumberedUnlessMemory }
         ensures unchanged { OnErr result (self.new ≡ self.old) }
     {
         self.whole();
@@ -72,6 +73,7 @@ impl World {
         requires made { version ≤ self.now.views.version }
         requires sees { SeesItsVersion self.now.views self.now.places node.now }
         ensures planned { Follows (λ sight. step_by node.now sight.0) event_refusal_number IsOk (step node.now (sight_of self.now version)) result }
+        ensures numbered { IfErr result IsNumberedUnlessMemory }
         ensures fits { IfOk result (λ sight. Fits sight.0.change node.now) }
         ensures shared { IfOk result (λ sight. IsShared self.now.views self.now.places sight.1) }
     {

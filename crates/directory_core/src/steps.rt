@@ -1,4 +1,4 @@
-ghost use Rattle.std.specs.Prelude.{◌≡◌, ◌<◌, ◌+◌, nat_le, true, IsOk, IsSome, OnOk, OnErr, Some};
+ghost use Rattle.std.specs.Prelude.{◌≡◌, ◌<◌, ◌+◌, nat_le, true, IfErr, IsOk, IsSome, OnOk, OnErr, Some};
 ghost use Rattle.directory_rules.specs.Happens.{absent_number, counted, deliver, does, lose, node_of, taken};
 ghost use Rattle.directory_rules.specs.Input.{Nudges};
 ghost use Rattle.directory_rules.specs.Letter.{Letter as LetterValue};
@@ -11,7 +11,7 @@ ghost use Rattle.directory_node.specs.Planning.{Fits, changed, step_by};
 ghost use Rattle.cluster_events.specs.OutcomeModel.{happening_of, span_of as code_span};
 ghost use Rattle.std.specs.Option.{option_map, option_or};
 ghost use Rattle.directory_core.specs.Applying.{IsNever, IsOkOrFull, accepted_as};
-ghost use Rattle.directory_core.specs.Numbers.{event_refusal_number};
+ghost use Rattle.directory_core.specs.Numbers.{IsNumberedUnlessMemory, event_refusal_number};
 ghost use Rattle.directory_core.specs.Stepping.{IsOwn, after_step, letters_number};
 ghost use Rattle.directory_core.specs.Whole.{IsWorld, LeavesWorld};
 
@@ -36,6 +36,7 @@ impl World {
         requires own { IsOwn (input_of input.now) }
         requires leaves { LeavesWorld (does self.old silo.now (input_of input.now)) }
         ensures told { Follows (accepted_as self.new) event_refusal_number IsOk (does self.old silo.now (input_of input.now)) result }
+        ensures numbered { IfErr result IsNumberedUnlessMemory }
         ensures unchanged { OnErr result (self.new ≡ self.old) }
     {
         let Some(node) = self.node(silo) else {
@@ -58,6 +59,7 @@ impl World {
         requires room { self.old.accepted < self.old.settings.events }
         requires leaves { LeavesWorld (does self.old silo.now Nudges) }
         ensures told { Follows (accepted_as self.new) event_refusal_number IsOkOrFull (does self.old silo.now Nudges) result }
+        ensures numbered { IfErr result IsNumberedUnlessMemory }
         ensures unchanged { OnErr result (self.new ≡ self.old) }
     {
         let Some(node) = self.node(silo) else {
@@ -86,6 +88,7 @@ impl World {
         requires fits { (node : NodeValue) → node_of self.old silo.now ≡ Some node → Fits plan.change node }
         requires leaves { (node : NodeValue) → node_of self.old silo.now ≡ Some node → LeavesWorld (taken self.old silo.now (happening_of happening) (step_by node plan)) }
         ensures told { (node : NodeValue) → node_of self.old silo.now ≡ Some node → Follows (accepted_as self.new) event_refusal_number IsOk (taken self.old silo.now (happening_of happening) (step_by node plan)) result }
+        ensures numbered { IfErr result IsNumberedUnlessMemory }
         ensures unchanged { OnErr result (self.new ≡ self.old) }
     {
         if !self.has_room_for(&plan.letters) {
@@ -100,7 +103,8 @@ impl World {
 
     // Why a silo's step is refused. Out of memory is told only where there is room for the one letter that needed it.
     fn refused(&self, refusal: StepRefusal) -> EventRefusal
-        ensures { event_refusal_number result ≡ option_or (step_refusal_number refusal) (letters_number self.now 1) }
+        ensures number { event_refusal_number result ≡ option_or (step_refusal_number refusal) (letters_number self.now 1) }
+        ensures numbered { IsNumberedUnlessMemory result }
     {
         match refusal {
             StepRefusal::OutOfMemory => self.refused_sending(1),
@@ -110,7 +114,8 @@ impl World {
 
     // Why an event is refused that sends so many letters and had no memory: room for them goes before.
     fn refused_sending(&self, count: usize) -> EventRefusal
-        ensures { event_refusal_number result ≡ letters_number self.now count }
+        ensures number { event_refusal_number result ≡ letters_number self.now count }
+        ensures numbered { IsNumberedUnlessMemory result }
     {
         if count == 0 || self.has_room(count) {
             EventRefusal::OutOfMemory
@@ -126,7 +131,8 @@ impl World {
 
     // Why a silo without a node takes no step.
     pub(crate) fn absent(&self, silo: &SiloAddress) -> EventRefusal
-        ensures { event_refusal_number result ≡ Some (absent_number self.now silo.now) }
+        ensures number { event_refusal_number result ≡ Some (absent_number self.now silo.now) }
+        ensures numbered { IsNumberedUnlessMemory result }
     {
         match self.views.row(silo) {
             Some(_) => EventRefusal::DeadSilo,
@@ -172,6 +178,7 @@ impl World {
         requires room { self.old.accepted < self.old.settings.events }
         requires leaves { LeavesWorld (deliver self.old number) }
         ensures told { Follows (accepted_as self.new) event_refusal_number IsOk (deliver self.old number) result }
+        ensures numbered { IfErr result IsNumberedUnlessMemory }
         ensures unchanged { OnErr result (self.new ≡ self.old) }
     {
         let found = self.letter(number);
@@ -211,6 +218,7 @@ impl World {
         requires room { self.old.accepted < self.old.settings.events }
         requires leaves { LeavesWorld (lose self.old number) }
         ensures told { Follows (accepted_as self.new) event_refusal_number IsNever (lose self.old number) result }
+        ensures numbered { IfErr result IsNumberedUnlessMemory }
         ensures unchanged { OnErr result (self.new ≡ self.old) }
     {
         if self.letter(number).is_none() {

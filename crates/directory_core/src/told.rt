@@ -1,4 +1,5 @@
-ghost use Rattle.std.specs.Prelude.{◌≡◌};
+ghost use Rattle.std.specs.Prelude.{◌≡◌, IfErr, IsSome};
+ghost use Rattle.directory_core.specs.Numbers.{event_refusal_number};
 ghost use Rattle.directory_core.specs.ToldModel.{told_as};
 
 use crate::EventRefusal;
@@ -20,19 +21,26 @@ impl Model for Told {
     ghost use Rattle.directory_core.specs.ToldModel.{told_as};
 
     ghost view = { λ t. told_as t.result };
+
+    ghost use Rattle.std.specs.Prelude.{IfErr, IsSome};
+    ghost use Rattle.directory_core.specs.Numbers.{event_refusal_number};
+
+    ghost invariant = { λ t. IfErr t.result (λ refusal. IsSome (event_refusal_number refusal)) };
 }
 
 impl Told {
     // That was told.
     pub(crate) fn new(told: Result<Outcome, EventRefusal>) -> Told
+        requires { IfErr told (λ refusal. IsSome (event_refusal_number refusal)) }
         ensures { result ≡ told_as told }
     {
         Told { result: told }
     }
 
-    /// The outcome, or why the event was refused; never out of memory.
+    /// The outcome, or why the event was refused, by a refusal with a number.
     pub fn result(&self) -> &Result<Outcome, EventRefusal>
-        ensures { told_as result.now ≡ self.now }
+        ensures told { told_as result.now ≡ self.now }
+        ensures numbered { IfErr result.now (λ refusal. IsSome (event_refusal_number refusal)) }
     {
         &self.result
     }

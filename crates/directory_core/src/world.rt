@@ -1,5 +1,5 @@
 ghost use Rattle.std.specs.Map.Iter.{ShowsInOrder, deref_pair};
-ghost use Rattle.std.specs.Prelude.{◌≡◌, IfOk, IfSome, true};
+ghost use Rattle.std.specs.Prelude.{◌≡◌, ◌↔◌, IfOk, IfSome, IsSome, OnErr, true};
 ghost use Rattle.std.specs.Option.{option_copied, option_map};
 ghost use Rattle.silo_address.specs.Silo.{Silo};
 ghost use Rattle.hash_ring.specs.Owner.{owner_of};
@@ -13,6 +13,7 @@ ghost use Rattle.directory_rules.specs.Happens.{least_deliverable};
 ghost use Rattle.grain_partition.specs.Holding.{are_tidy};
 ghost use Rattle.letter_mail.specs.Mail.{has_fresh, least_fresh_to};
 ghost use Rattle.letter_mail.specs.MailedModel.{letter_seen};
+ghost use Rattle.directory_core.specs.CurrentView.{HasSeenCurrent, IsCurrentSeen};
 ghost use Rattle.directory_core.specs.Mailing.{mail_of};
 ghost use Rattle.directory_core.specs.Whole.{IsWorld};
 
@@ -188,7 +189,8 @@ impl World {
     /// The point that owns a hash by the current view, `None` where nobody does. It is searched in the ring of a silo that has
     /// seen the view; only where none has, the ring is made anew, which fails when memory runs out.
     pub fn owner(&self, alloc: Global, hash: u32) -> Result<Option<Point>, AllocError>
-        ensures { IfOk result (λ owner. owner ≡ owner_of (current_ring self.now) hash) }
+        ensures owner { IfOk result (λ owner. owner ≡ owner_of (current_ring self.now) hash) }
+        ensures memory { OnErr result (IsCurrentSeen self.now → ⊥) }
     {
         if let Some(ring) = self.seen_ring() {
             return Ok(ring.owner(hash));
@@ -197,9 +199,11 @@ impl World {
         Ok(ring.owner(hash))
     }
 
-    /// The ring of the current view, as a silo has it that has seen the view; `None` where none has. One look for each silo.
+    /// The ring of the current view, as a silo has it that has seen the view; `None` only where none has (`docs/RULES.md#memory`).
+    /// One look for each silo.
     pub fn seen_ring(&self) -> Option<&Ring>
-        ensures { IfSome result (λ ring. ring.now.points ≡ current_ring self.now) }
+        ensures ring { IfSome result (λ ring. ring.now.points ≡ current_ring self.now) }
+        ensures seen { IsSome result ↔ IsCurrentSeen self.now }
     {
         for silo in self.nodes.keys() {
             if let Some(ring) = self.ring_seen_by(silo) {
@@ -211,10 +215,13 @@ impl World {
 
     // The silo's ring, where it has seen the current view.
     fn ring_seen_by(&self, silo: &SiloAddress) -> Option<&Ring>
-        ensures { IfSome result (λ ring. ring.now.points ≡ current_ring self.now) }
+        ensures ring { IfSome result (λ ring. ring.now.points ≡ current_ring self.now) }
+        ensures seen { IsSome result ↔ HasSeenCurrent self.now silo.now }
     {
         self.whole();
-        let node = self.node(silo)?;
+        let Some(node) = self.node(silo) else {
+            return None;
+        };
         if node.view().version() != self.current() {
             return None;
         }

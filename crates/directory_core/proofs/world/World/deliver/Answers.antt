@@ -24,7 +24,7 @@ pub returns-in_default-plan_letter-clause-told : goal.returns-in_default-plan_le
 returns-in_default-plan_letter-clause-told c =
     let letter = c.letter-letter.result.now in
     let node = c.in-Some-node.node.now in
-    subst (λ n. RefusesBy IsOk n (deliver c.args.self.now c.args.number)) (sym c.refused_sending.ensures)
+    subst (λ n. RefusesBy IsOk n (deliver c.args.self.now c.args.number)) (sym c.refused_sending.ensures.number)
     (delivery_refused c.args.self.now c.args.number letter node c.answer_count.result (sym c.letter-found.ensures ∙ ap (λ (m : Option MailedLetter). option_map letter_seen m) c.in-Some.is ∙ ap (λ (l : Letter). Some l) (sym c.letter-letter.ensures))
     (ap (λ (s : Silo). node_of c.args.self.now s) (sym c.to-to.ensures) ∙ sym c.in-Some-node.ensures)
     (c.in_default-plan_letter.ensures.answers ∙ sym c.answer_count.ensures))

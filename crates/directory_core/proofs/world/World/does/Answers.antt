@@ -9,7 +9,7 @@ use Rattle.directory_core.proofs.world.World.does.Goals as goal
 
 pub returns-in-Err-clause-told : goal.returns-in-Err-clause-told
 returns-in-Err-clause-told c =
-    subst (λ n. RefusesBy IsOk n (does c.args.self.now c.args.silo.now (input_of c.args.input.now))) (sym c.refused.ensures)
+    subst (λ n. RefusesBy IsOk n (does c.args.self.now c.args.silo.now (input_of c.args.input.now))) (sym c.refused.ensures.number)
     (refused_told c.args.self.now c.args.silo.now (input_of c.args.input.now) c.in-Some.node.now (step_refusal_number c.in-Err.refusal) c.requires.own (sym c.in-Some.ensures) c.in-Err.ensures.planned)
 
 pub plan-requires : goal.plan-requires
