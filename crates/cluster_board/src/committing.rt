@@ -8,7 +8,7 @@ ghost use Rattle.cluster_board.specs.Planned.{IsPlanOf};
 ghost use Rattle.cluster_board.specs.Work.{IsCurrent};
 
 use crate::marking::forget;
-use crate::posting::entered;
+use crate::posting::{drafts, entered};
 use crate::{Board, CommitRefusal, Job, Prepared};
 use cluster_events::{Event, Outcome};
 use cluster_journal::Receipt;
@@ -117,16 +117,17 @@ impl<L: Ledger + Names> Board<L> {
         ensures unchanged { OnErr result (self.new ≡ self.old) }
         ensures not_counted { OnErr result (share.new.amount ≡ share.old.amount) }
     {
+        let number = job.number;
+        let Ok((kept, told)) = drafts(self.alloc, &Event::Deliver { number }) else {
+            return Err(out_of_memory(Some(job)));
+        };
         if self.journal.reserve(1).is_err() {
             return Err(out_of_memory(Some(job)));
         }
-        let number = job.number;
         forget(&mut self.marked, &job.letter.to());
         match deliver(&mut self.world, job, plan) {
             Ok(outcome) => {
                 self.book.add(share, 1);
-                let kept = Event::Deliver { number };
-                let told = Event::Deliver { number };
                 Ok(entered(&mut self.journal, kept, told, &outcome))
             }
             Err(job) => Err(out_of_memory(job)),

@@ -8,9 +8,9 @@ ghost use Rattle.directory_core.specs.Numbers.{event_refusal_number};
 use crate::Board;
 use crate::marking::forget_by;
 use cluster_events::{Event, Outcome};
-use cluster_journal::{Entry, Receipt};
+use cluster_journal::{Draft, Entry, Receipt};
 use directory_core::EventRefusal;
-use std::alloc::AllocError;
+use std::alloc::{AllocError, Global};
 use std::sync::ledger::{Ledger, Share};
 use value_marks::Names;
 
@@ -29,7 +29,7 @@ impl<L: Ledger + Names> Board<L> {
         ensures unchanged { OnErr result (self.new ≡ self.old) }
         ensures not_counted { OnErr result (share.new.amount ≡ share.old.amount) }
     {
-        let Ok((event_kept, event_told)) = twice(event) else {
+        let Ok((kept, told)) = drafts(self.alloc, event) else {
             return Err(EventRefusal::OutOfMemory);
         };
         if self.journal.reserve(1).is_err() {
@@ -38,34 +38,36 @@ impl<L: Ledger + Names> Board<L> {
         forget_by(&mut self.marked, &self.world, event);
         let outcome = self.world.apply(event)?;
         self.book.add(share, 1);
-        Ok(entered(&mut self.journal, event_kept, event_told, &outcome))
+        Ok(entered(&mut self.journal, kept, told, &outcome))
     }
 }
 
-// Two copies of the event.
-fn twice(event: &Event) -> Result<(Event, Event), AllocError>
-    ensures one { IfOk result (λ events. event_of events.0 ≡ event_of event.now) }
-    ensures other { IfOk result (λ events. event_of events.1 ≡ event_of event.now) }
+/// Two entries of the event, for the journal and for the receipt, that wait for what it tells.
+pub(crate) fn drafts(alloc: Global, event: &Event) -> Result<(Draft, Draft), AllocError>
+    ensures one { IfOk result (λ drafts. drafts.0 ≡ event_of event.now) }
+    ensures other { IfOk result (λ drafts. drafts.1 ≡ event_of event.now) }
 {
-    Ok((event.copy()?, event.copy()?))
+    let kept = Draft::new(alloc, event.copy()?)?;
+    let told = Draft::new(alloc, event.copy()?)?;
+    Ok((kept, told))
 }
 
 /// The entry of an event that told this is the journal's last one. There is room for it.
 pub(crate) fn entered(
     journal: &mut Vec<Entry>,
-    kept: Event,
-    told: Event,
+    kept: Draft,
+    told: Draft,
     outcome: &Outcome,
 ) -> Receipt
     requires room { vec_len journal.old < vec_capacity journal.old }
-    requires same { event_of kept ≡ event_of told }
-    ensures entry { result.entry ≡ record { event = event_of told; outcome = outcome.now } }
+    requires same { kept ≡ told }
+    ensures entry { result.entry ≡ record { event = told; outcome = outcome.now } }
     ensures journal { journal.new.items ≡ journal.old.items ++ result.entry ∷ [] }
     ensures number { result.number ≡ vec_len journal.old + 1 }
 {
-    journal.push_reserved(Entry::new(kept, outcome.copy()));
+    journal.push_reserved(kept.told(outcome));
     Receipt {
         number: journal.len() as u64,
-        entry: Entry::new(told, outcome.copy()),
+        entry: told.told(outcome),
     }
 }

@@ -1,4 +1,5 @@
 pub mod Entry
+pub mod Short
 pub mod EntryModel
 pub mod Journal
 pub mod Agreeing

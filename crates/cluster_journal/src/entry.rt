@@ -2,16 +2,34 @@ ghost use Rattle.std.specs.Prelude.{◌≡◌, ◌↔◌, IfOk, IsTrue, OnErr};
 ghost use Rattle.cluster_events.specs.Copying.{NeedsMemory};
 ghost use Rattle.cluster_events.specs.EventModel.{event_of};
 
-use cluster_events::{Event, Outcome};
-use std::alloc::AllocError;
+use crate::short::Delivery;
+use cluster_events::{Event, Happening, Outcome};
+use std::alloc::{AllocError, Global};
 use std::marker::Model;
+use std::mem::size_of;
 
 /// An accepted event, and what it told (`docs/RULES.md#the-board`).
 #[derive(Drop)]
 pub struct Entry {
+    form: Form,
+}
+
+// Deliveries are kept short, but for those that name a grain; all else lies apart.
+#[derive(Drop)]
+enum Form {
+    Short(Delivery),
+    Long(Box<Whole>),
+}
+
+// An event, and what it told or may tell.
+#[derive(Drop)]
+struct Whole {
     event: Event,
     outcome: Outcome,
 }
+
+// A journal has an entry for each event that was ever accepted.
+const _: () = prove!(size_of::<Entry>() == 72);
 
 impl Model for Entry {
     ghost use Rattle.cluster_journal.specs.Entry.{EntryValue};
@@ -20,37 +38,96 @@ impl Model for Entry {
 
     ghost use Rattle.cluster_journal.specs.EntryModel.{entry_of};
 
-    ghost view = { entry_of };
+    ghost view = { λ e. entry_of e.form };
 }
 
 impl Entry {
-    /// The entry of an event that told this.
-    pub fn new(event: Event, outcome: Outcome) -> Entry
-        ensures { result ≡ record { event = event_of event; outcome = outcome } }
-    {
-        Entry { event, outcome }
-    }
-
     /// The event, copied. Fails only when memory runs out, and only at a join, whose places are copied.
     pub fn event(&self) -> Result<Event, AllocError>
         ensures copied { IfOk result (λ event. event_of event ≡ self.now.event) }
         ensures memory { OnErr result (NeedsMemory self.now.event) }
     {
-        self.event.copy()
+        match &self.form {
+            Form::Short(delivery) => Ok(Event::Deliver {
+                number: delivery.number,
+            }),
+            Form::Long(whole) => whole.event.copy(),
+        }
     }
 
     /// What it told.
     pub fn outcome(&self) -> Outcome
         ensures { result ≡ self.now.outcome }
     {
-        self.outcome
+        match &self.form {
+            Form::Short(delivery) => delivery.outcome(),
+            Form::Long(whole) => whole.outcome,
+        }
     }
 
     /// Whether the two are of one event that told the same.
     pub fn same(&self, other: &Entry) -> bool
         ensures { IsTrue result ↔ (self.now ≡ other.now) }
     {
-        self.event.same(&other.event) && self.outcome.same(&other.outcome)
+        self.has_event_of(other) && self.outcome().same(&other.outcome())
+    }
+
+    // Whether the two are of one event.
+    fn has_event_of(&self, other: &Entry) -> bool
+        ensures { IsTrue result ↔ (self.now.event ≡ other.now.event) }
+    {
+        match (&self.form, &other.form) {
+            (Form::Short(one), Form::Short(its)) => one.number == its.number,
+            (Form::Short(one), Form::Long(its)) => one.is_of(&its.event),
+            (Form::Long(one), Form::Short(its)) => its.is_of(&one.event),
+            (Form::Long(one), Form::Long(its)) => one.event.same(&its.event),
+        }
+    }
+}
+
+/// An entry that waits for what its event tells; whatever that is, there is memory for it.
+#[derive(Drop)]
+pub struct Draft {
+    whole: Box<Whole>,
+}
+
+impl Model for Draft {
+    ghost use Rattle.directory_rules.specs.Event.{Event};
+
+    ghost Value = { Event };
+
+    ghost use Rattle.cluster_events.specs.EventModel.{event_of};
+
+    ghost view = { λ d. event_of d.whole.value.event };
+}
+
+impl Draft {
+    /// An entry of the event. Fails only when memory runs out.
+    pub fn new(alloc: Global, event: Event) -> Result<Draft, AllocError>
+        ensures { IfOk result (λ draft. draft ≡ event_of event) }
+    {
+        let outcome = Outcome {
+            happening: Happening::Lost { number: 0 },
+            sent: None,
+        };
+        let whole = Box::new(alloc, Whole { event, outcome })?;
+        Ok(Draft { whole })
+    }
+
+    /// The event told this.
+    pub fn told(self, outcome: &Outcome) -> Entry
+        ensures { result ≡ record { event = self; outcome = outcome.now } }
+    {
+        let Draft { mut whole } = self;
+        if let Some(delivery) = Delivery::of(&whole.event, outcome) {
+            return Entry {
+                form: Form::Short(delivery),
+            };
+        }
+        whole.outcome = *outcome;
+        Entry {
+            form: Form::Long(whole),
+        }
     }
 }
 

@@ -4,6 +4,7 @@
 
 mod comparing;
 mod entry;
+mod short;
 
 pub use comparing::agree;
-pub use entry::{Entry, Receipt};
+pub use entry::{Draft, Entry, Receipt};

@@ -10,18 +10,18 @@ use Rattle.cluster_board.proofs.board.Board.carry_out.Goals as goal
 pub deliver-requires-clause-taken : goal.deliver-requires-clause-taken
 deliver-requires-clause-taken g c = subst (λ (b : BoardValue). IsTaken b.world c.args.job) (sym c.self.view_is) c.requires.taken
 
-pub invariant_of-self-in-Ok : goal.invariant_of-self-in-Ok
-invariant_of-self-in-Ok g c =
+pub invariant_of-self-in-Ok-deliver : goal.invariant_of-self-in-Ok-deliver
+invariant_of-self-in-Ok-deliver g c =
     let before = c.self.inside in
     let taken : IsTaken before.world c.args.job = subst (λ (b : BoardValue). IsTaken b.world c.args.job) (sym c.self.view_is) c.requires.taken in
-    let told : c.entered.result.entry.event ≡ Deliver c.args.job.number = ap (λ (e : EntryValue). e.event) c.entered.ensures.entry ∙ ap (λ (w : Work). Deliver w.number) c.job.view_is in
+    let told : c.entered.result.entry.event ≡ Deliver c.args.job.number = ap (λ (e : EntryValue). e.event) c.entered.ensures.entry ∙ c.in-Ok.ensures.other ∙ ap (λ (w : Work). Deliver w.number) c.job.view_is in
     delivered before.settings before.world c.deliver.new.world before.journal.items c.reserve.new.self.items c.entered.new.journal.items before.book.total c.add.new.self.total before.marked.entries c.forget.new.marked.entries
-    c.args.job c.to.result c.in-Ok.outcome c.entered.result.entry
+    c.args.job c.to.result c.in-Ok-deliver.outcome c.entered.result.entry
     c.self.invariant c.reserve.ensures.items c.entered.ensures.journal c.add.ensures.total told (ap (λ (e : EntryValue). e.outcome) c.entered.ensures.entry)
-    c.forget.ensures.left taken.0 (c.to.ensures ∙ ap (λ (w : Work). w.letter.to) c.job.view_is) c.forget.ensures.gone c.in-Ok.ensures.told
+    c.forget.ensures.left taken.0 (c.to.ensures ∙ ap (λ (w : Work). w.letter.to) c.job.view_is) c.forget.ensures.gone c.in-Ok-deliver.ensures.told
 
-pub invariant_of-self-in-Err : goal.invariant_of-self-in-Err
-invariant_of-self-in-Err g c =
+pub invariant_of-self-in-Err-deliver : goal.invariant_of-self-in-Err-deliver
+invariant_of-self-in-Err-deliver g c =
     let before = c.self.inside in
     with_fewer before.settings before.world c.deliver.new.world before.journal.items c.reserve.new.self.items before.book.total before.marked.entries c.forget.new.marked.entries
-    c.self.invariant c.in-Err.ensures.unchanged c.reserve.ensures.items c.forget.ensures.left
+    c.self.invariant c.in-Err-deliver.ensures.unchanged c.reserve.ensures.items c.forget.ensures.left
