@@ -1,0 +1,57 @@
+-- Readings one after another: what each gives, and that all were read where something is given.
+use Rattle.std.proofs.Common.{◌≡◌, ℕ, Result, Ok, Err, refl, ap, ◌∙◌}
+use Rattle.std.specs.Result.{result_unwrap_or}
+use Rattle.script_rules.specs.Script.{◌>>=◌}
+
+pub ok_is : {A : Type 0} {a b : A} → ◌≡◌ {A = Result A ℕ} (Ok a) (Ok b) → a ≡ b
+ok_is {A = A} {a = a} same = ap (λ (r : Result A ℕ). result_unwrap_or r a) same
+
+module _ {A B X : Type 0} (make : A → B → X) where
+  pub two_again : (x : Result A ℕ) (y : Result B ℕ) (a : A) (b : B) → x ≡ Ok a → y ≡ Ok b → (x >>= λ p. y >>= λ q. Ok (make p q)) ≡ Ok (make a b)
+  two_again x y a b first second = ap (λ o. o >>= λ p. y >>= λ q. Ok (make p q)) first ∙ ap (λ o. o >>= λ q. Ok (make a q)) second
+
+  pub two_gave : (x : Result A ℕ) (y : Result B ℕ) (z : X) → (x >>= λ p. y >>= λ q. Ok (make p q)) ≡ Ok z
+      → (a : A) × (b : B) × (x ≡ Ok a) × (y ≡ Ok b) × (make a b ≡ z)
+  two_gave (Ok a) (Ok b) z is = (a, b, refl, refl, ok_is is)
+  two_gave (Ok a) (Err fault) z is = cc is
+  two_gave (Err fault) y z is = cc is
+
+module _ {A B C X : Type 0} (make : A → B → C → X) where
+  pub three_again : (x : Result A ℕ) (y : Result B ℕ) (z : Result C ℕ) (a : A) (b : B) (c : C) → x ≡ Ok a → y ≡ Ok b → z ≡ Ok c
+      → (x >>= λ p. y >>= λ q. z >>= λ r. Ok (make p q r)) ≡ Ok (make a b c)
+  three_again x y z a b c first second third =
+      ap (λ o. o >>= λ p. y >>= λ q. z >>= λ r. Ok (make p q r)) first ∙ two_again (make a) y z b c second third
+
+  pub three_gave : (x : Result A ℕ) (y : Result B ℕ) (z : Result C ℕ) (w : X) → (x >>= λ p. y >>= λ q. z >>= λ r. Ok (make p q r)) ≡ Ok w
+      → (a : A) × (b : B) × (c : C) × (x ≡ Ok a) × (y ≡ Ok b) × (z ≡ Ok c) × (make a b c ≡ w)
+  three_gave (Ok a) y z w is = let rest = two_gave (make a) y z w is in (a, rest.0, rest.1, refl, rest.2, rest.3, rest.4)
+  three_gave (Err fault) y z w is = cc is
+
+module _ {A B C D X : Type 0} (make : A → B → C → D → X) where
+  pub four_again : (x : Result A ℕ) (y : Result B ℕ) (z : Result C ℕ) (w : Result D ℕ) (a : A) (b : B) (c : C) (d : D) → x ≡ Ok a → y ≡ Ok b → z ≡ Ok c → w ≡ Ok d
+      → (x >>= λ p. y >>= λ q. z >>= λ r. w >>= λ s. Ok (make p q r s)) ≡ Ok (make a b c d)
+  four_again x y z w a b c d first second third fourth =
+      ap (λ o. o >>= λ p. y >>= λ q. z >>= λ r. w >>= λ s. Ok (make p q r s)) first ∙ three_again (make a) y z w b c d second third fourth
+
+  pub four_gave : (x : Result A ℕ) (y : Result B ℕ) (z : Result C ℕ) (w : Result D ℕ) (v : X) → (x >>= λ p. y >>= λ q. z >>= λ r. w >>= λ s. Ok (make p q r s)) ≡ Ok v
+      → (a : A) × (b : B) × (c : C) × (d : D) × (x ≡ Ok a) × (y ≡ Ok b) × (z ≡ Ok c) × (w ≡ Ok d) × (make a b c d ≡ v)
+  four_gave (Ok a) y z w v is = let rest = three_gave (make a) y z w v is in (a, rest.0, rest.1, rest.2, refl, rest.3, rest.4, rest.5, rest.6)
+  four_gave (Err fault) y z w v is = cc is
+
+module _ {A B C D E F X : Type 0} (make : A → B → C → D → E → F → X) where
+  pub six_again : (x : Result A ℕ) (y : Result B ℕ) (z : Result C ℕ) (w : Result D ℕ) (v : Result E ℕ) (u : Result F ℕ) (a : A) (b : B) (c : C) (d : D) (e : E) (f : F)
+      → x ≡ Ok a → y ≡ Ok b → z ≡ Ok c → w ≡ Ok d → v ≡ Ok e → u ≡ Ok f
+      → (x >>= λ p. y >>= λ q. z >>= λ r. w >>= λ s. v >>= λ t. u >>= λ o. Ok (make p q r s t o)) ≡ Ok (make a b c d e f)
+  six_again x y z w v u a b c d e f first second third fourth fifth sixth =
+      ap (λ i. i >>= λ p. y >>= λ q. z >>= λ r. w >>= λ s. v >>= λ t. u >>= λ o. Ok (make p q r s t o)) first
+      ∙ ap (λ i. i >>= λ q. z >>= λ r. w >>= λ s. v >>= λ t. u >>= λ o. Ok (make a q r s t o)) second
+      ∙ four_again (make a b) z w v u c d e f third fourth fifth sixth
+
+  pub six_gave : (x : Result A ℕ) (y : Result B ℕ) (z : Result C ℕ) (w : Result D ℕ) (v : Result E ℕ) (u : Result F ℕ) (i : X)
+      → (x >>= λ p. y >>= λ q. z >>= λ r. w >>= λ s. v >>= λ t. u >>= λ o. Ok (make p q r s t o)) ≡ Ok i
+      → (a : A) × (b : B) × (c : C) × (d : D) × (e : E) × (f : F) × (x ≡ Ok a) × (y ≡ Ok b) × (z ≡ Ok c) × (w ≡ Ok d) × (v ≡ Ok e) × (u ≡ Ok f) × (make a b c d e f ≡ i)
+  six_gave (Ok a) (Ok b) z w v u i is =
+      let rest = four_gave (make a b) z w v u i is in
+      (a, b, rest.0, rest.1, rest.2, rest.3, refl, refl, rest.4, rest.5, rest.6, rest.7, rest.8)
+  six_gave (Ok a) (Err fault) z w v u i is = cc is
+  six_gave (Err fault) y z w v u i is = cc is

@@ -1,0 +1,5 @@
+mod Chains
+mod WordsAgain
+mod FormsAgain
+mod LettersAgain
+mod LineWords

@@ -1,0 +1,3 @@
+pub mod LetterText
+pub mod LetterReading
+pub mod Told
