@@ -24,4 +24,4 @@ pub invariant_of-self-in-Err-deliver : goal.invariant_of-self-in-Err-deliver
 invariant_of-self-in-Err-deliver g c =
     let before = c.self.inside in
     with_fewer before.settings before.world c.deliver.new.world before.journal.items c.reserve.new.self.items before.book.total before.marked.entries c.forget.new.marked.entries
-    c.self.invariant c.in-Err-deliver.ensures.unchanged c.reserve.ensures.items c.forget.ensures.left
+    c.self.invariant c.in-Err.ensures.unchanged c.reserve.ensures.items c.forget.ensures.left
