@@ -3,6 +3,7 @@
 
 mod apply;
 mod delivering;
+mod idle;
 mod join;
 mod leaving;
 mod nodes;

@@ -1,6 +1,7 @@
 //! A change made and letters sent, or neither: the letters are sent first, and taken back where memory runs out.
-ghost use Rattle.std.specs.Prelude.{◌≡◌, Some, IfErr, IfOk, IsSome, OnErr, OnOk};
-ghost use Rattle.std.specs.Map.{lookup};
+ghost use Rattle.std.specs.Prelude.{◌≡◌, [], Some, IfErr, IfOk, IsFalse, IsSome, IsTrue, OnErr, OnOk};
+ghost use Rattle.std.specs.List.Sorted.{IsStrictlySortedBy};
+ghost use Rattle.std.specs.Map.{keys_of, lookup};
 ghost use Rattle.std.specs.BTreeMap.{is_at, insert_entry};
 ghost use Rattle.silo_address.specs.Silo.{silo_cmp};
 ghost use Rattle.directory_rules.specs.Letter.{Letter as LetterValue};
@@ -17,8 +18,39 @@ use std::alloc::{AllocError, Global};
 use std::collections::BTreeMap;
 use std::mem;
 
-/// The silo's node makes the change, the letters are sent, and the letter of a number is fresh no more, since it was received.
-pub(crate) fn receive_at(
+/// The letter of a number is received: nothing comes of it, and it is fresh no more, for which no memory is needed; or the silo's
+/// node makes the change, and the letters are sent.
+pub(crate) fn receive_or_pass_at(
+    nodes: &mut BTreeMap<SiloAddress, SharedNode>,
+    mail: &mut Mail,
+    silo: &SiloAddress,
+    number: u64,
+    letters: Vec<Letter>,
+    change: Change,
+    idle: bool,
+) -> Result<(), AllocError>
+    requires letter { IsSome (letter_in mail.old number) }
+    requires there { IsSome (lookup (is_at (silo_cmp silo.now)) nodes.old.entries) }
+    requires fits { (node : NodeValue) → lookup (is_at (silo_cmp silo.now)) nodes.old.entries ≡ Some node → Fits change node }
+    requires ordered { IsStrictlySortedBy silo_cmp (keys_of nodes.old.entries) }
+    requires silent { IsTrue idle → letters.items ≡ [] }
+    requires same { IsTrue idle → (node : NodeValue) → lookup (is_at (silo_cmp silo.now)) nodes.old.entries ≡ Some node → changed change node ≡ node }
+    ensures made { OnOk result ((node : NodeValue) → lookup (is_at (silo_cmp silo.now)) nodes.old.entries ≡ Some node → nodes.new.entries ≡ insert_entry silo_cmp nodes.old.entries silo.now (changed change node)) }
+    ensures posted { OnOk result ((letter : LetterValue) → letter_in mail.old number ≡ Some letter → mail.new ≡ with_posted (with_stale mail.old number letter) letters.items) }
+    ensures memory { OnErr result (IsFalse idle) }
+    ensures unchanged { OnErr result (nodes.new.entries ≡ nodes.old.entries) }
+    ensures mail_unchanged { OnErr result (mail.new ≡ mail.old) }
+{
+    if idle {
+        mail.deliver(number);
+        return Ok(());
+    }
+    receive_at(nodes, mail, silo, number, letters, change)?;
+    Ok(())
+}
+
+// The silo's node makes the change, the letters are sent, and the letter of a number is fresh no more, since it was received.
+fn receive_at(
     nodes: &mut BTreeMap<SiloAddress, SharedNode>,
     mail: &mut Mail,
     silo: &SiloAddress,

@@ -1,4 +1,4 @@
-ghost use Rattle.std.specs.Prelude.{◌≡◌, ◌<◌, ◌+◌, nat_le, true, IfErr, IsOk, IsSome, OnOk, OnErr, Some};
+ghost use Rattle.std.specs.Prelude.{◌≡◌, ◌<◌, ◌+◌, [], nat_le, true, IfErr, IsFalse, IsOk, IsSome, IsTrue, OnOk, OnErr, Some};
 ghost use Rattle.directory_rules.specs.Happens.{absent_number, counted, deliver, does, lose, node_of, taken};
 ghost use Rattle.directory_rules.specs.Input.{Nudges};
 ghost use Rattle.directory_rules.specs.Letter.{Letter as LetterValue};
@@ -10,12 +10,13 @@ ghost use Rattle.directory_node.specs.Numbers.{step_refusal_number};
 ghost use Rattle.directory_node.specs.Planning.{Fits, changed, step_by};
 ghost use Rattle.cluster_events.specs.OutcomeModel.{happening_of, span_of as code_span};
 ghost use Rattle.std.specs.Option.{option_map, option_or};
-ghost use Rattle.directory_core.specs.Applying.{IsNever, IsOkOrFull, accepted_as};
+ghost use Rattle.directory_core.specs.Applying.{IsNever, IsOkOfUse, IsOkOrFull, accepted_as};
 ghost use Rattle.directory_core.specs.Numbers.{IsNumberedUnlessMemory, event_refusal_number};
 ghost use Rattle.directory_core.specs.Stepping.{IsOwn, after_step, letters_number};
 ghost use Rattle.directory_core.specs.Whole.{IsWorld, LeavesWorld};
 
-use crate::posting::{carry_out_at, receive_at};
+use crate::idle::is_idle;
+use crate::posting::{carry_out_at, receive_or_pass_at};
 use crate::{EventRefusal, World};
 use cluster_events::{Happening, Outcome, Span};
 use directory_letters::Letter;
@@ -172,12 +173,12 @@ impl World {
         }
     }
 
-    // A letter comes to its receiver: 905, 902, then 909.
+    // A letter comes to its receiver: 905, 902, then 909. Needs memory only where something comes of it.
     #[inline(never)]
     pub(crate) fn deliver(&mut self, number: u64) -> Result<Outcome, EventRefusal>
         requires room { self.old.accepted < self.old.settings.events }
         requires leaves { LeavesWorld (deliver self.old number) }
-        ensures told { Follows (accepted_as self.new) event_refusal_number IsOk (deliver self.old number) result }
+        ensures told { Follows (accepted_as self.new) event_refusal_number IsOkOfUse (deliver self.old number) result }
         ensures numbered { IfErr result IsNumberedUnlessMemory }
         ensures unchanged { OnErr result (self.new ≡ self.old) }
     {
@@ -199,7 +200,8 @@ impl World {
             return Err(EventRefusal::MailFull);
         }
         let sent = self.span_of(&plan.letters);
-        match self.receive(&to, number, plan.letters, plan.change) {
+        let idle = is_idle(kind, plan.effect);
+        match self.receive(&to, number, plan.letters, plan.change, idle) {
             Ok(()) => Ok(Outcome {
                 happening: Happening::Delivered {
                     number,
@@ -242,23 +244,36 @@ impl World {
         self.accepted += 1;
     }
 
-    // The receiver of a letter carries its step out, and what is answered is sent.
+    // The receiver of a letter carries its step out, and what is answered is sent; where nothing comes of the letter, it is just
+    // fresh no more, for which no memory is needed.
     pub(crate) fn receive(
         &mut self,
         to: &SiloAddress,
         number: u64,
         letters: Vec<Letter>,
         change: Change,
+        idle: bool,
     ) -> Result<(), AllocError>
         requires letter { IsSome (letter_of self.old number) }
         requires there { IsSome (node_of self.old to.now) }
         requires fits { (node : NodeValue) → node_of self.old to.now ≡ Some node → Fits change node }
         requires room { self.old.accepted < self.old.settings.events }
+        requires silent { IsTrue idle → letters.items ≡ [] }
+        requires same { IsTrue idle → (node : NodeValue) → node_of self.old to.now ≡ Some node → changed change node ≡ node }
         requires leaves { (letter : LetterValue) (node : NodeValue) → letter_of self.old number ≡ Some letter → node_of self.old to.now ≡ Some node → IsWorld (after_step (with_delivered self.old number letter) to.now (changed change node) letters.items) }
         ensures made { OnOk result ((letter : LetterValue) (node : NodeValue) → letter_of self.old number ≡ Some letter → node_of self.old to.now ≡ Some node → self.new ≡ after_step (with_delivered self.old number letter) to.now (changed change node) letters.items) }
+        ensures memory { OnErr result (IsFalse idle) }
         ensures unchanged { OnErr result (self.new ≡ self.old) }
     {
-        receive_at(&mut self.nodes, &mut self.mail, to, number, letters, change)?;
+        receive_or_pass_at(
+            &mut self.nodes,
+            &mut self.mail,
+            to,
+            number,
+            letters,
+            change,
+            idle,
+        )?;
         self.accepted += 1;
         Ok(())
     }

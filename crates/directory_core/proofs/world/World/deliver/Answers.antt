@@ -1,11 +1,10 @@
 use Rattle.std.proofs.Common.{◌≡◌, true, List, Ok, Option, Some, refl, sym, ◌∙◌, ap, subst, arith}
-use Rattle.std.specs.Prelude.{IsOk, is_ok}
 use Rattle.std.specs.Option.{option_map}
 use Rattle.std.proofs.lemmas.Option.{same_Some}
 use Rattle.silo_address.specs.Silo.{Silo}
 use Rattle.directory_rules.specs.declared.LetterKind.{LetterKind}
 use Rattle.directory_rules.specs.Event.{Delivered}
-use Rattle.directory_rules.specs.Letter.{Letter}
+use Rattle.directory_rules.specs.Letter.{Letter, kind_of}
 use Rattle.directory_rules.specs.Node.{Node}
 use Rattle.directory_rules.specs.World.{World}
 use Rattle.directory_rules.specs.Mail.{has_room_for, letter_of, span_of, with_delivered}
@@ -15,19 +14,21 @@ use Rattle.directory_node.specs.Follows.{RefusesBy}
 use Rattle.letter_mail.specs.MailedModel.{letter_seen}
 use Rattle.letter_mail.specs.declared.MailedLetter.{MailedLetter}
 use Rattle.directory_node.specs.Planning.{changed}
+use Rattle.directory_core.specs.Applying.{IsOkOfUse}
 use Rattle.directory_core.specs.Stepping.{after_step}
 use Rattle.directory_core.specs.Whole.{IsWorld}
 use Rattle.directory_core.proofs.Happening.{delivered_told, delivery_refused, leaves_delivered}
+use Rattle.directory_core.proofs.Idle.{idle_by, idle_plan, of_use}
 use Rattle.directory_core.proofs.world.World.deliver.Goals as goal
 
 pub returns-in_default-plan_letter-clause-told : goal.returns-in_default-plan_letter-clause-told
 returns-in_default-plan_letter-clause-told c =
     let letter = c.letter-letter.result.now in
     let node = c.in-Some-node.node.now in
-    subst (λ n. RefusesBy IsOk n (deliver c.args.self.now c.args.number)) (sym c.refused_sending.ensures.number)
+    subst (λ n. RefusesBy IsOkOfUse n (deliver c.args.self.now c.args.number)) (sym c.refused_sending.ensures.number)
     (delivery_refused c.args.self.now c.args.number letter node c.answer_count.result (sym c.letter-found.ensures ∙ ap (λ (m : Option MailedLetter). option_map letter_seen m) c.in-Some.is ∙ ap (λ (l : Letter). Some l) (sym c.letter-letter.ensures))
     (ap (λ (s : Silo). node_of c.args.self.now s) (sym c.to-to.ensures) ∙ sym c.in-Some-node.ensures)
-    (c.in_default-plan_letter.ensures.answers ∙ sym c.answer_count.ensures))
+    (c.in_default-plan_letter.ensures.answers ∙ sym c.answer_count.ensures) c.in_default-plan_letter.ensures.counts)
 
 pub returns-in-Err-clause-told : goal.returns-in-Err-clause-told
 returns-in-Err-clause-told c =
@@ -35,10 +36,11 @@ returns-in-Err-clause-told c =
     let node = c.in-Some-node.node.now in
     let letters = c.in-Ok.plan.letters.items in
     let room : has_room_for c.args.self.now c.deref.result.now ≡ true = grind arith in
-    ap is_ok (delivered_told c.args.self.now c.args.number letter node (changed c.in-Ok.plan.change node) letters c.in-Ok.plan.effect _ (sym c.letter-found.ensures ∙ ap (λ (m : Option MailedLetter). option_map letter_seen m) c.in-Some.is ∙ ap (λ (l : Letter). Some l) (sym c.letter-letter.ensures))
+    subst IsOkOfUse (sym (delivered_told c.args.self.now c.args.number letter node (changed c.in-Ok.plan.change node) letters c.in-Ok.plan.effect _ (sym c.letter-found.ensures ∙ ap (λ (m : Option MailedLetter). option_map letter_seen m) c.in-Some.is ∙ ap (λ (l : Letter). Some l) (sym c.letter-letter.ensures))
     (ap (λ (s : Silo). node_of c.args.self.now s) (sym c.to-to.ensures) ∙ sym c.in-Some-node.ensures)
     (sym c.in-Ok.ensures.planned)
-    (ap (λ (l : List Letter). has_room_for c.args.self.now l) (sym c.deref.ensures.value) ∙ room) refl)
+    (ap (λ (l : List Letter). has_room_for c.args.self.now l) (sym c.deref.ensures.value) ∙ room) refl))
+    (of_use c.kind-kind.result (kind_of letter.body) c.in-Ok.plan.effect c.is_idle-idle.result c.is_idle-idle.ensures c.kind-kind.ensures c.in-Err.ensures.memory)
 
 pub returns-in-Ok-receive-clause-told : goal.returns-in-Ok-receive-clause-told
 returns-in-Ok-receive-clause-told c =
@@ -77,3 +79,17 @@ receive-requires-clause-leaves c = λ l n l_is n_is.
     (leaves_delivered world c.args.number letter node (changed c.in-Ok.plan.change node) letters c.in-Ok.plan.effect found
     (ap (λ (s : Silo). node_of world s) (sym c.to-to.ensures) ∙ there) (sym c.in-Ok.ensures.planned)
     (ap (λ (x : List Letter). has_room_for world x) (sym c.deref.ensures.value) ∙ room) c.requires.leaves)))
+
+pub receive-requires-clause-silent : goal.receive-requires-clause-silent
+receive-requires-clause-silent c = λ yes.
+    let letter = c.letter-letter.result.now in
+    (idle_plan c.in-Some-node.node.now letter c.in-Ok.plan c.in-Ok.ensures.planned
+    (idle_by c.kind-kind.result (kind_of letter.body) c.in-Ok.plan.effect c.is_idle-idle.result c.is_idle-idle.ensures c.kind-kind.ensures yes)).0
+
+pub receive-requires-clause-same : goal.receive-requires-clause-same
+receive-requires-clause-same c = λ yes n n_is.
+    let letter = c.letter-letter.result.now in
+    let node = c.in-Some-node.node.now in
+    subst (λ (x : Node). changed c.in-Ok.plan.change x ≡ x) (same_Some node n (c.in-Some-node.ensures ∙ n_is))
+    (idle_plan node letter c.in-Ok.plan c.in-Ok.ensures.planned
+    (idle_by c.kind-kind.result (kind_of letter.body) c.in-Ok.plan.effect c.is_idle-idle.result c.is_idle-idle.ensures c.kind-kind.ensures yes)).1

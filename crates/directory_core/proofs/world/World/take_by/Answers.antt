@@ -1,5 +1,4 @@
 use Rattle.std.proofs.Common.{◌≡◌, true, List, Ok, Some, refl, sym, ◌∙◌, ap, subst, arith}
-use Rattle.std.specs.Prelude.{is_ok}
 use Rattle.std.specs.Option.{option_map}
 use Rattle.std.proofs.lemmas.Option.{same_Some}
 use Rattle.silo_address.specs.Silo.{Silo}
@@ -12,9 +11,11 @@ use Rattle.directory_rules.specs.Mail.{has_room_for, letter_of, span_of, with_de
 use Rattle.directory_rules.specs.Happens.{node_of}
 use Rattle.cluster_events.specs.OutcomeModel.{span_of as code_span}
 use Rattle.directory_node.specs.Planning.{Fits, changed}
+use Rattle.directory_core.specs.Applying.{IsOkOfUse}
 use Rattle.directory_core.specs.Stepping.{after_step}
 use Rattle.directory_core.specs.Whole.{IsWorld}
 use Rattle.directory_core.proofs.Happening.{delivered_told, leaves_delivered}
+use Rattle.directory_core.proofs.Idle.{idle_by, idle_plan, of_use}
 use Rattle.directory_core.proofs.world.World.take_by.Goals as goal
 
 pub receive-requires-clause-fits : goal.receive-requires-clause-fits
@@ -47,8 +48,12 @@ returns-in-Err-clause-told c =
     let its = c.requires.its in
     let letters = c.args.plan.letters.items in
     let room : has_room_for world c.deref.result.now ≡ true = grind arith in
-    ap is_ok (delivered_told world c.args.number its.letter its.node (changed c.args.plan.change its.node) letters c.args.plan.effect _ its.mailed its.live (sym its.its)
-    (ap (λ (x : List Letter). has_room_for world x) (sym c.deref.ensures.value) ∙ room) refl)
+    let found : letter_of world c.args.number ≡ Some c.letter-letter.result.now = sym c.in-Some.ensures ∙ ap (λ (x : Letter). Some x) (sym c.letter-letter.ensures) in
+    let same : c.letter-letter.result.now ≡ its.letter = same_Some c.letter-letter.result.now its.letter (sym found ∙ its.mailed) in
+    subst IsOkOfUse (sym (delivered_told world c.args.number its.letter its.node (changed c.args.plan.change its.node) letters c.args.plan.effect _ its.mailed its.live (sym its.its)
+    (ap (λ (x : List Letter). has_room_for world x) (sym c.deref.ensures.value) ∙ room) refl))
+    (of_use c.kind-kind.result (kind_of its.letter.body) c.args.plan.effect c.is_idle-idle.result c.is_idle-idle.ensures
+    (c.kind-kind.ensures ∙ ap (λ (x : Letter). kind_of x.body) same) c.in-Err.ensures.memory)
 
 pub returns-in-Ok-clause-told : goal.returns-in-Ok-clause-told
 returns-in-Ok-clause-told c =
@@ -75,3 +80,25 @@ returns-in-Ok-clause-told c =
       world = w;
     })) (ap (λ (s : Silo). after_step (with_delivered world c.args.number its.letter) s after letters) (sym to_is)
     ∙ sym (c.in-Ok.ensures.made its.letter its.node its.mailed (ap (λ (s : Silo). node_of world s) to_is ∙ its.live)))
+
+pub receive-requires-clause-silent : goal.receive-requires-clause-silent
+receive-requires-clause-silent c = λ yes.
+    let its = c.requires.its in
+    let found : letter_of c.args.self.now c.args.number ≡ Some c.letter-letter.result.now = sym c.in-Some.ensures ∙ ap (λ (x : Letter). Some x) (sym c.letter-letter.ensures) in
+    let same : c.letter-letter.result.now ≡ its.letter = same_Some c.letter-letter.result.now its.letter (sym found ∙ its.mailed) in
+    (idle_plan its.node its.letter c.args.plan its.its
+    (idle_by c.kind-kind.result (kind_of its.letter.body) c.args.plan.effect c.is_idle-idle.result c.is_idle-idle.ensures
+    (c.kind-kind.ensures ∙ ap (λ (x : Letter). kind_of x.body) same) yes)).0
+
+pub receive-requires-clause-same : goal.receive-requires-clause-same
+receive-requires-clause-same c = λ yes n n_is.
+    let world = c.args.self.now in
+    let its = c.requires.its in
+    let found : letter_of world c.args.number ≡ Some c.letter-letter.result.now = sym c.in-Some.ensures ∙ ap (λ (x : Letter). Some x) (sym c.letter-letter.ensures) in
+    let same : c.letter-letter.result.now ≡ its.letter = same_Some c.letter-letter.result.now its.letter (sym found ∙ its.mailed) in
+    let to_is : c.to-to.result ≡ its.letter.to = c.to-to.ensures ∙ ap (λ (x : Letter). x.to) same in
+    subst (λ (x : Node). changed c.args.plan.change x ≡ x)
+    (same_Some its.node n (sym its.live ∙ ap (λ (s : Silo). node_of world s) (sym to_is) ∙ n_is))
+    (idle_plan its.node its.letter c.args.plan its.its
+    (idle_by c.kind-kind.result (kind_of its.letter.body) c.args.plan.effect c.is_idle-idle.result c.is_idle-idle.ensures
+    (c.kind-kind.ensures ∙ ap (λ (x : Letter). kind_of x.body) same) yes)).1

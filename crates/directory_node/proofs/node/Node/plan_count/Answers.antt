@@ -19,3 +19,7 @@ unreachable-requires c =
     let none : lookup (is_at (nat_cmp c.args.report.now.range.start)) c.self.inside.recoveries.entries ≡ None =
     ap (λ (s : ℕ). lookup (is_at (nat_cmp s)) c.self.inside.recoveries.entries) (sym start) ∙ sym c.get.ensures.value ∙ ap (λ o. option_copied o) c.in_default.is in
     cc (none, there)
+
+-- it is taken where memory is asked for
+pub returns-in_err-copy-clause-counts : goal.returns-in_err-copy-clause-counts
+returns-in_err-copy-clause-counts c = ?
