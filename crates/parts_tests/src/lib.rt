@@ -1,6 +1,6 @@
 //! Tests of what a directory node stands on, over public calls: texts, identities, ranges, views, rings and their moves, the types
 //! of the rule, tables, what a silo keeps for others and hands over by pages, its activations, its recoveries, its cache, and
-//! placement. They stand in a crate of their own, since a crate with tests is proved twice.
+//! placement; and of rings that are published. They stand in a crate of their own, since a crate with tests is proved twice.
 #![tactic(auto)]
 
 #[cfg(test)]
@@ -21,6 +21,8 @@ mod numerals;
 mod pages;
 #[cfg(test)]
 mod placement;
+#[cfg(test)]
+mod published;
 #[cfg(test)]
 mod ranges;
 #[cfg(test)]

@@ -1,9 +1,7 @@
 //! An activation closes, and one moves from a node to another; a version is skipped. Any one refusal of an allocation leaves the
 //! tests true: `rt try --test --fail-alloc N` refuses each its Nth.
-use crate::cluster::handing::handed;
-use crate::cluster::steps::{
-    does_one, entry_on, first, joined, moved, second, sees, sends, settled, takes,
-};
+use crate::handing::handed;
+use crate::steps::{does_one, entry_on, first, joined, moved, second, sees, sends, settled, takes};
 use directory_letters::Letter;
 use directory_node::{Input, Node};
 use directory_rules::Effect;

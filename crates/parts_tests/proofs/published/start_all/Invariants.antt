@@ -1,5 +1,5 @@
 use Rattle.std.proofs.Common.{◌≡◌}
-use Rattle.directory_tests.proofs.rings.start_all.Given as goal
+use Rattle.parts_tests.proofs.published.start_all.Given as goal
 
 -- handing readers out leaves the ring that is shown
 abbrev pub invariant-loop-reader : goal.invariant-loop-reader

@@ -1,4 +1,4 @@
-use crate::cluster::limits::{accept, boxed, refuse};
+use crate::limits::{accept, boxed, refuse};
 use cluster_events::{Event, Happening, Outcome, Span};
 use directory_core::{EventRefusal, Told, World};
 use directory_rules::{Effect, LetterKind, Settings};

@@ -1,5 +1,5 @@
 use Rattle.hash_ring.specs.Ring.{IsRingBy}
-use Rattle.directory_tests.proofs.rings.publish_all.Given as goal
+use Rattle.parts_tests.proofs.published.publish_all.Given as goal
 
 -- the ring that is shown is by these places
 abbrev pub invariant-loop-version : goal.invariant-loop-version

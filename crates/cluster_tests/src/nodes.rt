@@ -1,7 +1,7 @@
 ghost use Rattle.directory_node.specs.Placed.{ArePlaced, IsPlaced};
 ghost use Rattle.directory_node.specs.InputModel.{input_of};
 
-use crate::cluster::steps::{copy_of, does};
+use crate::steps::{copy_of, does};
 use directory_letters::{Body, Letter};
 use directory_node::{Input, Node, Stepped};
 use directory_rules::{Effect, Settings};

@@ -5,7 +5,7 @@ ghost use Rattle.directory_node.specs.InputModel.{input_of};
 ghost use Rattle.directory_node.specs.Placed.{IsPlaced};
 ghost use Rattle.directory_node.specs.Planning.{Fits};
 
-use crate::cluster::nodes::check_placed;
+use crate::nodes::check_placed;
 use directory_letters::Letter;
 use directory_node::{Change, Input, Node, Plan};
 use directory_rules::{Effect, Settings};

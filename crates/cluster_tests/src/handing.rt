@@ -1,6 +1,6 @@
 //! A range is handed over between two nodes that exchange letters by hand (`steps.rt`). Any one refusal of an allocation leaves the
 //! tests true: `rt try --test --fail-alloc N` refuses each its Nth.
-use crate::cluster::steps::{
+use crate::steps::{
     does, does_alone, does_one, entry_on, first, joined, moved, posted, second, sees, sees_one,
     sends, settled, takes,
 };

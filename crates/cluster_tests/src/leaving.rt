@@ -1,6 +1,6 @@
 //! A silo that comes to a cluster of one, and goes; a letter between the two that is lost.
-use crate::cluster::limits::{accept, boxed, refuses};
-use crate::cluster::worlds::{has_one_point, see, sees, silo};
+use crate::limits::{accept, boxed, refuses};
+use crate::worlds::{has_one_point, see, sees, silo};
 use cluster_events::Event;
 use directory_core::{EventRefusal, World};
 use directory_rules::Settings;
