@@ -35,14 +35,18 @@ fn refused(alloc: Global, journal: &[Entry], receipts: &[Receipt]) -> Option<u16
         Err(CloseRefusal::OutOfMemory) => compare(alloc, journal, receipts),
         compared => compared,
     };
-    compared.err()?.number()
+    match compared {
+        Ok(()) => None,
+        Err(refusal) => refusal.number(),
+    }
 }
 
 // Two letters were lost, in the other order than their receipts come.
 fn are_compared(rt: &impl Abort, alloc: Global) -> bool {
     let journal = [entry(rt, alloc, 5), entry(rt, alloc, 6)];
-    let receipts = [receipt(rt, alloc, 2, 6), receipt(rt, alloc, 1, 5)];
-    refused(alloc, &journal, &receipts) == None
+    let both = [receipt(rt, alloc, 2, 6), receipt(rt, alloc, 1, 5)];
+    let receipts = &both[..];
+    refused(alloc, &journal, receipts) == None
         && refused(alloc, &journal, &receipts[1..]) == Some(953)
 }
 

@@ -49,9 +49,9 @@ fn grain(rt: &impl Abort, text: &str) -> GrainId {
 }
 
 fn list_of(rt: &impl Abort, alloc: Global, place: u32) -> Vec<u32> {
-    match vec![in alloc; place; 1] {
+    match [place].to_vec(alloc) {
         Ok(places) => places,
-        Err(_) => vec![in alloc; place; 1].expect(rt, "memory"),
+        Err(_) => [place].to_vec(alloc).expect(rt, "memory"),
     }
 }
 

@@ -25,7 +25,7 @@ enum Answer {
 }
 
 impl Answer {
-    fn is(&self, answered: &Result<Receipt, CommitRefusal>) -> bool {
+    fn is_that(&self, answered: &Result<Receipt, CommitRefusal>) -> bool {
         match (self, answered) {
             (Answer::Receipt(number, happening), Ok(receipt)) => {
                 receipt.number == *number && receipt.entry.outcome().happening.same(happening)
@@ -152,7 +152,7 @@ fn goes<L: Ledger + Names>(rt: &impl Abort, desk: &mut Desk<L>, trial: &Trial) -
     }
     let first = desk.commit(rt, one);
     let second = desk.commit(rt, other);
-    trial.first.is(&first) && trial.second.is(&second) && is_left(desk, trial)
+    trial.first.is_that(&first) && trial.second.is_that(&second) && is_left(desk, trial)
 }
 
 fn is_left<L: Ledger + Names>(desk: &Desk<L>, trial: &Trial) -> bool {
