@@ -143,12 +143,11 @@ impl<L: Ledger + Names> Played<Boarded<L>> {
         for portion in 0..EVENTS {
             let (before, event) = self.two_finds(entries, portion)?;
             self.keeper.happens(&before)?;
-            let lent = self.lent_if(lends)?;
-            let happened = self.happens_in(rt, &event, &mut stopwatch);
-            if let Some(job) = lent {
-                job.give_back();
+            if lends {
+                self.happens_while_lent(rt, &event, &mut stopwatch)?;
+            } else {
+                self.happens_in(rt, &event, &mut stopwatch)?;
             }
-            happened?;
             self.settle()?;
         }
         self.report(rt, name, entries, stopwatch)
@@ -168,12 +167,17 @@ impl<L: Ledger + Names> Played<Boarded<L>> {
         Ok(())
     }
 
-    // The silo's work, if it is to be lent.
-    fn lent_if(&mut self, lends: bool) -> Result<Option<Job<L>>, Fault> {
-        if lends {
-            return Ok(Some(self.keeper.lent()?));
-        }
-        Ok(None)
+    // The same, while the silo's work is lent.
+    fn happens_while_lent(
+        &mut self,
+        rt: &HostRuntime,
+        event: &Event,
+        stopwatch: &mut Stopwatch,
+    ) -> Result<(), Fault> {
+        let job = self.keeper.lent()?;
+        let happened = self.happens_in(rt, event, stopwatch);
+        job.give_back();
+        happened
     }
 }
 
