@@ -1,5 +1,6 @@
-//! A board with the one share of its ledger, and what is asked of it. Any one refusal of an allocation leaves it true: a call that is
-//! refused leaves the board as it was, and is made again. Of the work that a refused commit hands back comes the next one.
+//! A board with the one share of its ledger, and what is asked of it. No contract says that there is memory: a call that is refused
+//! some leaves the board as it was, and is made again, of a commit with the job that came back; and that happens at most once, since
+//! at most one allocation is refused.
 ghost use Rattle.std.specs.Prelude.{◌≡◌, ◌<◌};
 
 use crate::steps::{A, FIRST, Step, event_of, silo};
@@ -17,6 +18,8 @@ pub(crate) struct Desk<L: Ledger + Names> {
     pub(crate) board: Board<L>,
     share: Share<L>,
     alloc: Global,
+    // Whether a call was refused memory.
+    refused: bool,
     ghost part: { 0 < share.parts },
 }
 
@@ -37,7 +40,14 @@ impl<L: Ledger + Names> Desk<L> {
             board,
             share,
             alloc,
+            refused: false,
         }
+    }
+
+    // A call was refused memory.
+    fn refuse(&mut self, rt: &impl Abort) {
+        assert!(rt; !self.refused);
+        self.refused = true;
     }
 
     /// The receipt of an event, which is accepted.
@@ -45,10 +55,12 @@ impl<L: Ledger + Names> Desk<L> {
         let event = event_of(rt, self.alloc, step);
         match self.board.post(&mut self.share, &event) {
             Ok(receipt) => receipt,
-            Err(_) => self
-                .board
-                .post(&mut self.share, &event)
-                .expect(rt, "a receipt"),
+            Err(_) => {
+                self.refuse(rt);
+                self.board
+                    .post(&mut self.share, &event)
+                    .expect(rt, "a receipt")
+            }
         }
     }
 
@@ -64,16 +76,31 @@ impl<L: Ledger + Names> Desk<L> {
         let silo = silo(rt, A);
         let lent = match self.board.lend(&silo) {
             Ok(lent) => lent,
-            Err(_) => self.board.lend(&silo).expect(rt, "memory"),
+            Err(_) => {
+                self.refuse(rt);
+                self.board.lend(&silo).expect(rt, "memory")
+            }
         };
         lent.expect(rt, "work")
+    }
+
+    // The work, prepared.
+    fn prepared(&mut self, rt: &impl Abort, job: Job<L>) -> Prepared<L> {
+        match job.prepare(self.alloc) {
+            Ok(prepared) => prepared,
+            Err(job) => {
+                self.refuse(rt);
+                prepared_again(rt, self.alloc, job)
+            }
+        }
     }
 
     /// The first silo's work, prepared: it is given back once, and turned back once.
     pub(crate) fn work(&mut self, rt: &impl Abort) -> Prepared<L> {
         self.lent(rt).give_back();
-        let job = prepared(rt, self.alloc, self.lent(rt)).back();
-        prepared(rt, self.alloc, job)
+        let job = self.lent(rt);
+        let job = self.prepared(rt, job).back();
+        self.prepared(rt, job)
     }
 
     /// The receipt of prepared work, or why there is none.
@@ -88,14 +115,14 @@ impl<L: Ledger + Names> Desk<L> {
         };
         match left(uncommitted) {
             Ok(job) => {
-                let work = prepared(rt, self.alloc, job);
+                self.refuse(rt);
+                let work = self.prepared(rt, job);
                 self.commit_again(work)
             }
             Err(refusal) => Err(refusal),
         }
     }
 
-    // Memory was refused, and isn't any more.
     fn commit_again(&mut self, work: Prepared<L>) -> Result<Receipt, CommitRefusal> {
         match self.board.commit(&mut self.share, work) {
             Ok(receipt) => Ok(receipt),
@@ -104,17 +131,13 @@ impl<L: Ledger + Names> Desk<L> {
     }
 }
 
-// The work, prepared.
-fn prepared<N: Names>(rt: &impl Abort, alloc: Global, job: Job<N>) -> Prepared<N> {
+fn prepared_again<N: Names>(rt: &impl Abort, alloc: Global, job: Job<N>) -> Prepared<N> {
     match job.prepare(alloc) {
         Ok(prepared) => prepared,
-        Err(job) => match job.prepare(alloc) {
-            Ok(prepared) => prepared,
-            Err(job) => {
-                job.give_back();
-                panic!(rt; "memory")
-            }
-        },
+        Err(job) => {
+            job.give_back();
+            panic!(rt; "memory")
+        }
     }
 }
 

@@ -1,4 +1,4 @@
-//! Receipts are compared with a journal. `rt try --test --fail-alloc N` refuses the test its Nth allocation.
+//! Receipts are compared with a journal. Any one refusal of an allocation leaves the test true (`--fail-alloc`).
 
 use cluster_events::{Event, Happening, Outcome};
 use cluster_journal::{Draft, Entry, Receipt};

@@ -1,5 +1,5 @@
-//! The first silo's least fresh letter is lent twice; something happens, or nothing; and both works are committed. `rt try --test
-//! --fail-alloc N` refuses each test its Nth allocation.
+//! The first silo's least fresh letter is lent twice; something happens, or nothing; and both works are committed. Any one refusal of an
+//! allocation leaves the tests true: `rt try --test --fail-alloc N` refuses each its Nth, `tools/refuse-tests` each of them in turn.
 ghost use Rattle.std.specs.Prelude.{◌≡◌, ◌<◌};
 
 use crate::desk::Desk;

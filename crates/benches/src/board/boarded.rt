@@ -94,9 +94,17 @@ impl<L: Ledger + Names> Keeper for Boarded<L> {
     }
 
     fn delivers(&mut self, _number: u64) -> Result<(), Fault> {
-        let job = self.lent()?;
-        let work = prepared(self.alloc, job)?;
-        self.committed(work)
+        match self.board.lend(&self.silo) {
+            Ok(Some(job)) => match job.prepare(self.alloc) {
+                Ok(work) => self.committed(work),
+                Err(job) => {
+                    job.give_back();
+                    Err(Fault::Memory)
+                }
+            },
+            Ok(None) => Err(Fault::Missing),
+            Err(_) => Err(Fault::Memory),
+        }
     }
 
     fn sent(&self) -> u64 {
@@ -105,16 +113,6 @@ impl<L: Ledger + Names> Keeper for Boarded<L> {
 
     fn sum(&self) -> u64 {
         sum_of_world(self.board.world())
-    }
-}
-
-fn prepared<N: Names>(alloc: Global, job: Job<N>) -> Result<Prepared<N>, Fault> {
-    match job.prepare(alloc) {
-        Ok(work) => Ok(work),
-        Err(job) => {
-            job.give_back();
-            Err(Fault::Memory)
-        }
     }
 }
 
@@ -141,16 +139,26 @@ impl<L: Ledger + Names> Played<Boarded<L>> {
     ) -> Result<(), Fault> {
         let mut stopwatch = Stopwatch::new();
         for portion in 0..EVENTS {
-            let (before, event) = self.two_finds(entries, portion)?;
-            self.keeper.happens(&before)?;
-            if lends {
-                self.happens_while_lent(rt, &event, &mut stopwatch)?;
-            } else {
-                self.happens_in(rt, &event, &mut stopwatch)?;
-            }
+            self.measure_event(rt, entries, portion, lends, &mut stopwatch)?;
             self.settle()?;
         }
         self.report(rt, name, entries, stopwatch)
+    }
+
+    fn measure_event(
+        &mut self,
+        rt: &HostRuntime,
+        entries: u64,
+        portion: u64,
+        lends: bool,
+        stopwatch: &mut Stopwatch,
+    ) -> Result<(), Fault> {
+        let event = self.second_find(entries, portion)?;
+        if lends {
+            self.happens_while_lent(rt, &event, stopwatch)
+        } else {
+            self.happens_in(rt, &event, stopwatch)
+        }
     }
 
     // An event happens, and what it takes is noted.

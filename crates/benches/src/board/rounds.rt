@@ -143,18 +143,18 @@ impl<K: Keeper + Drop> Played<K> {
         Ok(())
     }
 
-    /// The look-ups of two grains of a portion.
-    pub(crate) fn two_finds(&self, entries: u64, portion: u64) -> Result<(Event, Event), Fault> {
+    /// Looks up a grain of a portion; the look-up of another one, to come next.
+    pub(crate) fn second_find(&mut self, entries: u64, portion: u64) -> Result<Event, Fault> {
         let grains = self.grains(entries, STRIDE, portion)?;
         let silo = self.silo;
         match grains.as_slice() {
-            [one, other, ..] => Ok((
-                Event::Find { silo, grain: *one },
-                Event::Find {
+            [one, other, ..] => {
+                self.keeper.happens(&Event::Find { silo, grain: *one })?;
+                Ok(Event::Find {
                     silo,
                     grain: *other,
-                },
-            )),
+                })
+            }
             _ => Err(Fault::Missing),
         }
     }
