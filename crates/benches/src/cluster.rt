@@ -159,20 +159,20 @@ impl Cluster {
     /// What was measured, with the sum of what is left.
     pub(crate) fn measured(&self) -> Stopwatch {
         let mut stopwatch = self.stopwatch;
-        stopwatch.count(0, self.sum());
+        stopwatch.count(0, sum_of_world(&self.world));
         stopwatch
     }
+}
 
-    // A sum mixed from how many events were accepted and letters sent, and how many activations, pieces and entries each silo has.
-    fn sum(&self) -> u64 {
-        let mut sum = mixed(self.world.accepted(), self.world.sent());
-        for (_, shared) in self.world.nodes() {
-            let node = shared.node();
-            let held = node.host().held_count() as u64;
-            sum = mixed(mixed(sum, held), sum_of(node.holding()));
-        }
-        sum
+/// A sum mixed from how many events were accepted and letters sent, and how many activations, pieces and entries each silo has.
+pub(crate) fn sum_of_world(world: &World) -> u64 {
+    let mut sum = mixed(world.accepted(), world.sent());
+    for (_, shared) in world.nodes() {
+        let node = shared.node();
+        let held = node.host().held_count() as u64;
+        sum = mixed(mixed(sum, held), sum_of(node.holding()));
     }
+    sum
 }
 
 /// How many pieces there are, and how many entries they have.

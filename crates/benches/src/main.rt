@@ -1,12 +1,13 @@
 //! Measures what is proved, by calls without text: `benches ring` the ring, `benches parts` the parts of a node, `benches routes`
-//! published rings, and `benches SCENARIO` a cluster; `benches` alone plays each scenario of a cluster on a small scale and
-//! measures nothing.
+//! published rings, `benches board` deliveries by a board, and `benches SCENARIO` a cluster; `benches` alone plays each scenario of
+//! a cluster on a small scale and measures nothing.
 //!
 //! Each line is a name, how many calls or events were measured, the nanoseconds that they took in all, and a sum of what they
 //! answered or left, by which this program and the plain ones beside it (`plain`) are seen to have done the same work.
 //! `tools/bench` runs both and prints the ratios.
 #![tactic(auto)]
 
+mod board;
 mod cluster;
 mod course;
 mod fault;
@@ -21,7 +22,7 @@ use fault::Fault;
 use std::env;
 
 /// How the program is called.
-const USAGE: &str = "usage: benches [ring|parts|routes|SCENARIO]";
+const USAGE: &str = "usage: benches [ring|parts|routes|board|SCENARIO]";
 
 fn main(rt: HostRuntime) -> Result<(), Fault> {
     match env::args(&rt)?.nth(1) {
@@ -37,6 +38,8 @@ fn measure(rt: &HostRuntime, word: &str) -> Result<(), Fault> {
         "--help" => Ok(println!(rt; "{USAGE}")?),
         "ring" => ring::measure(rt),
         "parts" => parts::measure(rt),
+        "board" => board::measure(rt),
+        "unjournaled" | "journaled" | "receipted" => board::fill(rt, word),
         name => world::measure(rt, name),
     }
 }

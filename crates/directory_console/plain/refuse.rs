@@ -1,5 +1,6 @@
 //! A library that is loaded before a program and refuses it one allocation: the one whose number, from 1, the variable REFUSE has. So
-//! `tools/refuse-memory` finds out what the program makes of it.
+//! `tools/refuse-memory` and `tools/refuse-tests` find out what the program makes of it. Where there was no allocation of that number, it
+//! says so on standard error as the program ends.
 use std::ffi::{c_char, c_int, c_void};
 use std::ptr::null_mut;
 use std::sync::atomic::{AtomicI32, AtomicPtr, Ordering::Relaxed};
@@ -8,6 +9,7 @@ unsafe extern "C" {
     fn dlsym(library: *mut c_void, name: *const c_char) -> *mut c_void;
     fn getenv(name: *const c_char) -> *const c_char;
     fn atoi(text: *const c_char) -> c_int;
+    fn write(descriptor: c_int, text: *const u8, length: usize) -> isize;
 }
 
 /// Looks a name up in the libraries behind this one.
@@ -32,6 +34,18 @@ extern "C" fn begin() {
 #[used]
 #[unsafe(link_section = ".init_array")]
 static BEGIN: extern "C" fn() = begin;
+
+/// As the program ends: whether it had fewer allocations than that.
+extern "C" fn end() {
+    const NONE: &[u8] = b"nothing was refused\n";
+    if LEFT.load(Relaxed) > 0 {
+        unsafe { write(2, NONE.as_ptr(), NONE.len()) };
+    }
+}
+
+#[used]
+#[unsafe(link_section = ".fini_array")]
+static END: extern "C" fn() = end;
 
 /// Counts an allocation: whether it is the refused one.
 fn is_refused() -> bool {

@@ -1,0 +1,56 @@
+//! Receipts are compared with a journal. Any one refusal of an allocation leaves the test true (`--fail-alloc`).
+
+use cluster_events::{Event, Happening, Outcome};
+use cluster_journal::{Draft, Entry, Receipt};
+use compared_receipts::{CloseRefusal, compare};
+use std::alloc::Global;
+use std::process::Abort;
+
+fn draft(rt: &impl Abort, alloc: Global, lost: u64) -> Draft {
+    match Draft::new(alloc, Event::Lose { number: lost }) {
+        Ok(draft) => draft,
+        Err(_) => Draft::new(alloc, Event::Lose { number: lost }).expect(rt, "memory"),
+    }
+}
+
+// The entry of a letter that was lost.
+fn entry(rt: &impl Abort, alloc: Global, lost: u64) -> Entry {
+    draft(rt, alloc, lost).told(&Outcome {
+        happening: Happening::Lost { number: lost },
+        sent: None,
+    })
+}
+
+// The receipt of that number, of a letter that was lost.
+fn receipt(rt: &impl Abort, alloc: Global, number: u64, lost: u64) -> Receipt {
+    Receipt {
+        number,
+        entry: entry(rt, alloc, lost),
+    }
+}
+
+// By which number the receipts are refused, if they are.
+fn refused(alloc: Global, journal: &[Entry], receipts: &[Receipt]) -> Option<u16> {
+    let compared = match compare(alloc, journal, receipts) {
+        Err(CloseRefusal::OutOfMemory) => compare(alloc, journal, receipts),
+        compared => compared,
+    };
+    match compared {
+        Ok(()) => None,
+        Err(refusal) => refusal.number(),
+    }
+}
+
+// Two letters were lost, in the other order than their receipts come.
+fn are_compared(rt: &impl Abort, alloc: Global) -> bool {
+    let journal = [entry(rt, alloc, 5), entry(rt, alloc, 6)];
+    let both = [receipt(rt, alloc, 2, 6), receipt(rt, alloc, 1, 5)];
+    let receipts = &both[..];
+    refused(alloc, &journal, receipts) == None
+        && refused(alloc, &journal, &receipts[1..]) == Some(953)
+}
+
+#[test]
+fn receipts_agree_with_the_journal(rt: HostRuntime) {
+    assert!(&rt; are_compared(&rt, rt.alloc()));
+}
