@@ -18,10 +18,10 @@ use Rattle.hash_ring.specs.declared.hashing.Hashing.TheVariants.{Sha256, Stated}
 use Rattle.hash_ring.specs.declared.point.Point.{Point}
 use Rattle.dump_rules.specs.Dump.{DumpPhase, Asking, Firm, Closing, DumpState, Settled, Awaiting, Recovering, DumpHeld, DumpPiece, DumpNode, DumpRow, DumpValue, hashing_word, dump_phase_word, dump_state_word, from_text, quoted, json_list, json_member, json_object, entry_json, point_json, held_json, piece_json, node_json, row_json, dump_text}
 use Rattle.dump_rules.specs.RightShape.{HasRowNumbers, HasPointNumbers, HasNodeNumbers, HasNumbers}
-use Rattle.dump_texts.specs.Named.{IsNamedFor, HasPieceNames, HasNodeNames, HasNames}
-use Rattle.dump_texts.proofs.Visible.{AreVisible, visible_by, silo_visible, activation_visible, range_visible, quoted_same}
-use Rattle.dump_texts.proofs.Plain.{is_after, push, IsPlain, ArePlain, HasPlain}
-use Rattle.dump_texts.proofs.Values.{number_value, items_of, list_value, members_of, object_value, entry_value, point_value, held_value, piece_value, node_value, row_value, dump_value}
+use Rattle.dump_headline.specs.Named.{IsNamedFor, HasPieceNames, HasNodeNames, HasNames}
+use Rattle.dump_headline.proofs.Visible.{AreVisible, visible_by, silo_visible, activation_visible, range_visible, quoted_same}
+use Rattle.dump_headline.proofs.Plain.{is_after, push, IsPlain, ArePlain, HasPlain}
+use Rattle.dump_headline.proofs.Values.{number_value, items_of, list_value, members_of, object_value, entry_value, point_value, held_value, piece_value, node_value, row_value, dump_value}
 
 -- a text is that of a value, which is plain
 abbrev pub Tells : ℕ → List ℕ → Data → Type 0

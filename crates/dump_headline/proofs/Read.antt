@@ -6,11 +6,11 @@ use Rattle.dump_rules.specs.DumpIn.{dump_in}
 use Rattle.dump_rules.specs.Judged.{value_in, judged_lists, judged_value, judged_text}
 use Rattle.dump_rules.specs.Judgement.{judged}
 use Rattle.dump_rules.specs.RightShape.{HasNumbers}
-use Rattle.dump_texts.specs.Named.{HasNames}
-use Rattle.dump_texts.proofs.Values.{dump_value}
-use Rattle.dump_texts.proofs.Plain.{read_again}
-use Rattle.dump_texts.proofs.Texts.{dump_told}
-use Rattle.dump_texts.proofs.Again.{dump_again}
+use Rattle.dump_headline.specs.Named.{HasNames}
+use Rattle.dump_headline.proofs.Values.{dump_value}
+use Rattle.dump_headline.proofs.Plain.{read_again}
+use Rattle.dump_headline.proofs.Texts.{dump_told}
+use Rattle.dump_headline.proofs.Again.{dump_again}
 
 value_read : (dump : DumpValue) → HasNumbers dump → HasNames dump → value_in (dump_text dump) ≡ Some (dump_value dump)
 value_read dump numbers names =

@@ -21,7 +21,7 @@ use Rattle.serde_json.proofs.Numbers.{number_of-decimal}
 use Rattle.serde_json.proofs.Texts.{print-outline}
 use Rattle.silo_address.specs.Grain.{IsVisible}
 use Rattle.dump_rules.specs.Judged.{value_in}
-use Rattle.dump_texts.proofs.Visible.{AreVisible, visible_utf8, decimal_visible, quoted_visible}
+use Rattle.dump_headline.proofs.Visible.{AreVisible, visible_utf8, decimal_visible, quoted_visible}
 
 -- ---- members, one after another
 -- the name comes after all of those

@@ -25,9 +25,9 @@ use Rattle.dump_rules.specs.Dump.{DumpPhase, Asking, Firm, Closing, DumpState, S
 use Rattle.dump_rules.specs.DumpIn.{hashing_in, phase_in, state_in, entry_in, point_in, held_in, piece_in, node_in, row_in, dump_in}
 use Rattle.dump_rules.specs.Values.{number_in, silo_in, grain_in, activation_in, range_in, silo_or_none, from_in, items_in, list_in}
 use Rattle.dump_rules.specs.RightShape.{HasNodeNumbers, HasNumbers}
-use Rattle.dump_texts.specs.Named.{IsNamedFor, HasPieceNames, HasNodeNames, HasNames}
-use Rattle.dump_texts.proofs.Texts.{both_all}
-use Rattle.dump_texts.proofs.Values.{number_value, items_of, list_value, entry_value, point_value, held_value, piece_value, node_value, row_value, dump_value}
+use Rattle.dump_headline.specs.Named.{IsNamedFor, HasPieceNames, HasNodeNames, HasNames}
+use Rattle.dump_headline.proofs.Texts.{both_all}
+use Rattle.dump_headline.proofs.Values.{number_value, items_of, list_value, entry_value, point_value, held_value, piece_value, node_value, row_value, dump_value}
 
 -- ---- several readings, one after another
 module _ {A B C D E X : Type 0} (a : A) (b : B) (c : C) (d : D) (e : E) where
