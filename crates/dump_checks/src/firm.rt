@@ -5,9 +5,8 @@ ghost use Rattle.dump_rules.specs.Verdict as rule;
 ghost use Rattle.dump_index.specs.Lent.{held_lent, held_on, nodes_lent};
 
 use crate::least::{least_of, lesser};
-use distinct_grains::are_distinct_grains;
 use dump_index::{add_firm, firm_among, held_grains};
-use dump_lists::{Held, Node};
+use dump_lists::{Held, Node, are_distinct_grains};
 use silo_address::GrainId;
 use std::alloc::{AllocError, Global};
 use std::collections::BTreeSet;

@@ -5,10 +5,9 @@ ghost use Rattle.std.specs.BTreeSet.{contains, InsertsAll};
 ghost use Rattle.silo_address.specs.Grain.{grain_cmp};
 ghost use Rattle.dump_rules.specs.Verdict as rule;
 ghost use Rattle.dump_index.specs.Lent.{held_lent, held_on};
-ghost use Rattle.distinct_grains.specs.Mixed.{grains_lent};
+ghost use Rattle.dump_lists.specs.Mixed.{grains_lent};
 
-use dump_lists::{Held, Node, Phase};
-use lent_grains::LentGrain;
+use dump_lists::{Held, LentGrain, Node, Phase};
 use silo_address::GrainId;
 use std::alloc::{AllocError, Global};
 use std::collections::BTreeSet;

@@ -7,8 +7,7 @@ ghost use Rattle.dump_index.specs.Lent.{entries_in, entries_lent, held_lent, hel
 ghost use Rattle.dump_index.specs.Named.{IsIndex, entries_named, entry_named, named_cmp};
 ghost use Rattle.dump_index.specs.Tallies.{count_below, count_up_to};
 
-use dump_lists::{Entry, Held, Node, Piece};
-use lent_grains::LentGrain;
+use dump_lists::{Entry, Held, LentGrain, Node, Piece};
 use silo_address::ActivationId;
 use std::alloc::{AllocError, Global};
 

@@ -11,10 +11,10 @@ use Rattle.silo_address.proofs.Same.{Decides-silo}
 use Rattle.dump_rules.specs.Dump.{DumpHeld, DumpPiece, DumpNode, DumpRow, DumpValue}
 use Rattle.dump_rules.specs.DumpShape.{is_version, is_hash, is_number_of_points, has_row_numbers, has_point_numbers, has_piece_numbers, has_node_numbers, has_numbers, row_silos, has_row, activation_silos, holds_its_own, holds_activations_once, holds_grains_once, has_seen_a_version, has_entries_if_settled, has_from_if_awaiting, has_pieces_in_order, has_entries_in_order, is_piece, is_node_of}
 use Rattle.dump_rules.specs.Verdict.{node_entries}
-use Rattle.distinct_grains.specs.Sets.{HasItems}
-use Rattle.distinct_grains.proofs.InOrder.{list_all_alike, list_all-flat_map}
+use Rattle.dump_lists.specs.Sets.{HasItems}
+use Rattle.dump_lists.proofs.InOrder.{list_all_alike, list_all-flat_map}
 use Rattle.dump_nodes.proofs.Tests.{two, three, seven}
-use Rattle.distinct_grains.proofs.Ties.{known_silos}
+use Rattle.dump_lists.proofs.Ties.{known_silos}
 
 version_is : (n : ℕ) → n < 2 ^ 64 → is_version n ≡ true
 version_is n fits = (Decides-ltb n (2 ^ 64)).1 fits

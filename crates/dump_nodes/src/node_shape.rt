@@ -5,14 +5,12 @@ ghost use Rattle.std.specs.List.{list_all};
 ghost use Rattle.std.specs.BTreeSet.{contains};
 ghost use Rattle.silo_address.specs.Silo.{silo_cmp};
 ghost use Rattle.dump_rules.specs.DumpShape as rule;
-ghost use Rattle.distinct_grains.specs.Mixed.{grains_lent};
-ghost use Rattle.distinct_grains.specs.Sets.{HasItems};
+ghost use Rattle.dump_lists.specs.Mixed.{grains_lent};
+ghost use Rattle.dump_lists.specs.Sets.{HasItems};
 
 use crate::conjunction::all_hold;
 use crate::piece_shape::are_pieces;
-use distinct_grains::{are_distinct, are_distinct_grains, are_in_order};
-use dump_lists::{Dump, Node, Piece};
-use lent_grains::LentGrain;
+use dump_lists::{Dump, LentGrain, Node, Piece, are_distinct, are_distinct_grains, are_in_order};
 use silo_address::{ActivationId, SiloAddress};
 use std::alloc::{AllocError, Global};
 use std::collections::BTreeSet;

@@ -4,11 +4,10 @@ ghost use Rattle.std.specs.Prelude.{◌≡◌, IfOk};
 ghost use Rattle.std.specs.List.{list_all};
 ghost use Rattle.silo_address.specs.Silo.{silo_cmp};
 ghost use Rattle.dump_rules.specs.DumpShape as rule;
-ghost use Rattle.distinct_grains.specs.Sets.{HasItems};
+ghost use Rattle.dump_lists.specs.Sets.{HasItems};
 
 use crate::node_shape::is_node;
-use distinct_grains::set_of;
-use dump_lists::{Dump, Node};
+use dump_lists::{Dump, Node, set_of};
 use silo_address::SiloAddress;
 use std::alloc::{AllocError, Global};
 use std::collections::BTreeSet;

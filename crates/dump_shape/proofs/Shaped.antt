@@ -7,7 +7,7 @@ use Rattle.silo_address.specs.Silo.{Silo, silo_cmp, silo_eq}
 use Rattle.dump_rules.specs.Dump.{DumpRow, DumpValue}
 use Rattle.dump_rules.specs.DumpShape.{are_distinct_by, are_in_order, row_silos, node_silos, has_joined, has_places, is_row_of, is_node_of, has_shape}
 use Rattle.dump_nodes.proofs.Tests.{two, two_pairs}
-use Rattle.distinct_grains.proofs.Ties.{distinct_silos}
+use Rattle.dump_lists.proofs.Ties.{distinct_silos}
 use Rattle.dump_nodes.proofs.Shaped.{both}
 
 pub row_is : (dump : DumpValue) (row : DumpRow) (j p : Bool) → j ≡ has_joined dump row → p ≡ has_places dump row → (j && (p && true)) ≡ is_row_of dump row

@@ -4,8 +4,7 @@ ghost use Rattle.std.specs.Prelude.{◌≡◌, IfOk};
 ghost use Rattle.std.specs.List.{list_all};
 ghost use Rattle.dump_rules.specs.DumpShape as rule;
 
-use distinct_grains::{are_distinct, are_in_order};
-use dump_lists::{Dump, Row};
+use dump_lists::{Dump, Row, are_distinct, are_in_order};
 use dump_nodes::{all_hold, are_nodes, has_numbers, row_silos};
 use hash_ring::Hashing;
 use silo_address::SiloAddress;

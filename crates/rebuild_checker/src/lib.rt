@@ -4,7 +4,7 @@
 
 mod reading;
 
-pub use distinct_grains::are_distinct_grains;
+pub use dump_lists::are_distinct_grains;
 pub use dump_shape::is_dump;
 pub use dump_writer::write_dump;
 pub use reading::read_dump;

@@ -9,9 +9,8 @@ ghost use Rattle.dump_rules.specs.Values.{activation_in, from_in, grain_in, memb
 ghost use Rattle.dump_lists.specs.DumpModel.{phase_of, state_of};
 ghost use Rattle.dump_lists.specs.Reading.{IsReading, IsReadingBy};
 
-use dump_lists::{Phase, ReadError, State, named};
+use dump_lists::{LentGrain, Phase, ReadError, State, named};
 use hash_ring::Hashing;
-use lent_grains::LentGrain;
 use ring_range::RingRange;
 use serde_json::{Map, Value};
 use silo_address::{ActivationId, SiloAddress};

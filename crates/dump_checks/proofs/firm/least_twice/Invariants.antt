@@ -1,7 +1,7 @@
 use Rattle.std.proofs.Common.{◌≡◌, drop}
 use Rattle.std.specs.List.{flat_map}
 use Rattle.silo_address.specs.Grain.{grain_cmp}
-use Rattle.distinct_grains.specs.Sets.{HasItems}
+use Rattle.dump_lists.specs.Sets.{HasItems}
 use Rattle.dump_rules.specs.Verdict.{firm_grains, firm_on_two, least_grain}
 use Rattle.dump_index.specs.Lent.{nodes_lent}
 use Rattle.dump_checks.proofs.firm.least_twice.Given as goal

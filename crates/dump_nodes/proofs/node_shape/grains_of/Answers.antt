@@ -4,7 +4,7 @@ use Rattle.std.proofs.lemmas.Iterator.Consumers.{map_from_collect}
 use Rattle.std.specs.Borrow.{Bor}
 use Rattle.silo_address.specs.Grain.{Grain}
 use Rattle.dump_rules.specs.Dump.{DumpHeld, DumpNode}
-use Rattle.distinct_grains.specs.Mixed.{grains_lent}
+use Rattle.dump_lists.specs.Mixed.{grains_lent}
 use Rattle.dump_nodes.proofs.node_shape.grains_of.Goals as goal
 
 pub returns : goal.returns

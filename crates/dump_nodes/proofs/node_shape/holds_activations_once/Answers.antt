@@ -2,7 +2,7 @@ use Rattle.std.proofs.Common.{◌∙◌, ap}
 use Rattle.std.specs.BTreeMap.{is_at}
 use Rattle.silo_address.specs.Activation.{activation_cmp, activation_eq}
 use Rattle.dump_rules.specs.DumpShape.{are_distinct_by}
-use Rattle.distinct_grains.proofs.Ties.{distinct_activations}
+use Rattle.dump_lists.proofs.Ties.{distinct_activations}
 use Rattle.dump_nodes.proofs.node_shape.holds_activations_once.Goals as goal
 
 pub returns : goal.returns

@@ -4,7 +4,7 @@ use Rattle.std.proofs.lemmas.List.Sorted.{answers_always}
 use Rattle.silo_address.specs.Grain.{grain_cmp}
 use Rattle.silo_address.specs.declared.Entry.{Entry}
 use Rattle.dump_rules.specs.DumpShape.{are_in_order, has_entries_in_order}
-use Rattle.distinct_grains.proofs.InOrder.{in_order_answer, in_order_by}
+use Rattle.dump_lists.proofs.InOrder.{in_order_answer, in_order_by}
 use Rattle.dump_nodes.proofs.piece_shape.has_entries_in_order.Goals as goal
 
 pub returns : goal.returns
