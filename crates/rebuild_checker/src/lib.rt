@@ -5,6 +5,6 @@
 mod reading;
 
 pub use dump_lists::are_distinct_grains;
-pub use dump_shape::is_dump;
+pub use dump_reader::is_dump;
 pub use dump_writer::write_dump;
 pub use reading::read_dump;
