@@ -8,7 +8,7 @@ use itoa::Buffer;
 use std::alloc::AllocError;
 
 /// Writes a mark, and behind it a number under its name. Fails only when memory runs out.
-pub fn push_number_member(
+pub(crate) fn push_number_member(
     out: &mut Vec<u8>,
     mark: u8,
     name: &[u8],
@@ -21,7 +21,7 @@ pub fn push_number_member(
 }
 
 /// Writes a mark, and behind it a text under its name. Fails only when memory runs out.
-pub fn push_text_member(
+pub(crate) fn push_text_member(
     out: &mut Vec<u8>,
     mark: u8,
     name: &[u8],
@@ -34,7 +34,7 @@ pub fn push_text_member(
 }
 
 /// Writes a mark, a name and a colon. Fails only when memory runs out.
-pub fn push_name(out: &mut Vec<u8>, mark: u8, name: &[u8]) -> Result<(), AllocError>
+pub(crate) fn push_name(out: &mut Vec<u8>, mark: u8, name: &[u8]) -> Result<(), AllocError>
     ensures { OnOk result (out.new.items ≡ out.old.items ++ mark ∷ (quoted name.now ++ codes ":")) }
 {
     out.push(mark)?;
@@ -44,7 +44,7 @@ pub fn push_name(out: &mut Vec<u8>, mark: u8, name: &[u8]) -> Result<(), AllocEr
 }
 
 /// Writes the comma before the item of a list at that index: none before the first. Fails only when memory runs out.
-pub fn push_comma(out: &mut Vec<u8>, index: usize) -> Result<(), AllocError>
+pub(crate) fn push_comma(out: &mut Vec<u8>, index: usize) -> Result<(), AllocError>
     ensures first { index ≡ 0 → OnOk result (out.new.items ≡ out.old.items) }
     ensures later { 0 < index → OnOk result (out.new.items ≡ out.old.items ++ comma ∷ []) }
 {
@@ -55,7 +55,7 @@ pub fn push_comma(out: &mut Vec<u8>, index: usize) -> Result<(), AllocError>
 }
 
 /// Writes a number in decimal. Fails only when memory runs out.
-pub fn push_number(out: &mut Vec<u8>, number: u64) -> Result<(), AllocError>
+pub(crate) fn push_number(out: &mut Vec<u8>, number: u64) -> Result<(), AllocError>
     ensures { OnOk result (out.new.items ≡ out.old.items ++ decimal number) }
 {
     let mut digits = Buffer::new();
@@ -64,7 +64,7 @@ pub fn push_number(out: &mut Vec<u8>, number: u64) -> Result<(), AllocError>
 
 /// Writes a text in quotation marks, with a backslash before each quotation mark and each backslash in it. Fails only when memory runs
 /// out.
-pub fn push_quoted(out: &mut Vec<u8>, text: &[u8]) -> Result<(), AllocError>
+pub(crate) fn push_quoted(out: &mut Vec<u8>, text: &[u8]) -> Result<(), AllocError>
     ensures { OnOk result (out.new.items ≡ out.old.items ++ quoted text.now) }
 {
     out.push(b'"')?;
