@@ -38,15 +38,15 @@ mod cluster {
     #[allow(dead_code, unused_imports)]
     pub mod world;
 }
-#[path = "../../crates/dump_verdict/plain/dump.rs"]
+#[path = "../../crates/rebuild_checker/plain/dump.rs"]
 mod dump;
-#[path = "../../crates/dump_verdict/plain/json.rs"]
+#[path = "../../crates/rebuild_checker/plain/json.rs"]
 mod json;
-#[path = "../../crates/dump_verdict/plain/names.rs"]
+#[path = "../../crates/rebuild_checker/plain/names.rs"]
 mod names;
 #[path = "../../crates/benches/plain/sha256.rs"]
 mod sha256;
-#[path = "../../crates/dump_verdict/plain/verdict.rs"]
+#[path = "../../crates/rebuild_checker/plain/verdict.rs"]
 mod verdict;
 
 use cluster::{judging, text, world};

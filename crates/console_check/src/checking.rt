@@ -5,7 +5,7 @@ ghost use Rattle.console_check.specs.Checks.{Checks, MakesCalls, Tells, WritesSa
 
 use crate::Checked;
 use crate::reading::{Unread, read_all};
-use dump_verdict::{Judgement, judge};
+use rebuild_checker::{Judgement, judge};
 use script_loop::{Sink, Source, send};
 use std::alloc::Global;
 

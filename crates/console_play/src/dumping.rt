@@ -11,8 +11,7 @@ ghost use Rattle.script_output.specs.Spaced.{BeginsWith};
 ghost use Rattle.console_play.specs.Performing.{Performs, in_session};
 
 use directory_core::World;
-use dump_verdict::judged_text;
-use rebuild_checker::write_dump;
+use rebuild_checker::{judged_text, write_dump};
 use std::alloc::{AllocError, Global};
 use world_dump::{dump, is_right};
 

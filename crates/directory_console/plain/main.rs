@@ -1,19 +1,19 @@
 //! What `grain-directory play` does, in plain Rust written for speed: it plays any script, and prints the same byte for byte. The rule
 //! is in `world.rs`, without text; `script.rs` reads lines, and `text.rs` prints. `check` judges the cluster's dump by the plain
-//! program of `dump_verdict`. Built by `rustc --edition 2021 -O`; `tools/bench play` runs both and prints the ratios.
+//! program of `rebuild_checker`. Built by `rustc --edition 2021 -O`; `tools/bench play` runs both and prints the ratios.
 
-#[path = "../../dump_verdict/plain/dump.rs"]
+#[path = "../../rebuild_checker/plain/dump.rs"]
 mod dump;
-#[path = "../../dump_verdict/plain/json.rs"]
+#[path = "../../rebuild_checker/plain/json.rs"]
 mod json;
 mod judging;
-#[path = "../../dump_verdict/plain/names.rs"]
+#[path = "../../rebuild_checker/plain/names.rs"]
 mod names;
 mod script;
 #[path = "../../benches/plain/sha256.rs"]
 mod sha256;
 mod text;
-#[path = "../../dump_verdict/plain/verdict.rs"]
+#[path = "../../rebuild_checker/plain/verdict.rs"]
 mod verdict;
 mod world;
 

@@ -13,7 +13,7 @@ use Rattle.dump_rules.specs.Judgement.{judgement_of, no_dump, judged}
 use Rattle.dump_rules.specs.Verdict.{verdict, verdict_line}
 use Rattle.dump_rules.proofs.RightShapes.{Decides-is_dump}
 use Rattle.dump_rules.proofs.Shapes.{dump_right}
-use Rattle.dump_texts.proofs.Read.{text_judged}
+use Rattle.dump_headline.proofs.Read.{text_judged}
 use Rattle.dump_headline.specs.Told.{IsRightlyTold, all_right}
 use Rattle.dump_headline.proofs.Shape.{activations_once}
 use Rattle.dump_headline.proofs.NodeShape.{is_dump_by}

@@ -1,3 +1,9 @@
+pub mod Visible
+pub mod Plain
+pub mod Values
+pub mod Texts
+pub mod Again
+pub mod Read
 pub mod Orders
 pub mod Rows
 pub mod Shape

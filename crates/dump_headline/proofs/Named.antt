@@ -19,7 +19,7 @@ use Rattle.directory_rules.specs.Happens.{node_of}
 use Rattle.directory_facts.specs.Named as facts
 use Rattle.directory_headline.proofs.Facts.{WorldFacts}
 use Rattle.dump_rules.specs.Dump.{awaited_from, dump_held, dump_piece, dump_node, dump_row, dump_of}
-use Rattle.dump_texts.specs.Named.{IsNamedFor, HasPieceNames, HasNodeNames, HasNames}
+use Rattle.dump_headline.specs.Named.{IsNamedFor, HasPieceNames, HasNodeNames, HasNames}
 use Rattle.dump_headline.proofs.Nodes.{each_node}
 
 awaits : (its : PieceState) → facts.AwaitsSilo its → IfSome (awaited_from its) IsSilo

@@ -1,7 +1,10 @@
 pub mod DumpModel
+pub mod LentGrain
 pub mod MemberNames
 pub mod MembersRead
+pub mod Mixed
 pub mod PlainText
 pub mod ReadNumbers
 pub mod Reading
+pub mod Sets
 pub mod Straight

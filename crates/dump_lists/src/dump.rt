@@ -1,5 +1,5 @@
+use crate::LentGrain;
 use hash_ring::Hashing;
-use lent_grains::LentGrain;
 use ring_range::RingRange;
 use silo_address::{ActivationId, SiloAddress};
 use std::marker::Model;

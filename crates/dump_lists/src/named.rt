@@ -10,9 +10,8 @@ ghost use Rattle.dump_lists.specs.DumpModel.{phase_of, state_of};
 ghost use Rattle.dump_lists.specs.declared.error.ReadError.TheVariants.{OutOfMemory};
 ghost use Rattle.dump_lists.specs.Reading.{IsReading, IsReadingBy};
 
-use crate::{Phase, ReadError, State};
+use crate::{LentGrain, Phase, ReadError, State};
 use hash_ring::Hashing;
-use lent_grains::LentGrain;
 use ring_range::RingRange;
 use silo_address::{ActivationId, SiloAddress};
 use std::borrow::CowSlice;

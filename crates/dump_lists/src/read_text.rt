@@ -8,9 +8,8 @@ ghost use Rattle.dump_lists.specs.DumpModel.{phase_of, state_of};
 ghost use Rattle.dump_lists.specs.Straight.{TellsBy};
 
 use crate::plain_text::PlainText;
-use crate::{Phase, ReadError, State, named};
+use crate::{LentGrain, Phase, ReadError, State, named};
 use hash_ring::Hashing;
-use lent_grains::LentGrain;
 use ring_range::RingRange;
 use silo_address::{ActivationId, SiloAddress};
 use std::alloc::Global;

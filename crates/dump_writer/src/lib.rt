@@ -1,6 +1,7 @@
 //! Dumps written as one line of JSON. The rules are in `docs/RULES.md#the-dump-and-the-verdict`.
 #![tactic(auto)]
 
+mod tokens;
 mod words;
 mod writing;
 

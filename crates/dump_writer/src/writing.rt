@@ -8,11 +8,11 @@ ghost use Rattle.silo_address.specs.ActivationText.{activation_text};
 ghost use Rattle.ring_range.specs.Text.{range_text};
 ghost use Rattle.dump_rules.specs.Dump.{comma, dump_text, entry_json, from_text, held_json, json_list, json_member, node_json, piece_json, point_json, quoted, row_json};
 
-use crate::words::{word_of_hashing, word_of_phase, word_of_state};
-use dump_lists::{Dump, Entry, Held, ListedPoint, Node, Piece, Row};
-use dump_tokens::{
+use crate::tokens::{
     push_comma, push_name, push_number, push_number_member, push_quoted, push_text_member,
 };
+use crate::words::{word_of_hashing, word_of_phase, word_of_state};
+use dump_lists::{Dump, Entry, Held, ListedPoint, Node, Piece, Row};
 use ring_range::RingRange;
 use silo_address::SiloAddress;
 use std::alloc::{AllocError, Global};

@@ -1,1 +1,11 @@
+pub mod Covers
+pub mod Faults
+pub mod Lacking
+pub mod Lent
+pub mod Lesser
+pub mod Named
+pub mod Ready
+pub mod Rings
+pub mod Rows
+pub mod Tallies
 pub mod Told

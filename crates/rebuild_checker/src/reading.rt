@@ -5,7 +5,7 @@ ghost use Rattle.serde_json.specs.Errors.{IsMemory};
 ghost use Rattle.rebuild_checker.specs.Told.{told};
 
 use dump_lists::{Dump, ReadError, read_straight};
-use dump_tree::read_tree;
+use dump_reader::read_tree;
 use serde_json::Value;
 use simdutf8::basic::from_utf8;
 use std::alloc::Global;

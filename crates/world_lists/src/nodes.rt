@@ -7,10 +7,9 @@ use crate::pieces::pieces;
 use directory_core::World;
 use directory_node::Node;
 use directory_rules::{Held, Phase};
-use dump_lists::{Held as DumpHeld, ListedPoint, Node as DumpNode, Phase as DumpPhase};
+use dump_lists::{Held as DumpHeld, LentGrain, ListedPoint, Node as DumpNode, Phase as DumpPhase};
 use hash_ring::Point;
 use host_activations::Host;
-use lent_grains::LentGrain;
 use silo_address::{ActivationId, GrainId, SiloAddress};
 use std::alloc::{AllocError, Global};
 

@@ -5,10 +5,9 @@ ghost use Rattle.dump_rules.specs.Dump.{awaited_from, dump_piece, dump_state};
 ghost use Rattle.dump_lists.specs.DumpModel.{state_of};
 
 use directory_rules::PieceState;
-use dump_lists::{Entry as DumpEntry, Piece as DumpPiece, State};
+use dump_lists::{Entry as DumpEntry, LentGrain, Piece as DumpPiece, State};
 use grain_partition::{Holding, Piece};
 use grain_table::Table;
-use lent_grains::LentGrain;
 use silo_address::{Entry, SiloAddress};
 use std::alloc::{AllocError, Global};
 

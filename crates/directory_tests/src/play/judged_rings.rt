@@ -1,5 +1,5 @@
 //! Rings and pieces judged, of dumps that were worked out without this code.
-use dump_verdict::judge;
+use rebuild_checker::judge;
 use std::alloc::Global;
 use std::process::Abort;
 

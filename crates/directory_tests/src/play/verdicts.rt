@@ -1,6 +1,5 @@
 //! Dumps judged: the line that is printed of each, and the status.
-use dump_verdict::{judge, judge_dump};
-use rebuild_checker::read_dump;
+use rebuild_checker::{judge, judge_dump, read_dump};
 use std::alloc::Global;
 use std::process::Abort;
 

@@ -1,3 +1,0 @@
-pub mod Covers
-pub mod Lesser
-pub mod Ready

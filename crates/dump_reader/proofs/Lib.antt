@@ -1,0 +1,6 @@
+mod Counted
+pub mod DumpShapes
+pub mod NodeShapes
+pub mod ReadLists
+pub mod Refused
+pub mod Tests

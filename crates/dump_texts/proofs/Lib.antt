@@ -1,6 +1,0 @@
-pub mod Visible
-pub mod Plain
-pub mod Values
-pub mod Texts
-pub mod Again
-pub mod Read

@@ -1,2 +1,0 @@
-pub mod ReadLists
-pub mod Refused

@@ -1,5 +1,0 @@
-use Rattle.tree_values.proofs.Counted.{not_three}
-use Rattle.tree_values.proofs.values.three_items.Goals as goal
-
-pub returns-then-parts-ne3 : goal.returns-then-parts-ne3
-returns-then-parts-ne3 c = not_three c.in_ok-parts.parts.now _ c.in_ok-parts.ensures c.if-parts-ne3.true
