@@ -4,3 +4,4 @@ pub mod Limits
 pub mod Theorems
 pub mod Calls
 pub mod Worked
+pub mod Wrong
