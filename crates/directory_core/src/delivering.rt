@@ -128,6 +128,7 @@ impl World {
             letters,
             stepped,
         )?;
+        self.settings.counts_fit();
         self.accepted += 1;
         Ok(())
     }

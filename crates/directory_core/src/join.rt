@@ -72,6 +72,7 @@ impl World {
             silo,
             given,
         )?;
+        self.settings.counts_fit();
         self.accepted += 1;
         Ok(joined)
     }

@@ -65,6 +65,7 @@ impl World {
     {
         self.shared = None;
         let version = leave_in(&mut self.views, silo);
+        self.settings.counts_fit();
         self.accepted += 1;
         Outcome {
             happening: Happening::Left {
@@ -86,6 +87,7 @@ impl World {
         self.shared = None;
         let version = die_in(&mut self.views, silo);
         remove_node(&mut self.nodes, silo);
+        self.settings.counts_fit();
         self.accepted += 1;
         Outcome {
             happening: Happening::Died {

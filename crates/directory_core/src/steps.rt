@@ -162,7 +162,7 @@ impl World {
         requires { has_room_for self.now letters.now ≡ true }
         ensures { option_map code_span result ≡ span_of self.now letters.now }
     {
-        self.settings.in_range();
+        self.settings.counts_fit();
         match letters {
             [] => None,
             _ => Some(Span {
@@ -239,6 +239,7 @@ impl World {
         ensures { self.new ≡ counted (with_lost self.old number) }
     {
         self.mail.lose(number);
+        self.settings.counts_fit();
         self.accepted += 1;
     }
 
@@ -259,6 +260,7 @@ impl World {
         ensures unchanged { OnErr result (self.new ≡ self.old) }
     {
         receive_at(&mut self.nodes, &mut self.mail, to, number, letters, change)?;
+        self.settings.counts_fit();
         self.accepted += 1;
         Ok(())
     }
@@ -278,6 +280,7 @@ impl World {
         ensures unchanged { OnErr result (self.new ≡ self.old) }
     {
         carry_out_at(&mut self.nodes, &mut self.mail, silo, letters, change)?;
+        self.settings.counts_fit();
         self.accepted += 1;
         Ok(())
     }

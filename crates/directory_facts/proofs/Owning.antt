@@ -1,13 +1,15 @@
 -- Every step leaves a node its silo's own, and what it sends is the silo's own.
 use Rattle.std.proofs.Common.{◌≡◌, refl, sym, ap, subst, ◌∙◌, ℕ, List, [], ◌∷◌}
-use Rattle.std.specs.Prelude.{⊤, All, Option, Some, None, map, flat_map}
+use Rattle.std.specs.Prelude.{◌==◌, ◌&&◌, nat_lt, Bool, true, false, cond, find, length, ⊤, All, Option, Some, None, map, flat_map}
+use Rattle.std.proofs.lemmas.Bool.{eqb-true}
+use Rattle.texts.proofs.Decided.{both}
 use Rattle.std.specs.Map.{keys_of}
 use Rattle.std.specs.BTreeMap.{is_at}
 use Rattle.std.proofs.lemmas.List.Elements.{All-nil, All-cons, All-head, All-tail, All-append, All-map}
-use Rattle.silo_address.specs.Silo.{Silo}
+use Rattle.silo_address.specs.Silo.{Silo, silo_eq}
 use Rattle.silo_address.specs.Grain.{Grain, grain_cmp}
 use Rattle.silo_address.specs.declared.ActivationId.{ActivationId}
-use Rattle.ring_range.specs.Range.{Range}
+use Rattle.ring_range.specs.Range.{Range, range_eq}
 use Rattle.directory_rules.specs.declared.act.Act.{Act}
 use Rattle.directory_rules.specs.declared.act.Act.TheVariants as act
 use Rattle.directory_rules.specs.declared.held.Held.{Held}
@@ -17,6 +19,8 @@ use Rattle.directory_rules.specs.declared.piece_state.PieceState.TheVariants as 
 use Rattle.directory_rules.specs.Settings.{Settings}
 use Rattle.directory_rules.specs.Piece.{Piece}
 use Rattle.directory_rules.specs.Sight.{is_next}
+use Rattle.directory_rules.specs.Snapshot.{Snapshot, Page, ShelfAnswer, Hands_page, Has_none, Is_behind, page_count, page_of, page_from, is_snapshot, shelf_answer}
+use Rattle.directory_rules.proofs.Cases.{on_bool}
 use Rattle.directory_rules.specs.Host.{Host, outstanding, entry_of, next_held, with_started, with_closing, with_find, without_find, without_held, confirmed, renewed}
 use Rattle.directory_rules.specs.Letter.{Letter, Body, Request_letter, Offer_letter, Query_letter}
 use Rattle.directory_rules.specs.Node.{Node}
@@ -88,6 +92,31 @@ pieces_own settings node [] = All-nil (IsOwnLetter settings)
 pieces_own settings node (e ∷ es) =
     All-append (IsOwnLetter settings) (wants_by e.1.state node e.1.range) (flat_map (λ x. wants_by x.1.state node x.1.range) es) (wants_own e.1.state settings node e.1.range) (pieces_own settings node es)
 
+-- ---- pages
+found_passes : {X : Type 0} (test : X → Bool) (xs : List X) (x : X) → find test xs ≡ Some x → test x ≡ true
+found_passes test [] x found = absurd (cc (found))
+found_passes test (y ∷ ys) x found =
+    on_bool (λ b. test y ≡ b → cond b (Some y) (find test ys) ≡ Some x → test x ≡ true) (test y)
+    (λ t is it. let same : y ≡ x = cc (it) in subst (λ z. test z ≡ true) same is) (λ f is it. found_passes test ys x it) refl found
+
+-- a page that is handed out is of the version that was asked for
+page_version : (shelf : List Snapshot) (seen version : ℕ) (range : Range) (asker : Silo) (number : ℕ) (page : Page) → shelf_answer shelf seen version range asker number ≡ Hands_page page → page.version ≡ version
+page_version shelf seen version range asker number page is = by (nat_lt seen version) is
+  where
+    within : (snapshot : Snapshot) → is_snapshot version range asker snapshot ≡ true → (b : Bool) → cond b (Hands_page (page_of snapshot number)) Has_none ≡ Hands_page page → page.version ≡ version
+    within snapshot at false handed = absurd (cc (handed))
+    within snapshot at true handed =
+        let same : page_of snapshot number ≡ page = cc (handed) in
+        sym (ap (λ p. p.version) same) ∙ eqb-true snapshot.version version (both (snapshot.version == version) (range_eq snapshot.range range) (both ((snapshot.version == version) && range_eq snapshot.range range) (silo_eq snapshot.to asker) at).0).0
+
+    from : (o : Option Snapshot) → find (is_snapshot version range asker) shelf ≡ o → page_from o number ≡ Hands_page page → page.version ≡ version
+    from None found handed = absurd (cc (handed))
+    from (Some snapshot) found handed = within snapshot (found_passes (is_snapshot version range asker) shelf snapshot found) (nat_lt number (page_count (length snapshot.entries))) handed
+
+    by : (b : Bool) → cond b Is_behind (page_from (find (is_snapshot version range asker) shelf) number) ≡ Hands_page page → page.version ≡ version
+    by true handed = absurd (cc (handed))
+    by false handed = from (find (is_snapshot version range asker) shelf) refl handed
+
 -- ---- steps
 module _ (settings : Settings) (silo : Silo) (node : Node) (own : OwnNode settings silo node) where
   abbrev Made : at.Stepped → Type 0
@@ -142,12 +171,12 @@ module _ (settings : Settings) (silo : Silo) (node : Node) (own : OwnNode settin
     misses = λ letter number e is there. (less e.0, none);
     learns = λ letter number entry is there. (same (without_find node.host number) refl refl, none);
     notes = λ letter number is there. (same (without_find node.host number) refl refl, none);
-    hands = λ letter range number page body is. (own, sends _ tt);
+    hands = λ letter range number page body is. (own, sends _ (page_version node.shelf node.view.version letter.version range letter.from number page is));
     lacks = λ letter range number body is. (own, sends _ tt);
     forgoes = λ letter range body there. (own, none);
     lags = λ letter range. (own, sends _ tt);
     passed = λ letter range. (own, sends _ tt);
-    reports = λ letter range body seen. (own, sends _ tt);
+    reports = λ letter range body seen. (own, sends _ (record { version = sym seen; silo = refl }));
     gathers = λ letter page gathering taken is. (own, sends _ tt);
     installs = λ letter page entries taken is. (own, sends _ tt);
     drops = λ letter page gathering taken is. (own, none);

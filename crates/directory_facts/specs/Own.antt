@@ -7,6 +7,7 @@ use Rattle.directory_rules.specs.declared.act.Act.{Act}
 use Rattle.directory_rules.specs.declared.act.Act.TheVariants.{Register, Deregister, Find}
 use Rattle.directory_rules.specs.declared.act.Request.{Request}
 use Rattle.directory_rules.specs.Settings.{Settings}
+use Rattle.directory_rules.specs.Recovery.{Report}
 use Rattle.directory_rules.specs.Sending.{grain_of}
 use Rattle.directory_rules.specs.Host.{Host}
 use Rattle.directory_rules.specs.Letter.{Letter, Body, Request_letter, Reply_letter, Ask_letter, Page_letter, Missing_letter, Done_letter, Query_letter, Report_letter, Behind_letter, Ahead_letter, Offer_letter}
@@ -39,16 +40,22 @@ pub record IsOwnRequest (hashing : Hashing) (letter : Letter) (request : Request
   pub hash : request.hash ≡ hash_grain hashing (grain_of request.act)
   pub own : NamesOwn letter.from request.act
 
--- what a letter says is its sender's own: requests are, and who offers an activation offers its own
+-- a report is that of the letter's sender, of its version
+pub record IsOwnReport (letter : Letter) (report : Report) : Type 0 where
+  pub version : report.version ≡ letter.version
+  pub silo : report.silo ≡ letter.from
+
+-- what a letter says is its sender's own: requests and reports are, who offers an activation offers its own, and a page is of the
+-- letter's version
 abbrev pub SaysOwn : Hashing → Letter → Body → Type 0
 SaysOwn hashing letter (Request_letter request) = IsOwnRequest hashing letter request
 SaysOwn hashing letter (Reply_letter number answer) = ⊤
 SaysOwn hashing letter (Ask_letter range page) = ⊤
-SaysOwn hashing letter (Page_letter page) = ⊤
+SaysOwn hashing letter (Page_letter page) = page.version ≡ letter.version
 SaysOwn hashing letter (Missing_letter range) = ⊤
 SaysOwn hashing letter (Done_letter range) = ⊤
 SaysOwn hashing letter (Query_letter range) = ⊤
-SaysOwn hashing letter (Report_letter report) = ⊤
+SaysOwn hashing letter (Report_letter report) = IsOwnReport letter report
 SaysOwn hashing letter (Behind_letter range) = ⊤
 SaysOwn hashing letter (Ahead_letter range) = ⊤
 SaysOwn hashing letter (Offer_letter entry) = entry.activation.silo ≡ letter.from

@@ -16,7 +16,7 @@ pub fn counts_are_apart()
 {}
 
 /// A request in the mail is its sender's, under the hash of its grain; what it registers or deregisters is an activation of the
-/// sender, and so is what a silo offers.
+/// sender, and so is what a silo offers. A page is of its letter's version, and so is a report, which tells of its sender.
 pub fn letters_are_own()
     ensures { LettersAreOwn }
 {}

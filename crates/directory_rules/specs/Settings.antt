@@ -47,9 +47,7 @@ pub record AreSettings (settings : Settings) : Type 0 where
   pub places_above : 1 ≤ settings.places
   pub places_within : settings.places ≤ 128
   pub events_above : 1 ≤ settings.events
-  pub events_within : settings.events ≤ 1000000
   pub letters_above : 1 ≤ settings.letters
-  pub letters_within : settings.letters ≤ 1000000
   pub activations_above : 1 ≤ settings.activations
   pub activations_within : settings.activations ≤ 65536
   pub finds_above : 1 ≤ settings.finds

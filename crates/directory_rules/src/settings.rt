@@ -1,4 +1,4 @@
-ghost use Rattle.std.specs.Prelude.{◌≡◌, ◌↔◌, ◌≤◌, IsTrue, IsSome, IfSome};
+ghost use Rattle.std.specs.Prelude.{◌≡◌, ◌↔◌, ◌<◌, ◌≤◌, ◌^◌, IsTrue, IsSome, IfSome};
 ghost use Rattle.directory_rules.specs.Settings.{AreSettings, directory_settings};
 
 use hash_ring::Hashing;
@@ -7,7 +7,7 @@ use std::marker::Model;
 /// The greatest number of entries in a cache.
 const MOST_CACHED: usize = 65_536;
 
-/// The greatest number of letters ever sent.
+/// The greatest number of letters ever sent in a played cluster.
 const MOST_LETTERS: u64 = 1_000_000;
 
 /// What a directory is set up with: how it hashes, and its limits (`docs/RULES.md#settings`).
@@ -120,14 +120,14 @@ impl Settings {
         self.places
     }
 
-    /// How many events may ever be accepted, 1 to 1000000.
+    /// How many events may ever be accepted, 1 at least.
     pub fn events(&self) -> u64
         ensures { result ≡ self.now.events }
     {
         self.events
     }
 
-    /// How many letters may ever be sent, 1 to 1000000.
+    /// How many letters may ever be sent, 1 at least.
     pub fn letters(&self) -> u64
         ensures { result ≡ self.now.letters }
     {
@@ -160,6 +160,15 @@ impl Settings {
         ensures { AreSettings self.now }
     {
         let _points = self.points;
+    }
+
+    /// A law: the limits on events and letters are numbers of 64 bits, though the rule has no greatest ones.
+    pub fn counts_fit(&self)
+        ensures events { self.now.events < 2 ^ 64 }
+        ensures letters { self.now.letters < 2 ^ 64 }
+    {
+        let _events = self.events;
+        let _letters = self.letters;
     }
 
     /// Whether the two are the same settings.

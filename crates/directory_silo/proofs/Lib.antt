@@ -1,4 +1,2 @@
 pub mod Back
-pub mod Own
-pub mod Whole
-pub mod Lawful
+pub mod Placing

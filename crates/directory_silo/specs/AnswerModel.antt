@@ -1,9 +1,9 @@
 -- How what the code's silo answers, and leaves, is what the definitions make.
 use Rattle.directory_rules.specs.Step.{Stepped}
 use Rattle.directory_silo.specs.declared.answer.Answer.{Answer}
-use Rattle.directory_silo.specs.declared.news.News.{News}
-use Rattle.directory_silo.specs.SiloValue.{SiloValue}
-use Rattle.directory_silo.specs.Telling.{Heard}
+use Rattle.silo_rules.specs.declared.news.News.{News}
+use Rattle.silo_rules.specs.SiloValue.{SiloValue}
+use Rattle.silo_rules.specs.Telling.{Heard}
 
 -- the step that leaves this silo, and answers so
 abbrev pub stepped_as : SiloValue → Answer → Stepped

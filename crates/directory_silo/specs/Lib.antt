@@ -1,11 +1,3 @@
-pub mod Membership
-pub mod Known
-pub mod Telling
-pub mod SiloValue
-pub mod Whole
-pub mod Stepping
-pub mod Taking
 pub mod Numbers
 pub mod SiloModel
 pub mod AnswerModel
-pub mod Laws

@@ -1,5 +1,5 @@
 -- How the fields of the code's silo are a silo by itself.
-use Rattle.directory_silo.specs.SiloValue.{SiloValue}
+use Rattle.silo_rules.specs.SiloValue.{SiloValue}
 use Rattle.directory_silo.specs.declared.silo.Silo.TheInside.{Inside}
 
 abbrev pub silo_of : Inside → SiloValue

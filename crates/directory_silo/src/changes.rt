@@ -1,15 +1,16 @@
 ghost use Rattle.std.specs.Prelude.{◌≡◌, ◌==◌, ◌+◌, ◌<◌, Err, IsOk, IsTrue, Ok, OnErr, false};
 ghost use Rattle.directory_node.specs.Follows.{Follows};
 ghost use Rattle.directory_silo.specs.AnswerModel.{heard_as};
-ghost use Rattle.directory_silo.specs.Membership.{Join, Leave, Die, changed, replaced_by};
+ghost use Rattle.silo_rules.specs.Membership.{Join, Leave, Die, changed, replaced_by};
 ghost use Rattle.directory_silo.specs.Numbers.{silo_refusal_number};
-ghost use Rattle.directory_silo.specs.Telling.{IsNever, MakesVersion, heard_by, told};
+ghost use Rattle.silo_rules.specs.Telling.{IsNever, MakesVersion, heard_by, told};
 
 use crate::known::{is_known_death, is_known_join, is_known_leave};
 use crate::membership::join;
-use crate::{News, Silo, SiloRefusal};
+use crate::{Silo, SiloRefusal};
 use membership_view::Views;
 use silo_address::SiloAddress;
+use silo_rules::News;
 
 // Changes of membership, in the order in which they were decided. To know a change is not to see its view: nothing else changes until
 // `see`, but that a silo takes no step before its own join, and none once it is Dead.

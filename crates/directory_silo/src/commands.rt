@@ -3,7 +3,7 @@ ghost use Rattle.directory_rules.specs.Input.{Wakes, Closes, Finds, Forgets, Nud
 ghost use Rattle.directory_node.specs.Follows.{Follows};
 ghost use Rattle.directory_silo.specs.AnswerModel.{stepped_as};
 ghost use Rattle.directory_silo.specs.Numbers.{silo_refusal_number};
-ghost use Rattle.directory_silo.specs.Stepping.{does, receives};
+ghost use Rattle.silo_rules.specs.Stepping.{does, receives};
 
 use crate::{Answer, Silo, SiloRefusal};
 use directory_letters::Letter;

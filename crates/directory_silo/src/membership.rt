@@ -3,7 +3,7 @@ ghost use Rattle.std.specs.Prelude.{◌≡◌, IfErr, IfOk, IfSome, IsOk, IsTrue
 ghost use Rattle.membership_view.specs.Changes.{Leave as LeaveViews, Die as DieViews, after, after_join, occupant, with_join};
 ghost use Rattle.hash_ring.specs.Places.{after_add};
 ghost use Rattle.directory_node.specs.Follows.{Follows};
-ghost use Rattle.directory_silo.specs.Membership.{Join, Membership, changed, placed, with_places};
+ghost use Rattle.silo_rules.specs.Membership.{Join, Membership, changed, placed, with_places};
 ghost use Rattle.directory_silo.specs.Numbers.{silo_refusal_number};
 
 use crate::SiloRefusal;

@@ -1,6 +1,6 @@
 ghost use Rattle.std.specs.Prelude.{◌≡◌, IfOk};
-ghost use Rattle.directory_silo.specs.SiloValue.{first_silo, own_status};
-ghost use Rattle.directory_silo.specs.Whole.{IsWhole};
+ghost use Rattle.silo_rules.specs.SiloValue.{first_silo, own_status};
+ghost use Rattle.silo_rules.specs.Whole.{IsWhole};
 
 use directory_node::Node;
 use directory_rules::Settings;
@@ -22,11 +22,11 @@ pub struct Silo {
 }
 
 impl Model for Silo {
-    ghost use Rattle.directory_silo.specs.SiloValue.{SiloValue};
+    ghost use Rattle.silo_rules.specs.SiloValue.{SiloValue};
 
     ghost Value = { SiloValue };
 
-    ghost use Rattle.directory_silo.specs.Whole.{IsWhole};
+    ghost use Rattle.silo_rules.specs.Whole.{IsWhole};
     ghost use Rattle.directory_silo.specs.SiloModel.{silo_of};
 
     ghost view = { silo_of };

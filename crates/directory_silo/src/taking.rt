@@ -6,9 +6,9 @@ ghost use Rattle.directory_node.specs.InputModel.{input_of};
 ghost use Rattle.directory_node.specs.Planning.{Fits, step_by};
 ghost use Rattle.directory_silo.specs.AnswerModel.{stepped_as};
 ghost use Rattle.directory_silo.specs.Numbers.{silo_refusal_number};
-ghost use Rattle.directory_silo.specs.Stepping.{barred, does, unless_barred};
-ghost use Rattle.directory_silo.specs.Taking.{IsNoSight};
-ghost use Rattle.directory_silo.specs.Whole.{IsWhole};
+ghost use Rattle.silo_rules.specs.Stepping.{barred, does, unless_barred};
+ghost use Rattle.silo_rules.specs.Taking.{IsNoSight};
+ghost use Rattle.silo_rules.specs.Whole.{IsWhole};
 
 use crate::{Answer, Silo, SiloRefusal};
 use directory_node::{Input, Plan};

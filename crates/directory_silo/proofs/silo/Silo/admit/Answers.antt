@@ -1,6 +1,6 @@
-use Rattle.directory_silo.specs.Membership.{Join}
+use Rattle.silo_rules.specs.Membership.{Join}
 use Rattle.directory_silo.specs.SiloModel.{silo_of}
-use Rattle.directory_silo.proofs.Whole.{change_kept}
+use Rattle.silo_rules.proofs.Whole.{change_kept}
 use Rattle.directory_silo.proofs.silo.Silo.admit.Goals as goal
 
 pub invariant_of-self-2 : goal.invariant_of-self-2

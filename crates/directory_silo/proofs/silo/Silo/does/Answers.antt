@@ -1,7 +1,7 @@
 use Rattle.directory_node.specs.InputModel.{input_of}
 use Rattle.directory_node.specs.Planning.{step_by}
 use Rattle.directory_silo.specs.SiloModel.{silo_of}
-use Rattle.directory_silo.proofs.Whole.{input_kept}
+use Rattle.silo_rules.proofs.Whole.{input_kept}
 use Rattle.directory_silo.proofs.silo.Silo.does.Goals as goal
 
 pub take-requires-clause-leaves : goal.take-requires-clause-leaves

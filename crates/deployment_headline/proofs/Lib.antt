@@ -1,0 +1,11 @@
+pub mod Lists
+pub mod Memberships
+pub mod Worlds
+pub mod Moving
+pub mod Sound
+pub mod Limits
+pub mod Roomy
+pub mod Looking
+pub mod Running
+pub mod Called
+pub mod Worked

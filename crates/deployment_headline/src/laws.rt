@@ -1,0 +1,56 @@
+//! The laws. All but the last three hold after any steps of a deployment, from its first moment on: letters that come late, again, in
+//! another order, astray, or never.
+ghost use Rattle.deployment_headline.specs.Calls.{CallsAreSteps};
+ghost use Rattle.deployment_headline.specs.Theorems.{DeploymentsAreRuns, LimitsDoNotMatter, ProcessesAreBehind, ProcessesAreOwn, ProcessesKeepOneFirm, ProcessesKeepTheHeadline, StepsArePlain, WrittenAreOwn};
+ghost use Rattle.deployment_headline.specs.Worked.{WorkedDeployment};
+
+/// Some events of the rule make a world with the deployment's views, places and letters, and its processes' nodes.
+pub fn deployments_are_runs()
+    ensures { DeploymentsAreRuns }
+{}
+
+/// So the headline holds of the processes' nodes.
+pub fn processes_keep_the_headline()
+    ensures { ProcessesKeepTheHeadline }
+{}
+
+/// No grain is firm on two silos: in plain words, of the processes.
+pub fn processes_keep_one_firm()
+    ensures { ProcessesKeepOneFirm }
+{}
+
+/// Seen from outside, each step of a deployment is one step of the plain machine.
+pub fn steps_are_plain()
+    ensures { StepsArePlain }
+{}
+
+/// What a process was told is how the changes decided begin; it never refuses the next one.
+pub fn processes_are_behind()
+    ensures { ProcessesAreBehind }
+{}
+
+/// Each process is its silo's, by the deployment's settings.
+pub fn processes_are_own()
+    ensures { ProcessesAreOwn }
+{}
+
+/// What a request repeats of its letter and of its grain is so, and a page's and a report's version and sender are their letter's: a
+/// line need not say it twice.
+pub fn written_are_own()
+    ensures { WrittenAreOwn }
+{}
+
+/// A deployment's steps look at no limit on events or letters.
+pub fn limits_do_not_matter()
+    ensures { LimitsDoNotMatter }
+{}
+
+/// Each call of a silo that a server embeds is a step of the deployment that it is of.
+pub fn calls_are_steps()
+    ensures { CallsAreSteps }
+{}
+
+/// A deployment, worked out.
+pub fn worked_deployment()
+    ensures { WorkedDeployment }
+{}

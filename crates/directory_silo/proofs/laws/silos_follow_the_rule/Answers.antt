@@ -1,5 +1,0 @@
-use Rattle.directory_silo.proofs.Lawful.{follows_the_rule}
-use Rattle.directory_silo.proofs.laws.silos_follow_the_rule.Goals as goal
-
-pub returns : goal.returns
-returns c = follows_the_rule

@@ -1,0 +1,3 @@
+pub mod Own
+pub mod Whole
+pub mod Lawful

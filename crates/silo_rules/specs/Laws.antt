@@ -1,0 +1,52 @@
+-- The laws of a silo by itself.
+use Rattle.std.specs.Prelude.{◌≡◌, ℕ, true, if◌then◌else◌, List, Some, None, Result, Ok, Err}
+use Rattle.silo_address.specs.Silo.{Silo}
+use Rattle.directory_rules.specs.Happens as rule
+use Rattle.directory_rules.specs.Input.{Input}
+use Rattle.directory_rules.specs.Laws.{is_live}
+use Rattle.directory_rules.specs.Letter.{Letter}
+use Rattle.directory_rules.specs.Settings.{Settings, AreSettings}
+use Rattle.directory_rules.specs.Step.{Stepped}
+use Rattle.directory_rules.specs.World.{World, Accepted}
+use Rattle.silo_rules.specs.Membership.{Change, Join, Leave, Die, Membership, changed}
+use Rattle.silo_rules.specs.SiloValue.{SiloValue, first_silo, own_status, told_of_its_join}
+use Rattle.silo_rules.specs.Stepping.{does, sees, receives}
+use Rattle.silo_rules.specs.Taking.{IsNoSight}
+use Rattle.silo_rules.specs.Telling.{Heard, told}
+use Rattle.silo_rules.specs.Whole.{IsWhole}
+
+-- a silo begins so, and whatever it is told, asked or sent leaves it so
+pub record StaysWhole : Type 0 where
+  pub first : (settings : Settings) (silo : Silo) → AreSettings settings → IsWhole (first_silo settings silo)
+  pub tells : (s : SiloValue) (version : ℕ) (change : Change) (heard : Heard) → IsWhole s → told s.node.settings s.membership version change ≡ Ok heard → IsWhole (record s { membership = heard.membership })
+  pub sees_so : (s : SiloValue) (version : ℕ) (stepped : Stepped) → IsWhole s → sees s version ≡ Ok stepped → IsWhole (record s { node = stepped.node })
+  pub does_so : (s : SiloValue) (input : Input) (stepped : Stepped) → IsNoSight input → IsWhole s → does s input ≡ Ok stepped → IsWhole (record s { node = stepped.node })
+  pub receives_so : (s : SiloValue) (letter : Letter) (stepped : Stepped) → IsWhole s → receives s letter ≡ Ok stepped → IsWhole (record s { node = stepped.node })
+
+-- the world has just what the silo has: its views and places, and its node, unless it hasn't joined or is Dead
+pub record IsOf (world : World) (s : SiloValue) : Type 0 where
+  pub views : world.views ≡ s.membership.views
+  pub places : world.places ≡ s.membership.places
+  pub node : rule.node_of world s.node.host.silo ≡ (if is_live (own_status s) then Some s.node else None)
+
+-- in such a world the event rule has the silo do what it does by itself; letters come to silos that were told of their join
+pub record FollowsTheRule : Type 0 where
+  pub does_so : (world : World) (s : SiloValue) (input : Input) → IsWhole s → IsOf world s → rule.does world s.node.host.silo input ≡ rule.done_by (does s input) world s.node.host.silo
+  pub sees_so : (world : World) (s : SiloValue) (version : ℕ) → IsWhole s → IsOf world s → rule.sees world s.node.host.silo version ≡ rule.seen_by (sees s version) world s.node.host.silo version
+  pub receives_so : (world : World) (s : SiloValue) (number : ℕ) (letter : Letter) → IsWhole s → IsOf world s → told_of_its_join s ≡ true → letter.to ≡ s.node.host.silo
+      → rule.delivers (Some letter) world number ≡ rule.delivered_by (receives s letter) world number letter
+
+-- what a world has of the changes
+abbrev pub membership_of : World → Membership
+membership_of world = record { views = world.views; places = world.places }
+
+-- the event of a join, by what the change makes
+abbrev pub joined_by : Result Membership ℕ → World → Silo → Result Accepted ℕ
+joined_by (Err number) world silo = Err number
+joined_by (Ok m) world silo = rule.joined (Ok m.places) m.views world silo
+
+-- a change makes what the event of the rule makes
+pub record ChangesAreEvents : Type 0 where
+  pub joins : (world : World) (silo : Silo) (stated : List ℕ) → rule.join world silo stated ≡ joined_by (changed world.settings (membership_of world) (Join silo stated)) world silo
+  pub leaves : (world : World) (silo : Silo) (accepted : Accepted) → rule.leave world silo ≡ Ok accepted → changed world.settings (membership_of world) (Leave silo) ≡ Ok (membership_of accepted.world)
+  pub dies : (world : World) (silo : Silo) (accepted : Accepted) → rule.kill world silo ≡ Ok accepted → changed world.settings (membership_of world) (Die silo) ≡ Ok (membership_of accepted.world)
