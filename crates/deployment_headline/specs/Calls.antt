@@ -13,7 +13,7 @@ use Rattle.silo_rules.specs.Telling.{Heard, told}
 use Rattle.deployment_headline.specs.Deployment.{Deployment, process_of}
 use Rattle.deployment_headline.specs.Steps.{Decide, Tell, See, Wake, Close, Find, Forget, Nudge, Offer, Receive, heard, took, after}
 
--- the silo's process takes part in the deployment by these steps and no others
+-- the steps by which a silo's process takes part in the deployment, beside the calls that make them
 pub record TakesItsSteps (d : Deployment) (silo : Silo) (s : SiloValue) : Type 0 where
   -- `joined`, `leaving` and `dead`: the changes, each with the version that it made
   pub tells : (index : ℕ) (change : Change) → slice_get d.changes index ≡ Some change → after d (Tell silo index) ≡ heard (told s.node.settings s.membership (index + 1) change) d silo s

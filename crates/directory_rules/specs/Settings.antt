@@ -43,7 +43,7 @@ pub record AreSettings (settings : Settings) : Type 0 where
   pub points_within : settings.points ≤ 128
   pub cache_within : settings.cache ≤ 65536
   pub silos_above : 1 ≤ settings.silos
-  pub silos_within : settings.silos ≤ 256
+  pub silos_within : settings.silos ≤ 65536
   pub places_above : 1 ≤ settings.places
   pub places_within : settings.places ≤ 128
   pub events_above : 1 ≤ settings.events

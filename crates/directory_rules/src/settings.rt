@@ -7,6 +7,9 @@ use std::marker::Model;
 /// The greatest number of entries in a cache.
 const MOST_CACHED: usize = 65_536;
 
+/// The greatest number of silos that may ever join.
+const MOST_SILOS: usize = 65_536;
+
 /// The greatest number of letters ever sent in a played cluster.
 const MOST_LETTERS: u64 = 1_000_000;
 
@@ -63,12 +66,12 @@ impl Settings {
         })
     }
 
-    /// The same settings, but for at most so many silos ever, 1 to 256. `None` where the number is out of its range.
+    /// The same settings, but for at most so many silos ever, 1 to 65536. `None` where the number is out of its range.
     pub fn with_silos(self, silos: usize) -> Option<Settings>
         ensures exact { IfSome result (λ settings. settings ≡ record self { silos = silos }) }
-        ensures in_range { IsSome result ↔ ((1 ≤ silos) × (silos ≤ 256)) }
+        ensures in_range { IsSome result ↔ ((1 ≤ silos) × (silos ≤ 65536)) }
     {
-        if silos == 0 || silos > 256 {
+        if silos == 0 || silos > MOST_SILOS {
             return None;
         }
         Some(Settings { silos, ..self })
@@ -106,7 +109,7 @@ impl Settings {
         self.cache
     }
 
-    /// How many silos may ever join, 1 to 256.
+    /// How many silos may ever join, 1 to 65536.
     pub fn silos(&self) -> usize
         ensures { result ≡ self.now.silos }
     {

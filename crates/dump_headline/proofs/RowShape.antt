@@ -35,7 +35,7 @@ as_many : (rows : List (Silo × Row)) → length (values_of rows) ≡ length row
 as_many [] = refl
 as_many (e ∷ es) = ap suc (as_many es)
 
-pub few_versions : (views : ViewsValue) → IsViews views → views.version ≤ 768
+pub few_versions : (views : ViewsValue) → IsViews views → views.version ≤ 196608
 few_versions views is =
     let sum = sum_by-le changes_of 3 (values_of views.rows) (λ k d below. few_changes (slice_index_or (values_of views.rows) k d)) in
     let many = as_many views.rows in
@@ -44,10 +44,10 @@ few_versions views is =
     let limit = is.limit_below in
     omega (arith, sum, many, counted, within, limit)
 
-pub small : (version : ℕ) → version ≤ 768 → version < 2 ^ 64
+pub small : (version : ℕ) → version ≤ 196608 → version < 2 ^ 64
 small version few = omega (arith, few)
 
-made_or_never : (made : Option ℕ) (version : ℕ) → version ≤ 768 → ((m : ℕ) → made ≡ Some m → m ≤ version) → unwrap_or made 0 < 2 ^ 64
+made_or_never : (made : Option ℕ) (version : ℕ) → version ≤ 196608 → ((m : ℕ) → made ≡ Some m → m ≤ version) → unwrap_or made 0 < 2 ^ 64
 made_or_never None version few by = small 0 (omega arith)
 made_or_never (Some m) version few by = small m (let upto = by m refl in omega (arith, upto, few))
 
@@ -70,7 +70,7 @@ named_hashes Stated places silo is = by (places_of places silo) refl
 
 -- ---- rows
 module _ (hash : Grain → ℕ) (f : World) (facts : WorldFacts hash f) where
-  few : f.views.version ≤ 768
+  few : f.views.version ≤ 196608
   few = few_versions f.views facts.peopled.whole
 
   row_numbers : (silo : Silo) (row : Row) → row_of f.views silo ≡ Some row → right.HasRowNumbers (dump_row f.places silo row)

@@ -145,11 +145,11 @@ sum_most (e ∷ es) =
     omega (arith, sum_by-cons changes_of e.1 (values_of es), sum_most es)
 
 -- so the version stays small
-pub small : (views : ViewsValue) → IsViews views → views.version ≤ 768
+pub small : (views : ViewsValue) → IsViews views → views.version ≤ 196608
 small views whole =
     let a : views.version ≤ sum_by changes_of (values_of views.rows) = whole.counted in
     let b : length views.rows ≤ views.limit = whole.within_limit in
-    let c : views.limit ≤ 256 = whole.limit_below in
+    let c : views.limit ≤ 65536 = whole.limit_below in
     omega (arith, sum_most views.rows)
 
 -- what all views keep they keep after an Active silo begins to leave

@@ -29,7 +29,7 @@ ViewsStay = (views : ViewsValue) (change : Change) (next : ViewsValue) → Accep
 
 -- what the views so far keep holds before any change
 abbrev pub ViewsStart : Type 0
-ViewsStart = (limit : ℕ) → 0 < limit → limit ≤ 256 → IsViews (first_views limit)
+ViewsStart = (limit : ℕ) → 0 < limit → limit ≤ 65536 → IsViews (first_views limit)
 
 -- what the views so far keep they keep for good
 abbrev pub ViewsAreKept : Type 0

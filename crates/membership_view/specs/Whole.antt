@@ -27,7 +27,7 @@ OlderAreDead rows = (older newer : Silo) (row next : Row) → lookup (is_at (sil
 -- what the views so far keep
 pub record IsViews (views : ViewsValue) : Type 0 where
   pub limit_above : 0 < views.limit
-  pub limit_below : views.limit ≤ 256
+  pub limit_below : views.limit ≤ 65536
   pub within_limit : length views.rows ≤ views.limit
   -- each silo has one row, and the rows are in order of address
   pub in_order : IsStrictlySortedBy silo_cmp (keys_of views.rows)

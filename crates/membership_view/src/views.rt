@@ -17,7 +17,7 @@ use std::collections::btree_map::Iter;
 use std::marker::Model;
 
 /// The greatest number of silos that may ever join.
-pub const MAX_SILOS: usize = 256;
+pub const MAX_SILOS: usize = 65_536;
 
 /// All views so far. Version 0 is the empty view; each accepted change makes the next version (`docs/RULES.md#membership`).
 #[derive(Drop)]
@@ -49,7 +49,7 @@ pub struct Joined {
 }
 
 impl Views {
-    /// Version 0 alone, the empty view. At most `limit` silos (1 to 256) may ever join.
+    /// Version 0 alone, the empty view. At most `limit` silos (1 to 65,536) may ever join.
     pub fn new(alloc: Global, limit: usize) -> Views
         requires limit_above { 0 < limit }
         requires limit_below { limit ≤ MAX_SILOS }

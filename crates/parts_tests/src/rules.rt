@@ -23,6 +23,7 @@ fn are_of_directory(settings: &Settings) -> bool {
 fn settings_of_a_directory(rt: HostRuntime) {
     let settings = Settings::of_directory(Hashing::Stated, 30, 1024).expect(&rt, "in range");
     settings.in_range();
+    settings.counts_fit();
     assert!(rt; are_of_directory(&settings));
 }
 

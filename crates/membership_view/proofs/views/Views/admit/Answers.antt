@@ -6,7 +6,7 @@ use Rattle.membership_view.proofs.Joining.{whole-joined}
 use Rattle.membership_view.proofs.views.Views.admit.Goals as goal
 
 pub overflow_add-version : goal.overflow_add-version
-overflow_add-version c = let few : c.self.inside.version ≤ 768 = small _ c.self.invariant in omega arith
+overflow_add-version c = let few : c.self.inside.version ≤ 196608 = small _ c.self.invariant in omega arith
 
 pub invariant_of-self-2 : goal.invariant_of-self-2
 invariant_of-self-2 c =

@@ -5,7 +5,7 @@ use Rattle.membership_view.proofs.Kept.{small, whole-leaving}
 use Rattle.membership_view.proofs.views.Views.begin_to_leave.Goals as goal
 
 pub overflow_add-version : goal.overflow_add-version
-overflow_add-version c = let few : c.self.inside.version ≤ 768 = small _ c.self.invariant in omega arith
+overflow_add-version c = let few : c.self.inside.version ≤ 196608 = small _ c.self.invariant in omega arith
 
 pub invariant_of-self : goal.invariant_of-self
 invariant_of-self c =
