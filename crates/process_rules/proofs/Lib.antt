@@ -1,5 +1,7 @@
 mod Chains
 mod WordsAgain
+mod WordsTold
 mod FormsAgain
 mod LettersAgain
 mod LineWords
+mod LinesAgain

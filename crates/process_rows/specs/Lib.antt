@@ -1,0 +1,7 @@
+pub mod Row
+pub mod FirstSilo
+pub mod SecondSilo
+pub mod Recovering
+pub mod Refused
+pub mod Faults
+pub mod Bytes
