@@ -6,6 +6,7 @@ use Rattle.membership_view.specs.declared.status.Status.{Status}
 use Rattle.membership_view.specs.declared.status.Status.TheVariants as status
 use Rattle.directory_rules.specs.declared.effect.Effect.{Effect}
 use Rattle.directory_rules.specs.Event.{Saw, Did}
+use Rattle.directory_rules.specs.Input.{Input, Wakes, Closes, Finds, Forgets, Nudges, Offers}
 use Rattle.directory_rules.specs.Letter.{Letter}
 use Rattle.directory_rules.specs.Step.{Stepped}
 use Rattle.directory_silo.specs.declared.news.News.{News}
@@ -15,7 +16,7 @@ use Rattle.directory_silo.specs.Stepping.{does, sees, receives}
 use Rattle.directory_silo.specs.Telling.{Heard, told}
 use Rattle.script_rules.specs.Lines.{happening_words, refusal_line}
 use Rattle.process_rules.specs.LetterText.{letter_line}
-use Rattle.process_rules.specs.LineReading.{Asked, Joined, Leaving, Dead, See, Do, Receive, Ping, Show, Dump}
+use Rattle.process_rules.specs.LineReading.{Asked, Joined, Leaving, Dead, See, Wake, Close, Offer, Find, Forget, Nudge, Receive, Ping, Show, Dump}
 use Rattle.process_output.specs.Happened.{news_words, received_words}
 use Rattle.process_output.specs.Show.{show_lines, dump_line}
 
@@ -53,6 +54,14 @@ abbrev pub stepped : (Effect → List (List ℕ)) → Result Stepped ℕ → Sil
 stepped happened (Err number) s = printing (refusal_line number ∷ []) s
 stepped happened (Ok it) s = printing (sentence (happened it.effect) ∷ map letter_line it.letters) (record s { node = it.node })
 
+-- the silo sees a version
+abbrev pub seen_so : (version : ℕ) → SiloValue → Answered
+seen_so version s = stepped (λ effect. happening_words (Saw s.node.host.silo version effect)) (sees s version) s
+
+-- it takes another step of its own
+abbrev pub done_so : Input → SiloValue → Answered
+done_so input s = stepped (λ effect. happening_words (Did s.node.host.silo effect)) (does s input) s
+
 -- a letter comes; nothing is said of one to another silo
 abbrev pub received_so : Letter → SiloValue → Answered
 received_so letter s =
@@ -63,8 +72,13 @@ unfoldable pub answered : Asked → SiloValue → Answered
 answered (Joined version silo places) s = told_so version (Join silo places) s
 answered (Leaving version silo) s = told_so version (Leave silo) s
 answered (Dead version silo) s = told_so version (Die silo) s
-answered (See version) s = stepped (λ effect. happening_words (Saw s.node.host.silo version effect)) (sees s version) s
-answered (Do input) s = stepped (λ effect. happening_words (Did s.node.host.silo effect)) (does s input) s
+answered (See version) s = seen_so version s
+answered (Wake grain) s = done_so (Wakes grain) s
+answered (Close grain) s = done_so (Closes grain) s
+answered (Offer grain to) s = done_so (Offers grain to) s
+answered (Find grain) s = done_so (Finds grain) s
+answered (Forget grain) s = done_so (Forgets grain) s
+answered Nudge s = done_so Nudges s
 answered (Receive letter) s = received_so letter s
 answered (Ping word) s = printing (sentence (codes "pong" ∷ word ∷ []) ∷ []) s
 answered Show s = printing (show_lines s) s

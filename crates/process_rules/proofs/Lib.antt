@@ -3,5 +3,5 @@ mod WordsAgain
 mod WordsTold
 mod FormsAgain
 mod LettersAgain
-mod LineWords
-mod LinesAgain
+pub mod LineWords
+pub mod LinesAgain

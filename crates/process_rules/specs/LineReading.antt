@@ -7,7 +7,6 @@ use Rattle.texts.specs.Words.{words_in}
 use Rattle.silo_address.specs.Silo.{Silo}
 use Rattle.silo_address.specs.Grain.{Grain}
 use Rattle.hash_ring.specs.declared.hashing.Hashing.{Hashing}
-use Rattle.directory_rules.specs.Input.{Input, Wakes, Closes, Finds, Forgets, Nudges, Offers}
 use Rattle.directory_rules.specs.Letter.{Letter}
 use Rattle.script_rules.specs.Script.{silo_word, grain_word, number_word, places_in, is_text, is_remark, ◌>>=◌}
 use Rattle.process_rules.specs.LetterReading.{read_letter}
@@ -18,10 +17,14 @@ pub data Asked : Type 0 where
   Joined : (version : ℕ) → Silo → (places : List ℕ) → Asked
   Leaving : (version : ℕ) → Silo → Asked
   Dead : (version : ℕ) → Silo → Asked
-  -- it is to see a version that it was told
+  -- it is to take a step of its own
   See : (version : ℕ) → Asked
-  -- it is to take another step of its own
-  Do : Input → Asked
+  Wake : Grain → Asked
+  Close : Grain → Asked
+  Offer : Grain → (to : Silo) → Asked
+  Find : Grain → Asked
+  Forget : Grain → Asked
+  Nudge : Asked
   -- a letter comes, which may be another silo's
   Receive : Letter → Asked
   -- what is asked of it changes nothing
@@ -69,19 +72,19 @@ a_version (version ∷ []) = do
 a_version words = Err 922
 
 -- a grain
-abbrev pub a_grain : (Grain → Input) → Grammar
+abbrev pub a_grain : (Grain → Asked) → Grammar
 a_grain of (grain ∷ []) = do
   grain ← grain_word grain
-  Ok (Do (of grain))
+  Ok (of grain)
 a_grain of words = Err 922
 
 -- a grain and a silo
-abbrev pub a_grain_and_a_silo : (Grain → Silo → Input) → Grammar
-a_grain_and_a_silo of (grain ∷ silo ∷ []) = do
+abbrev pub a_grain_and_a_silo : Grammar
+a_grain_and_a_silo (grain ∷ silo ∷ []) = do
   grain ← grain_word grain
   silo ← silo_word silo
-  Ok (Do (of grain silo))
-a_grain_and_a_silo of words = Err 922
+  Ok (Offer grain silo)
+a_grain_and_a_silo words = Err 922
 
 -- the words of a letter
 abbrev pub a_letter : Hashing → Grammar
@@ -96,12 +99,12 @@ commands hashing =
     ∷ (codes "leaving", a_version_and_a_silo Leaving)
     ∷ (codes "dead", a_version_and_a_silo Dead)
     ∷ (codes "see", a_version)
-    ∷ (codes "wake", a_grain Wakes)
-    ∷ (codes "close", a_grain Closes)
-    ∷ (codes "offer", a_grain_and_a_silo Offers)
-    ∷ (codes "find", a_grain Finds)
-    ∷ (codes "forget", a_grain Forgets)
-    ∷ (codes "nudge", no_word (Do Nudges))
+    ∷ (codes "wake", a_grain Wake)
+    ∷ (codes "close", a_grain Close)
+    ∷ (codes "offer", a_grain_and_a_silo)
+    ∷ (codes "find", a_grain Find)
+    ∷ (codes "forget", a_grain Forget)
+    ∷ (codes "nudge", no_word Nudge)
     ∷ (codes "letter", a_letter hashing)
     ∷ (codes "ping", a_word)
     ∷ (codes "show", no_word Show)
