@@ -4,6 +4,7 @@ use Rattle.process_rows.specs.Row.{Writes}
 use Rattle.process_rows.specs.FirstSilo as first
 use Rattle.process_rows.specs.SecondSilo as second
 use Rattle.process_rows.specs.Recovering as recovering
+use Rattle.process_rows.specs.MissingSnapshot as missing
 use Rattle.process_rows.specs.Refused as refused
 use Rattle.process_rows.specs.Faults as faults
 use Rattle.process_rows.specs.Bytes as bytes
@@ -20,6 +21,10 @@ second_silo = (record { ip = 10 ∷ 0 ∷ 0 ∷ 2 ∷ []; port = 1000; generatio
 pub a_view_skipped : Writes recovering.a_view_skipped
 unfolding all_opened
 a_view_skipped = (record { ip = 10 ∷ 0 ∷ 0 ∷ 1 ∷ []; port = 1000; generation = 1 }, refl, refl)
+
+pub a_snapshot_missing : Writes missing.a_snapshot_missing
+unfolding all_opened
+a_snapshot_missing = (record { ip = 10 ∷ 0 ∷ 0 ∷ 2 ∷ []; port = 1000; generation = 1 }, refl, refl)
 
 pub refused_changes : Writes refused.refused_changes
 unfolding all_opened

@@ -5,6 +5,7 @@ ghost use Rattle.process_rows.specs.Row.{Writes};
 ghost use Rattle.process_rows.specs.FirstSilo as first;
 ghost use Rattle.process_rows.specs.SecondSilo as second;
 ghost use Rattle.process_rows.specs.Recovering as recovering;
+ghost use Rattle.process_rows.specs.MissingSnapshot as missing;
 ghost use Rattle.process_rows.specs.Refused as refused;
 ghost use Rattle.process_rows.specs.Faults as faults;
 ghost use Rattle.process_rows.specs.Bytes as bytes;
@@ -25,6 +26,12 @@ pub fn second_silo()
 #[tactic(auto, using(crate::proofs::Computed::a_view_skipped))]
 pub fn a_view_skipped()
     ensures { Writes recovering.a_view_skipped }
+{}
+
+/// The snapshot of a silo's range is gone: it asks all silos, and takes what they report. A request that comes again is answered by 603.
+#[tactic(auto, using(crate::proofs::Computed::a_snapshot_missing))]
+pub fn a_snapshot_missing()
+    ensures { Writes missing.a_snapshot_missing }
 {}
 
 /// A refusal changes nothing.

@@ -1,7 +1,7 @@
 mod Chains
 mod WordsAgain
 mod WordsTold
-mod FormsAgain
+pub mod FormsAgain
 mod LettersAgain
 pub mod LineWords
 pub mod LinesAgain
