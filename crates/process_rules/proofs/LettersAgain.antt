@@ -1,8 +1,8 @@
 -- A letter that a line can tell is read of its words, and of no others.
-use Rattle.std.proofs.Common.{◌≡◌, ℕ, Bool, true, false, List, [], ◌∷◌, Option, Some, None, Result, Ok, Err, refl, ap, sym, ◌∙◌, decimal}
+use Rattle.std.proofs.Common.{◌≡◌, ℕ, Bool, true, false, List, [], ◌∷◌, Option, Some, None, Ok, refl, ap, ◌∙◌, subst, decimal}
 use Rattle.std.specs.Prelude.{bytes_eq, cond}
 use Rattle.std.proofs.lemmas.Slice.Eq.{bytes_eq-Decides}
-use Rattle.silo_address.specs.Silo.{Silo}
+use Rattle.silo_address.specs.Silo.{Silo, IsSilo}
 use Rattle.silo_address.specs.SiloText.{silo_text}
 use Rattle.hash_ring.specs.declared.hashing.Hashing.{Hashing}
 use Rattle.directory_rules.specs.declared.letter_kind.LetterKind.{LetterKind}
@@ -12,10 +12,11 @@ use Rattle.script_rules.specs.Lines.{kind_word}
 use Rattle.script_rules.specs.Script.{silo_word, number_word}
 use Rattle.process_rules.specs.LetterText.{body_words, letter_words}
 use Rattle.process_rules.specs.LetterReading.{Head, head_of_words, kinds, kind_among, letter_by, read_letter}
-use Rattle.process_rules.specs.Told.{IsTold}
+use Rattle.process_rules.specs.Told.{IsNumber, IsTold}
 use Rattle.process_rules.proofs.Chains.{three_again, three_gave}
 use Rattle.process_rules.proofs.WordsAgain.{number_again, number_gave, silo_again, silo_gave}
-use Rattle.process_rules.proofs.FormsAgain.{head_in, body_again, Gave, form_gave}
+use Rattle.process_rules.proofs.WordsTold.{number_told, silo_told}
+use Rattle.process_rules.proofs.FormsAgain.{head_in, body_again, form_gave}
 
 -- ---- kinds
 kind_again : (kind : LetterKind) → kind_among kinds (kind_word kind) ≡ Some kind
@@ -67,22 +68,36 @@ again hashing letter is =
     ap (λ (found : Option LetterKind). letter_by found hashing read (body_words letter.body)) (kind_again (kind_of letter.body))
     ∙ body_again hashing head read reads letter.body is.body
 
-only_by : (hashing : Hashing) (from to version kind : List ℕ) (words : List (List ℕ)) (letter : Letter) (found : Option LetterKind) → kind_among kinds kind ≡ found
-    → letter_by found hashing (head_of_words from to version) words ≡ Ok letter → from ∷ to ∷ version ∷ kind ∷ words ≡ letter_words letter
-only_by hashing from to version kind words letter None is given = cc given
-only_by hashing from to version kind words letter (Some found) is given =
+-- what was read of words: those are the letter's own, and a line can tell it
+pub record WasTold (hashing : Hashing) (words : List (List ℕ)) (letter : Letter) : Type 0 where
+  pub words_are : words ≡ letter_words letter
+  pub told : IsTold hashing letter
+
+told_by : (hashing : Hashing) (from to version kind : List ℕ) (words : List (List ℕ)) (letter : Letter) (found : Option LetterKind) → kind_among kinds kind ≡ found
+    → letter_by found hashing (head_of_words from to version) words ≡ Ok letter → WasTold hashing (from ∷ to ∷ version ∷ kind ∷ words) letter
+told_by hashing from to version kind words letter None is given = cc given
+told_by hashing from to version kind words letter (Some found) is given =
     let gave = form_gave hashing (head_of_words from to version) letter found words given in
     let head = three_gave head_with (silo_word from) (silo_word to) (number_word version) (head_in letter) gave.head_is in
     let spelled = kind_gave kinds kind found is ∙ ap kind_word gave.kind_is in
-    λ i. (silo_gave from head.0 head.3 ∙ ap (λ (h : Head). silo_text h.from) head.6) i
-    ∷ (silo_gave to head.1 head.4 ∙ ap (λ (h : Head). silo_text h.to) head.6) i
-    ∷ (number_gave version head.2 head.5 ∙ ap (λ (h : Head). decimal h.version) head.6) i
-    ∷ spelled i ∷ gave.words_are i
+    record {
+      words_are = λ i.
+          (silo_gave from head.0 head.3 ∙ ap (λ (h : Head). silo_text h.from) head.6) i
+          ∷ (silo_gave to head.1 head.4 ∙ ap (λ (h : Head). silo_text h.to) head.6) i
+          ∷ (number_gave version head.2 head.5 ∙ ap (λ (h : Head). decimal h.version) head.6) i
+          ∷ spelled i ∷ gave.words_are i;
+      told = record {
+        from = subst (λ (h : Head). IsSilo h.from) head.6 (silo_told from head.0 head.3);
+        to = subst (λ (h : Head). IsSilo h.to) head.6 (silo_told to head.1 head.4);
+        version = subst (λ (h : Head). IsNumber h.version) head.6 (number_told version head.2 head.5);
+        body = gave.body;
+      };
+    }
 
-pub only : (hashing : Hashing) (words : List (List ℕ)) (letter : Letter) → read_letter hashing words ≡ Ok letter → words ≡ letter_words letter
+pub was_told : (hashing : Hashing) (words : List (List ℕ)) (letter : Letter) → read_letter hashing words ≡ Ok letter → WasTold hashing words letter
 unfolding read_letter
-only hashing [] letter given = cc given
-only hashing (one ∷ []) letter given = cc given
-only hashing (one ∷ two ∷ []) letter given = cc given
-only hashing (one ∷ two ∷ three ∷ []) letter given = cc given
-only hashing (from ∷ to ∷ version ∷ kind ∷ words) letter given = only_by hashing from to version kind words letter (kind_among kinds kind) refl given
+was_told hashing [] letter given = cc given
+was_told hashing (one ∷ []) letter given = cc given
+was_told hashing (one ∷ two ∷ []) letter given = cc given
+was_told hashing (one ∷ two ∷ three ∷ []) letter given = cc given
+was_told hashing (from ∷ to ∷ version ∷ kind ∷ words) letter given = told_by hashing from to version kind words letter (kind_among kinds kind) refl given

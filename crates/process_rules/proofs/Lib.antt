@@ -1,5 +1,7 @@
 mod Chains
 mod WordsAgain
-mod FormsAgain
+mod WordsTold
+pub mod FormsAgain
 mod LettersAgain
-mod LineWords
+pub mod LineWords
+pub mod LinesAgain

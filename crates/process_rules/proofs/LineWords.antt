@@ -1,19 +1,22 @@
--- A line of words that have no space in them is cut into these words.
-use Rattle.std.proofs.Common.{arith, ◌≡◌, ◌≢◌, ℕ, ◌+◌, ◌*◌, ◌/◌, ◌%◌, ◌^◌, ◌<◌, ◌≤◌, suc, Bool, true, false, List, [], ◌∷◌, ◌++◌, Option, Some, None, refl, ap, sym, ◌∙◌, length, decimal, codes}
-use Rattle.std.specs.Prelude.{All, ◌&&◌, nat_lt, filter, slice_index, IfSome}
+-- A line of visible words is text, and is cut into these words.
+use Rattle.std.proofs.Common.{arith, ◌≡◌, ℕ, ◌*◌, ◌/◌, ◌%◌, ◌^◌, ◌<◌, suc, Bool, true, false, List, [], ◌∷◌, ◌++◌, Option, Some, None, refl, ap, ◌∙◌, length, decimal, codes}
+use Rattle.std.specs.Prelude.{All, ◌&&◌, ◌==◌, nat_le, nat_lt, filter, slice_index, IfSome}
 use Rattle.std.specs.List.{list_all, onto_first}
-use Rattle.std.proofs.lemmas.Bool.{lt-ltb, ltb-true, ne_eqb}
+use Rattle.std.proofs.lemmas.Bool.{lt-ltb, ltb-true, le-leb, ne_eqb}
 use Rattle.std.proofs.lemmas.List.Elements.{All-nil, All-cons, All-head, All-tail, All-append, All-weaker}
 use Rattle.hex.specs.Hex.{encode_lower, encode_with, lower_digits, IsBytes}
 use Rattle.hex.proofs.HexLemmas.{length-encode_with}
-use Rattle.texts.specs.Words.{space, pieces_at, with_byte, is_some_bytes, words_in, sentence}
-use Rattle.texts.specs.Numeral.{IsNumeral}
+use Rattle.std.proofs.lemmas.List.Folds.{list_all-append}
+use Rattle.texts.specs.Words.{tilde, space, pieces_at, with_byte, is_some_bytes, words_in, sentence}
+use Rattle.texts.specs.Numeral.{IsDigit, IsNumeral}
 use Rattle.texts.proofs.Decided.{both}
 use Rattle.texts.proofs.NumeralLaws.{decimal_is_numeral}
 use Rattle.silo_address.specs.Marks.{dot, colon, at_sign, exclamation_mark}
 use Rattle.silo_address.specs.Silo.{Silo, IsSilo}
 use Rattle.silo_address.specs.SiloText.{Words, AreNumerals, words_text, words_of, silo_text}
 use Rattle.silo_address.proofs.SiloLaws.{words_are_numerals}
+use Rattle.silo_address.specs.GrainReading.{is_visible}
+use Rattle.silo_address.proofs.GrainCases.{Decides-all_visible}
 use Rattle.silo_address.specs.Grain.{Grain, IsGrain, IsVisible, grain_text}
 use Rattle.silo_address.specs.declared.ActivationId.{ActivationId}
 use Rattle.silo_address.specs.declared.Entry.{Entry}
@@ -31,32 +34,36 @@ use Rattle.directory_rules.specs.declared.letter_kind.LetterKind.{LetterKind}
 use Rattle.directory_rules.specs.declared.letter_kind.LetterKind.TheVariants as kind
 use Rattle.directory_rules.specs.Letter.{Letter, Body, Request_letter, Reply_letter, Ask_letter, Page_letter, Missing_letter, Done_letter, Query_letter, Report_letter, Behind_letter, Ahead_letter, Offer_letter, kind_of}
 use Rattle.script_rules.specs.Lines.{kind_word}
+use Rattle.script_rules.specs.Script.{is_text}
 use Rattle.process_rules.specs.LetterText.{entry_words, entries_words, previous_words, act_words, why_words, reply_words, body_words, letter_words, letter_line}
 use Rattle.process_rules.specs.Told.{IsNumber, IsActivation, IsEntry, IsDigest, IsAct, IsWhy, IsReply, IsToldBody, IsTold}
 
--- ---- words without a space
-abbrev IsFree : List ℕ → Type 0
-IsFree = All (λ byte. byte ≢ space)
+-- ---- visible words
+abbrev IsSeen : List ℕ → Type 0
+IsSeen = All IsVisible
 
 record IsWhole (word : List ℕ) : Type 0 where
   some : 0 < length word
-  free : IsFree word
+  seen : IsSeen word
 
 abbrev AreWhole : List (List ℕ) → Type 0
 AreWhole = All IsWhole
 
--- a word ends at the first space
-pieces_front : (word rest : List ℕ) → IsFree word → pieces_at space (word ++ space ∷ rest) ≡ word ∷ pieces_at space rest
-pieces_front [] rest free = refl
-pieces_front (byte ∷ word) rest free =
-    ap (λ (b : Bool). with_byte b byte (pieces_at space (word ++ space ∷ rest))) (ne_eqb byte space (All-head (λ b. b ≢ space) byte word free))
-    ∙ ap (onto_first byte) (pieces_front word rest (All-tail (λ b. b ≢ space) byte word free))
+no_space : (byte : ℕ) → IsVisible byte → (byte == space) ≡ false
+no_space byte visible = let least = visible.0 in ne_eqb byte space (λ same. absurd (omega (arith, least, same)))
 
-pieces_alone : (word : List ℕ) → IsFree word → pieces_at space word ≡ word ∷ []
-pieces_alone [] free = refl
-pieces_alone (byte ∷ word) free =
-    ap (λ (b : Bool). with_byte b byte (pieces_at space word)) (ne_eqb byte space (All-head (λ b. b ≢ space) byte word free))
-    ∙ ap (onto_first byte) (pieces_alone word (All-tail (λ b. b ≢ space) byte word free))
+-- a word ends at the first space
+pieces_front : (word rest : List ℕ) → IsSeen word → pieces_at space (word ++ space ∷ rest) ≡ word ∷ pieces_at space rest
+pieces_front [] rest seen = refl
+pieces_front (byte ∷ word) rest seen =
+    ap (λ (b : Bool). with_byte b byte (pieces_at space (word ++ space ∷ rest))) (no_space byte (All-head IsVisible byte word seen))
+    ∙ ap (onto_first byte) (pieces_front word rest (All-tail IsVisible byte word seen))
+
+pieces_alone : (word : List ℕ) → IsSeen word → pieces_at space word ≡ word ∷ []
+pieces_alone [] seen = refl
+pieces_alone (byte ∷ word) seen =
+    ap (λ (b : Bool). with_byte b byte (pieces_at space word)) (no_space byte (All-head IsVisible byte word seen))
+    ∙ ap (onto_first byte) (pieces_alone word (All-tail IsVisible byte word seen))
 
 kept : (word : List ℕ) (pieces : List (List ℕ)) → 0 < length word → filter is_some_bytes (word ∷ pieces) ≡ word ∷ filter is_some_bytes pieces
 kept word pieces some = rw (lt-ltb 0 (length word) some) refl
@@ -65,28 +72,20 @@ words_again : (words : List (List ℕ)) → AreWhole words → words_in (sentenc
 words_again [] whole = refl
 words_again (word ∷ []) whole =
     let is = All-head IsWhole word [] whole in
-    ap (filter is_some_bytes) (pieces_alone word is.free) ∙ kept word [] is.some
+    ap (filter is_some_bytes) (pieces_alone word is.seen) ∙ kept word [] is.some
 words_again (word ∷ next ∷ words) whole =
     let is = All-head IsWhole word (next ∷ words) whole in
-    ap (filter is_some_bytes) (pieces_front word (sentence (next ∷ words)) is.free)
+    ap (filter is_some_bytes) (pieces_front word (sentence (next ∷ words)) is.seen)
     ∙ kept word (pieces_at space (sentence (next ∷ words))) is.some
     ∙ ap (λ (ws : List (List ℕ)). word ∷ ws) (words_again (next ∷ words) (All-tail IsWhole word (next ∷ words) whole))
 
 -- ---- by a test
-abbrev is_free : List ℕ → Bool
-is_free word = list_all (λ byte. nat_lt space byte) word
+whole_by : (word : List ℕ) → (nat_lt 0 (length word) && list_all is_visible word) ≡ true → IsWhole word
+whole_by word is =
+    let parts = both (nat_lt 0 (length word)) (list_all is_visible word) is in
+    record { some = ltb-true 0 (length word) parts.0; seen = (Decides-all_visible word).0 parts.1 }
 
-free_by : (word : List ℕ) → is_free word ≡ true → IsFree word
-free_by [] is = All-nil (λ b. b ≢ space)
-free_by (byte ∷ word) is =
-    let parts = both (nat_lt space byte) (is_free word) is in
-    let above = ltb-true space byte parts.0 in
-    All-cons (λ b. b ≢ space) byte word (λ same. absurd (omega (arith, above, same))) (free_by word parts.1)
-
-whole_by : (word : List ℕ) → (nat_lt 0 (length word) && is_free word) ≡ true → IsWhole word
-whole_by word is = let parts = both (nat_lt 0 (length word)) (is_free word) is in record { some = ltb-true 0 (length word) parts.0; free = free_by word parts.1 }
-
-kind_whole : (kind : LetterKind) → (nat_lt 0 (length (kind_word kind)) && is_free (kind_word kind)) ≡ true
+kind_whole : (kind : LetterKind) → (nat_lt 0 (length (kind_word kind)) && list_all is_visible (kind_word kind)) ≡ true
 kind_whole kind.Register = refl
 kind_whole kind.Deregister = refl
 kind_whole kind.Find = refl
@@ -108,40 +107,40 @@ kind_whole kind.Ahead = refl
 kind_whole kind.Offer = refl
 
 -- ---- texts
-numeral_free : (word : List ℕ) → IsNumeral word → IsFree word
-numeral_free word numeral = λ k d below same. let digit = numeral.digits k d below in absurd (omega arith)
+numeral_seen : (word : List ℕ) → IsNumeral word → IsSeen word
+numeral_seen word numeral = All-weaker IsDigit IsVisible (λ byte digit. let least = digit.0 in let most = digit.1 in (omega (arith, least), omega (arith, most))) word numeral.digits
 
 number_whole : (number : ℕ) → IsNumber number → IsWhole (decimal number)
-number_whole number is = let numeral = decimal_is_numeral number is in record { some = numeral.some; free = numeral_free (decimal number) numeral }
+number_whole number is = let numeral = decimal_is_numeral number is in record { some = numeral.some; seen = numeral_seen (decimal number) numeral }
 
-marked : (word : List ℕ) (mark : ℕ) (rest : List ℕ) → IsFree word → mark ≢ space → IsFree rest → IsFree (word ++ mark ∷ rest)
-marked word mark rest free other more = All-append (λ b. b ≢ space) word (mark ∷ rest) free (All-cons (λ b. b ≢ space) mark rest other more)
+marked : (word : List ℕ) (mark : ℕ) (rest : List ℕ) → IsSeen word → IsVisible mark → IsSeen rest → IsSeen (word ++ mark ∷ rest)
+marked word mark rest seen visible more = All-append IsVisible word (mark ∷ rest) seen (All-cons IsVisible mark rest visible more)
 
 some_marked : (word : List ℕ) (mark : ℕ) (rest : List ℕ) → 0 < length (word ++ mark ∷ rest)
 some_marked [] mark rest = omega arith
 some_marked (byte ∷ word) mark rest = omega arith
 
-words_free : (words : Words) → AreNumerals words → IsFree (words_text words)
-words_free words n =
-    marked words.first dot _ (numeral_free words.first n.first) (λ same. absurd (omega (arith, same)))
-    (marked words.second dot _ (numeral_free words.second n.second) (λ same. absurd (omega (arith, same)))
-    (marked words.third dot _ (numeral_free words.third n.third) (λ same. absurd (omega (arith, same)))
-    (marked words.fourth colon _ (numeral_free words.fourth n.fourth) (λ same. absurd (omega (arith, same)))
-    (marked words.port at_sign _ (numeral_free words.port n.port) (λ same. absurd (omega (arith, same))) (numeral_free words.generation n.generation)))))
+words_seen : (words : Words) → AreNumerals words → IsSeen (words_text words)
+words_seen words n =
+    marked words.first dot _ (numeral_seen words.first n.first) (omega arith, omega arith)
+    (marked words.second dot _ (numeral_seen words.second n.second) (omega arith, omega arith)
+    (marked words.third dot _ (numeral_seen words.third n.third) (omega arith, omega arith)
+    (marked words.fourth colon _ (numeral_seen words.fourth n.fourth) (omega arith, omega arith)
+    (marked words.port at_sign _ (numeral_seen words.port n.port) (omega arith, omega arith) (numeral_seen words.generation n.generation)))))
 
 silo_whole : (silo : Silo) → IsSilo silo → IsWhole (silo_text silo)
-silo_whole silo is = record { some = some_marked (words_of silo).first dot _; free = words_free (words_of silo) (words_are_numerals silo is) }
+silo_whole silo is = record { some = some_marked (words_of silo).first dot _; seen = words_seen (words_of silo) (words_are_numerals silo is) }
 
 grain_whole : (grain : Grain) → IsGrain grain → IsWhole (grain_text grain)
 grain_whole grain is = record {
   some = some_marked grain.kind 47 grain.key;
-  free = All-weaker IsVisible (λ b. b ≢ space) (λ byte visible same. let least = visible.0 in absurd (omega (arith, least, same))) (grain_text grain) is.visible;
+  seen = is.visible;
 }
 
 activation_whole : (activation : ActivationId) → IsActivation activation → IsWhole (activation_text activation)
 activation_whole activation is = record {
   some = some_marked (silo_text activation.silo) exclamation_mark (decimal activation.count);
-  free = marked (silo_text activation.silo) exclamation_mark (decimal activation.count) (silo_whole activation.silo is.silo).free (λ same. absurd (omega (arith, same))) (number_whole activation.count is.count).free;
+  seen = marked (silo_text activation.silo) exclamation_mark (decimal activation.count) (silo_whole activation.silo is.silo).seen (omega arith, omega arith) (number_whole activation.count is.count).seen;
 }
 
 range_whole : (range : Range) → IsRange range → IsWhole (range_text range)
@@ -152,27 +151,27 @@ range_whole range is =
     let size_small : range.size < 2 ^ 64 = omega (arith, within) in
     record {
       some = some_marked (decimal range.start) plus_sign (decimal range.size);
-      free = marked (decimal range.start) plus_sign (decimal range.size) (number_whole range.start start_small).free (λ same. absurd (omega (arith, same))) (number_whole range.size size_small).free;
+      seen = marked (decimal range.start) plus_sign (decimal range.size) (number_whole range.start start_small).seen (omega arith, omega arith) (number_whole range.size size_small).seen;
     }
 
-digits_free : IsFree lower_digits
-digits_free = free_by lower_digits refl
+digits_seen : IsSeen lower_digits
+digits_seen = (Decides-all_visible lower_digits).0 refl
 
-digest_free : (bytes : List ℕ) → IsBytes bytes → IsFree (encode_lower bytes)
+digest_seen : (bytes : List ℕ) → IsBytes bytes → IsSeen (encode_lower bytes)
 unfolding encode_with
-digest_free [] are = All-nil (λ b. b ≢ space)
-digest_free (byte ∷ bytes) are =
+digest_seen [] are = All-nil IsVisible
+digest_seen (byte ∷ bytes) are =
     let fits : byte < 256 = are 0 in
     let high : byte / 16 < 16 = omega arith in
     let low : byte % 16 < 16 = omega arith in
-    All-cons (λ b. b ≢ space) (slice_index lower_digits (byte / 16)) (slice_index lower_digits (byte % 16) ∷ encode_lower bytes) (digits_free (byte / 16) 0 high)
-    (All-cons (λ b. b ≢ space) (slice_index lower_digits (byte % 16)) (encode_lower bytes) (digits_free (byte % 16) 0 low) (digest_free bytes (λ k. are (suc k))))
+    All-cons IsVisible (slice_index lower_digits (byte / 16)) (slice_index lower_digits (byte % 16) ∷ encode_lower bytes) (digits_seen (byte / 16) 0 high)
+    (All-cons IsVisible (slice_index lower_digits (byte % 16)) (encode_lower bytes) (digits_seen (byte % 16) 0 low) (digest_seen bytes (λ k. are (suc k))))
 
 digest_whole : (digest : List ℕ) → IsDigest digest → IsWhole (encode_lower digest)
 digest_whole digest is =
     let long : length (encode_lower digest) ≡ 2 * length digest = length-encode_with lower_digits digest in
     let bytes = is.long in
-    record { some = omega (arith, long, bytes); free = digest_free digest is.bytes }
+    record { some = omega (arith, long, bytes); seen = digest_seen digest is.bytes }
 
 -- ---- letters
 none : AreWhole []
@@ -251,6 +250,32 @@ letter_whole hashing letter is =
     (cons (silo_text letter.to) (version ∷ kind ∷ says) (silo_whole letter.to is.to)
     (cons version (kind ∷ says) (number_whole letter.version is.version)
     (cons kind says (whole_by kind (kind_whole (kind_of letter.body))) (body_whole hashing letter.from letter.version letter.body is.body)))))
+
+-- ---- the line is text
+text_byte : (byte : ℕ) → IsVisible byte → is_text byte ≡ true
+text_byte byte visible =
+    let least = visible.0 in
+    let most = visible.1 in
+    let low : nat_le space byte ≡ true = le-leb space byte (omega (arith, least)) in
+    let high : nat_le byte tilde ≡ true = le-leb byte tilde (omega (arith, most)) in
+    rw (low, high) refl
+
+text_word : (word : List ℕ) → IsSeen word → list_all is_text word ≡ true
+text_word [] seen = refl
+text_word (byte ∷ word) seen =
+    rw (text_byte byte (All-head IsVisible byte word seen)) (text_word word (All-tail IsVisible byte word seen))
+
+text_sentence : (words : List (List ℕ)) → AreWhole words → list_all is_text (sentence words) ≡ true
+text_sentence [] whole = refl
+text_sentence (word ∷ []) whole = text_word word (All-head IsWhole word [] whole).seen
+text_sentence (word ∷ next ∷ words) whole =
+    let front = text_word word (All-head IsWhole word (next ∷ words) whole).seen in
+    let back = text_sentence (next ∷ words) (All-tail IsWhole word (next ∷ words) whole) in
+    list_all-append is_text word (space ∷ sentence (next ∷ words)) ∙ rw (front, back) refl
+
+pub line_is_text : (hashing : Hashing) (letter : Letter) → IsTold hashing letter → list_all is_text (letter_line letter) ≡ true
+unfolding letter_line
+line_is_text hashing letter is = text_sentence (codes "letter" ∷ letter_words letter) (letter_whole hashing letter is)
 
 pub line_words : (hashing : Hashing) (letter : Letter) → IsTold hashing letter → words_in (letter_line letter) ≡ codes "letter" ∷ letter_words letter
 unfolding letter_line

@@ -29,7 +29,7 @@ use Rattle.ring_range.specs.declared.text.RangeTextError.{RangeTextError}
 use Rattle.ring_range.specs.Text.{range_text, read_range}
 use Rattle.ring_range.proofs.Reading as range_laws
 use Rattle.script_rules.specs.Script.{silo_word, silo_or_fault, grain_word, grain_or_fault, number_word, number_or_fault}
-use Rattle.process_rules.specs.LetterText.{entry_words, entries_words}
+use Rattle.process_rules.specs.LetterText.{entries_words}
 use Rattle.process_rules.specs.LetterReading.{activation_word, activation_or_fault, range_word, range_or_fault, digest_word, digest_or_fault, entry_of_words, entries_in, are_pairs}
 use Rattle.process_rules.specs.Told.{IsNumber, IsActivation, IsEntry, IsDigest}
 use Rattle.process_rules.proofs.Chains.{ok_is, two_again, two_gave}

@@ -1,3 +1,4 @@
 pub mod LetterText
 pub mod LetterReading
 pub mod Told
+pub mod LineReading

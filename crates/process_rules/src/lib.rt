@@ -1,4 +1,4 @@
-//! The lines that a silo's process reads and writes, as definitions in `specs/`: letters as lines, and how they are read. There is
+//! The lines that a silo's process reads, as definitions in `specs/`: letters as lines, and what each line asks for. There is
 //! no behaviour here.
 #![tactic(auto)]
 

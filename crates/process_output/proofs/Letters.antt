@@ -1,0 +1,43 @@
+-- A letter's line is answered as that letter.
+use Rattle.std.proofs.Common.{arith, ◌≡◌, ℕ, ◌<◌, ◌≤◌, ◌-◌, Bool, true, false, List, ◌∷◌, Option, Some, Result, Ok, refl, ap, ◌∙◌, length, take}
+use Rattle.std.specs.Prelude.{◌==◌, cond, nat_lt, slice_index}
+use Rattle.std.specs.List.{list_all}
+use Rattle.std.specs.Io.BufRead.{ends_with_byte, strip_last}
+use Rattle.std.proofs.lemmas.Bool.{eqb-true, ltb-true}
+use Rattle.std.proofs.lemmas.List.Folds.{list_all_at}
+use Rattle.texts.proofs.Decided.{both}
+use Rattle.texts.specs.Words.{carriage_return}
+use Rattle.directory_rules.specs.Letter.{Letter}
+use Rattle.silo_rules.specs.SiloValue.{SiloValue}
+use Rattle.script_rules.specs.Script.{is_text}
+use Rattle.process_rules.specs.LetterText.{letter_line}
+use Rattle.process_rules.specs.LineReading.{Asked, Receive, longest_line, read_silo_line}
+use Rattle.process_rules.specs.Told.{IsTold}
+use Rattle.process_rules.proofs.LineWords.{line_is_text}
+use Rattle.process_rules.proofs.LinesAgain.{line_again}
+use Rattle.process_output.specs.Answer.{answered}
+use Rattle.process_output.specs.Output.{answered_to, said, after_line, written_on}
+
+-- a line of text has no carriage return to drop
+last_by : (line : List ℕ) → list_all is_text line ≡ true → (ends : Bool) → ends_with_byte carriage_return line ≡ ends → cond ends (take (length line - 1) line) line ≡ line
+last_by line text false is = refl
+last_by line text true is =
+    let parts = both (nat_lt 0 (length line)) (slice_index line (length line - 1) == carriage_return) is in
+    let some = ltb-true 0 (length line) parts.0 in
+    let below : length line - 1 < length line = omega (arith, some) in
+    let control : is_text (slice_index line (length line - 1)) ≡ false = ap is_text (eqb-true (slice_index line (length line - 1)) carriage_return parts.1) in
+    let other : list_all is_text line ≡ false = list_all_at is_text line (length line - 1) 0 below control in
+    cc (text, other)
+
+stripped : (line : List ℕ) → list_all is_text line ≡ true → strip_last carriage_return line ≡ line
+stripped line text = last_by line text (ends_with_byte carriage_return line) refl
+
+letter_said : (letter : Letter) (s : SiloValue) → IsTold s.node.settings.hashing letter → length (letter_line letter) ≤ longest_line → said (letter_line letter) s ≡ Ok (Some (Receive letter))
+letter_said letter s is fits =
+    ap (read_silo_line s.node.settings.hashing) (stripped (letter_line letter) (line_is_text s.node.settings.hashing letter is))
+    ∙ line_again s.node.settings.hashing letter is fits
+
+pub letter_received : (letter : Letter) (next : List ℕ) (lines : List (List ℕ)) (s : SiloValue) → IsTold s.node.settings.hashing letter → length (letter_line letter) ≤ longest_line
+    → written_on (letter_line letter ∷ next ∷ lines) s ≡ after_line (answered (Receive letter) s) (written_on (next ∷ lines))
+unfolding written_on
+letter_received letter next lines s is fits = ap (λ (read : Result (Option Asked) ℕ). after_line (answered_to read s) (written_on (next ∷ lines))) (letter_said letter s is fits)

@@ -1,0 +1,4 @@
+mod Beginnings
+mod Lines
+mod Letters
+mod StaysWhole

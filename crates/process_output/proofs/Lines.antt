@@ -1,0 +1,20 @@
+-- What a line makes of the output.
+use Rattle.std.proofs.Common.{◌≡◌, ℕ, Bool, true, List, [], ◌∷◌, ◌++◌, Option, Result, Err, ap, ◌∙◌, append-nil}
+use Rattle.texts.specs.Printed.{text_of_lines}
+use Rattle.silo_rules.specs.SiloValue.{SiloValue}
+use Rattle.process_rules.specs.LineReading.{Asked}
+use Rattle.process_output.specs.Answer.{Answered}
+use Rattle.process_output.specs.Output.{answered_to, fault_line, said, unless_ended, after_line, written_on}
+
+pub fault_goes_on : (line next : List ℕ) (lines : List (List ℕ)) (s : SiloValue) (fault : ℕ) → said line s ≡ Err fault
+    → written_on (line ∷ next ∷ lines) s ≡ text_of_lines (fault_line fault ∷ []) ++ written_on (next ∷ lines) s
+unfolding written_on
+fault_goes_on line next lines s fault is = ap (λ (read : Result (Option Asked) ℕ). after_line (answered_to read s) (written_on (next ∷ lines))) is
+
+end_is_last : (it : Answered) (next : SiloValue → List ℕ) → it.ends ≡ true → after_line it next ≡ text_of_lines it.lines
+end_is_last it next ends = ap (λ (b : Bool). text_of_lines it.lines ++ unless_ended b next it.silo) ends ∙ append-nil (text_of_lines it.lines)
+
+pub end_is_final : (line next : List ℕ) (lines : List (List ℕ)) (s : SiloValue) → (answered_to (said line s) s).ends ≡ true
+    → written_on (line ∷ next ∷ lines) s ≡ text_of_lines (answered_to (said line s) s).lines
+unfolding written_on
+end_is_final line next lines s ends = end_is_last (answered_to (said line s) s) (written_on (next ∷ lines)) ends

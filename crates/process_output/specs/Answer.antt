@@ -1,0 +1,85 @@
+-- What a silo's process answers to what a line asks for: the lines that it prints, and the silo after it.
+use Rattle.std.specs.Prelude.{ℕ, Bool, true, false, List, [], ◌∷◌, ◌++◌, map, codes, if◌then◌else◌, Option, Some, Result, Ok, Err}
+use Rattle.texts.specs.Words.{sentence}
+use Rattle.silo_address.specs.Silo.{silo_eq}
+use Rattle.membership_view.specs.declared.status.Status.{Status}
+use Rattle.membership_view.specs.declared.status.Status.TheVariants as status
+use Rattle.directory_rules.specs.declared.effect.Effect.{Effect}
+use Rattle.directory_rules.specs.Event.{Saw, Did}
+use Rattle.directory_rules.specs.Input.{Input, Wakes, Closes, Finds, Forgets, Nudges, Offers}
+use Rattle.directory_rules.specs.Letter.{Letter}
+use Rattle.directory_rules.specs.Step.{Stepped}
+use Rattle.silo_rules.specs.declared.news.News.{News}
+use Rattle.silo_rules.specs.Membership.{Change, Join, Leave, Die}
+use Rattle.silo_rules.specs.SiloValue.{SiloValue, own_status}
+use Rattle.silo_rules.specs.Stepping.{does, sees, receives}
+use Rattle.silo_rules.specs.Telling.{Heard, told}
+use Rattle.script_rules.specs.Lines.{happening_words, refusal_line}
+use Rattle.process_rules.specs.LetterText.{letter_line}
+use Rattle.process_rules.specs.LineReading.{Asked, Joined, Leaving, Dead, See, Wake, Close, Offer, Find, Forget, Nudge, Receive, Ping, Show, Dump}
+use Rattle.process_output.specs.Happened.{news_words, received_words}
+use Rattle.process_output.specs.Show.{show_lines, dump_line}
+
+-- what is printed, the silo after it, and whether the process ends there
+pub record Answered : Type 0 where
+  pub lines : List (List ℕ)
+  pub silo : SiloValue
+  pub ends : Bool
+
+-- lines, and the process goes on
+abbrev pub printing : List (List ℕ) → SiloValue → Answered
+printing lines s = record { lines = lines; silo = s; ends = false }
+
+-- ---- Changes of membership.
+
+-- a silo that is Dead by what it was told says so, and the process ends
+abbrev pub unless_dead : Option Status → Answered → Answered
+unless_dead (Some status.Dead) answered = record answered { lines = answered.lines ++ codes "dead" ∷ []; ends = true }
+unless_dead other answered = answered
+
+-- what came of the change, or its refusal
+abbrev pub after_news : (version : ℕ) → Change → (news : News) → SiloValue → Answered
+after_news version change news s = unless_dead (own_status s) (printing (sentence (news_words version change news) ∷ []) s)
+
+abbrev pub heard : Result Heard ℕ → (version : ℕ) → Change → SiloValue → Answered
+heard (Err number) version change s = printing (refusal_line number ∷ []) s
+heard (Ok it) version change s = after_news version change it.news (record s { membership = it.membership })
+
+-- the silo is told a change
+abbrev pub told_so : (version : ℕ) → Change → SiloValue → Answered
+told_so version change s = heard (told s.node.settings s.membership version change) version change s
+
+-- ---- Steps: what happened, and then a line for each letter sent, in order; or the refusal.
+abbrev pub stepped : (Effect → List (List ℕ)) → Result Stepped ℕ → SiloValue → Answered
+stepped happened (Err number) s = printing (refusal_line number ∷ []) s
+stepped happened (Ok it) s = printing (sentence (happened it.effect) ∷ map letter_line it.letters) (record s { node = it.node })
+
+-- the silo sees a version
+abbrev pub seen_so : (version : ℕ) → SiloValue → Answered
+seen_so version s = stepped (λ effect. happening_words (Saw s.node.host.silo version effect)) (sees s version) s
+
+-- it takes another step of its own
+abbrev pub done_so : Input → SiloValue → Answered
+done_so input s = stepped (λ effect. happening_words (Did s.node.host.silo effect)) (does s input) s
+
+-- a letter comes; nothing is said of one to another silo
+abbrev pub received_so : Letter → SiloValue → Answered
+received_so letter s =
+    if silo_eq letter.to s.node.host.silo then stepped (received_words s.node.host letter) (receives s letter) s else printing [] s
+
+-- ---- What a line asks for.
+unfoldable pub answered : Asked → SiloValue → Answered
+answered (Joined version silo places) s = told_so version (Join silo places) s
+answered (Leaving version silo) s = told_so version (Leave silo) s
+answered (Dead version silo) s = told_so version (Die silo) s
+answered (See version) s = seen_so version s
+answered (Wake grain) s = done_so (Wakes grain) s
+answered (Close grain) s = done_so (Closes grain) s
+answered (Offer grain to) s = done_so (Offers grain to) s
+answered (Find grain) s = done_so (Finds grain) s
+answered (Forget grain) s = done_so (Forgets grain) s
+answered Nudge s = done_so Nudges s
+answered (Receive letter) s = received_so letter s
+answered (Ping word) s = printing (sentence (codes "pong" ∷ word ∷ []) ∷ []) s
+answered Show s = printing (show_lines s) s
+answered Dump s = printing (dump_line s ∷ []) s

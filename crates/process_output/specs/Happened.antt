@@ -1,0 +1,89 @@
+-- What a line says that happened: as scripts say it, but that a letter has no number, and that what concerns the application names its
+-- grain.
+use Rattle.std.specs.Prelude.{ℕ, Bool, true, false, List, [], ◌∷◌, codes, if◌then◌else◌, Option, Some, None}
+use Rattle.std.specs.Fmt.{decimal}
+use Rattle.std.specs.Ordering.{nat_cmp}
+use Rattle.std.specs.Map.{lookup}
+use Rattle.std.specs.BTreeMap.{is_at}
+use Rattle.silo_address.specs.Silo.{Silo}
+use Rattle.silo_address.specs.Grain.{grain_text}
+use Rattle.silo_address.specs.ActivationText.{activation_text}
+use Rattle.directory_rules.specs.declared.act.Act.{Act}
+use Rattle.directory_rules.specs.declared.act.Act.TheVariants as act
+use Rattle.directory_rules.specs.declared.effect.Effect.{Effect}
+use Rattle.directory_rules.specs.declared.effect.Effect.TheVariants as effect
+use Rattle.directory_rules.specs.declared.reply.Reply.{Reply}
+use Rattle.directory_rules.specs.declared.reply.Reply.TheVariants as reply
+use Rattle.directory_rules.specs.Event.{Did, Joined, Left, Died}
+use Rattle.directory_rules.specs.Host.{Host, outstanding}
+use Rattle.directory_rules.specs.Letter.{Letter, Body, Reply_letter, Offer_letter, kind_of}
+use Rattle.directory_rules.specs.Sending.{grain_of}
+use Rattle.silo_rules.specs.declared.news.News.{News}
+use Rattle.silo_rules.specs.declared.news.News.TheVariants.{Known, Made, Replaced}
+use Rattle.silo_rules.specs.Membership.{Change, Join, Leave, Die}
+use Rattle.script_rules.specs.Lines.{kind_word, effect_words, entry_words, happening_words}
+
+-- ---- A change of membership.
+
+-- the older silo of the endpoint that became Dead, if one did
+abbrev pub replaced_in : News → Option Silo
+replaced_in Known = None
+replaced_in Made = None
+replaced_in (Replaced old) = Some old
+
+-- a change that was made
+abbrev pub made_words : (version : ℕ) → Change → (replaced : Option Silo) → List (List ℕ)
+made_words version (Join silo places) replaced = happening_words (Joined version silo replaced)
+made_words version (Leave silo) replaced = happening_words (Left version silo)
+made_words version (Die silo) replaced = happening_words (Died version silo)
+
+-- a change that was told, perhaps again
+abbrev pub news_words : (version : ℕ) → Change → News → List (List ℕ)
+news_words version change Known = codes "known" ∷ decimal version ∷ []
+news_words version change news = made_words version change (replaced_in news)
+
+-- ---- A letter.
+
+-- what the letter's kind and its effect say
+abbrev pub delivered_words : Letter → Effect → List (List ℕ)
+delivered_words letter effect = codes "delivered" ∷ kind_word (kind_of letter.body) ∷ effect_words effect
+
+-- what the silo had asked under that number, and waits for
+abbrev pub asked_under : Host → (number : ℕ) → Option Act
+asked_under host number = lookup (is_at (nat_cmp number)) (outstanding host)
+
+-- the silo's own activation that waited, or the grain that it searched for
+abbrev pub awaited_words : Act → List (List ℕ)
+awaited_words (act.Register entry previous) = entry_words entry
+awaited_words (act.Deregister entry) = entry_words entry
+awaited_words (act.Find grain) = grain_text grain ∷ []
+
+-- what a reply tells that counts, by what was asked; a retry leaves all as it was
+abbrev pub counted_words : Act → Reply → (delivered : List (List ℕ)) → List (List ℕ)
+counted_words act (reply.Registered entry) delivered = codes "firm" ∷ awaited_words act
+counted_words act (reply.Taken entry) delivered = codes "taken" ∷ grain_text (grain_of act) ∷ codes "by" ∷ activation_text entry.activation ∷ []
+counted_words act reply.Removed delivered = codes "ended" ∷ awaited_words act
+counted_words act reply.Absent delivered = codes "ended" ∷ awaited_words act
+counted_words act (reply.Found entry) delivered = codes "found" ∷ entry_words entry
+counted_words act reply.Nothing delivered = codes "nothing" ∷ awaited_words act
+counted_words act (reply.Retry why) delivered = delivered
+
+-- by what was asked under the reply's number, if anything was
+abbrev pub replied_words : Option Act → Reply → (delivered : List (List ℕ)) → List (List ℕ)
+replied_words None reply delivered = delivered
+replied_words (Some act) reply delivered = counted_words act reply delivered
+
+-- what a letter tells that counts, by its body
+abbrev pub body_words : Body → Host → Effect → (delivered : List (List ℕ)) → List (List ℕ)
+body_words (Reply_letter number reply) host effect delivered = replied_words (asked_under host number) reply delivered
+body_words (Offer_letter entry) host effect delivered = happening_words (Did host.silo effect)
+body_words other host effect delivered = delivered
+
+abbrev pub is_ignored : Effect → Bool
+is_ignored effect.Ignored = true
+is_ignored other = false
+
+-- what came of a letter, by the host as it was when the letter came
+abbrev pub received_words : Host → Letter → Effect → List (List ℕ)
+received_words host letter effect =
+    if is_ignored effect then delivered_words letter effect else body_words letter.body host effect (delivered_words letter effect)

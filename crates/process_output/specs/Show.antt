@@ -1,0 +1,40 @@
+-- What `show` and `dump` print of one silo.
+use Rattle.std.specs.Prelude.{ℕ, List, [], ◌∷◌, ◌++◌, map, length, codes, Option, Some, None}
+use Rattle.std.specs.Fmt.{decimal}
+use Rattle.texts.specs.Words.{sentence}
+use Rattle.silo_address.specs.SiloText.{silo_text}
+use Rattle.membership_view.specs.declared.status.Status.{Status}
+use Rattle.ring_range.specs.Text.{range_text}
+use Rattle.directory_rules.specs.declared.piece_state.PieceState.{PieceState}
+use Rattle.directory_rules.specs.declared.piece_state.PieceState.TheVariants as state
+use Rattle.directory_rules.specs.Piece.{Piece}
+use Rattle.directory_rules.specs.Table.{Table}
+use Rattle.silo_rules.specs.SiloValue.{SiloValue, own_status}
+use Rattle.script_rules.specs.Show.{status_word, seen_words, held_lines}
+use Rattle.dump_rules.specs.Dump.{dump_node, node_json}
+
+-- what the silo is by the last change that it was told
+abbrev pub own_word : Option Status → List ℕ
+own_word None = codes "unknown"
+own_word (Some status) = status_word status
+
+-- the state of a piece; one that serves tells how many entries it has
+abbrev pub state_words : PieceState → Table → List (List ℕ)
+state_words state.Settled table = codes "settled" ∷ codes "entries" ∷ decimal (length table) ∷ []
+state_words (state.Awaiting from) table = codes "awaiting" ∷ silo_text from ∷ []
+state_words state.Recovering table = codes "recovering" ∷ []
+
+-- a piece's line
+abbrev pub piece_line : Piece → List ℕ
+piece_line piece = sentence (codes "range" ∷ range_text piece.range ∷ state_words piece.state piece.entries)
+
+-- the lines of `show`: the last version told, the silo, its activations in the order in which they began, and its pieces by start
+unfoldable pub show_lines : SiloValue → List (List ℕ)
+show_lines s =
+    sentence (codes "version" ∷ decimal s.membership.views.version ∷ [])
+    ∷ sentence (codes "silo" ∷ silo_text s.node.host.silo ∷ own_word (own_status s) ∷ seen_words (Some s.node))
+    ∷ (held_lines s.node.host.silo (Some s.node) ++ map (λ e. piece_line e.1) s.node.holding.pieces)
+
+-- the line of `dump`: the silo's object in a dump
+unfoldable pub dump_line : SiloValue → List ℕ
+dump_line s = node_json (dump_node s.node.host.silo s.node)
