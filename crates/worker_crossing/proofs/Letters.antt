@@ -34,7 +34,7 @@ body_crosses =
     let range : All (range.the_row ∷ []) = (range_crosses, tt) in
     variants body.the_type (
       (request_crosses, tt),
-      ((number64, (reply_crosses, tt)), ((range_crosses, (number64, tt)), ((page_crosses, tt), (range, (range, (range, ((report_crosses, tt), (range, (range, ((entry_field_crosses, tt), tt))))))))))
+      ((number64, (reply_crosses, tt)), ((range_crosses, (number64, tt)), ((page_crosses, tt), (range, (range, (range, ((report_crosses, tt), (range, (range, ((entry_field_crosses, tt), tt)))))))))),
     )
 
 pub letter_crosses : Crosses letter.the_row
