@@ -49,7 +49,8 @@ AfterAnySteps Holds = (settings : Settings) (steps : List Step) → AreSettings 
 abbrev pub DeploymentsAreRuns : Type 0
 DeploymentsAreRuns = AfterAnySteps IsRun
 
--- each letter written is its sender's own: a request says its sender, its version and its grain's hash
+-- each letter written is its sender's own: a request repeats its sender, its version and its grain's hash, a report its sender and its
+-- version, a page its version
 abbrev pub WrittenAreOwn : Type 0
 WrittenAreOwn = (settings : Settings) (steps : List Step) → AreSettings settings → All IsStep steps → All (IsOwnLetter settings) (deployed settings steps).written
 

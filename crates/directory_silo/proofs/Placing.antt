@@ -1,26 +1,13 @@
--- What the node of a silo asks of an input, it has.
+-- What the node of a silo asks of a sight, it has.
 use Rattle.std.proofs.Common.{◌≡◌, ℕ, ◌-◌, ap, ◌∙◌}
 use Rattle.std.specs.Prelude.{true}
 use Rattle.membership_view.specs.View.{ViewValue}
 use Rattle.membership_view.specs.Views.{view_at}
 use Rattle.hash_ring.specs.Ring.{are_added}
-use Rattle.directory_rules.specs.Node.{Node}
-use Rattle.directory_rules.specs.Input.{Input, Sees, Wakes, Closes, Finds, Forgets, Nudges, Offers, Receives}
 use Rattle.directory_facts.proofs.Placing.{added_view}
 use Rattle.silo_rules.specs.SiloValue.{SiloValue}
-use Rattle.silo_rules.specs.Taking.{IsNoSight}
 use Rattle.silo_rules.specs.Whole.{IsWhole}
-use Rattle.directory_node.specs.Placed.{ArePlaced, IsPlaced}
-
-pub no_sight_placed : (node : Node) (input : Input) → IsNoSight input → IsPlaced node input
-no_sight_placed node (Sees before view places) other = absurd other
-no_sight_placed node (Wakes grain) other = tt
-no_sight_placed node (Closes grain) other = tt
-no_sight_placed node (Finds grain) other = tt
-no_sight_placed node (Forgets grain) other = tt
-no_sight_placed node Nudges other = tt
-no_sight_placed node (Offers grain to) other = tt
-no_sight_placed node (Receives letter) other = tt
+use Rattle.directory_node.specs.Placed.{ArePlaced}
 
 -- a sight has the places that it asks for, and the node's ring is its view's by them
 pub sight_placed : (s : SiloValue) (version : ℕ) (before view : ViewValue) → IsWhole s → before ≡ view_at s.membership.views (version - 1) → view ≡ view_at s.membership.views version → ArePlaced s.node before view s.membership.places
