@@ -1,8 +1,8 @@
 -- A letter of which nothing comes leaves the world as it was, but that it is fresh no more.
-use Rattle.std.proofs.Common.{◌≡◌, ◌+◌, Bool, false, ℕ, List, [], ◌++◌, Ok, Some, None, IsSome, refl, sym, ◌∙◌, ap, subst, arith}
+use Rattle.std.proofs.Common.{◌≡◌, ◌+◌, Bool, false, ℕ, [], Ok, Some, None, IsSome, refl, sym, ◌∙◌, ap, subst, arith}
 use Rattle.std.specs.Prelude.{◌↔◌, IsTrue}
 use Rattle.std.specs.List.Sorted.{IsStrictlySortedBy}
-use Rattle.std.specs.Map.{keys_of, lookup, set_value}
+use Rattle.std.specs.Map.{keys_of}
 use Rattle.std.specs.BTreeMap.{insert_entry, is_at}
 use Rattle.std.proofs.lemmas.List.{append-nil}
 use Rattle.std.proofs.lemmas.Map.Steps.{set_value_same}
@@ -66,4 +66,4 @@ passed_leaves world number kind effect p sorted leaves letter is =
 
 -- ---- the test, at the letter's own kind
 pub of_use : (kind its : LetterKind) (effect : Effect) (idle : Bool) → (IsTrue idle ↔ IsIdle kind effect) → kind ≡ its → idle ≡ false → ¬ (IsIdle its effect)
-of_use kind its effect idle told same no = λ is. absurd (cc (told.1 (subst (λ (k : LetterKind). IsIdle k effect) (sym same) is), no))
+of_use kind its effect idle told same isnt = λ is. absurd (cc (told.1 (subst (λ (k : LetterKind). IsIdle k effect) (sym same) is), isnt))

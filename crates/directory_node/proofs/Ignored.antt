@@ -1,5 +1,5 @@
 -- What is received where nothing comes of a letter: the node as it was, and no letters.
-use Rattle.std.proofs.Common.{◌≡◌, ◌⊎◌, inl, inr, Bool, true, false, cond, ℕ, length, Option, Some, None, Result, Ok, Err, refl, sym, ◌∙◌, ap, subst}
+use Rattle.std.proofs.Common.{◌≡◌, ◌⊎◌, inl, inr, Bool, true, false, cond, length, Option, Some, None, Result, Ok, Err, refl, sym, ◌∙◌, ap}
 use Rattle.std.specs.Prelude.{◌==◌, ◌&&◌, nat_lt, OnErr}
 use Rattle.silo_address.specs.Grain.{Grain}
 use Rattle.silo_address.specs.Silo.{silo_eq}
@@ -8,20 +8,19 @@ use Rattle.ring_range.specs.Range.{Range}
 use Rattle.directory_rules.specs.declared.act.Act.{Act}
 use Rattle.directory_rules.specs.declared.act.Act.TheVariants as act
 use Rattle.directory_rules.specs.declared.act.Request.{Request}
-use Rattle.directory_rules.specs.declared.effect.Effect.{Effect}
 use Rattle.directory_rules.specs.declared.effect.Effect.TheVariants as effect
 use Rattle.directory_rules.specs.declared.held.Held.{Held}
 use Rattle.directory_rules.specs.declared.reply.Reply.{Reply}
 use Rattle.directory_rules.specs.declared.reply.Reply.TheVariants as reply
-use Rattle.directory_rules.specs.Answer.{Answered, answered}
+use Rattle.directory_rules.specs.Answer.{answered}
 use Rattle.directory_rules.specs.Cache.{learnt}
-use Rattle.directory_rules.specs.Gathering.{Gathered, Gathering, Has_all, Refuses, Wants_page, gathered}
+use Rattle.directory_rules.specs.Gathering.{Gathered, Has_all, Refuses, Wants_page, gathered}
 use Rattle.directory_rules.specs.Host.{asking_under, closing_under, is_finding, is_outstanding, without_find}
 use Rattle.directory_rules.specs.Letter.{Body, Letter, Request_letter, Reply_letter, Ask_letter, Page_letter, Missing_letter, Done_letter, Query_letter, Report_letter, Behind_letter, Ahead_letter, Offer_letter, act_kind, kind_of}
 use Rattle.directory_rules.specs.Node.{Node}
 use Rattle.directory_rules.specs.Receive.{received, received_body, reply_effect, replying, takes_offer}
 use Rattle.directory_rules.specs.Recovery.{Awaits_more, Has_union, Recovered, Rejects, recovered}
-use Rattle.directory_rules.specs.Reply.{confirmed_by, ended_by, found_by, not_found_by, replied, yielded_by}
+use Rattle.directory_rules.specs.Reply.{confirmed_by, ended_by, yielded_by}
 use Rattle.directory_rules.specs.Sending.{gathering_of, recovery_of}
 use Rattle.directory_rules.specs.Snapshot.{Hands_page, Has_none, Is_behind, ShelfAnswer, has_snapshot, shelf_answer, shelf_without}
 use Rattle.directory_rules.specs.Step.{Stepped, silently, started}
