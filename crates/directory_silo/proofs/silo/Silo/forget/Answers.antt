@@ -7,8 +7,8 @@ use Rattle.directory_silo.specs.SiloModel.{silo_of}
 use Rattle.directory_silo.proofs.Whole.{input_whole}
 use Rattle.directory_silo.proofs.silo.Silo.forget.Goals as goal
 
-pub invariant_of-self-2 : goal.invariant_of-self-2
-invariant_of-self-2 c =
+pub invariant_of-self : goal.invariant_of-self
+invariant_of-self c =
     let silo = silo_of c.self.inside in
-    subst (λ (n : Node). IsWhole (record silo { node = n })) (sym (ap (λ (s : Stepped). s.node) c.forget.ensures))
+    subst (λ (n : Node). IsWhole (record silo { node = n })) (sym (ap (λ (s : Stepped). s.node) c.forget-effect.ensures))
     (input_whole silo (Forgets c.args.grain.now) (forget silo.node c.args.grain.now) c.self.invariant tt refl)
