@@ -6,3 +6,4 @@ pub mod Happenings
 pub mod Running
 pub mod CurrentView
 pub mod Numbered
+pub mod Idle

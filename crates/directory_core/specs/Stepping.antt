@@ -9,7 +9,8 @@ use Rattle.directory_rules.specs.World.{World}
 use Rattle.directory_rules.specs.Mail.{with_sent}
 use Rattle.directory_rules.specs.Happens.{with_node, counted}
 use Rattle.directory_node.specs.Placed.{IsPlaced}
-use Rattle.directory_node.specs.Planning.{Excuses, Sends}
+use Rattle.directory_node.specs.Lacking.{MayLackMemory}
+use Rattle.directory_node.specs.Planning.{Sends}
 
 -- the world after an event in which the silo's node became this one and these letters were sent
 abbrev pub after_step : World → Silo → Node → List Letter → World
@@ -22,4 +23,4 @@ letters_number world count = if (count == 0) || nat_le (world.sent + count) worl
 -- an input of the silo's own that is no sight and no nudge: a plan of it needs memory only for the one letter that it sends
 pub record IsOwn (input : Input) : Type 0 where
   pub placed : (node : Node) → IsPlaced node input
-  pub one : (node : Node) (outcome : Result Stepped ℕ) → Excuses node input outcome → Sends 1 outcome
+  pub one : (node : Node) (outcome : Result Stepped ℕ) → MayLackMemory node input outcome → Sends 1 outcome

@@ -1,5 +1,5 @@
 //! A letter delivered by a step that its receiver made beside the world.
-ghost use Rattle.std.specs.Prelude.{◌≡◌, ◌<◌, IfErr, IfOk, IsOk, IsSome, OnErr, OnOk, Some};
+ghost use Rattle.std.specs.Prelude.{◌≡◌, ◌<◌, IfErr, IfOk, IsSome, OnErr, OnOk, Some};
 ghost use Rattle.directory_rules.specs.Event.{Deliver};
 ghost use Rattle.directory_rules.specs.Happens.{deliver, happens, node_of};
 ghost use Rattle.directory_rules.specs.Headline.{Headline};
@@ -7,7 +7,7 @@ ghost use Rattle.directory_rules.specs.Letter.{Letter as LetterValue};
 ghost use Rattle.directory_rules.specs.Mail.{letter_of, with_delivered};
 ghost use Rattle.directory_node.specs.Follows.{Follows};
 ghost use Rattle.directory_node.specs.SteppedModel.{stepped_of};
-ghost use Rattle.directory_core.specs.Applying.{IsPlainlyTold, accepted_as};
+ghost use Rattle.directory_core.specs.Applying.{IsOkOfUse, IsPlainlyTold, accepted_as};
 ghost use Rattle.directory_core.specs.Delivering.{IsStepWith, undelivered_number};
 ghost use Rattle.directory_core.specs.Numbers.{IsNumberedUnlessMemory};
 ghost use Rattle.directory_core.specs.Stepping.{after_step};
@@ -17,7 +17,7 @@ use crate::posting::receive_with_at;
 use crate::{EventRefusal, World};
 use cluster_events::{Happening, Outcome};
 use directory_letters::Letter;
-use directory_node::Stepped;
+use directory_node::{Stepped, is_idle};
 use silo_address::SiloAddress;
 use std::alloc::{AllocError, Global};
 
@@ -30,11 +30,11 @@ pub struct Undelivered {
 
 impl World {
     /// The letter of a number comes to its receiver, whose step with it was made beside the world, by `Node::step`; then this is
-    /// `apply` of the delivery (`docs/RULES.md#the-world`). Refused by 908, then by 909; out of memory comes last. A refusal changes
-    /// nothing, and hands the step back.
+    /// `apply` of the delivery (`docs/RULES.md#the-world`). Refused by 908, then by 909; out of memory comes last, and only
+    /// where something comes of the letter. A refusal changes nothing, and hands the step back.
     pub fn deliver_with(&mut self, number: u64, stepped: Stepped) -> Result<Outcome, Undelivered>
         requires step { IsStepWith self.old number (stepped_of stepped) }
-        ensures told { Follows (accepted_as self.new) undelivered_number IsOk (happens self.old (Deliver number)) result }
+        ensures told { Follows (accepted_as self.new) undelivered_number IsOkOfUse (happens self.old (Deliver number)) result }
         ensures numbered { IfErr result (λ undelivered. IsNumberedUnlessMemory undelivered.refusal) }
         ensures back { IfErr result (λ undelivered. undelivered.stepped ≡ stepped) }
         ensures unchanged { OnErr result (self.new ≡ self.old) }
@@ -51,7 +51,7 @@ impl World {
     fn follow_with(&mut self, number: u64, stepped: Stepped) -> Result<Outcome, Undelivered>
         requires step { IsStepWith self.old number (stepped_of stepped) }
         requires leaves { LeavesWorld (happens self.old (Deliver number)) }
-        ensures told { Follows (accepted_as self.new) undelivered_number IsOk (happens self.old (Deliver number)) result }
+        ensures told { Follows (accepted_as self.new) undelivered_number IsOkOfUse (happens self.old (Deliver number)) result }
         ensures numbered { IfErr result (λ undelivered. IsNumberedUnlessMemory undelivered.refusal) }
         ensures back { IfErr result (λ undelivered. undelivered.stepped ≡ stepped) }
         ensures unchanged { OnErr result (self.new ≡ self.old) }
@@ -68,7 +68,7 @@ impl World {
         requires room { self.old.accepted < self.old.settings.events }
         requires step { IsStepWith self.old number (stepped_of stepped) }
         requires leaves { LeavesWorld (deliver self.old number) }
-        ensures told { Follows (accepted_as self.new) undelivered_number IsOk (deliver self.old number) result }
+        ensures told { Follows (accepted_as self.new) undelivered_number IsOkOfUse (deliver self.old number) result }
         ensures numbered { IfErr result (λ undelivered. IsNumberedUnlessMemory undelivered.refusal) }
         ensures back { IfErr result (λ undelivered. undelivered.stepped ≡ stepped) }
         ensures unchanged { OnErr result (self.new ≡ self.old) }
@@ -84,6 +84,9 @@ impl World {
         let to = letter.to();
         let kind = letter.kind();
         drop(mailed);
+        if is_idle(kind, stepped.effect) {
+            return Ok(self.pass(number, kind, stepped.effect));
+        }
         let outcome = Outcome {
             happening: Happening::Delivered {
                 number,

@@ -7,6 +7,7 @@ mod delivering;
 mod join;
 mod leaving;
 mod nodes;
+mod passing;
 mod planned;
 mod posting;
 mod refusal;

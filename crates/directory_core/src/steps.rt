@@ -10,7 +10,7 @@ ghost use Rattle.directory_node.specs.Numbers.{step_refusal_number};
 ghost use Rattle.directory_node.specs.Planning.{Fits, changed, step_by};
 ghost use Rattle.cluster_events.specs.OutcomeModel.{happening_of, span_of as code_span};
 ghost use Rattle.std.specs.Option.{option_map, option_or};
-ghost use Rattle.directory_core.specs.Applying.{IsNever, IsOkOrFull, accepted_as};
+ghost use Rattle.directory_core.specs.Applying.{IsNever, IsOkOfUse, IsOkOrFull, accepted_as};
 ghost use Rattle.directory_core.specs.Numbers.{IsNumberedUnlessMemory, event_refusal_number};
 ghost use Rattle.directory_core.specs.Stepping.{IsOwn, after_step, letters_number};
 ghost use Rattle.directory_core.specs.Whole.{IsWorld, LeavesWorld};
@@ -19,7 +19,7 @@ use crate::posting::{carry_out_at, receive_at};
 use crate::{EventRefusal, World};
 use cluster_events::{Happening, Outcome, Span};
 use directory_letters::Letter;
-use directory_node::{Change, Input, Plan, StepRefusal};
+use directory_node::{Change, Input, Plan, StepRefusal, is_idle};
 use silo_address::SiloAddress;
 use std::alloc::{AllocError, Global};
 
@@ -172,12 +172,12 @@ impl World {
         }
     }
 
-    // A letter comes to its receiver: 905, 902, then 909.
+    // A letter comes to its receiver: 905, 902, then 909. Needs memory only where something comes of it.
     #[inline(never)]
     pub(crate) fn deliver(&mut self, number: u64) -> Result<Outcome, EventRefusal>
         requires room { self.old.accepted < self.old.settings.events }
         requires leaves { LeavesWorld (deliver self.old number) }
-        ensures told { Follows (accepted_as self.new) event_refusal_number IsOk (deliver self.old number) result }
+        ensures told { Follows (accepted_as self.new) event_refusal_number IsOkOfUse (deliver self.old number) result }
         ensures numbered { IfErr result IsNumberedUnlessMemory }
         ensures unchanged { OnErr result (self.new ≡ self.old) }
     {
@@ -195,6 +195,9 @@ impl World {
             return Err(self.refused_sending(node.answer_count(letter)));
         };
         drop(found);
+        if is_idle(kind, plan.effect) {
+            return Ok(self.pass(number, kind, plan.effect));
+        }
         if !self.has_room_for(&plan.letters) {
             return Err(EventRefusal::MailFull);
         }

@@ -1,5 +1,6 @@
 pub mod NodeModel
 pub mod SteppedModel
+pub mod Lacking
 pub use Rattle.node_plans.specs.Follows
 pub use Rattle.node_plans.specs.InputModel
 pub use Rattle.node_plans.specs.Numbers

@@ -5,6 +5,7 @@
 mod carrying;
 mod closing;
 mod gathering;
+mod idle;
 mod node;
 mod own_steps;
 mod recoveries;
@@ -16,6 +17,7 @@ mod sight;
 mod step;
 mod transfers;
 
+pub use idle::is_idle;
 pub use node::Node;
 pub use node_plans::{Change, Input, Plan, Sight, StepRefusal, Transition};
 pub use step::Stepped;

@@ -10,7 +10,7 @@ ghost use Rattle.node_plans.specs.Planning.{Fits, Sends, step_by};
 
 use crate::{Change, Node, Plan, StepRefusal};
 use directory_rules::{Act, Effect};
-use node_plans::hint_in;
+use node_plans::{forget, hint_in};
 use silo_address::{ActivationId, Entry, GrainId, SiloAddress};
 use std::alloc::{AllocError, Global};
 
@@ -110,6 +110,19 @@ impl Node {
                 Change::Forgets { grain, activation },
             ),
             None => Plan::idle(alloc, Effect::NothingCached(grain)),
+        }
+    }
+
+    /// The silo forgets what its cache has of a grain, at once: what `carry_out` makes of the plan to forget. Needs no memory.
+    pub fn forget(&mut self, grain: &GrainId) -> Effect
+        ensures { silently self.new result ≡ forget self.old grain.now }
+    {
+        match hint_in(&self.cache, grain) {
+            Some(activation) => {
+                forget(&mut self.cache, grain, &activation);
+                Effect::Forgot(*grain)
+            }
+            None => Effect::NothingCached(*grain),
         }
     }
 

@@ -75,7 +75,7 @@ impl Node {
         Ok(Report::new(self.view.version(), range, self.host.silo(), entries))
     }
 
-    // A report comes. It is answered by no letter.
+    // A report comes. It is answered by no letter, and needs memory only where it counts.
     pub(crate) fn plan_report(
         &self,
         alloc: Global,
@@ -85,6 +85,7 @@ impl Node {
         ensures planned { IfOk result (λ plan. step_by self.now plan ≡ reported self.now letter.now report.now) }
         ensures fits { IfOk result (λ plan. Fits plan.change self.now) }
         ensures none { length (reported self.now letter.now report.now).letters ≡ 0 }
+        ensures counts { OnErr result (¬ ((reported self.now letter.now report.now).effect ≡ Effect.Ignored)) }
     {
         if !self.is_report_awaited(letter, report) {
             return Ok(Plan::idle(alloc, Effect::Ignored));
@@ -97,16 +98,21 @@ impl Node {
         requires recovers { has_range is_recovering report.now.range (piece_at self.now report.now.range) ≡ true }
         ensures planned { IfOk result (λ plan. step_by self.now plan ≡ recovered_by (recovered (recovery_of self.now report.now.range) report.now) report.now.range self.now) }
         ensures fits { IfOk result (λ plan. Fits plan.change self.now) }
+        ensures counts { OnErr result (¬ ((recovered_by (recovered (recovery_of self.now report.now.range) report.now) report.now.range self.now).effect ≡ Effect.Ignored)) }
     {
         let Some(recovery) = self.recoveries.get(&report.range().start()) else {
             unreachable!()
         };
-        let effect = match recovery.judge(report) {
-            Ok(Progress::More) => Effect::More,
-            Ok(Progress::Complete) => Effect::Complete,
+        let progress = match recovery.judge(report) {
+            Ok(progress) => progress,
             Err(_) => return Ok(Plan::idle(alloc, Effect::Ignored)),
         };
-        Ok(Plan::silent(alloc, effect, Change::Counts(report.copy()?)))
+        let change = Change::Counts(report.copy()?);
+        let effect = match progress {
+            Progress::More => Effect::More,
+            Progress::Complete => Effect::Complete,
+        };
+        Ok(Plan::silent(alloc, effect, change))
     }
 
     // A report that counts is taken.

@@ -1,5 +1,5 @@
 ghost use Rattle.std.specs.Prelude.{◌≡◌, [], IfOk, IsOk, OnErr, Ok, length};
-ghost use Rattle.directory_rules.specs.Input.{step};
+ghost use Rattle.directory_rules.specs.Input.{Receives, step};
 ghost use Rattle.directory_rules.specs.Receive.{received};
 ghost use Rattle.directory_rules.specs.Reply.{replied};
 ghost use Rattle.directory_rules.specs.Step.{forget};
@@ -8,7 +8,8 @@ ghost use Rattle.node_plans.specs.Placed.{IsPlaced};
 ghost use Rattle.node_plans.specs.InputModel.{input_of};
 ghost use Rattle.node_plans.specs.Follows.{Follows};
 ghost use Rattle.node_plans.specs.Numbers.{step_refusal_number};
-ghost use Rattle.node_plans.specs.Planning.{Excuses, Fits, Sends, answer_count, changed, step_by};
+ghost use Rattle.node_plans.specs.Planning.{Fits, answer_count, changed, step_by};
+ghost use Rattle.directory_node.specs.Lacking.{Counts, MayLackMemory};
 ghost use Rattle.directory_node.specs.SteppedModel.{stepped_of};
 
 use crate::{Change, Input, Node, Plan, StepRefusal};
@@ -83,10 +84,10 @@ impl Node {
 
     /// The silo's step with an input, as a plan: what it sends and does, and the change that `carry_out` then makes. Refused
     /// as the rule says of each input (`docs/RULES.md#the-world`). Out of memory comes only at an input that isn't refused:
-    /// where letters are sent, at a report that counts, and at a sight.
+    /// where letters are sent, at a report that counts, and at a sight; never at a letter of which nothing comes.
     pub fn plan(&self, alloc: Global, input: &Input<'_>) -> Result<Plan, StepRefusal>
         requires placed { IsPlaced self.now (input_of input.now) }
-        ensures planned { Follows (step_by self.now) step_refusal_number (Excuses self.now (input_of input.now)) (step self.now (input_of input.now)) result }
+        ensures planned { Follows (step_by self.now) step_refusal_number (MayLackMemory self.now (input_of input.now)) (step self.now (input_of input.now)) result }
         ensures fits { IfOk result (λ plan. Fits plan.change self.now) }
     {
         match input {
@@ -116,7 +117,7 @@ impl Node {
 
     // A letter comes, which is never refused.
     fn plan_receipt(&self, alloc: Global, letter: &Letter) -> Result<Plan, StepRefusal>
-        ensures planned { Follows (step_by self.now) step_refusal_number (Sends (answer_count self.now letter.now.body)) (Ok (received self.now letter.now)) result }
+        ensures planned { Follows (step_by self.now) step_refusal_number (MayLackMemory self.now (Receives letter.now)) (Ok (received self.now letter.now)) result }
         ensures fits { IfOk result (λ plan. Fits plan.change self.now) }
     {
         match self.plan_letter(alloc, letter) {
@@ -127,11 +128,12 @@ impl Node {
 
     /// The silo's step with a letter that comes, which is never refused, as a plan: what `plan` makes of that input
     /// (`docs/RULES.md#the-world`). Out of memory comes only where letters are sent, as many as `answer_count` says, and at a
-    /// report that counts.
+    /// report that counts: never at a letter that is ignored.
     pub fn plan_letter(&self, alloc: Global, letter: &Letter) -> Result<Plan, AllocError>
         ensures planned { IfOk result (λ plan. step_by self.now plan ≡ received self.now letter.now) }
         ensures fits { IfOk result (λ plan. Fits plan.change self.now) }
         ensures answers { OnErr result (length (received self.now letter.now).letters ≡ answer_count self.now letter.now.body) }
+        ensures counts { OnErr result (Counts self.now letter.now) }
     {
         match letter.body() {
             Body::Request(request) => self.plan_request(alloc, letter, request),

@@ -197,6 +197,7 @@ impl Node {
         ensures planned { IfOk result (λ plan. step_by self.now plan ≡ missing self.now letter.now range) }
         ensures fits { IfOk result (λ plan. Fits plan.change self.now) }
         ensures members { OnErr result (length (missing self.now letter.now range).letters ≡ answer_count self.now (Missing_letter range)) }
+        ensures counts { OnErr result (¬ ((missing self.now letter.now range).effect ≡ Effect.Ignored)) }
     {
         if !self.awaits(letter.version(), range, letter.from()) {
             return Ok(Plan::idle(alloc, Effect::Ignored));

@@ -1,9 +1,13 @@
 ghost use Rattle.std.specs.Prelude.{◌≡◌, IsOk, OnErr};
 ghost use Rattle.directory_rules.specs.Input.{Wakes, Closes, Finds, Forgets, Nudges, Offers};
+ghost use Rattle.directory_rules.specs.Letter.{kind_of};
 ghost use Rattle.directory_node.specs.Follows.{Follows};
+ghost use Rattle.directory_node.specs.Lacking.{MayLackMemory};
 ghost use Rattle.directory_silo.specs.AnswerModel.{stepped_as};
 ghost use Rattle.directory_silo.specs.Numbers.{silo_refusal_number};
 ghost use Rattle.silo_rules.specs.Stepping.{does, receives};
+ghost use Rattle.directory_silo.specs.Heeding.{IsHeeded};
+ghost use Rattle.silo_rules.specs.Telling.{IsNever};
 
 use crate::{Answer, Silo, SiloRefusal};
 use directory_letters::Letter;
@@ -44,13 +48,18 @@ impl Silo {
         self.does(&Input::Finds(grain))
     }
 
-    /// What the cache has of the grain is forgotten. Refused by 901, 902 (`docs/RULES.md#the-world`).
+    /// What the cache has of the grain is forgotten. Refused by 901, 902 (`docs/RULES.md#the-world`). Needs no memory.
     pub fn forget(&mut self, grain: &GrainId) -> Result<Answer, SiloRefusal>
-        ensures told { Follows (stepped_as self.new) silo_refusal_number IsOk (does self.old (Forgets grain.now)) result }
+        ensures told { Follows (stepped_as self.new) silo_refusal_number IsNever (does self.old (Forgets grain.now)) result }
         ensures membership { self.new.membership ≡ self.old.membership }
         ensures unchanged { OnErr result (self.new ≡ self.old) }
     {
-        self.does(&Input::Forgets(grain))
+        self.may_step()?;
+        let effect = self.node.forget(grain);
+        Ok(Answer {
+            letters: Vec::new(self.alloc),
+            effect,
+        })
     }
 
     /// The grain's firm activation begins to close, and is offered to another silo: its work has to have ended. Refused by 901, 902,
@@ -64,19 +73,27 @@ impl Silo {
     }
 
     /// All that is outstanding is sent again. Whoever may lose letters nudges from time to time. Refused by 901, 902, 805
-    /// (`docs/RULES.md#the-world`).
+    /// (`docs/RULES.md#the-world`). Needs memory only where the node waits for something.
     pub fn nudge(&mut self) -> Result<Answer, SiloRefusal>
-        ensures told { Follows (stepped_as self.new) silo_refusal_number IsOk (does self.old Nudges) result }
+        ensures told { Follows (stepped_as self.new) silo_refusal_number (MayLackMemory self.old.node Nudges) (does self.old Nudges) result }
         ensures membership { self.new.membership ≡ self.old.membership }
         ensures unchanged { OnErr result (self.new ≡ self.old) }
     {
-        self.does(&Input::Nudges)
+        self.may_step()?;
+        let plan = match self.node.plan(self.alloc, &Input::Nudges) {
+            Ok(plan) => plan,
+            Err(refusal) => return Err(SiloRefusal::of_node(refusal)),
+        };
+        if self.node.is_quiet() {
+            return Ok(self.pass(plan));
+        }
+        self.take(plan)
     }
 
     /// A letter comes: late, again, or in any order. One to another silo is ignored. Refused by 901, 902 alone
-    /// (`docs/RULES.md#letters`).
+    /// (`docs/RULES.md#letters`). Needs memory only where something comes of the letter.
     pub fn receive(&mut self, letter: &Letter) -> Result<Answer, SiloRefusal>
-        ensures told { Follows (stepped_as self.new) silo_refusal_number IsOk (receives self.old letter.now) result }
+        ensures told { Follows (stepped_as self.new) silo_refusal_number (IsHeeded (kind_of letter.now.body)) (receives self.old letter.now) result }
         ensures membership { self.new.membership ≡ self.old.membership }
         ensures unchanged { OnErr result (self.new ≡ self.old) }
     {
@@ -86,6 +103,6 @@ impl Silo {
                 effect: Effect::Ignored,
             });
         }
-        self.does(&Input::Receives(letter))
+        self.hear(letter)
     }
 }

@@ -1,5 +1,5 @@
 -- A step in two parts: a plan, which says what is sent and done, and the change that it makes of the node.
-use Rattle.std.specs.Prelude.{◌≡◌, ℕ, ◌^◌, ◌<◌, ◌≤◌, ◌++◌, List, true, IsTrue, IsOk, IsOkAnd, IsSomeAnd, length, [], Option, Some, None, Result, Ok}
+use Rattle.std.specs.Prelude.{◌≡◌, ℕ, ◌^◌, ◌<◌, ◌≤◌, ◌++◌, List, true, IsTrue, IsOkAnd, IsSomeAnd, length, [], Option, Some, None, Result, Ok}
 use Rattle.std.specs.Map.{remove_entry}
 use Rattle.std.specs.BTreeMap.{is_at}
 use Rattle.std.specs.Ordering.{nat_cmp}
@@ -10,7 +10,6 @@ use Rattle.directory_rules.specs.declared.PieceState.TheVariants.{Recovering}
 use Rattle.directory_rules.specs.Cache.{cache_seeing, learnt, without_pair}
 use Rattle.directory_rules.specs.Gathering.{gathered, new_gathering, with_page}
 use Rattle.directory_rules.specs.Host.{asking_under, closing_under, has_numbers, held_of, is_firm, outstanding, renewed, with_find, with_started, without_find, without_held}
-use Rattle.directory_rules.specs.Input as rule
 use Rattle.directory_rules.specs.Letter.{Body, Request_letter, Reply_letter, Ask_letter, Page_letter, Missing_letter, Done_letter, Query_letter, Report_letter, Behind_letter, Ahead_letter, Offer_letter}
 use Rattle.directory_rules.specs.Node.{Node}
 use Rattle.directory_rules.specs.Membership.{members_of}
@@ -167,15 +166,3 @@ answer_count node (Offer_letter entry) = 1
 -- the step isn't refused, and sends so many letters
 abbrev pub Sends : ℕ → Result Stepped ℕ → Type 0
 Sends count outcome = IsOkAnd outcome (λ stepped. length stepped.letters ≡ count)
-
--- where a plan may run out of memory: at an input that isn't refused; and but for a sight and a nudge only where a known number
--- of letters is sent
-abbrev pub Excuses : Node → rule.Input → Result Stepped ℕ → Type 0
-Excuses node (rule.Sees before view places) outcome = IsOk outcome
-Excuses node (rule.Wakes grain) outcome = Sends 1 outcome
-Excuses node (rule.Closes grain) outcome = Sends 1 outcome
-Excuses node (rule.Finds grain) outcome = Sends 1 outcome
-Excuses node (rule.Forgets grain) outcome = Sends 1 outcome
-Excuses node rule.Nudges outcome = IsOk outcome
-Excuses node (rule.Offers grain to) outcome = Sends 1 outcome
-Excuses node (rule.Receives letter) outcome = Sends (answer_count node letter.body) outcome

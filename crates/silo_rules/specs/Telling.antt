@@ -38,5 +38,5 @@ abbrev pub MakesVersion : Membership → (version : ℕ) → Result Heard ℕ �
 MakesVersion m version outcome = (m.views.version < version) × IsOk outcome
 
 -- no outcome
-abbrev pub IsNever : Result Heard ℕ → Type 0
+abbrev pub IsNever : {A : Type 0} → Result A ℕ → Type 0
 IsNever outcome = ⊥
