@@ -4,8 +4,8 @@ ghost use Rattle.dump_rules.specs.Judged.{judged_text};
 ghost use Rattle.console_check.specs.Checks.{Checks, MakesCalls, Tells, WritesSaid};
 
 use crate::Checked;
+use crate::judging::judge;
 use crate::reading::{Unread, read_all};
-use rebuild_checker::{Judgement, judge};
 use script_loop::{Sink, Source, send};
 use std::alloc::Global;
 
@@ -29,17 +29,12 @@ fn tell<W: Sink>(alloc: Global, bytes: &[u8], writer: &mut W) -> Checked
     ensures tells { Tells bytes.now (W.contents writer.old) (W.contents writer.new) result }
     ensures calls { WritesSaid W.writes (judged_text bytes.now).text writer.old writer.new result }
 {
-    let Ok(judgement) = judge(alloc, bytes) else {
+    let Ok((text, checked)) = judge(alloc, bytes) else {
         return Checked::OutOfMemory;
     };
-    let Ok(text) = judgement.text(alloc) else {
-        return Checked::OutOfMemory;
-    };
-    if !send(writer, text.as_bytes()) {
-        return Checked::Broken;
-    }
-    match judgement {
-        Judgement::Right => Checked::Right,
-        Judgement::Faulty(_) | Judgement::NotJson | Judgement::NotADump => Checked::Faulty,
+    if send(writer, text.as_bytes()) {
+        checked
+    } else {
+        Checked::Broken
     }
 }

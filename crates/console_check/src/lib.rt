@@ -3,6 +3,7 @@
 
 mod checked;
 mod checking;
+mod judging;
 mod reading;
 
 pub use checked::Checked;

@@ -11,7 +11,7 @@ ghost use Rattle.script_output.specs.Spaced.{BeginsWith};
 ghost use Rattle.console_play.specs.Performing.{Performs, in_session};
 
 use directory_core::World;
-use rebuild_checker::{judged_text, write_dump};
+use rebuild_checker::{check, verdict_text, write_dump};
 use std::alloc::{AllocError, Global};
 use world_dump::{dump, is_right};
 
@@ -36,7 +36,7 @@ pub(crate) fn tell_verdict(
 {
     is_right(world);
     let dump = dump(alloc, world)?;
-    let text = judged_text(alloc, &dump)?;
+    let text = verdict_text(alloc, &check(alloc, &dump))?;
     out.extend_from_slice(text.as_bytes())?;
     Ok(())
 }

@@ -10,8 +10,8 @@ pub enum ReadError {
     /// The bytes are not UTF-8, or not one JSON value nested at most 127 deep.
     #[error("a dump is one JSON value, nested at most 127 deep")]
     NotJson,
-    /// The value tells no dump.
-    #[error("a member is missing, unknown, of another type or unreadable")]
+    /// The value tells no lists of a dump, or lists that are none.
+    #[error("no dump: a member is missing, unknown, of another type, unreadable or against the rules of dumps")]
     NotADump,
     /// Memory ran out.
     #[error("out of memory")]

@@ -1,3 +1,4 @@
+pub mod AnswerLines
 pub mod Apart
 pub mod Counts
 pub mod Covered

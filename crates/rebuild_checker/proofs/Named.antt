@@ -50,7 +50,7 @@ pub named_alike : (one other : Named) → is_eq (named_cmp other one) ≡ true �
 named_alike one other ties = (Decides-entry (entry_named one) (entry_named other)).0 (sym (tied_as_entry one other ∙ entry_tie (entry_named one) (entry_named other)) ∙ ties)
 
 -- ---- Whether one is among them.
-or_so : (b t : Bool) → t ≡ true → (b || t) ≡ true
+pub or_so : (b t : Bool) → t ≡ true → (b || t) ≡ true
 or_so true t is = refl
 or_so false t is = is
 

@@ -8,7 +8,7 @@ use Rattle.dump_rules.specs.Dump.{DumpValue}
 use Rattle.dump_rules.specs.DumpIn.{dump_in}
 use Rattle.dump_rules.specs.Judged.{value_in}
 use Rattle.dump_lists.specs.Reading.{IsReading}
-use Rattle.rebuild_checker.specs.Told.{told, told_lists, told_value}
+use Rattle.rebuild_checker.specs.Told.{lists_told, told_lists, told_value}
 use Rattle.dump_lists.specs.declared.error.ReadError.{ReadError}
 use Rattle.dump_lists.specs.declared.error.ReadError.TheVariants.{NotJson, NotADump, OutOfMemory}
 
@@ -17,7 +17,7 @@ pub value_told : (bytes : List ℕ) (value : Data) → IsUtf8 bytes → read byt
 value_told bytes value text is = ap (λ t. cond t (read bytes) None) (is_utf8-from_IsUtf8 bytes text) ∙ is
 
 pub dump_told : (result : Result DumpValue ReadError) (bytes : List ℕ) (value : Data)
-    → value_in bytes ≡ Some value → IsReading result (dump_in value) → (result ≡ Err OutOfMemory) ⊎ (result ≡ told bytes)
+    → value_in bytes ≡ Some value → IsReading result (dump_in value) → (result ≡ Err OutOfMemory) ⊎ (result ≡ lists_told bytes)
 dump_told (Ok dump) bytes value is reads = inr (sym (ap told_value is ∙ ap told_lists reads))
 dump_told (Err NotJson) bytes value is reads = absurd reads
 dump_told (Err NotADump) bytes value is reads = inr (sym (ap told_value is ∙ ap told_lists reads))
@@ -26,7 +26,7 @@ dump_told (Err OutOfMemory) bytes value is reads = inl refl
 -- bytes that tell none
 pub nothing_told : (error : ReadError) (bytes : List ℕ) (memory : Type 0)
     → (error ≡ OutOfMemory) ⊎ ((error ≡ NotJson) × ¬ memory) → (¬ memory → IsUtf8 bytes → read bytes ≡ None)
-    → let result : Result DumpValue ReadError = Err error in (result ≡ Err OutOfMemory) ⊎ (result ≡ told bytes)
+    → let result : Result DumpValue ReadError = Err error in (result ≡ Err OutOfMemory) ⊎ (result ≡ lists_told bytes)
 nothing_told error bytes memory (inl out) none = inl (ap (λ e. Err e) out)
 nothing_told error bytes memory (inr (is, other)) none = inr (ap (λ e. Err e) is ∙ sym (ap told_value (by (is_utf8 bytes) refl)))
   where
@@ -36,6 +36,6 @@ nothing_told error bytes memory (inr (is, other)) none = inr (ap (λ e. Err e) i
 
 -- a dump that was read straight from bytes that are a text
 pub straight_told : (result : Result DumpValue ReadError) (bytes text : List ℕ) → text ≡ bytes → IsUtf8 bytes
-    → IfOk result (λ dump. (value : Data) × (read text ≡ Some value) × (dump_in value ≡ Some dump)) → IfOk result (λ dump. told bytes ≡ Ok dump)
+    → IfOk result (λ dump. (value : Data) × (read text ≡ Some value) × (dump_in value ≡ Some dump)) → IfOk result (λ dump. lists_told bytes ≡ Ok dump)
 straight_told (Ok dump) bytes text same is one = ap told_value (value_told bytes one.0 is (ap read (sym same) ∙ one.1)) ∙ ap told_lists one.2
 straight_told (Err error) bytes text same is one = tt

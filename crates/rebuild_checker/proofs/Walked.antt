@@ -15,7 +15,7 @@ use Rattle.dump_rules.specs.Verdict.{entry_of_held, is_entry_among}
 use Rattle.rebuild_checker.specs.Lent.{held_lent}
 use Rattle.rebuild_checker.specs.Named.{Named, entry_named, named_apart_from, named_cmp}
 use Rattle.rebuild_checker.specs.Tallies.{count_below, count_up_to}
-use Rattle.rebuild_checker.proofs.Named.{alike_between}
+use Rattle.rebuild_checker.proofs.Named.{alike_between, or_so}
 
 -- ---- What fails a test may be left out.
 left_out : {X : Type 0} (p : X → Bool) (xs : List X) (done from next : ℕ) → done ≤ next → from ≤ next
@@ -60,10 +60,6 @@ put_behind (Ok done) entered before after from to low is =
 put_behind (Err failed) entered before after from to low is = tt
 
 -- ---- An activation's entries.
-or_so : (b t : Bool) → t ≡ true → (b || t) ≡ true
-or_so true t is = refl
-or_so false t is = is
-
 among_held : (activations : List (Bor DumpHeld)) (index : ℕ) (held : Bor DumpHeld) → index < length activations → held ≡ get_or activations index held
     → is_entry_among (map entry_of_held (held_lent activations)) (entry_of_held held.now) ≡ true
 among_held [] index held within is = absurd (omega (arith, within))

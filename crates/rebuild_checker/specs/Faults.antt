@@ -1,41 +1,39 @@
--- Faults of the code as those of the verdict, and judgements as what is printed of them.
-use Rattle.std.specs.Prelude.{ℕ, List, [], ◌∷◌, ◌++◌, codes, Some, None}
-use Rattle.std.specs.Fmt.{decimal}
-use Rattle.texts.specs.Printed.{Output, text_of_lines}
-use Rattle.texts.specs.Words.{sentence, space}
+-- What a check answers, as the verdict has it, and what is printed of it.
+use Rattle.std.specs.Prelude.{◌≡◌, ℕ, List, [], ◌∷◌, ◌++◌, codes, Option, Some, None, Result, Ok, Err, ⊤}
+use Rattle.silo_address.specs.SiloText.{silo_text}
+use Rattle.silo_address.specs.Grain.{grain_text}
+use Rattle.texts.specs.Printed.{text_of_lines}
 use Rattle.dump_rules.specs.Verdict as rule
-use Rattle.dump_rules.specs.Verdict.{DumpFault, fault_number, fault_subject, verdict_line}
-use Rattle.rebuild_checker.specs.declared.fault.Fault.{Fault}
-use Rattle.rebuild_checker.specs.declared.fault.Fault.TheVariants.{RingDiffers, WrongRange, TwoFirm, MissingFirm, Stranger}
-use Rattle.rebuild_checker.specs.declared.judgement.Judgement.{Judgement}
-use Rattle.rebuild_checker.specs.declared.judgement.Judgement.TheVariants.{Right, Faulty, NotJson, NotADump}
+use Rattle.dump_rules.specs.Verdict.{DumpFault, verdict_line}
+use Rattle.rebuild_checker.specs.declared.check_fault.CheckFault.{CheckFault}
+use Rattle.rebuild_checker.specs.declared.check_fault.CheckFault.TheVariants.{RingDiffers, WrongRange, TwoFirm, MissingFirm, Stranger, OutOfMemory}
 
--- the fault that the verdict names
-abbrev pub fault_of : Fault → DumpFault
-fault_of (RingDiffers silo) = rule.RingDiffers silo
-fault_of (WrongRange silo) = rule.WrongRange silo
-fault_of (TwoFirm grain) = rule.TwoFirm grain
-fault_of (MissingFirm grain) = rule.MissingFirm grain
-fault_of (Stranger grain) = rule.Stranger grain
+-- the fault that the verdict names; none where memory ran out
+abbrev pub fault_of : CheckFault → Option DumpFault
+fault_of (RingDiffers silo) = Some (rule.RingDiffers silo)
+fault_of (WrongRange silo) = Some (rule.WrongRange silo)
+fault_of (TwoFirm grain) = Some (rule.TwoFirm grain)
+fault_of (MissingFirm grain) = Some (rule.MissingFirm grain)
+fault_of (Stranger grain) = Some (rule.Stranger grain)
+fault_of OutOfMemory = None
 
 -- its number, and the silo or the grain
-abbrev pub fault_text : Fault → List ℕ
-fault_text fault = decimal (fault_number (fault_of fault)) ++ space ∷ fault_subject (fault_of fault)
+abbrev pub fault_text : CheckFault → List ℕ
+fault_text (RingDiffers silo) = codes "973 " ++ silo_text silo
+fault_text (WrongRange silo) = codes "977 " ++ silo_text silo
+fault_text (TwoFirm grain) = codes "976 " ++ grain_text grain
+fault_text (MissingFirm grain) = codes "974 " ++ grain_text grain
+fault_text (Stranger grain) = codes "975 " ++ grain_text grain
+fault_text OutOfMemory = codes "out of memory"
 
--- the line of a judgement
-abbrev pub judgement_line : Judgement → List ℕ
-judgement_line Right = verdict_line None
-judgement_line (Faulty fault) = verdict_line (Some (fault_of fault))
-judgement_line NotJson = sentence (codes "check" ∷ decimal 971 ∷ [])
-judgement_line NotADump = sentence (codes "check" ∷ decimal 972 ∷ [])
+-- a check answers by the verdict, unless memory ran out
+abbrev pub Answers : Result Unit CheckFault → Option DumpFault → Type 0
+Answers (Ok done) verdict = verdict ≡ None
+Answers (Err OutOfMemory) verdict = ⊤
+Answers (Err fault) verdict = verdict ≡ fault_of fault
 
--- its status: 0 only where all is right
-abbrev pub judgement_status : Judgement → ℕ
-judgement_status Right = 0
-judgement_status (Faulty fault) = 1
-judgement_status NotJson = 1
-judgement_status NotADump = 1
-
--- all that is printed of it
-abbrev pub judgement_output : Judgement → Output
-judgement_output judgement = record { text = text_of_lines (judgement_line judgement ∷ []); status = judgement_status judgement }
+-- the text is the line of that answer, with its line feed; there is none where memory ran out
+abbrev pub IsLineOf : Result Unit CheckFault → List ℕ → Type 0
+IsLineOf (Ok done) text = text ≡ text_of_lines (verdict_line None ∷ [])
+IsLineOf (Err OutOfMemory) text = ⊥
+IsLineOf (Err fault) text = text ≡ text_of_lines (verdict_line (fault_of fault) ∷ [])

@@ -1,22 +1,32 @@
 -- The dump that bytes tell, as it is read.
-use Rattle.std.specs.Prelude.{ℕ, List, Option, Some, None, Result, Ok, Err}
+use Rattle.std.specs.Prelude.{ℕ, if◌then◌else◌, List, Option, Some, None, Result, Ok, Err}
 use Rattle.serde_json.specs.Data.{Data}
 use Rattle.dump_rules.specs.Dump.{DumpValue}
 use Rattle.dump_rules.specs.DumpIn.{dump_in}
+use Rattle.dump_rules.specs.DumpShape.{is_dump}
 use Rattle.dump_rules.specs.Judged.{value_in}
 use Rattle.dump_lists.specs.declared.error.ReadError.{ReadError}
 use Rattle.dump_lists.specs.declared.error.ReadError.TheVariants.{NotJson, NotADump}
 
--- the dump that a value tells, if it does
+-- the lists that a value tells, if it does
 abbrev pub told_lists : Option DumpValue → Result DumpValue ReadError
 told_lists None = Err NotADump
 told_lists (Some dump) = Ok dump
 
--- the dump of the value that bytes tell, if they do
+-- the lists of the value that bytes tell, if they do
 abbrev pub told_value : Option Data → Result DumpValue ReadError
 told_value None = Err NotJson
 told_value (Some value) = told_lists (dump_in value)
 
+-- the lists that bytes tell
+abbrev pub lists_told : List ℕ → Result DumpValue ReadError
+lists_told bytes = told_value (value_in bytes)
+
+-- lists that were read, if they are a dump
+abbrev pub if_a_dump : Result DumpValue ReadError → Result DumpValue ReadError
+if_a_dump (Ok dump) = if is_dump dump then Ok dump else Err NotADump
+if_a_dump (Err error) = Err error
+
 -- the dump that bytes tell
 abbrev pub told : List ℕ → Result DumpValue ReadError
-told bytes = told_value (value_in bytes)
+told bytes = if_a_dump (lists_told bytes)

@@ -3,15 +3,14 @@
 //! `docs/RULES.md#the-dump-and-the-verdict`.
 #![tactic(auto)]
 
+mod check_fault;
 mod cover;
 mod current;
 mod entered;
 mod entries;
-mod fault;
 mod firm;
+mod first_fault;
 mod index;
-mod judgement;
-mod judging;
 mod least;
 mod living;
 mod nodes;
@@ -20,12 +19,15 @@ mod ranges;
 mod reading;
 mod rings;
 mod strangers;
+mod text;
 mod two_firm;
-mod verdict;
 
+pub use check_fault::CheckFault;
+pub use dump_lists::{
+    Dump, Entry, Held, LentGrain, ListedPoint, Node, Phase, Piece, ReadError, Row, State,
+};
 pub use dump_reader::is_dump;
 pub use dump_writer::write_dump;
-pub use fault::Fault;
-pub use judgement::Judgement;
-pub use judging::{judge, judge_dump, judged_text};
+pub use first_fault::check;
 pub use reading::read_dump;
+pub use text::verdict_text;

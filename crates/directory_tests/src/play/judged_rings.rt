@@ -1,25 +1,25 @@
 //! Rings and pieces judged, of dumps that were worked out without this code.
-use rebuild_checker::judge;
+use rebuild_checker::{check, read_dump, verdict_text};
 use std::alloc::Global;
 use std::process::Abort;
 
 // Whether this is what is said of the bytes.
 fn is_judged(rt: &impl Abort, alloc: Global, text: &str, line: &str) -> bool {
-    let judgement = judge(alloc, text.as_bytes()).expect(rt, "memory");
-    let said = judgement.to_string(alloc).expect(rt, "memory");
+    let dump = read_dump(alloc, text.as_bytes()).expect(rt, text);
+    let said = verdict_text(alloc, &check(alloc, &dump)).expect(rt, "memory");
     said.as_str() == line
 }
 
 #[test]
 fn rings_and_pieces(rt: HostRuntime) {
     let table: [(&str, &str); 7] = [
-        (HASHED, "check ok"),
-        (VERSIONS, "check ok"),
-        (TURNED_RING, "check 973 10.0.0.1:1000@1"),
-        (SHARED_PLACES, "check ok"),
-        (MORE, "check 977 10.0.0.2:1000@1"),
-        (OUTSIDE, "check 977 10.0.0.1:1000@1"),
-        (GRAIN_TWICE, "check 977 10.0.0.1:1000@1"),
+        (HASHED, "check ok\n"),
+        (VERSIONS, "check ok\n"),
+        (TURNED_RING, "check 973 10.0.0.1:1000@1\n"),
+        (SHARED_PLACES, "check ok\n"),
+        (MORE, "check 977 10.0.0.2:1000@1\n"),
+        (OUTSIDE, "check 977 10.0.0.1:1000@1\n"),
+        (GRAIN_TWICE, "check 977 10.0.0.1:1000@1\n"),
     ];
     for (text, line) in table {
         assert!(rt; is_judged(&rt, rt.alloc(), text, line), "{line}");

@@ -1,5 +1,5 @@
-//! Dumps read from bytes, tested, and written again.
-use rebuild_checker::{is_dump, read_dump, write_dump};
+//! Dumps read from bytes, and written again.
+use rebuild_checker::{read_dump, write_dump};
 use std::alloc::Global;
 use std::process::Abort;
 
@@ -22,10 +22,7 @@ const HASHED: &str =
 // The number by which the bytes are refused.
 fn refusal(rt: &impl Abort, alloc: Global, text: &str) -> Option<u16> {
     match read_dump(alloc, text.as_bytes()) {
-        Ok(dump) => {
-            let answer = is_dump(alloc, &dump).expect(rt, "memory");
-            if answer { None } else { Some(972) }
-        }
+        Ok(_) => None,
         Err(error) => error.number(),
     }
 }

@@ -1,47 +1,30 @@
-//! Dumps judged: the line that is printed of each, and the status.
-use rebuild_checker::{judge, judge_dump, read_dump};
+//! Dumps checked: the line that is printed of each, and the number.
+use rebuild_checker::{check, read_dump, verdict_text};
 use std::alloc::Global;
 use std::process::Abort;
 
-// Whether this is what is said of the bytes.
-fn is_judged(rt: &impl Abort, alloc: Global, text: &str, line: &str, status: u8) -> bool {
-    let judgement = judge(alloc, text.as_bytes()).expect(rt, "memory");
-    let said = judgement.to_string(alloc).expect(rt, "memory");
-    said.as_str() == line && judgement.status() == status
-}
-
-// Whether this is what is said of the lists that the bytes tell.
-fn are_judged(rt: &impl Abort, alloc: Global, text: &str, line: &str) -> bool {
+// Whether the bytes tell a dump of which this is said, with the number of its fault.
+fn is_judged(rt: &impl Abort, alloc: Global, text: &str, line: &str, number: Option<u16>) -> bool {
     let dump = read_dump(alloc, text.as_bytes()).expect(rt, text);
-    let judgement = judge_dump(alloc, &dump).expect(rt, "memory");
-    let said = judgement.to_string(alloc).expect(rt, "memory");
-    said.as_str() == line
+    let answer = check(alloc, &dump);
+    let said = verdict_text(alloc, &answer).expect(rt, "memory");
+    said.as_str() == line && answer.err().and_then(|fault| fault.number()) == number
 }
 
 #[test]
 fn worked_dumps(rt: HostRuntime) {
-    let table: [(&str, &str, u8); 11] = [
-        (OK, "check ok", 0),
-        (OTHER_RING, "check 973 10.0.0.1:1000@1", 1),
-        (OTHER_RANGE, "check 977 10.0.0.1:1000@1", 1),
-        (TWO_FIRM, "check 976 user/z#1", 1),
-        (MISSING_FIRM, "check 974 user/z#1", 1),
-        (STRANGER, "check 975 user/z#1", 1),
-        (ASKING, "check ok", 0),
-        (OF_THE_DEAD, "check ok", 0),
-        (UNMADE_VERSION, "check 972", 1),
-        (MORE_MEMBERS, "check 972", 1),
-        (CUT, "check 971", 1),
+    let table: [(&str, &str, Option<u16>); 8] = [
+        (OK, "check ok\n", None),
+        (OTHER_RING, "check 973 10.0.0.1:1000@1\n", Some(973)),
+        (OTHER_RANGE, "check 977 10.0.0.1:1000@1\n", Some(977)),
+        (TWO_FIRM, "check 976 user/z#1\n", Some(976)),
+        (MISSING_FIRM, "check 974 user/z#1\n", Some(974)),
+        (STRANGER, "check 975 user/z#1\n", Some(975)),
+        (ASKING, "check ok\n", None),
+        (OF_THE_DEAD, "check ok\n", None),
     ];
-    for (text, line, status) in table {
-        assert!(rt; is_judged(&rt, rt.alloc(), text, line, status), "{line}");
-    }
-}
-
-#[test]
-fn lists(rt: HostRuntime) {
-    for (text, line) in [(OK, "check ok"), (UNMADE_VERSION, "check 972")] {
-        assert!(rt; are_judged(&rt, rt.alloc(), text, line), "{line}");
+    for (text, line, number) in table {
+        assert!(rt; is_judged(&rt, rt.alloc(), text, line, number), "{line}");
     }
 }
 
@@ -76,15 +59,3 @@ const ASKING: &str =
 /// What is wrong is on a silo that is Dead.
 const OF_THE_DEAD: &str =
     "{\"current\":3,\"hashing\":\"stated\",\"nodes\":[{\"held\":[{\"activation\":\"10.0.0.1:1000@1!1\",\"grain\":\"user/z#1\",\"phase\":\"firm\"}],\"pieces\":[{\"entries\":[[\"user/z#1\",\"10.0.0.1:1000@1!1\"]],\"from\":\"\",\"range\":\"0+2147483648\",\"state\":\"settled\"},{\"entries\":[],\"from\":\"\",\"range\":\"2147483648+2147483648\",\"state\":\"settled\"}],\"ring\":[[0,\"10.0.0.1:1000@1\",0]],\"seen\":3,\"silo\":\"10.0.0.1:1000@1\"},{\"held\":[{\"activation\":\"10.0.0.2:1000@1!1\",\"grain\":\"user/z#1\",\"phase\":\"firm\"}],\"pieces\":[{\"entries\":[],\"from\":\"\",\"range\":\"2147483648+2147483648\",\"state\":\"settled\"}],\"ring\":[[0,\"10.0.0.1:1000@1\",0],[2147483648,\"10.0.0.2:1000@1\",0]],\"seen\":2,\"silo\":\"10.0.0.2:1000@1\"}],\"points\":30,\"rows\":[{\"dead\":0,\"joined\":1,\"left\":0,\"places\":[0],\"silo\":\"10.0.0.1:1000@1\"},{\"dead\":3,\"joined\":2,\"left\":0,\"places\":[2147483648],\"silo\":\"10.0.0.2:1000@1\"}]}";
-
-/// A silo has seen a version that isn't made.
-const UNMADE_VERSION: &str =
-    "{\"current\":1,\"hashing\":\"stated\",\"nodes\":[{\"held\":[],\"pieces\":[{\"entries\":[],\"from\":\"\",\"range\":\"0+4294967296\",\"state\":\"settled\"}],\"ring\":[[0,\"10.0.0.1:1000@1\",0]],\"seen\":2,\"silo\":\"10.0.0.1:1000@1\"}],\"points\":30,\"rows\":[{\"dead\":0,\"joined\":1,\"left\":0,\"places\":[0],\"silo\":\"10.0.0.1:1000@1\"}]}";
-
-/// A member that no dump has.
-const MORE_MEMBERS: &str =
-    "{\"current\":1,\"hashing\":\"stated\",\"nodes\":[{\"held\":[],\"pieces\":[{\"entries\":[],\"from\":\"\",\"range\":\"0+4294967296\",\"state\":\"settled\"}],\"ring\":[[0,\"10.0.0.1:1000@1\",0]],\"seen\":1,\"silo\":\"10.0.0.1:1000@1\"}],\"extra\":0,\"points\":30,\"rows\":[{\"dead\":0,\"joined\":1,\"left\":0,\"places\":[0],\"silo\":\"10.0.0.1:1000@1\"}]}";
-
-/// It lacks its last brace.
-const CUT: &str =
-    "{\"current\":1,\"hashing\":\"stated\",\"nodes\":[{\"held\":[],\"pieces\":[{\"entries\":[],\"from\":\"\",\"range\":\"0+4294967296\",\"state\":\"settled\"}],\"ring\":[[0,\"10.0.0.1:1000@1\",0]],\"seen\":1,\"silo\":\"10.0.0.1:1000@1\"}],\"points\":30,\"rows\":[{\"dead\":0,\"joined\":1,\"left\":0,\"places\":[0],\"silo\":\"10.0.0.1:1000@1\"}]";

@@ -1,6 +1,5 @@
-use Rattle.std.proofs.Common.{ap, refl, ◌∙◌}
-use Rattle.dump_rules.specs.Dump.{DumpValue}
-use Rattle.dump_rules.specs.Judgement.{judged}
+use Rattle.std.proofs.Common.{refl, subst, sym}
+use Rattle.rebuild_checker.specs.Faults.{IsLineOf}
 use Rattle.console_play.proofs.Judged.{verdict_told}
 use Rattle.console_play.proofs.Lines.{begins_with_itself}
 use Rattle.console_play.proofs.Results.{not_ok, on_err}
@@ -8,8 +7,8 @@ use Rattle.console_play.proofs.dumping.tell_verdict.Goals as goal
 
 pub returns-clause-performed : goal.returns-clause-performed
 returns-clause-performed c =
-    let said = c.as_bytes.ensures.value ∙ (c.in_ok-text.ensures ∙ ap (λ (d : DumpValue). (judged d).text) c.in_ok-dump.ensures.told) in
-    verdict_told c.args.world.now c.as_bytes.result.now c.args.out.now.items _ c.is_right.ensures said c.in_ok-extend_from_slice.ensures.items
+    verdict_told c.args.world.now c.in_ok-dump.dump c.check.result c.as_bytes.result.now c.args.out.now.items _ c.is_right.ensures c.in_ok-dump.ensures.told
+    c.check.ensures.verdict (subst (IsLineOf c.check.result) (sym c.as_bytes.ensures.value) c.in_ok-text.ensures) c.in_ok-extend_from_slice.ensures.items
 
 pub returns-in_err-dump-clause-performed : goal.returns-in_err-dump-clause-performed
 returns-in_err-dump-clause-performed c = not_ok _ c.from_residual.result c.from_residual.ensures.0
