@@ -57,7 +57,8 @@ impl<L: Ledger + Names, G: Gate + Drop> Cluster<L, G> {
         let newest = newest(self.alloc, &board);
         drop(board);
         let (view, places) = newest?;
-        show(rt, self.alloc, &mut self.publisher, &view, &places)
+        show(rt, self.alloc, &mut self.publisher, &view, &places)?;
+        Ok(())
     }
 }
 

@@ -1,0 +1,19 @@
+-- What a worker takes with it may go to another thread.
+use denote.RattleType.{RattleType}
+use denote.Struct.Declared as S
+use denote.Param.Send.{IsSend, IsSync, struct_send, recorded_send}
+use Rattle.std.proofs.Crossing.{Arc-send}
+use Rattle.worker_crossing.proofs.Holders.{heap_field_crosses}
+use Rattle.worker_crossing.proofs.Names.{silo_crosses}
+use Rattle.worker_crossing.proofs.Sites.{site_sends, site_syncs, causes_cross}
+use Rattle.std.specs.declared.sync.ledger.Ledger as ledger
+use Rattle.value_marks.specs.declared.mark.Names as names
+use Rattle.silo_workers.specs.contracts.site.Site as site
+use Rattle.silo_threads.specs.contracts.starting.Desk as desk
+
+module _ (T G : RattleType) (l : ledger.Ghosts T.Denot) (g : names.Ghosts T.Denot) where
+  pub desk_sends : IsSend T → IsSend G → IsSync G → IsSend (desk.the_row T G l g)
+  desk_sends s sent shared =
+      let d = desk.the_type T G l g in
+      let its = Arc-send (site.the_row T G l g) (site_sends T l G g s sent shared) (site_syncs T l G g s sent shared) in
+      recorded_send (desk.the_field T G l g).row d.D d.to d.to_one (struct_send (S.shape d) (heap_field_crosses.moved, (silo_crosses.moved, (its, (causes_cross.moved, tt)))))
