@@ -2,23 +2,27 @@
 
 ghost use Rattle.std.specs.Prelude.{◌≡◌, List, ℕ, Option, Err, map};
 ghost use Rattle.clap.specs.Walk.{Text};
-ghost use Rattle.command_line.specs.Line.{AskToBeTold, IsInRange, Reads};
-ghost use Rattle.command_line.specs.declared.line.Line.TheVariants.{Play};
+ghost use Rattle.command_line.specs.Line.{AreInRange, AskToBeTold, Reads};
 ghost use Rattle.script_loop.specs.Endings as play;
+ghost use Rattle.threaded_play.specs.Endings as threads;
+ghost use Rattle.threaded_play.specs.Endings.{IsSent};
 ghost use Rattle.console_command.specs.Exits.{MakesCalls, WritesAnswer, exit_without_words};
-ghost use Rattle.console_command.specs.Running.{Does, Plays};
-ghost use Rattle.console_command.specs.Telling.{IsTold, Writes, told_without_words};
+ghost use Rattle.console_command.specs.Running.{Does, Plays, PlaysOnThreads};
+ghost use Rattle.console_command.specs.Telling.{IsTold, IsToldInTurn, told_without_words};
 
 use crate::Exit;
-use crate::telling::{tell, tell_check, tell_end, tell_failed_call, tell_no_memory, words_or};
-use command_line::{Line, LineError, read_line};
+use crate::telling::{
+    tell, tell_check, tell_end, tell_failed_call, tell_no_memory, tell_threads, words_or,
+};
+use command_line::{Line, LineError, Options, read_line};
 use console_check::check;
 use console_play::play_to_new_cluster;
-use hash_ring::Hashing;
+use directory_rules::Settings;
 use script_loop::{Ended, Sink, Source, send};
 use std::alloc::Global;
 use std::convert::AsStr;
 use std::io::ErrorKind;
+use threaded_play::{ThreadPlayer, ThreadsEnded};
 
 /// What is printed where clap has no words for an answer.
 const NAME: &str = "grain-directory\n";
@@ -26,12 +30,13 @@ const NAME: &str = "grain-directory\n";
 /// What is told where clap has no words for a mistake.
 const MISTAKE: &str = "error: the command line is a mistake\n";
 
-/// Does what the words of a command line ask for, the program's name first: plays the script that comes from the source, judges the
-/// dump that does, or prints help or the version. What is wrong with the words, and what ends the script or the reading of the dump
-/// too early, is told to the sink of errors.
-pub fn carry_out<S: AsStr, R: Source, W: Sink, E: Sink>(
+/// Does what the words of a command line ask for, the program's name first: plays the script that comes from the source, itself or by
+/// whatever plays scripts with a thread per silo, judges the dump that comes, or prints help or the version. What is wrong with the
+/// words, and what ends the script or the reading of the dump too early, is told to the sink of errors.
+pub fn carry_out<S: AsStr, P: ThreadPlayer, R: Source, W: Sink, E: Sink>(
     alloc: Global,
     words: &[S],
+    threads: &P,
     source: &mut R,
     output: &mut W,
     errors: &mut E,
@@ -40,19 +45,18 @@ pub fn carry_out<S: AsStr, R: Source, W: Sink, E: Sink>(
         (record { rest = R.remaining source.old; output = W.contents output.old })
         (record { rest = R.remaining source.new; output = W.contents output.new }) result }
     ensures calls { MakesCalls R.reads W.writes (source.old, output.old) (source.new, output.new) result }
-    ensures told { IsTold E.writes E.contents result errors.old errors.new }
+    ensures told { IsToldInTurn E.writes E.contents result errors.old errors.new }
 {
     match read_line(alloc, words) {
-        Ok(
-            Line::Play {
-                hashing,
-                points,
-                cache,
-            },
-        ) => {
-            let ended = play(alloc, hashing, points, cache, source, output);
+        Ok(Line::Play(options)) => {
+            let ended = play(alloc, options, source, output);
             tell_end(alloc, ended, errors);
             Exit::Played(ended)
+        }
+        Ok(Line::Threads(options)) => {
+            let ended = play_on_threads(alloc, options, threads, source, output, errors);
+            tell_threads(alloc, ended, errors);
+            Exit::Threaded(ended)
         }
         Ok(Line::Check) => {
             let checked = check(alloc, source, output);
@@ -65,20 +69,44 @@ pub fn carry_out<S: AsStr, R: Source, W: Sink, E: Sink>(
 
 fn play<R: Source, W: Sink>(
     alloc: Global,
-    hashing: Hashing,
-    points: usize,
-    cache: usize,
+    options: Options,
     source: &mut R,
     output: &mut W,
 ) -> Ended
-    requires { IsInRange (Play hashing points cache) }
-    ensures plays { Plays (Play hashing points cache)
+    requires { AreInRange options }
+    ensures plays { Plays options
         (record { rest = R.remaining source.old; output = W.contents output.old })
         (record { rest = R.remaining source.new; output = W.contents output.new }) result }
     ensures calls { play.MakesCalls R.reads W.writes (source.old, output.old) (source.new, output.new) result }
 {
+    let Options {
+        hashing,
+        points,
+        cache,
+    } = options;
     match play_to_new_cluster(alloc, hashing, points, cache, source, output) {
         Some(ended) => ended,
+        None => unreachable!(),
+    }
+}
+
+fn play_on_threads<P: ThreadPlayer, R: Source, W: Sink, E: Sink>(
+    alloc: Global,
+    options: Options,
+    threads: &P,
+    source: &mut R,
+    output: &mut W,
+    errors: &mut E,
+) -> ThreadsEnded
+    requires { AreInRange options }
+    ensures plays { PlaysOnThreads options
+        (record { rest = R.remaining source.old; output = W.contents output.old })
+        (record { rest = R.remaining source.new; output = W.contents output.new }) result }
+    ensures calls { threads.MakesCalls R.reads W.writes (source.old, output.old) (source.new, output.new) result }
+    ensures told { threads.TellsCauses E.writes E.contents result errors.old errors.new }
+{
+    match Settings::of_directory(options.hashing, options.points, options.cache) {
+        Some(settings) => threads.play_on_threads(alloc, settings, source, output, errors),
         None => unreachable!(),
     }
 }
@@ -129,7 +157,7 @@ fn answer<W: Sink, E: Sink>(text: &str, output: &mut W, errors: &mut E) -> Exit
 /// Tells that the words of the command line can't be had: memory ran out, or one of them isn't text.
 pub fn carry_out_nothing<E: Sink>(kind: ErrorKind, errors: &mut E) -> Exit
     ensures exit { result ≡ exit_without_words kind }
-    ensures told { Writes E.writes E.contents (told_without_words kind) errors.old errors.new }
+    ensures told { IsSent E.writes E.contents (told_without_words kind) errors.old errors.new }
 {
     if let ErrorKind::OutOfMemory = kind {
         return tell_no_memory(errors);

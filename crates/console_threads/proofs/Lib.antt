@@ -1,0 +1,4 @@
+mod Faulted
+mod Lost
+mod Endings
+mod World
