@@ -1,4 +1,5 @@
-ghost use Rattle.std.specs.Prelude.{◌≡◌, [], ◌∷◌, ◌++◌, ◌+◌, ◌<◌, IfErr, IfOk, OnErr, OnOk, vec_capacity, vec_len};
+ghost use Rattle.std.specs.Prelude.{◌≡◌, [], ◌<◌, OnErr, OnOk, vec_capacity, vec_len};
+ghost use Rattle.silo_workers.specs.Delivered.{HasDelivered};
 
 use cluster_board::{Board, Prepared, Uncommitted};
 use cluster_journal::Receipt;
@@ -45,9 +46,10 @@ impl<L: Ledger + Names> Tally<L> {
         prepared: Prepared<L>,
     ) -> Result<(), Uncommitted<L>>
         requires { vec_len self.old.receipts < vec_capacity self.old.receipts }
-        ensures kept { OnOk result (vec_len self.new.receipts ≡ vec_len self.old.receipts + 1) }
-        ensures unchanged { OnErr result (self.new.receipts ≡ self.old.receipts) }
+        ensures delivered { OnOk result (HasDelivered prepared.letter.to self.old.receipts.items self.new.receipts.items) }
+        ensures unchanged { OnErr result (self.new.receipts.items ≡ self.old.receipts.items) }
     {
+        board.journaled();
         let receipt = board.commit(&mut self.share, prepared)?;
         self.receipts.push_reserved(receipt);
         Ok(())

@@ -1,5 +1,6 @@
 //! A worker's turn: a letter to its silo is lent, prepared and committed.
-ghost use Rattle.std.specs.Prelude.{◌<◌, vec_capacity, vec_len};
+ghost use Rattle.std.specs.Prelude.{◌≡◌, ◌<◌, IfOk, IfSome, vec_capacity, vec_len};
+ghost use Rattle.silo_workers.specs.Delivered.{HasDelivered};
 
 use crate::{Cause, Gate, Site, Tally};
 use cluster_board::{Board, Job, Prepared, Uncommitted};
@@ -23,10 +24,12 @@ pub(crate) fn turn<L: Ledger + Names, G: Gate + Drop, R: Wait>(
     site: &Site<L, G>,
     post: &Post,
     tally: &mut Tally<L>,
-) -> Result<bool, Cause> {
-    if tally.make_room().is_err() {
+) -> Result<bool, Cause>
+    ensures { HasDelivered post.now.silo tally.old.receipts.items tally.new.receipts.items }
+{
+    let Ok(()) = tally.make_room() else {
         return Err(Cause::OutOfMemory);
-    }
+    };
     let Some(job) = next_job(rt, site, &post.silo)? else {
         return Ok(false);
     };
@@ -41,7 +44,9 @@ fn next_job<L: Ledger + Names, G: Gate + Drop, R: Wait>(
     rt: &R,
     site: &Site<L, G>,
     silo: &SiloAddress,
-) -> Result<Option<Job<L>>, Cause> {
+) -> Result<Option<Job<L>>, Cause>
+    ensures { IfOk result (λ job. IfSome job (λ job. job.letter.to ≡ silo.now)) }
+{
     let mut board = site.board.lock(rt);
     for _ in rt.forever() {
         if is_over(&board, silo) {
@@ -63,7 +68,9 @@ fn is_over<L: Ledger + Names>(board: &Board<L>, silo: &SiloAddress) -> bool {
 }
 
 // The job is prepared, or given back where memory runs out.
-fn prepare<L: Ledger + Names>(alloc: Global, job: Job<L>) -> Result<Prepared<L>, Cause> {
+fn prepare<L: Ledger + Names>(alloc: Global, job: Job<L>) -> Result<Prepared<L>, Cause>
+    ensures { IfOk result (λ prepared. prepared ≡ job) }
+{
     match job.prepare(alloc) {
         Ok(prepared) => Ok(prepared),
         Err(job) => {
@@ -81,6 +88,7 @@ fn commit<L: Ledger + Names, G: Gate + Drop, R: Wait>(
     prepared: Prepared<L>,
 ) -> Result<(), Cause>
     requires { vec_len tally.old.receipts < vec_capacity tally.old.receipts }
+    ensures { HasDelivered prepared.letter.to tally.old.receipts.items tally.new.receipts.items }
 {
     let mut board = site.board.lock(rt);
     let committed = tally.commit(&mut board, prepared);

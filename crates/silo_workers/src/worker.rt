@@ -1,3 +1,5 @@
+ghost use Rattle.silo_workers.specs.Delivered.{HasDelivered};
+
 use crate::turn::{Post, turn};
 use crate::{Cause, Gate, Site, Tally};
 use crossbeam_channel::Sender;
@@ -7,9 +9,10 @@ use std::sync::Wait;
 use std::sync::ledger::Ledger;
 use value_marks::Names;
 
-/// Delivers the letters to a silo, one after the other, until all are to stop, a worker gives up, or the silo is Dead. Where memory
-/// runs out, or a delivery is refused by 908 or 909, this worker gives up: it says so on the board, and sends why. Work that isn't
-/// current any more, 951, is lent again (`docs/RULES.md#running-silos`).
+/// Delivers the letters to a silo, one after the other, until all are to stop, a worker gives up, or the silo is Dead. To the receipts
+/// that it is given it puts that of each delivery, and no others. Where memory runs out, or a delivery is refused by 908 or 909, this
+/// worker gives up: it says so on the board, and sends why. Work that isn't current any more, 951, is lent again
+/// (`docs/RULES.md#running-silos`).
 pub fn work<L: Ledger + Names, G: Gate + Drop, R: Wait>(
     rt: &R,
     alloc: Global,
@@ -17,7 +20,9 @@ pub fn work<L: Ledger + Names, G: Gate + Drop, R: Wait>(
     silo: SiloAddress,
     tally: Tally<L>,
     causes: &Sender<Cause>,
-) -> Tally<L> {
+) -> Tally<L>
+    ensures { HasDelivered silo tally.receipts.items result.receipts.items }
+{
     let post = Post { alloc, silo };
     let mut tally = tally;
     for _ in rt.forever() {

@@ -1,0 +1,4 @@
+pub mod Cluster
+pub mod Receiving
+pub mod Following
+pub mod Tallied

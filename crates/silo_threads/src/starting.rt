@@ -1,0 +1,79 @@
+//! Workers' threads.
+ghost use Rattle.std.specs.Prelude.{◌≡◌, ◌+◌, ◌<◌, IfErr, vec_capacity, vec_len};
+
+use crate::Lack;
+use crossbeam_channel::Sender;
+use silo_address::SiloAddress;
+use silo_workers::{Cause, Gate, Site, Tally, work};
+use std::alloc::Global;
+use std::sync::ledger::{Ledger, Share};
+use std::sync::{Arc, Wait};
+use std::thread::{self, JoinHandle, Threads};
+use value_marks::Names;
+
+/// A worker: its thread, or what it did where no thread could be made.
+#[derive(Drop)]
+pub(crate) enum Worker<L: Ledger> {
+    Running(JoinHandle<Tally<L>>),
+    Ended(Tally<L>),
+}
+
+/// What a worker takes with it.
+#[derive(Drop)]
+pub(crate) struct Desk<L: Ledger + Names, G: Gate + Drop> {
+    pub(crate) alloc: Global,
+    pub(crate) silo: SiloAddress,
+    pub(crate) site: Arc<Site<L, G>>,
+    pub(crate) causes: Sender<Cause>,
+}
+
+/// Starts the worker of a silo, which takes a part of the share. Where no thread can be made, all are told to stop, so that the
+/// worker ends at once, in this thread.
+pub(crate) fn start<
+    L: Ledger + Names + Send + 'static,
+    G: Gate + Drop + Send + Sync + 'static,
+    R: Threads + Wait + Copy + Drop + Send + 'static,
+>(
+    rt: &R,
+    site: &Site<L, G>,
+    workers: &mut Vec<Worker<L>>,
+    share: &mut Share<L>,
+    desk: Desk<L, G>,
+) -> Result<(), Lack>
+    requires room { vec_len workers.old < vec_capacity workers.old }
+    requires part { 1 < share.old.parts }
+    ensures parts { share.new.parts + 1 ≡ share.old.parts }
+    ensures amount { share.new.amount ≡ share.old.amount }
+    ensures one { vec_len workers.new ≡ vec_len workers.old + 1 }
+    ensures lack { IfErr result (λ lack. lack ≡ Lack.Thread) }
+{
+    let tally = Tally::new(desk.alloc, share.split_off(1, 0));
+    let handle = *rt;
+    let job = move || -> Tally<L> { employ(handle, desk, tally) };
+    match thread::spawn(rt, job) {
+        Ok(thread) => {
+            workers.push_reserved(Worker::Running(thread));
+            Ok(())
+        }
+        Err(refused) => {
+            stop(rt, site);
+            workers.push_reserved(Worker::Ended((refused.value)()));
+            Err(Lack::Thread)
+        }
+    }
+}
+
+/// All silos are to stop, and are told so.
+pub(crate) fn stop<L: Ledger + Names, G: Gate + Drop, R: Wait>(rt: &R, site: &Site<L, G>) {
+    site.board.lock(rt).stop();
+    site.bell.notify_all();
+}
+
+// A worker, with what it takes with it.
+fn employ<L: Ledger + Names, G: Gate + Drop, R: Wait + Drop>(
+    rt: R,
+    desk: Desk<L, G>,
+    tally: Tally<L>,
+) -> Tally<L> {
+    work(&rt, desk.alloc, &desk.site, desk.silo, tally, &desk.causes)
+}
