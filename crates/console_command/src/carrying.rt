@@ -36,7 +36,7 @@ const MISTAKE: &str = "error: the command line is a mistake\n";
 pub fn carry_out<S: AsStr, P: ThreadPlayer, R: Source, W: Sink, E: Sink>(
     alloc: Global,
     words: &[S],
-    threads: &P,
+    player: &P,
     source: &mut R,
     output: &mut W,
     errors: &mut E,
@@ -54,7 +54,7 @@ pub fn carry_out<S: AsStr, P: ThreadPlayer, R: Source, W: Sink, E: Sink>(
             Exit::Played(ended)
         }
         Ok(Line::Threads(options)) => {
-            let ended = play_on_threads(alloc, options, threads, source, output, errors);
+            let ended = play_on_threads(alloc, options, player, source, output, errors);
             tell_threads(alloc, ended, errors);
             Exit::Threaded(ended)
         }
@@ -93,7 +93,7 @@ fn play<R: Source, W: Sink>(
 fn play_on_threads<P: ThreadPlayer, R: Source, W: Sink, E: Sink>(
     alloc: Global,
     options: Options,
-    threads: &P,
+    player: &P,
     source: &mut R,
     output: &mut W,
     errors: &mut E,
@@ -106,7 +106,7 @@ fn play_on_threads<P: ThreadPlayer, R: Source, W: Sink, E: Sink>(
     ensures told { threads.TellsCauses E.writes E.contents result errors.old errors.new }
 {
     match Settings::of_directory(options.hashing, options.points, options.cache) {
-        Some(settings) => threads.play_on_threads(alloc, settings, source, output, errors),
+        Some(settings) => player.play_on_threads(alloc, settings, source, output, errors),
         None => unreachable!(),
     }
 }

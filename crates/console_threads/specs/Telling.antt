@@ -18,12 +18,12 @@ use Rattle.console_threads.specs.Held.{is_read_well}
 
 -- the cluster wasn't closed
 abbrev pub IsUnclosed : ThreadsEnded → Type 0
-IsUnclosed (Played ended) = ⊥
+IsUnclosed (Played end) = ⊥
 IsUnclosed other = ⊤
 
 -- the script's lines end so, and print that text by themselves
 abbrev pub LinesEnd : (script : List ℕ) → (rest : Option (List ℕ)) → (text : List ℕ) → Ended → Type 0
-LinesEnd script rest text ended = play.Ends script (faults_alone 1) rest (Some []) (Some text) ended
+LinesEnd script rest text end = play.Ends script (faults_alone 1) rest (Some []) (Some text) end
 
 -- the text tells the world, under whatever settings its journal made it
 abbrev pub Tells : List EntryValue → World → (text : List ℕ) → Type 0
@@ -31,19 +31,19 @@ Tells journal world text = (settings : Settings) → IsJournaled settings journa
 
 -- so a script ends, whatever it was, whose lines end so and print that text, and whose cluster came to that world
 abbrev pub EndsBy : List EntryValue → World → (text : List ℕ) → Ended → (begun written : Option (List ℕ)) → ThreadsEnded → Type 0
-EndsBy journal world text ended begun written result =
-    (settings : Settings) (script : List ℕ) (rest : Option (List ℕ)) → IsJournaled settings journal world → LinesEnd script rest text ended
+EndsBy journal world text end begun written result =
+    (settings : Settings) (script : List ℕ) (rest : Option (List ℕ)) → IsJournaled settings journal world → LinesEnd script rest text end
     → Ends settings script rest begun written result
 
 -- the ending once its text was sent, by whether all of it was taken
 abbrev pub sent_ending : Ended → (whole : Bool) → ThreadsEnded
-sent_ending ended true = Played ended
-sent_ending ended false = Played ended.Broken
+sent_ending end true = Played end
+sent_ending end false = Played ended.Broken
 
 -- the text was sent, and so it ends
 abbrev pub IsWritten : {W : Type 0} → (writes : W → List ℕ → Option ℕ → W → Type 0) → (contents : W → Option (List ℕ)) → (text : List ℕ) → Ended → (old new : W) → ThreadsEnded → Type 0
-IsWritten writes contents text ended old new result =
-    (whole : Bool) × (result ≡ sent_ending ended whole) × Sends text (contents old) (contents new) whole × WritesText writes text old new whole
+IsWritten writes contents text end old new result =
+    (whole : Bool) × (result ≡ sent_ending end whole) × Sends text (contents old) (contents new) whole × WritesText writes text old new whole
 
 -- the writes by which it ends so: of one text, or none
 abbrev pub WritesOnce : {W : Type 0} → (writes : W → List ℕ → Option ℕ → W → Type 0) → (old new : W) → Ended → ThreadsEnded → Type 0

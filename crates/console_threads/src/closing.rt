@@ -2,6 +2,7 @@
 
 ghost use Rattle.std.specs.Prelude.{◌≡◌, ℕ, List, IfErr, IfOk, MatchResult};
 ghost use Rattle.cluster_journal.specs.Journal.{IsJournaled};
+ghost use Rattle.silo_threads.specs.declared.TheConstants.{PARTS};
 ghost use Rattle.threaded_play.specs.Endings.{IsSent, TellsCauses};
 ghost use Rattle.console_threads.specs.Telling.{IsUnclosed};
 
@@ -10,7 +11,7 @@ use cluster_board::Board;
 use compared_receipts::CloseRefusal;
 use directory_rules::Settings;
 use script_loop::{Sink, send};
-use silo_threads::{Ended, MOST_WORKERS, PARTS};
+use silo_threads::{Ended, MOST_WORKERS};
 use silo_workers::OpenGate;
 use std::alloc::{AllocError, Global};
 use std::sync::Wait;

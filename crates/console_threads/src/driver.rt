@@ -1,6 +1,7 @@
 //! Lines played to a cluster that runs.
 ghost use Rattle.std.specs.Prelude.{◌≡◌, ◌+◌, IfOk, OnErr};
 ghost use Rattle.script_loop.specs.Lines.{PlaysLine};
+ghost use Rattle.silo_threads.specs.declared.TheConstants.{PARTS};
 ghost use Rattle.threaded_play.specs.Faults.{faults_alone, nothing_is_wrong, long_lines_are_faults};
 
 use cluster_events::Event;
@@ -8,7 +9,7 @@ use cluster_journal::Receipt;
 use script_commands::{Command, ReadError, read_command};
 use script_loop::{LineFault, LinePlayer};
 use script_output::write_fault;
-use silo_threads::{Cluster, PARTS};
+use silo_threads::Cluster;
 use silo_workers::Gate;
 use std::alloc::{AllocError, Global};
 use std::sync::Wait;

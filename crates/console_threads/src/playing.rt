@@ -1,4 +1,5 @@
 ghost use Rattle.std.specs.Prelude.{◌≡◌, IfSome};
+ghost use Rattle.silo_threads.specs.declared.TheConstants.{PARTS};
 ghost use Rattle.threaded_play.specs.Endings.{Ends, MakesCalls, TellsCauses};
 
 use crate::driver::Driver;
@@ -7,7 +8,7 @@ use crate::printing::print;
 use directory_rules::Settings;
 use script_loop::{Sink, Source};
 use shared_node::SharedNode;
-use silo_threads::{Cluster, PARTS};
+use silo_threads::Cluster;
 use silo_workers::OpenGate;
 use std::alloc::Global;
 use std::sync::Wait;

@@ -3,14 +3,23 @@
 #![tactic(auto)]
 
 use console_command::{carry_out, carry_out_nothing};
+use console_threads::OnThreads;
 use std::process::ExitCode;
 use std::{env, io};
 
 fn main(rt: HostRuntime) -> ExitCode {
     let output = &mut io::writer(&rt);
     let errors = &mut rt.stderr();
+    let threads = &OnThreads { rt };
     let exit = match words(&rt) {
-        Ok(words) => carry_out(rt.alloc(), &words, &mut rt.reader(), output, errors),
+        Ok(words) => carry_out(
+            rt.alloc(),
+            &words,
+            threads,
+            &mut rt.reader(),
+            output,
+            errors,
+        ),
         Err(error) => carry_out_nothing(error.kind(), errors),
     };
     ExitCode::from(exit.status())

@@ -1,6 +1,6 @@
 //! Command lines carried out, from their words to the exit.
 
-use crate::fakes::{BrokenReader, NarrowWriter};
+use crate::fakes::{BrokenReader, NarrowWriter, NoThreads};
 use console_command::{Exit, carry_out, carry_out_nothing};
 use script_loop::Ended;
 use std::alloc::Global;
@@ -22,17 +22,33 @@ fn check_course(
 ) {
     let mut output = NarrowWriter::new(alloc, printed_room);
     let mut errors = NarrowWriter::new(alloc, told_room);
-    let exit = carry_out(alloc, words, &mut script, &mut output, &mut errors);
+    let exit = carry_out(
+        alloc,
+        words,
+        &NoThreads,
+        &mut script,
+        &mut output,
+        &mut errors,
+    );
     assert!(rt; exit.status() == status);
     assert!(rt; output.taken.as_slice() == printed.as_bytes());
     assert!(rt; errors.taken.as_slice() == told.as_bytes());
 }
 
-// A script, a fault, the version, and a mistake, with what is told of each.
+// A script, a fault, the version, a mistake, and a script to be played with no thread to be had, with what is told of each.
 #[test]
 fn courses(rt: HostRuntime) {
     let mistake: [&str; 4] = ["g", "play", "--points", "0"];
-    let table: [(&[&str], &[u8], Course<'static>); 4] = [
+    let table: [(&[&str], &[u8], Course<'static>); 5] = [
+        (
+            &["g", "threads"],
+            b"show\n",
+            (
+                3,
+                "",
+                "error: memory, a thread or a ring to publish is lacking, or a worker gave up\n",
+            ),
+        ),
         (
             &["g", "--version"],
             b"show\n",
@@ -162,6 +178,7 @@ fn an_input_that_fails(rt: HostRuntime) {
     let exit = carry_out(
         rt.alloc(),
         &PLAY,
+        &NoThreads,
         &mut BrokenReader,
         &mut printed,
         &mut told,
