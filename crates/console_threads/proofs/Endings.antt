@@ -1,8 +1,7 @@
 -- How a script ends that was played on threads.
-use Rattle.std.proofs.Common.{◌≡◌, ◌∙◌, ◌+◌, ◌++◌, ℕ, Bool, true, false, List, [], ◌∷◌, Option, Some, None, Result, Ok, Err, ap, sym, subst, refl, append-nil, inl, inr}
+use Rattle.std.proofs.Common.{◌≡◌, ◌∙◌, ◌+◌, ◌++◌, ℕ, Bool, true, false, List, [], ◌∷◌, Option, Some, None, Result, Ok, Err, ap, sym, subst, refl, append-nil, inl, inr, arith}
 use Rattle.std.specs.Prelude.{IfSome}
-use Rattle.std.specs.Io.KnownBytes.{Appends, Keeps}
-use Rattle.std.proofs.KnownBytes.{Appends-nil}
+use Rattle.std.specs.Io.KnownBytes.{Appends}
 use Rattle.directory_rules.specs.Settings.{Settings}
 use Rattle.directory_rules.specs.World.{World}
 use Rattle.cluster_journal.specs.Entry.{EntryValue}
@@ -10,14 +9,15 @@ use Rattle.script_rules.specs.Script.{Command, lines_of, read_line}
 use Rattle.texts.specs.Printed.{Output}
 use Rattle.script_commands.specs.Known.{known_commands}
 use Rattle.script_output.specs.Spaced.{BeginsWith}
-use Rattle.script_loop.specs.Calls.{ReadsInTurn, WritesText, wrote_all}
+use Rattle.script_loop.specs.Calls.{ReadsInTurn}
 use Rattle.script_loop.specs.Endings as play
 use Rattle.script_loop.specs.Lines.{no_output}
 use Rattle.script_loop.specs.Sending.{Sends}
 use Rattle.script_loop.specs.declared.ended.Ended.{Ended}
 use Rattle.script_loop.specs.declared.ended.Ended.TheVariants as ended
 use Rattle.script_loop.specs.declared.ended.LineFault.{LineFault}
-use Rattle.threaded_play.specs.Endings.{Ends, MakesCalls, TellsCauses}
+use Rattle.threaded_play.specs.Endings.{Ends, MakesCalls}
+use Rattle.threaded_play.proofs.Nothing.{kept}
 use Rattle.threaded_play.specs.Faults.{faults_alone, line_told}
 use Rattle.threaded_play.specs.Printing.{IsPrinted}
 use Rattle.threaded_play.specs.declared.ended.ThreadsEnded.{ThreadsEnded}
@@ -31,23 +31,17 @@ use Rattle.console_threads.specs.Telling.{EndsBy, IsUnclosed, IsWritten, LinesEn
 silent : (number : ℕ) (lines : List (List ℕ)) (text : List ℕ) → faults_alone number lines ≡ record { text = text; status = 0 } → faults_alone number lines ≡ no_output
 unfolding faults_alone
 silent number [] text is = refl
-silent number (line ∷ lines) text is = go (read_line known_commands line) is
+silent number (line ∷ lines) text is = go (read_line known_commands line) (silent (number + 1) lines text) is
   where
-    go : (read : Result (Option Command) ℕ) → line_told read number (faults_alone (number + 1) lines) ≡ record { text = text; status = 0 }
-        → line_told read number (faults_alone (number + 1) lines) ≡ no_output
-    go (Ok command) same = silent (number + 1) lines text same
-    go (Err fault) same = absurd (two_is_not_none (ap (λ (o : Output). o.status) same))
-      where
-        two_is_not_none : 2 ≡ 0 → ⊥
-        two_is_not_none two = cc
+    go : (read : Result (Option Command) ℕ) → (faults_alone (number + 1) lines ≡ record { text = text; status = 0 } → faults_alone (number + 1) lines ≡ no_output)
+        → line_told read number (faults_alone (number + 1) lines) ≡ record { text = text; status = 0 } → line_told read number (faults_alone (number + 1) lines) ≡ no_output
+    go (Ok command) later same = later same
+    go (Err fault) later same = absurd (omega (arith, ap (λ (o : Output). o.status) same))
 
 module _ (script : List ℕ) (rest : Option (List ℕ)) (text : List ℕ) (end : Ended) (lines : LinesEnd script rest text end) where
   -- so the script ends, whatever the sink had
-  alone : play.Ends script (faults_alone 1) rest None None end
+  abbrev alone : play.Ends script (faults_alone 1) rest None None end
   alone = record { text = lines.text; writes = tt; concludes = lines.concludes; read = lines.read; reads = lines.reads }
-
-  text_is : text ≡ lines.text
-  text_is = lines.writes
 
 -- a text begins with itself
 whole : (text : List ℕ) → BeginsWith text text
@@ -103,35 +97,7 @@ module _ {W : Type 0} (writes : W → List ℕ → Option ℕ → W → Type 0) 
       subst (λ (r : ThreadsEnded). EndsBy journal world printed ended.Played (contents old) (contents new) r) (sym written.1)
       (world_ends printed text old new written.0 tells written.2)
 
--- known bytes are kept
-pub kept : (known : Option (List ℕ)) → Keeps known known
-kept None = tt
-kept (Some bytes) = refl
-
--- ---- The writes.
-
-module _ {W : Type 0} (writes : W → List ℕ → Option ℕ → W → Type 0) (contents : W → Option (List ℕ)) where
-  broken_once : (text : List ℕ) (end : Ended) (old new : W) → is_read_well end ≡ true → WritesText writes text old new false → WritesOnce writes old new end (Played ended.Broken)
-  broken_once text end old new well sent = inr (well, (text, sent))
-
-  world_sent : (text : List ℕ) (old new : W) (well : Bool) → WritesText writes text old new well → WritesOnce writes old new ended.Played (sent_ending ended.Played well)
-  world_sent text old new true sent = (refl, (text, sent))
-  world_sent text old new false sent = broken_once text ended.Played old new refl sent
-
-  fault_sent : (text : List ℕ) (fault : LineFault) (old new : W) (well : Bool) → WritesText writes text old new well
-      → WritesOnce writes old new (ended.Faulted fault) (sent_ending (ended.Faulted fault) well)
-  fault_sent text fault old new true sent = (refl, (text, sent))
-  fault_sent text fault old new false sent = broken_once text (ended.Faulted fault) old new refl sent
-
-  pub world_once : (text : List ℕ) (old new : W) (result : ThreadsEnded) → IsWritten writes contents text ended.Played old new result → WritesOnce writes old new ended.Played result
-  world_once text old new result written =
-      subst (λ (r : ThreadsEnded). WritesOnce writes old new ended.Played r) (sym written.1) (world_sent text old new written.0 written.3)
-
-  pub fault_once : (text : List ℕ) (fault : LineFault) (end : Ended) (old new : W) (result : ThreadsEnded) → end ≡ ended.Faulted fault
-      → IsWritten writes contents text end old new result → WritesOnce writes old new end result
-  fault_once text fault end old new result is written =
-      subst (λ (r : ThreadsEnded). WritesOnce writes old new end r) (sym written.1)
-      (subst (λ (e : Ended). WritesOnce writes old new e (sent_ending e written.0)) (sym is) (fault_sent text fault old new written.0 written.3))
+-- ---- The calls.
 
 -- the reads, and these writes, are all that is called
 pub calls_made : {R W : Type 0} (reads : R → Option (List ℕ) → R → Type 0) (writes : W → List ℕ → Option ℕ → W → Type 0) (source rest : R) (old new : W) (end : Ended) (result : ThreadsEnded)
@@ -158,18 +124,7 @@ unclosed_calls reads writes source rest same (Played end) is read = absurd is
 unclosed_calls reads writes source rest same ReceiptDiffers is read = (read, refl)
 unclosed_calls reads writes source rest same Lacking is read = (read, refl)
 
--- where nothing is told, that is what tells of workers
-pub nothing_told : {E : Type 0} (writes : E → List ℕ → Option ℕ → E → Type 0) (contents : E → Option (List ℕ)) (result : ThreadsEnded) (same : E) → TellsCauses writes contents result same same
-nothing_told writes contents (Played end) same = refl
-nothing_told writes contents ReceiptDiffers same = refl
-nothing_told writes contents Lacking same = ([], (true, Appends-nil (contents same), wrote_all))
-
 -- a fact of what is known gives another
 pub some_then : (known : Option (List ℕ)) (P Q : List ℕ → Type 0) → ((script : List ℕ) → P script → Q script) → IfSome known P → IfSome known Q
 some_then None P Q then there = tt
 some_then (Some script) P Q then there = then script there
-
--- and any fact gives one of what is known
-pub some_of : (known : Option (List ℕ)) (Q : List ℕ → Type 0) → ((script : List ℕ) → Q script) → IfSome known Q
-some_of None Q all = tt
-some_of (Some script) Q all = all script

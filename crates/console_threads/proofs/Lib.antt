@@ -1,4 +1,5 @@
 mod Faulted
+mod Closed
 mod Lost
 mod Endings
 mod World

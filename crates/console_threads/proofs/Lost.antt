@@ -27,10 +27,3 @@ pub read_well : {R : Type 0} (reads : R → Option (List ℕ) → R → Type 0) 
 read_well reads source rest old new ended.Broken all (inl calls) = calls.0
 read_well reads source rest old new ended.Broken all (inr calls) = absurd (true≢false (sym (texts_lost old new calls.1) ∙ all))
 read_well reads source rest old new other all calls = calls.0
-
--- whether they were well or not
-pub read_so_far : {R : Type 0} (reads : R → Option (List ℕ) → R → Type 0) (source rest : R) (old new : Held) (end : Ended)
-    → MakesCalls reads keeps (source, old) (rest, new) end → (well : Bool) × ReadsInTurn reads source rest well
-read_so_far reads source rest old new ended.Broken (inl calls) = (false, calls.0)
-read_so_far reads source rest old new ended.Broken (inr calls) = (true, calls.0)
-read_so_far reads source rest old new other calls = (true, calls.0)

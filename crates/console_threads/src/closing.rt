@@ -52,18 +52,28 @@ impl<L: Ledger + Names, H: Threads + Wait + Drop> Driver<L, OpenGate, H> {
     }
 }
 
-// The board of a cluster that has ended, if its receipts are those of its journal and its settings are these: no clause can say what
-// a lock held, so both are compared at the end.
+// The board of a cluster that has ended, if its receipts are those of its journal and its settings are these.
 fn closed<L: Ledger + Names>(ended: Ended<L>, settings: Settings) -> Result<Board<L>, ThreadsEnded>
     requires { ended.share.parts ≡ L.parts }
     ensures journaled { IfOk result (λ board. IsJournaled settings board.journal board.world) }
     ensures unclosed { IfErr result IsUnclosed }
 {
-    let board = match ended.close() {
-        Ok(board) => board,
-        Err(CloseRefusal::ReceiptDiffers) => return Err(ThreadsEnded::ReceiptDiffers),
-        Err(CloseRefusal::OutOfMemory) => return Err(ThreadsEnded::Lacking),
-    };
+    match ended.close() {
+        Ok(board) => of_settings(board, settings),
+        Err(CloseRefusal::ReceiptDiffers) => Err(ThreadsEnded::ReceiptDiffers),
+        Err(CloseRefusal::OutOfMemory) => Err(ThreadsEnded::Lacking),
+    }
+}
+
+// The board, if its settings are these: no clause can say what stood under a lock, so they are compared as receipts are.
+fn of_settings<L: Ledger + Names>(
+    board: Board<L>,
+    settings: Settings,
+) -> Result<Board<L>, ThreadsEnded>
+    requires { IsJournaled board.settings board.journal board.world }
+    ensures journaled { IfOk result (λ board. IsJournaled settings board.journal board.world) }
+    ensures unclosed { IfErr result IsUnclosed }
+{
     if board.world().settings() == settings {
         Ok(board)
     } else {
