@@ -9,7 +9,6 @@ use Rattle.command_line.specs.declared.error.LineError.{LineError}
 use Rattle.command_line.specs.declared.error.LineError.TheVariants as errors
 use Rattle.console_command.specs.Exits.{MakesCalls, WritesAnswer}
 use Rattle.console_command.specs.declared.exit.Exit.{Exit}
-use Rattle.console_command.specs.Telling.{IsTold, IsToldInTurn}
 use Rattle.console_command.specs.declared.exit.Exit.TheVariants.{Played, Threaded, Checked}
 
 -- they ask for help or for the version
@@ -30,9 +29,3 @@ is_explained reads writes source old new (Played ended) written = absurd written
 is_explained reads writes source old new (Threaded ended) written = absurd written
 is_explained reads writes source old new (Checked checked) written = absurd written
 is_explained reads writes source old new other written = (refl, written)
-
--- and no worker tells anything before that
-pub told_at_once : {W E : Type 0} (writes : W → List ℕ → Option ℕ → W → Type 0) (tells : E → List ℕ → Option ℕ → E → Type 0) (contents : E → Option (List ℕ)) (old new : W) (first last : E) (exit : Exit)
-    → WritesAnswer writes old new exit → IsTold tells contents exit first last → IsToldInTurn tells contents exit first last
-told_at_once writes tells contents old new first last (Threaded ended) written told = absurd written
-told_at_once writes tells contents old new first last other written told = told

@@ -27,10 +27,10 @@ WritesAnswer writes old new Refused = new ≡ old
 WritesAnswer writes old new OutOfMemory = new ≡ old
 WritesAnswer writes old new other = ⊥
 
--- the reads of the source and the writes to the output: those of a play, on threads or not, or of a check; else nothing is read
+-- the reads of the source and the writes to the output: those of a play or of a check; else nothing is read
 abbrev pub MakesCalls : {R W : Type 0} → (reads : R → Option (List ℕ) → R → Type 0) → (writes : W → List ℕ → Option ℕ → W → Type 0) → (old new : R × W) → Exit → Type 0
 MakesCalls reads writes old new (Played ended) = play.MakesCalls reads writes old new ended
-MakesCalls reads writes old new (Threaded ended) = threads.MakesCalls reads writes old new ended
+MakesCalls reads writes old new (Threaded ended) = ⊥
 MakesCalls reads writes old new (Checked checked) = check.MakesCalls reads writes old new checked
 MakesCalls reads writes old new other = (new.0 ≡ old.0) × WritesAnswer writes old.1 new.1 other
 

@@ -9,13 +9,11 @@ use Rattle.script_loop.specs.Endings.{Ends}
 use Rattle.script_loop.specs.Sending.{WritesFront}
 use Rattle.script_loop.specs.declared.ended.Ended.{Ended}
 use Rattle.console_play.specs.Playing.{lines_played}
-use Rattle.threaded_play.specs.Endings as threads
-use Rattle.threaded_play.specs.declared.ended.ThreadsEnded.{ThreadsEnded}
 use Rattle.console_check.specs.Checks.{Checks}
 use Rattle.console_check.specs.declared.checked.Checked.{Checked}
 use Rattle.command_line.specs.Line.{AskFor, AskToBeTold, HaveFault}
 use Rattle.command_line.specs.Refusal.{IsRequest}
-use Rattle.command_line.specs.declared.line.Line.TheVariants.{Play, Threads, Check}
+use Rattle.command_line.specs.declared.line.Line.TheVariants.{Play, Check}
 use Rattle.command_line.specs.declared.line.Options.{Options}
 use Rattle.console_command.specs.declared.exit.Exit.{Exit}
 use Rattle.console_command.specs.declared.exit.Exit.TheVariants.{Played, Threaded, Checked as CheckedDump, Answered, AnswerBroken, Refused, OutOfMemory}
@@ -34,11 +32,6 @@ abbrev pub Plays : Options → (old new : Streams) → Ended → Type 0
 Plays options old new ended = IfSome old.rest (λ script.
     Ends script (lines_played (first_world (chosen_settings options)) 1) new.rest old.output new.output ended)
 
--- it is played with a thread per silo
-abbrev pub PlaysOnThreads : Options → (old new : Streams) → ThreadsEnded → Type 0
-PlaysOnThreads options old new ended = IfSome old.rest (λ script.
-    threads.Ends (chosen_settings options) script new.rest old.output new.output ended)
-
 -- the source's dump is judged
 abbrev pub ChecksDump : (old new : Streams) → Checked → Type 0
 ChecksDump old new checked = IfSome old.rest (λ dump. Checks dump new.rest old.output new.output checked)
@@ -54,7 +47,7 @@ PrintsFront old new = (new.rest ≡ old.rest) × ((text : List ℕ) × (0 < leng
 -- what the words ask for is done; where they are a mistake, or memory runs out, nothing is read and nothing written to the output
 abbrev pub Does : (words : List Text) → (old new : Streams) → Exit → Type 0
 Does words old new (Played ended) = (options : Options) × AskFor words (Play options) × Plays options old new ended
-Does words old new (Threaded ended) = (options : Options) × AskFor words (Threads options) × PlaysOnThreads options old new ended
+Does words old new (Threaded ended) = ⊥
 Does words old new (CheckedDump checked) = AskFor words Check × ChecksDump old new checked
 Does words old new Answered = AskToBeTold words × Prints old new
 Does words old new AnswerBroken = AskToBeTold words × PrintsFront old new

@@ -7,7 +7,7 @@ use Rattle.script_output.specs.Printed.{printed}
 use Rattle.script_loop.specs.declared.ended.Ended.{Ended}
 use Rattle.script_loop.specs.declared.ended.Ended.TheVariants as ended
 use Rattle.script_loop.specs.declared.ended.LineFault.{LineFault}
-use Rattle.threaded_play.specs.Endings.{IsSent, TellsCauses}
+use Rattle.threaded_play.specs.Endings.{IsSent}
 use Rattle.threaded_play.specs.declared.ended.ThreadsEnded.{ThreadsEnded}
 use Rattle.threaded_play.specs.declared.ended.ThreadsEnded.TheVariants as threads
 use Rattle.console_check.specs.declared.checked.Checked.{Checked as Check}
@@ -66,12 +66,6 @@ Tells other text = text ≡ []
 -- that is told
 abbrev pub IsTold : {E : Type 0} → (writes : E → List ℕ → Option ℕ → E → Type 0) → (contents : E → Option (List ℕ)) → Exit → (old new : E) → Type 0
 IsTold writes contents exit old new = (text : List ℕ) × Tells exit text × IsSent writes contents text old new
-
--- behind what a play on threads told of its workers
-abbrev pub IsToldInTurn : {E : Type 0} → (writes : E → List ℕ → Option ℕ → E → Type 0) → (contents : E → Option (List ℕ)) → Exit → (old new : E) → Type 0
-IsToldInTurn {E} writes contents (Threaded ended) old new =
-    (between : E) × TellsCauses writes contents ended old between × IsTold writes contents (Threaded ended) between new
-IsToldInTurn writes contents exit old new = IsTold writes contents exit old new
 
 -- what is told where the words of the command line can't be had
 abbrev pub told_without_words : ErrorKind → List ℕ

@@ -4,11 +4,11 @@ ghost use Rattle.std.specs.Prelude.{◌≡◌, List, ℕ, Option, Err, map};
 ghost use Rattle.clap.specs.Walk.{Text};
 ghost use Rattle.command_line.specs.Line.{AreInRange, AskToBeTold, Reads};
 ghost use Rattle.script_loop.specs.Endings as play;
-ghost use Rattle.threaded_play.specs.Endings as threads;
 ghost use Rattle.threaded_play.specs.Endings.{IsSent};
-ghost use Rattle.console_command.specs.Exits.{MakesCalls, WritesAnswer, exit_without_words};
-ghost use Rattle.console_command.specs.Running.{Does, Plays, PlaysOnThreads};
-ghost use Rattle.console_command.specs.Telling.{IsTold, IsToldInTurn, told_without_words};
+ghost use Rattle.console_command.specs.Exits.{WritesAnswer, exit_without_words};
+ghost use Rattle.console_command.specs.Running.{Does, Plays, chosen_settings};
+ghost use Rattle.console_command.specs.Telling.{IsTold, told_without_words};
+ghost use Rattle.console_command.specs.Carrying.{Carries, CarriesByCalls, CarriesTold};
 
 use crate::Exit;
 use crate::telling::{
@@ -22,7 +22,7 @@ use script_loop::{Ended, Sink, Source, send};
 use std::alloc::Global;
 use std::convert::AsStr;
 use std::io::ErrorKind;
-use threaded_play::{ThreadPlayer, ThreadsEnded};
+use threaded_play::ThreadsEnded;
 
 /// What is printed where clap has no words for an answer.
 const NAME: &str = "grain-directory\n";
@@ -30,41 +30,55 @@ const NAME: &str = "grain-directory\n";
 /// What is told where clap has no words for a mistake.
 const MISTAKE: &str = "error: the command line is a mistake\n";
 
-/// Does what the words of a command line ask for, the program's name first: plays the script that comes from the source, itself or by
-/// whatever plays scripts with a thread per silo, judges the dump that comes, or prints help or the version. What is wrong with the
-/// words, and what ends the script or the reading of the dump too early, is told to the sink of errors.
-pub fn carry_out<S: AsStr, P: ThreadPlayer, R: Source, W: Sink, E: Sink>(
+/// What became of a command line.
+#[derive(Clone, Copy, PartialEq, Eq)]
+pub enum Carried {
+    /// It was carried out, and so the program ends.
+    Ended(Exit),
+    /// The script is to be played with a thread per silo, to a new cluster of these settings. Nothing is read and nothing written yet;
+    /// whoever has threads plays it, and tells the end to `end_threads`.
+    OnThreads(Settings),
+}
+
+/// Does what the words of a command line ask for, the program's name first: plays the script that comes from the source, judges the
+/// dump that does, or prints help or the version. What is wrong with the words, and what ends the script or the reading of the dump
+/// too early, is told to the sink of errors. A script that is to be played with a thread per silo is left to the caller.
+pub fn carry_out<S: AsStr, R: Source, W: Sink, E: Sink>(
     alloc: Global,
     words: &[S],
-    player: &P,
     source: &mut R,
     output: &mut W,
     errors: &mut E,
-) -> Exit
-    ensures does { Does (map S.text words.now)
+) -> Carried
+    ensures does { Carries (map S.text words.now)
         (record { rest = R.remaining source.old; output = W.contents output.old })
         (record { rest = R.remaining source.new; output = W.contents output.new }) result }
-    ensures calls { MakesCalls R.reads W.writes (source.old, output.old) (source.new, output.new) result }
-    ensures told { IsToldInTurn E.writes E.contents result errors.old errors.new }
+    ensures calls { CarriesByCalls R.reads W.writes (source.old, output.old) (source.new, output.new) result }
+    ensures told { CarriesTold E.writes E.contents errors.old errors.new result }
 {
     match read_line(alloc, words) {
         Ok(Line::Play(options)) => {
             let ended = play(alloc, options, source, output);
             tell_end(alloc, ended, errors);
-            Exit::Played(ended)
+            Carried::Ended(Exit::Played(ended))
         }
-        Ok(Line::Threads(options)) => {
-            let ended = play_on_threads(alloc, options, player, source, output, errors);
-            tell_threads(alloc, ended, errors);
-            Exit::Threaded(ended)
-        }
+        Ok(Line::Threads(options)) => Carried::OnThreads(chosen_settings(options)),
         Ok(Line::Check) => {
             let checked = check(alloc, source, output);
             tell_check(checked, errors);
-            Exit::Checked(checked)
+            Carried::Ended(Exit::Checked(checked))
         }
-        Err(error) => explain(alloc, &error, output, errors),
+        Err(error) => Carried::Ended(explain(alloc, &error, output, errors)),
     }
+}
+
+/// Tells how a script ended that was played with a thread per silo, and how so the program ends.
+pub fn end_threads<E: Sink>(alloc: Global, ended: ThreadsEnded, errors: &mut E) -> Exit
+    ensures exit { result ≡ Exit.Threaded ended }
+    ensures told { IsTold E.writes E.contents (Exit.Threaded ended) errors.old errors.new }
+{
+    tell_threads(alloc, ended, errors);
+    Exit::Threaded(ended)
 }
 
 fn play<R: Source, W: Sink>(
@@ -90,23 +104,13 @@ fn play<R: Source, W: Sink>(
     }
 }
 
-fn play_on_threads<P: ThreadPlayer, R: Source, W: Sink, E: Sink>(
-    alloc: Global,
-    options: Options,
-    player: &P,
-    source: &mut R,
-    output: &mut W,
-    errors: &mut E,
-) -> ThreadsEnded
+// The settings that the options choose.
+fn chosen_settings(options: Options) -> Settings
     requires { AreInRange options }
-    ensures plays { PlaysOnThreads options
-        (record { rest = R.remaining source.old; output = W.contents output.old })
-        (record { rest = R.remaining source.new; output = W.contents output.new }) result }
-    ensures calls { threads.MakesCalls R.reads W.writes (source.old, output.old) (source.new, output.new) result }
-    ensures told { threads.TellsCauses E.writes E.contents result errors.old errors.new }
+    ensures { result ≡ chosen_settings options }
 {
     match Settings::of_directory(options.hashing, options.points, options.cache) {
-        Some(settings) => player.play_on_threads(alloc, settings, source, output, errors),
+        Some(settings) => settings,
         None => unreachable!(),
     }
 }

@@ -2,7 +2,6 @@
 
 ghost use Rattle.std.specs.Prelude.{◌≡◌, ℕ, List, IfErr, IfOk, MatchResult};
 ghost use Rattle.cluster_journal.specs.Journal.{IsJournaled};
-ghost use Rattle.silo_threads.specs.declared.TheConstants.{PARTS};
 ghost use Rattle.threaded_play.specs.Endings.{IsSent, TellsCauses};
 ghost use Rattle.console_threads.specs.Telling.{IsUnclosed};
 
@@ -11,7 +10,7 @@ use cluster_board::Board;
 use compared_receipts::CloseRefusal;
 use directory_rules::Settings;
 use script_loop::{Sink, send};
-use silo_threads::{Ended, MOST_WORKERS};
+use silo_threads::{Ended, MOST_WORKERS, PARTS};
 use silo_workers::OpenGate;
 use std::alloc::{AllocError, Global};
 use std::sync::Wait;
@@ -20,11 +19,12 @@ use std::thread::Threads;
 use threaded_play::ThreadsEnded;
 use value_marks::Names;
 
-impl<L: Ledger + Names, H: Threads + Wait + Drop> Driver<L, OpenGate, H> {
+impl<L: Ledger + Names> Driver<L, OpenGate> {
     /// Stops the workers and joins their threads, in every case; tells why workers gave up; and closes the cluster, whose settings
     /// these are.
-    pub(crate) fn close<E: Sink>(
+    pub(crate) fn close<H: Threads + Wait, E: Sink>(
         self,
+        rt: &H,
         alloc: Global,
         settings: Settings,
         errors: &mut E,
@@ -35,17 +35,16 @@ impl<L: Ledger + Names, H: Threads + Wait + Drop> Driver<L, OpenGate, H> {
         ensures told { MatchResult result (λ _. errors.new ≡ errors.old) (λ ended. TellsCauses E.writes E.contents ended errors.old errors.new) }
     {
         let Driver {
-            rt,
             cluster,
             share,
             receipts,
             lacks,
         } = self;
-        let Ok(ended) = cluster.end(&rt, share, receipts) else {
+        let Ok(ended) = cluster.end(rt, share, receipts) else {
             return Err(ThreadsEnded::Lacking);
         };
         if lacks || ended.gave_up() {
-            tell_causes(&rt, alloc, &ended, errors);
+            tell_causes(rt, alloc, &ended, errors);
             return Err(ThreadsEnded::Lacking);
         }
         closed(ended, settings)

@@ -5,9 +5,8 @@ mod closing;
 mod driver;
 mod held;
 mod lines;
-mod player;
 mod playing;
 mod printing;
+mod script;
 
-pub use player::OnThreads;
-pub use playing::play_on_threads;
+pub use playing::{MARK_BLOCKS, play_on_threads};

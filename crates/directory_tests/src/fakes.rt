@@ -2,11 +2,8 @@
 
 ghost use Rattle.std.specs.Prelude.{Some};
 
-use directory_rules::Settings;
-use script_loop::{Sink, Source};
 use std::alloc::Global;
 use std::io::{self, Read, Write};
-use threaded_play::{ThreadPlayer, ThreadsEnded};
 
 /// Gives some bytes at a time. Once it was read so many times, a read fails; the next one is well again.
 #[derive(Drop)]
@@ -176,21 +173,5 @@ impl Write for NarrowWriter {
 
     fn flush(&mut self) -> io::Result<()> {
         Ok(())
-    }
-}
-
-/// Plays no script: no thread can be had.
-pub(crate) struct NoThreads;
-
-impl ThreadPlayer for NoThreads {
-    fn play_on_threads<R: Source, W: Sink, E: Sink>(
-        &self,
-        _alloc: Global,
-        _settings: Settings,
-        _reader: &mut R,
-        _writer: &mut W,
-        _errors: &mut E,
-    ) -> ThreadsEnded {
-        ThreadsEnded::Lacking
     }
 }

@@ -2,13 +2,16 @@
 
 ghost use Rattle.std.specs.Prelude.{Some};
 
-use console_command::carry_out;
-use console_threads::OnThreads;
+use console_command::{Carried, carry_out, end_threads};
+use console_threads::{MARK_BLOCKS, play_on_threads};
+use silo_threads::PARTS;
 use std::alloc::Global;
 use std::io::{self, Read, Write};
-use std::process::Abort;
+use std::marker::Brand;
 use std::sync::Wait;
+use std::sync::ledger::Blank;
 use std::thread::Threads;
+use value_marks::Slots;
 
 const WORDS: [&str; 4] = ["g", "threads", "--hashing", "stated"];
 
@@ -148,15 +151,24 @@ fn comes<R: Threads + Wait + Copy + Drop + Send + 'static>(
         writes,
     };
     let mut errors = Vec::new(alloc);
-    let threads = OnThreads { rt: *rt };
-    let exit = carry_out(
-        alloc,
-        &WORDS,
-        &threads,
-        &mut source,
-        &mut output,
-        &mut errors,
-    );
+    let Ok(blocks) = Slots::new(alloc, MARK_BLOCKS) else {
+        return false;
+    };
+    let exit = match carry_out(alloc, &WORDS, &mut source, &mut output, &mut errors) {
+        Carried::Ended(exit) => exit,
+        Carried::OnThreads(settings) => {
+            let ended = play_on_threads::<Brand, R, _, _, _>(
+                rt,
+                alloc,
+                settings,
+                (Blank::new(PARTS), blocks),
+                &mut source,
+                &mut output,
+                &mut errors,
+            );
+            end_threads(alloc, ended, &mut errors)
+        }
+    };
     exit.status() == status
         && output.taken.as_slice() == printed.as_bytes()
         && errors.as_slice() == told.as_bytes()

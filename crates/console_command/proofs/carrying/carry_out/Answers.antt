@@ -1,5 +1,5 @@
 use Rattle.std.proofs.Common.{map}
-use Rattle.console_command.proofs.Explained.{is_explained, told_at_once}
+use Rattle.console_command.proofs.Explained.{is_explained}
 use Rattle.console_command.proofs.carrying.carry_out.Goals as goal
 
 pub returns-in-Err-clause-does : goal.returns-in-Err-clause-does
@@ -8,7 +8,3 @@ returns-in-Err-clause-does g c =
 
 pub returns-in-Err-clause-calls : goal.returns-in-Err-clause-calls
 returns-in-Err-clause-calls g c = is_explained g.R.Source.reads g.W.Sink.writes c.args.source.now c.args.output.now c.explain.new.output c.explain.result c.explain.ensures.calls
-
-pub returns-in-Err-clause-told : goal.returns-in-Err-clause-told
-returns-in-Err-clause-told g c = told_at_once g.W.Sink.writes g.E.Sink.writes g.E.Sink.contents c.args.output.now c.explain.new.output c.args.errors.now c.explain.new.errors c.explain.result
-    c.explain.ensures.calls c.explain.ensures.told

@@ -7,17 +7,17 @@ use Rattle.script_output.specs.Printed.{printed}
 use Rattle.script_rules.specs.Lines.{fault_line}
 use Rattle.threaded_play.specs.Faults.{faults_alone}
 use Rattle.console_threads.proofs.Faulted.{fault_told, passed_over}
-use Rattle.console_threads.proofs.driver.DriverLinePlayer.play_line.Goals as goal
+use Rattle.console_threads.proofs.script.ScriptLinePlayer.play_line.Goals as goal
 
 pub returns-in-Ok-None-clause-played : goal.returns-in-Ok-None-clause-played
-returns-in-Ok-None-clause-played g c = passed_over c.args.number c.args.line.now c.args.out.now.items None None refl (rw c.in-Ok-None.field-0-is at c.in-Ok-None.ensures.reads)
+returns-in-Ok-None-clause-played c = passed_over c.args.number c.args.line.now c.args.out.now.items None None refl (rw c.in-Ok-None.field-0-is at c.in-Ok-None.ensures.reads)
 
-pub returns-in_ok-perform-in-Ok-Some-clause-played : goal.returns-in_ok-perform-in-Ok-Some-clause-played
-returns-in_ok-perform-in-Ok-Some-clause-played g c = passed_over c.args.number c.args.line.now c.args.out.now.items (Some (command_of c.in-Ok-Some.command)) None refl
+pub returns-in_ok-push-in-Ok-Some-clause-played : goal.returns-in_ok-push-in-Ok-Some-clause-played
+returns-in_ok-push-in-Ok-Some-clause-played c = passed_over c.args.number c.args.line.now c.args.out.now.items (Some (command_of c.in-Ok-Some.command)) None refl
     (rw c.in-Ok-Some.field-0-is at c.in-Ok-Some.ensures.reads)
 
 pub returns-in_ok-write_fault-in-Err-Fault-clause-played : goal.returns-in_ok-write_fault-in-Err-Fault-clause-played
-returns-in_ok-write_fault-in-Err-Fault-clause-played g c =
+returns-in_ok-write_fault-in-Err-Fault-clause-played c =
     let number = c.args.number in
     let out = c.args.out.now.items in
     subst (λ (f : ScriptFault). PlaysLine faults_alone faults_alone number c.args.line.now out c.write_fault.new.out.items (Some (record { line = number; fault = f }))) (sym c.in-Err-Fault.fault-is)
@@ -27,4 +27,4 @@ returns-in_ok-write_fault-in-Err-Fault-clause-played g c =
     ∙ ap (λ (f : ScriptFault). out ++ printed (fault_line number (script_fault_number f))) c.in-Err-Fault.fault-is)))
 
 pub returns-in-Err-OutOfMemory-clause-played : goal.returns-in-Err-OutOfMemory-clause-played
-returns-in-Err-OutOfMemory-clause-played g c = tt
+returns-in-Err-OutOfMemory-clause-played c = tt
