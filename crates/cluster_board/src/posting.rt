@@ -1,9 +1,9 @@
-ghost use Rattle.std.specs.Prelude.{◌≡◌, ◌∷◌, [], ◌++◌, ◌+◌, ◌<◌, IfOk, OnErr, OnOk, length, vec_capacity, vec_len};
+ghost use Rattle.std.specs.Prelude.{◌≡◌, ◌∷◌, [], ◌++◌, ◌+◌, ◌<◌, IfErr, IfOk, OnErr, OnOk, length, vec_capacity, vec_len};
 ghost use Rattle.cluster_events.specs.EventModel.{event_of};
 ghost use Rattle.directory_rules.specs.Happens.{happens};
 ghost use Rattle.directory_node.specs.Follows.{Follows};
 ghost use Rattle.directory_core.specs.Applying.{accepted_as};
-ghost use Rattle.directory_core.specs.Numbers.{event_refusal_number};
+ghost use Rattle.directory_core.specs.Numbers.{IsNumberedUnlessMemory, event_refusal_number};
 
 use crate::Board;
 use crate::marking::forget_by;
@@ -21,6 +21,7 @@ impl<L: Ledger + Names> Board<L> {
     pub fn post(&mut self, share: &mut Share<L>, event: &Event) -> Result<Receipt, EventRefusal>
         requires { 0 < share.old.parts }
         ensures told { Follows (λ receipt. accepted_as self.new.world receipt.entry.outcome) event_refusal_number (λ _. Unit {0}) (happens self.old.world (event_of event.now)) result }
+        ensures numbered { IfErr result IsNumberedUnlessMemory }
         ensures event { IfOk result (λ receipt. receipt.entry.event ≡ event_of event.now) }
         ensures journaled { IfOk result (λ receipt. self.new ≡ record self.old { world = self.new.world; journal = self.old.journal ++ receipt.entry ∷ [] }) }
         ensures number { IfOk result (λ receipt. receipt.number ≡ length self.old.journal + 1) }

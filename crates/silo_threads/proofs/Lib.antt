@@ -1,0 +1,4 @@
+pub mod Desks
+pub mod Receiving
+pub mod Rings
+pub mod Tallies

@@ -1,24 +1,25 @@
 -- What follows an event that was accepted: at a join a worker, at each change of membership a publication.
 use Rattle.std.specs.Prelude.{◌≡◌, ◌+◌, ◌<◌, ◌≤◌, ◌⊎◌, Option, Some, None}
+use Rattle.membership_view.specs.View.{ViewValue}
+use Rattle.hash_ring.specs.Places.{PlacesValue}
 use Rattle.hash_ring.specs.Ring.{ring_of}
 use Rattle.directory_rules.specs.Event.{Event, Join, Leave, Kill, See, Wake, Close, Find, Forget, Deliver, Lose, Nudge, Offer}
-use Rattle.directory_rules.specs.World.{World, current_view}
+use Rattle.directory_rules.specs.World.{current_view}
 use Rattle.published_rings.specs.Ends.{PublisherValue, after_publishing}
 use Rattle.silo_threads.specs.Cluster.{ClusterValue}
 use Rattle.silo_workers.specs.Moments.{Moment}
 use Rattle.silo_threads.specs.declared.fault.Lack.{Lack}
 use Rattle.silo_threads.specs.declared.fault.Lack.TheVariants.{Thread, Publication}
 
--- the ring of the world's current view is published, unless that of this version or a later one was
-abbrev pub ShowsNewest : World → PublisherValue → PublisherValue → Type 0
-ShowsNewest world before after =
-    ((before.last.version < world.views.version) × (after ≡ after_publishing before (ring_of (current_view world) world.places)))
-    ⊎ ((world.views.version ≤ before.last.version) × (after ≡ before))
+-- the ring of the view is published, unless that of its version or a later one was
+abbrev pub Shows : ViewValue → PlacesValue → PublisherValue → PublisherValue → Type 0
+Shows view places before after =
+    ((before.last.version < view.version) × (after ≡ after_publishing before (ring_of view places))) ⊎ ((view.version ≤ before.last.version) × (after ≡ before))
 
--- so it was at some moment
+-- so it was with the current view of some moment
 pub record HasPublished (before after : PublisherValue) : Type 0 where
   pub moment : Moment
-  pub shown : ShowsNewest moment.world before after
+  pub shown : Shows (current_view moment.world) moment.world.places before after
 
 -- after a join there is one worker more, and a publication, but for what lacks; without a thread nothing is published
 abbrev pub HasJoined : ClusterValue → ClusterValue → Option Lack → Type 0

@@ -36,7 +36,7 @@ pub struct Cluster<L: Ledger + Names, G: Gate + Drop> {
 impl<L: Ledger + Names, G: Gate + Drop> Model for Cluster<L, G> {
     ghost use Rattle.std.specs.Prelude.{◌≤◌, vec_len};
     ghost use Rattle.silo_threads.specs.Cluster.{ClusterValue};
-    ghost use Rattle.silo_threads.specs.declared.TheConstants.{MOST_WORKERS};
+    ghost use Rattle.silo_threads.specs.declared.cluster.TheConstants.{MOST_WORKERS};
 
     ghost Value = { ClusterValue };
 

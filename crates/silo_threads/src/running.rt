@@ -1,11 +1,12 @@
-ghost use Rattle.std.specs.Prelude.{◌≡◌, ◌+◌, ◌<◌, IfErr, IfOk, None, OnErr, OnOk, vec_capacity, vec_len};
+ghost use Rattle.std.specs.Prelude.{◌≡◌, ◌+◌, ◌<◌, ◌≤◌, IfErr, IfOk, None, OnErr, OnOk};
 ghost use Rattle.cluster_events.specs.EventModel.{event_of};
 ghost use Rattle.silo_threads.specs.Following.{HasChanged, HasFollowed, HasJoined};
 ghost use Rattle.silo_threads.specs.Receiving.{IsReceiptOf, IsRefusalOf};
 
 use crate::cluster::{MOST_WORKERS, PARTS};
-use crate::starting::{Desk, start, stop};
+use crate::starting::{Desk, start};
 use crate::{Cluster, Lack};
+use cluster_board::Board;
 use cluster_events::Event;
 use cluster_journal::Receipt;
 use directory_core::EventRefusal;
@@ -45,6 +46,7 @@ impl<L: Ledger + Names + Send + 'static, G: Gate + Drop + Send + Sync + 'static>
         ensures counted { OnOk result (share.new.amount ≡ share.old.amount + 1) }
         ensures not_counted { OnErr result (share.new.amount ≡ share.old.amount) }
     {
+        self.has_few();
         match event {
             Event::Join { silo, .. } => self.join(rt, share, event, *silo),
             Event::Leave { .. } | Event::Kill { .. } => self.change(rt, share, event),
@@ -76,32 +78,11 @@ impl<L: Ledger + Names + Send + 'static, G: Gate + Drop + Send + Sync + 'static>
             return Err(EventRefusal::OutOfMemory);
         }
         let receipt = post(rt, &self.site, share, event)?;
-        let lack = self.staff(rt, share, desk);
-        Ok(Ran { receipt, lack })
-    }
-
-    // The worker of a silo that has joined starts, and then the ring is published. There is room for the worker. What lacks is told:
-    // a thread also where there are as many workers as ever may be.
-    fn staff<R: Threads + Wait + Copy + Drop + Send + 'static>(
-        &mut self,
-        rt: &R,
-        share: &mut Share<L>,
-        desk: Desk<L, G>,
-    ) -> Option<Lack>
-        requires room { vec_len self.old.workers < vec_capacity self.old.workers }
-        requires part { 1 < share.old.parts }
-        ensures followed { HasJoined self.old self.new result }
-        ensures parts { share.new.parts + self.new.workers ≡ share.old.parts + self.old.workers }
-        ensures amount { share.new.amount ≡ share.old.amount }
-    {
-        if self.workers.len() >= MOST_WORKERS {
-            stop(rt, &self.site);
-            return Some(Lack::Thread);
-        }
-        match start(rt, &self.site, &mut self.workers, share, desk) {
+        let lack = match start(rt, &self.site, &mut self.workers, share, desk) {
             Ok(()) => self.publish(rt).err(),
             Err(lack) => Some(lack),
-        }
+        };
+        Ok(Ran { receipt, lack })
     }
 
     // A silo leaves or dies.
@@ -148,6 +129,13 @@ impl<L: Ledger + Names + Send + 'static, G: Gate + Drop + Send + Sync + 'static>
         })
     }
 
+    // A law: there are never more workers than there may be.
+    fn has_few(&self)
+        ensures { self.now.workers ≤ MOST_WORKERS }
+    {
+        let _workers = self.workers.len();
+    }
+
     // What the worker of a silo takes with it.
     fn desk_for(&self, silo: SiloAddress) -> Result<Desk<L, G>, AllocError> {
         Ok(Desk {
@@ -174,9 +162,25 @@ fn post<L: Ledger + Names, G: Gate + Drop, R: Wait>(
     ensures not_counted { OnErr result (share.new.amount ≡ share.old.amount) }
 {
     let mut board = site.board.lock(rt);
-    board.journaled();
-    let receipt = board.post(share, event)?;
+    let receipt = post_to(&mut board, share, event)?;
     drop(board);
     site.bell.notify_all();
     Ok(receipt)
+}
+
+// Posts the event to the board.
+fn post_to<L: Ledger + Names>(
+    board: &mut Board<L>,
+    share: &mut Share<L>,
+    event: &Event,
+) -> Result<Receipt, EventRefusal>
+    requires { 0 < share.old.parts }
+    ensures receipt { IfOk result (IsReceiptOf (event_of event.now)) }
+    ensures refused { IfErr result (IsRefusalOf (event_of event.now)) }
+    ensures parts { share.new.parts ≡ share.old.parts }
+    ensures counted { OnOk result (share.new.amount ≡ share.old.amount + 1) }
+    ensures not_counted { OnErr result (share.new.amount ≡ share.old.amount) }
+{
+    board.journaled();
+    board.post(share, event)
 }

@@ -1,7 +1,8 @@
 //! Workers' threads.
-ghost use Rattle.std.specs.Prelude.{◌≡◌, ◌+◌, ◌<◌, IfErr, vec_capacity, vec_len};
+ghost use Rattle.std.specs.Prelude.{◌≡◌, ◌+◌, ◌<◌, ◌≤◌, IfErr, OnOk, vec_capacity, vec_len};
 
 use crate::Lack;
+use crate::cluster::MOST_WORKERS;
 use crossbeam_channel::Sender;
 use silo_address::SiloAddress;
 use silo_workers::{Cause, Gate, Site, Tally, work};
@@ -27,8 +28,8 @@ pub(crate) struct Desk<L: Ledger + Names, G: Gate + Drop> {
     pub(crate) causes: Sender<Cause>,
 }
 
-/// Starts the worker of a silo, which takes a part of the share. Where no thread can be made, all are told to stop, so that the
-/// worker ends at once, in this thread.
+/// Starts the worker of a silo, which takes a part of the share. There is room for it. Where no thread can be made, all are told to
+/// stop, so that the worker ends at once, in this thread; where there are as many workers as ever may be, they are told so too.
 pub(crate) fn start<
     L: Ledger + Names + Send + 'static,
     G: Gate + Drop + Send + Sync + 'static,
@@ -42,11 +43,17 @@ pub(crate) fn start<
 ) -> Result<(), Lack>
     requires room { vec_len workers.old < vec_capacity workers.old }
     requires part { 1 < share.old.parts }
-    ensures parts { share.new.parts + 1 ≡ share.old.parts }
+    requires few { vec_len workers.old ≤ MOST_WORKERS }
+    ensures parts { share.new.parts + vec_len workers.new ≡ share.old.parts + vec_len workers.old }
     ensures amount { share.new.amount ≡ share.old.amount }
-    ensures one { vec_len workers.new ≡ vec_len workers.old + 1 }
+    ensures few { vec_len workers.new ≤ MOST_WORKERS }
+    ensures one { OnOk result (vec_len workers.new ≡ vec_len workers.old + 1) }
     ensures lack { IfErr result (λ lack. lack ≡ Lack.Thread) }
 {
+    if workers.len() >= MOST_WORKERS {
+        stop(rt, site);
+        return Err(Lack::Thread);
+    }
     let tally = Tally::new(desk.alloc, share.split_off(1, 0));
     let handle = *rt;
     let job = move || -> Tally<L> { employ(handle, desk, tally) };

@@ -1,0 +1,70 @@
+-- A board, work that it lends and work that is prepared may be moved to another thread.
+use denote.RattleType.{RattleType}
+use denote.Struct.Declared as S
+use denote.Enum.Declared as E
+use denote.Model.{View}
+use base.Stored.{Coded}
+use denote.Param.Send.{IsSend, AllSend, struct_send, enum_send, recorded_send, view_send}
+use Rattle.core.proofs.ledger.Sent.{book_send}
+use Rattle.std.proofs.Crossing as crossing
+use Rattle.std.proofs.MapsCrossing as maps
+use Rattle.value_marks.proofs.Crossing as marking
+use Rattle.worker_crossing.proofs.Parts.{number64, truth}
+use Rattle.worker_crossing.proofs.Holders.{heap_field_crosses}
+use Rattle.worker_crossing.proofs.Names.{silo_crosses}
+use Rattle.worker_crossing.proofs.Members.{settings_cross}
+use Rattle.worker_crossing.proofs.Letters.{letter_crosses}
+use Rattle.worker_crossing.proofs.Nodes.{shared_crosses, plan_crosses}
+use Rattle.worker_crossing.proofs.Events.{entry_crosses}
+use Rattle.worker_crossing.proofs.Worlds.{world_crosses}
+use Rattle.std.specs.declared.sync.ledger.Ledger as ledger
+use Rattle.value_marks.specs.declared.mark.Names as names
+use Rattle.std.specs.contracts.option.Option as Option
+use Rattle.std.specs.contracts.alloc.Global as Heap
+use Rattle.std.specs.contracts.prelude.GlobalAllocator.TheImpl.{ghosts}
+use Rattle.std.specs.contracts.collections.BTreeMap as BTreeMap
+use Rattle.silo_address.specs.contracts.silo.SiloAddress as silo
+use Rattle.silo_address.specs.contracts.silo.SiloAddressOrd.TheImpl as ord
+use Rattle.silo_address.specs.contracts.silo.SiloAddressPartialEq.TheImpl as eq
+use Rattle.silo_address.specs.contracts.silo.SiloAddressPartialOrd.TheImpl as partial
+use Rattle.value_marks.specs.contracts.mark.Mark as mark
+use Rattle.value_marks.specs.contracts.marks.Marks as marks
+use Rattle.shared_node.specs.contracts.SharedNode as shared
+use Rattle.cluster_journal.specs.contracts.entry.Entry as entry
+use Rattle.cluster_board.specs.contracts.board.Board as board
+use Rattle.cluster_board.specs.contracts.board.Board.TheInside as board_inside
+use Rattle.cluster_board.specs.contracts.work.Job as job
+use Rattle.cluster_board.specs.contracts.work.Job.TheInside as job_inside
+use Rattle.cluster_board.specs.contracts.work.Prepared as prepared
+use Rattle.cluster_board.specs.contracts.work.Prepared.TheInside as prepared_inside
+
+-- a struct with a model
+sent : (T : S.Declared) (D : Type 0) (code : Coded D) (view : T.D → D) (holds : T.D → Type 0) → AllSend (S.fields T) → IsSend (View (S.row T) D code view holds)
+sent T D code view holds s = view_send (S.row T) D code view holds (recorded_send _ T.D T.to T.to_one (struct_send (S.shape T) s))
+
+module _ (T : RattleType) (g : names.Ghosts T.Denot) (s : IsSend T) where
+  mark_sends : IsSend (mark.the_row shared.the_row T g)
+  mark_sends = marking.mark_sends shared.the_row T g s
+
+  pub job_sends : IsSend (job.the_row T g)
+  job_sends = sent (job_inside.the_type T g) _ _ _ _ (number64.moved, (letter_crosses.moved, (shared_crosses.moved, (enum_send (E.shape (Option.the_type (mark.the_row shared.the_row T g))) (tt, ((mark_sends, tt), tt)), tt))))
+
+  pub prepared_sends : IsSend (prepared.the_row T g)
+  prepared_sends = sent (prepared_inside.the_type T g) _ _ _ _ (job_sends, (plan_crosses.moved, tt))
+
+  module _ (l : ledger.Ghosts T.Denot) where
+    marks_send : IsSend (Option.the_field (marks.the_row shared.the_row T g)).row
+    marks_send = enum_send (E.shape (Option.the_type (marks.the_row shared.the_row T g))) (tt, ((marking.marks_send shared.the_row T g s, tt), tt))
+
+    marked_sends : IsSend (BTreeMap.the_field silo.the_row (mark.the_row shared.the_row T g) Heap.the_row ord.ghosts eq.ghosts partial.ghosts ghosts).row
+    marked_sends = maps.BTreeMap-send silo.the_row (mark.the_row shared.the_row T g) ord.ghosts eq.ghosts partial.ghosts silo_crosses.moved mark_sends
+
+    pub board_sends : IsSend (board.the_row T l g)
+    board_sends =
+        sent (board_inside.the_type T l g) _ _ _ _ (
+          heap_field_crosses.moved,
+          (
+            settings_cross.moved,
+            (world_crosses.moved, (crossing.Vec-send entry.the_row entry_crosses.moved, (book_send T l, (marks_send, (marked_sends, (truth.moved, (truth.moved, tt))))))),
+          ),
+        )
