@@ -15,27 +15,27 @@ use Rattle.clap.specs.declared.builder.value_parser.Reading.{Reading}
 use Rattle.clap.specs.declared.builder.value_parser.Reading.TheVariants as reading
 use Rattle.clap.specs.declared.builder.value_parser.ValueParser.TheVariants as parser
 use Rattle.clap.specs.declared.error.kind.ErrorKind.TheVariants as kind
-use Rattle.command_line.specs.Command.{NameList, app, cache_rule, check_app, hashing_rule, play_app, points_rule}
-use Rattle.command_line.specs.Line.{IsInRange, line_in, line_of, number_or_zero}
+use Rattle.command_line.specs.Command.{NameList, app, cache_rule, check_app, hashing_rule, player_app, points_rule}
+use Rattle.command_line.specs.Line.{AreInRange, IsInRange, line_in, line_of, number_or_zero, options_in}
 use Rattle.command_line.specs.declared.line.Line.{Line}
 use Rattle.command_line.proofs.Walks.{Every, Keeps, checks_pass, is_faulty, level_keeps, no_first, no_next, required_there}
 use Rattle.command_line.proofs.Stops.{StopsElsewhere, walk_stops}
 use Rattle.command_line.proofs.Numbers.{accepted_in_range}
 use Rattle.command_line.proofs.NumberRows.{AreFine, IsAccepted, IsFineRow, fine_text, fine_with, fine_without, has_with, still_has}
 
--- ---- the arguments of `play`
+-- ---- the arguments of a command that plays a script
 
--- `play`, as clap completes it
-abbrev play_shape : NameList → Shape
-play_shape names = built_leaf (inherited (with_leaf_noted (marked_built (app names).top)) (play_app names).top)
+-- such a command, as clap completes it
+abbrev player_shape : Text → NameList → Shape
+player_shape name names = built_leaf (inherited (with_leaf_noted (marked_built (app names).top)) (player_app name names).top)
 
 -- and `check`
 abbrev check_shape : NameList → Shape
 check_shape names = built_leaf (inherited (with_leaf_noted (marked_built (app names).top)) check_app.top)
 
 -- the matches of `--points` and of `--cache`
-abbrev AreInRange : List Row → Type 0
-AreInRange rows = AreFine (codes "points") 1 128 rows × AreFine (codes "cache") 1 65536 rows
+abbrev HaveInRange : List Row → Type 0
+HaveInRange rows = AreFine (codes "points") 1 128 rows × AreFine (codes "cache") 1 65536 rows
 
 -- both have a match
 abbrev HaveBoth : List Row → Type 0
@@ -49,69 +49,69 @@ passed false e = absurd (true≢false (ap is_faulty e))
 kept_with : (name : Text) (how : Reading) (s : ValueSource) (values : List Text)
     → IsFineRow (codes "points") 1 128 (record { id = name; values = values; count = None; source = Some s; reading = how })
     → IsFineRow (codes "cache") 1 65536 (record { id = name; values = values; count = None; source = Some s; reading = how })
-    → (rows : List Row) → AreInRange rows → AreInRange (with_values name how s values rows)
+    → (rows : List Row) → HaveInRange rows → HaveInRange (with_values name how s values rows)
 kept_with name how s values points cache rows all = (
   fine_with (codes "points") 1 128 name how s values points rows all.0,
   fine_with (codes "cache") 1 65536 name how s values cache rows all.1,
 )
 
-kept_without : (name : Text) (rows : List Row) → AreInRange rows → AreInRange (without name rows)
+kept_without : (name : Text) (rows : List Row) → HaveInRange rows → HaveInRange (without name rows)
 kept_without name rows all = (fine_without (codes "points") 1 128 name rows all.0, fine_without (codes "cache") 1 65536 name rows all.1)
 
--- each use of an option of `play` keeps them in range
-hashing_keep : (names : NameList) → Keeps false AreInRange (filled (hashing_rule names))
+-- each use of an option keeps them in range
+hashing_keep : (names : NameList) → Keeps false HaveInRange (filled (hashing_rule names))
 hashing_keep names values rows e all =
     kept_with (codes "hashing") reading.AsWritten CommandLine _ (λ is. absurd (true≢false (sym is))) (λ is. absurd (true≢false (sym is))) _ (kept_without (codes "hashing") rows all)
 
-points_keep : Keeps false AreInRange (filled points_rule)
+points_keep : Keeps false HaveInRange (filled points_rule)
 points_keep [] rows e all = absurd (true≢false (ap is_faulty e))
 points_keep (v ∷ vs) rows e all =
     let accepted : IsAccepted 1 128 v = passed (accepts false (parser.Signed (pos 1) (pos 128)) v) (no_first _ _ (no_next _ _ (no_next _ _ e))) in
     kept_with (codes "points") reading.WithoutMinus CommandLine (v ∷ vs) (λ is. (refl, accepted)) (λ is. absurd (true≢false (sym is))) _ (kept_without (codes "points") rows all)
 
-cache_keep : Keeps false AreInRange (filled cache_rule)
+cache_keep : Keeps false HaveInRange (filled cache_rule)
 cache_keep [] rows e all = absurd (true≢false (ap is_faulty e))
 cache_keep (v ∷ vs) rows e all =
     let accepted : IsAccepted 1 65536 v = passed (accepts false (parser.Signed (pos 1) (pos 65536)) v) (no_first _ _ (no_next _ _ (no_next _ _ e))) in
     kept_with (codes "cache") reading.WithoutMinus CommandLine (v ∷ vs) (λ is. absurd (true≢false (sym is))) (λ is. (refl, accepted)) _ (kept_without (codes "cache") rows all)
 
-help_keep : Keeps false AreInRange (filled help_rule)
+help_keep : Keeps false HaveInRange (filled help_rule)
 help_keep values rows e all = all
 
-play_keeps : (names : NameList) → Every (Keeps false AreInRange) (play_shape names).rules
-play_keeps names = (hashing_keep names, (points_keep, (cache_keep, (help_keep, tt))))
+player_keeps : (name : Text) (names : NameList) → Every (Keeps false HaveInRange) (player_shape name names).rules
+player_keeps name names = (hashing_keep names, (points_keep, (cache_keep, (help_keep, tt))))
 
 -- ---- defaults
 
-hashing_default : (names : NameList) (rows : List Row) → AreInRange rows → AreInRange (with_default rows (filled (hashing_rule names)))
+hashing_default : (names : NameList) (rows : List Row) → HaveInRange rows → HaveInRange (with_default rows (filled (hashing_rule names)))
 hashing_default names rows all = go (has_row (codes "hashing") rows)
   where
-    go : (b : Bool) → AreInRange (cond b rows (default_rows (codes "hashing") reading.AsWritten (codes "sha256" ∷ []) rows))
+    go : (b : Bool) → HaveInRange (cond b rows (default_rows (codes "hashing") reading.AsWritten (codes "sha256" ∷ []) rows))
     go true = all
     go false = kept_with (codes "hashing") reading.AsWritten DefaultValue (codes "sha256" ∷ []) (λ is. absurd (true≢false (sym is))) (λ is. absurd (true≢false (sym is))) rows all
 
-points_default : (rows : List Row) → AreInRange rows
-    → AreInRange (with_default rows (filled points_rule)) × (has_row (codes "points") (with_default rows (filled points_rule)) ≡ true)
+points_default : (rows : List Row) → HaveInRange rows
+    → HaveInRange (with_default rows (filled points_rule)) × (has_row (codes "points") (with_default rows (filled points_rule)) ≡ true)
 points_default rows all = go (has_row (codes "points") rows) refl
   where
     given : List Row
     given = default_rows (codes "points") reading.WithoutMinus (codes "30" ∷ []) rows
 
-    go : (b : Bool) → has_row (codes "points") rows ≡ b → AreInRange (cond b rows given) × (has_row (codes "points") (cond b rows given) ≡ true)
+    go : (b : Bool) → has_row (codes "points") rows ≡ b → HaveInRange (cond b rows given) × (has_row (codes "points") (cond b rows given) ≡ true)
     go true is = (all, is)
     go false is = (
       kept_with (codes "points") reading.WithoutMinus DefaultValue (codes "30" ∷ []) (λ same. (refl, refl)) (λ same. absurd (true≢false (sym same))) rows all,
       has_with (codes "points") reading.WithoutMinus DefaultValue (codes "30" ∷ []) refl rows,
     )
 
-cache_default : (rows : List Row) → AreInRange rows → has_row (codes "points") rows ≡ true
-    → AreInRange (with_default rows (filled cache_rule)) × HaveBoth (with_default rows (filled cache_rule))
+cache_default : (rows : List Row) → HaveInRange rows → has_row (codes "points") rows ≡ true
+    → HaveInRange (with_default rows (filled cache_rule)) × HaveBoth (with_default rows (filled cache_rule))
 cache_default rows all points = go (has_row (codes "cache") rows) refl
   where
     given : List Row
     given = default_rows (codes "cache") reading.WithoutMinus (codes "1024" ∷ []) rows
 
-    go : (b : Bool) → has_row (codes "cache") rows ≡ b → AreInRange (cond b rows given) × HaveBoth (cond b rows given)
+    go : (b : Bool) → has_row (codes "cache") rows ≡ b → HaveInRange (cond b rows given) × HaveBoth (cond b rows given)
     go true is = (all, (points, is))
     go false is = (
       kept_with (codes "cache") reading.WithoutMinus DefaultValue (codes "1024" ∷ []) (λ same. absurd (true≢false (sym same))) (λ same. (refl, refl)) rows all,
@@ -128,17 +128,17 @@ help_default rows = go (has_row (codes "help") rows)
     go true = refl
     go false = refl
 
--- the matches of `play` have a row of each number, and each is in its range
-play_rows : (names : NameList) (words : List Text) → level_fault (play_shape names) [] nothing_held words false [] ≡ []
-    → AreInRange (rows_after (play_shape names).rules [] words) × HaveBoth (rows_after (play_shape names).rules [] words)
-play_rows names words e =
-    let walked = (settled (play_shape names).rules (walk (play_shape names).rules [] nothing_held words).held).rows in
-    let before = level_keeps (play_shape names) AreInRange (play_keeps names) [] words false [] e (tt, tt) in
+-- the matches have a row of each number, and each is in its range
+player_rows : (name : Text) (names : NameList) (words : List Text) → level_fault (player_shape name names) [] nothing_held words false [] ≡ []
+    → HaveInRange (rows_after (player_shape name names).rules [] words) × HaveBoth (rows_after (player_shape name names).rules [] words)
+player_rows name names words e =
+    let walked = (settled (player_shape name names).rules (walk (player_shape name names).rules [] nothing_held words).held).rows in
+    let before = level_keeps (player_shape name names) HaveInRange (player_keeps name names) [] words false [] e (tt, tt) in
     let hashed = with_default walked (filled (hashing_rule names)) in
     let pointed = points_default hashed (hashing_default names walked before) in
     let cached = cache_default (with_default hashed (filled points_rule)) pointed.0 pointed.1 in
     let same = help_default (with_default (with_default hashed (filled points_rule)) (filled cache_rule)) in
-    (subst AreInRange same cached.0, subst HaveBoth same cached.1)
+    (subst HaveInRange same cached.0, subst HaveBoth same cached.1)
 
 -- what the getter reads of such a number is in its range
 in_range : (low high : ℕ) (found : Option Text) → high < 4294967296 → (text : Text) × (found ≡ Some (without_minus text)) × IsAccepted low high text
@@ -146,34 +146,42 @@ in_range : (low high : ℕ) (found : Option Text) → high < 4294967296 → (tex
 in_range low high found fits text =
     subst (λ o. (low ≤ option_map_or number_or_zero o 0) × (option_map_or number_or_zero o 0 ≤ high)) (sym text.1) (accepted_in_range low high text.0 fits text.2)
 
+-- so what the options choose is in range
+player_options : (name : Text) (names : NameList) (words : List Text) → level_fault (player_shape name names) [] nothing_held words false [] ≡ []
+    → AreInRange (options_in (rows_after (player_shape name names).rules [] words))
+player_options name names words e =
+    let after = rows_after (player_shape name names).rules [] words in
+    let rows = player_rows name names words e in
+    let points = in_range 1 128 (one_of (codes "points") after) (lit< tt) (fine_text (codes "points") 1 128 after rows.0.0 rows.1.0) in
+    let cache = in_range 1 65536 (one_of (codes "cache") after) (lit< tt) (fine_text (codes "cache") 1 65536 after rows.0.1 rows.1.1) in
+    (points.0, points.1, cache.0, cache.1)
+
 -- ---- the subcommand
 
--- where clap finds no fault and enters a subcommand, that is `play` or `check`
+-- where clap finds no fault and enters a subcommand, that is `play`, `threads` or `check`
 command_entered : (names : NameList) (stop : Option (Text × List Text)) → StopsElsewhere stop → entered_fault (built (app names)) stop ≡ []
     → is_some (entered (built (app names)) stop) ≡ true → IsSomeAnd (option_and_then line_in (entered (built (app names)) stop)) IsInRange
 command_entered names None elsewhere e enters = absurd (true≢false (sym enters))
-command_entered names (Some p) elsewhere e enters = go (bytes_eq (codes "play") p.0) (bytes_eq (codes "check") p.0) (bytes_eq (codes "help") p.0) refl e enters
+command_entered names (Some p) elsewhere e enters =
+    go (bytes_eq (codes "play") p.0) (bytes_eq (codes "threads") p.0) (bytes_eq (codes "check") p.0) (bytes_eq (codes "help") p.0) refl e enters
   where
-    shape : (b c d : Bool) → Option Shape
-    shape b c d =
-        cond (b || false) (Some (play_shape names)) (cond (c || false) (Some (check_shape names)) (cond (d || false) (Some (built_leaf help_shape)) None))
+    shape : (a b c d : Bool) → Option Shape
+    shape a b c d =
+        cond (a || false) (Some (player_shape (codes "play") names)) (cond (b || false) (Some (player_shape (codes "threads") names))
+        (cond (c || false) (Some (check_shape names)) (cond (d || false) (Some (built_leaf help_shape)) None)))
 
-    go : (b c d : Bool) → bytes_eq (codes "help") p.0 ≡ d
-        → option_map_or (λ s. level_fault s [] nothing_held p.1 false []) (shape b c d) [] ≡ []
-        → is_some (option_map (λ s. rows_at s p.1) (shape b c d)) ≡ true
-        → IsSomeAnd (option_and_then line_in (option_map (λ s. rows_at s p.1) (shape b c d))) IsInRange
-    go true c d help none there =
-        let after = rows_after (play_shape names).rules [] p.1 in
-        let rows = play_rows names p.1 none in
-        let points = in_range 1 128 (one_of (codes "points") after) (lit< tt) (fine_text (codes "points") 1 128 after rows.0.0 rows.1.0) in
-        let cache = in_range 1 65536 (one_of (codes "cache") after) (lit< tt) (fine_text (codes "cache") 1 65536 after rows.0.1 rows.1.1) in
-        (points.0, points.1, cache.0, cache.1)
-    go false true d help none there = tt
-    go false false true help none there =
+    go : (a b c d : Bool) → bytes_eq (codes "help") p.0 ≡ d
+        → option_map_or (λ s. level_fault s [] nothing_held p.1 false []) (shape a b c d) [] ≡ []
+        → is_some (option_map (λ s. rows_at s p.1) (shape a b c d)) ≡ true
+        → IsSomeAnd (option_and_then line_in (option_map (λ s. rows_at s p.1) (shape a b c d))) IsInRange
+    go true b c d help none there = player_options (codes "play") names p.1 none
+    go false true c d help none there = player_options (codes "threads") names p.1 none
+    go false false true d help none there = tt
+    go false false false true help none there =
         let named : codes "help" ≡ p.0 = (bytes_eq-Decides (codes "help") p.0).0 help in
         let is_help : bytes_eq p.0 (codes "help") ≡ true = subst (λ name. bytes_eq name (codes "help") ≡ true) named refl in
         absurd (true≢false (sym is_help ∙ elsewhere))
-    go false false false help none there = absurd (true≢false (sym there))
+    go false false false false help none there = absurd (true≢false (sym there))
 
 -- words in which clap finds no fault are a line, with numbers in their ranges
 pub accepted : (names : NameList) (words : List Text) → fault_of (app names) words ≡ [] → IsSomeAnd (line_of (app names) words) IsInRange

@@ -37,10 +37,18 @@ points_rule = option_rule (codes "points") (parser.Signed (pos 1) (pos 128)) (co
 abbrev pub cache_rule : Rule
 cache_rule = option_rule (codes "cache") (parser.Signed (pos 1) (pos 65536)) (codes "1024")
 
--- `play [--hashing NAME] [--points N] [--cache N]`
+-- `NAME [--hashing HASHING] [--points N] [--cache N]`, which plays a script
+abbrev pub player_app : Text → NameList → App
+player_app name names =
+    with_rule (with_rule (with_rule (new_app name) (hashing_rule names)) points_rule) cache_rule
+
+-- `play`, with these options
 abbrev pub play_app : NameList → App
-play_app names =
-    with_rule (with_rule (with_rule (new_app (codes "play")) (hashing_rule names)) points_rule) cache_rule
+play_app names = player_app (codes "play") names
+
+-- `threads`, with the same options
+abbrev pub threads_app : NameList → App
+threads_app names = player_app (codes "threads") names
 
 -- `check`, without options
 abbrev pub check_app : App
@@ -50,9 +58,13 @@ check_app = new_app (codes "check")
 abbrev pub bare_app : App
 bare_app = on_top (λ shape. record shape { subcommand_required = true; has_version = true }) (new_app (codes "grain-directory"))
 
+-- the commands that play a script
+abbrev pub players_app : NameList → App
+players_app names = with_subcommand (with_subcommand bare_app (play_app names).top) (threads_app names).top
+
 -- the whole command: one more `with_subcommand` for each subcommand
 abbrev pub app : NameList → App
-app names = with_subcommand (with_subcommand bare_app (play_app names).top) check_app.top
+app names = with_subcommand (players_app names) check_app.top
 
 -- what holds of the command, whose names stand where some reference of the code points
 abbrev pub OfCommand : (App → Type 0) → Type 0

@@ -14,7 +14,8 @@ use Rattle.clap.specs.declared.error.kind.ErrorKind.{ErrorKind}
 use Rattle.hash_ring.specs.declared.hashing.Hashing.{Hashing}
 use Rattle.hash_ring.specs.declared.hashing.Hashing.TheVariants.{Sha256, Stated}
 use Rattle.command_line.specs.declared.line.Line.{Line}
-use Rattle.command_line.specs.declared.line.Line.TheVariants.{Play, Check}
+use Rattle.command_line.specs.declared.line.Line.TheVariants.{Play, Threads, Check}
+use Rattle.command_line.specs.declared.line.Options.{Options}
 use Rattle.command_line.specs.declared.error.LineError.{LineError}
 use Rattle.command_line.specs.declared.error.LineError.TheVariants as error
 use Rattle.command_line.specs.Command.{OfCommand}
@@ -39,10 +40,19 @@ number_or_zero text =
 abbrev pub number_of : Text → List Row → ℕ
 number_of option rows = option_map_or number_or_zero (one_of option rows) 0
 
+-- what the options choose that the matches of a subcommand give
+abbrev pub options_in : List Row → Options
+options_in rows = record {
+  hashing = hashing_of rows;
+  points = number_of (codes "points") rows;
+  cache = number_of (codes "cache") rows;
+}
+
 -- the line that a subcommand with its matches asks for: a row for each subcommand
 abbrev pub line_in : Text × List Row → Option Line
 line_in (name, rows) =
-    if bytes_eq name (codes "play") then Some (Play (hashing_of rows) (number_of (codes "points") rows) (number_of (codes "cache") rows))
+    if bytes_eq name (codes "play") then Some (Play (options_in rows))
+    else if bytes_eq name (codes "threads") then Some (Threads (options_in rows))
     else if bytes_eq name (codes "check") then Some Check else None
 
 -- the line that clap reads from the words
@@ -67,7 +77,12 @@ Reads words (Ok line) = AskFor words line
 Reads words (Err (error.Usage e)) = HaveFault words (kind_of e)
 Reads words (Err error.OutOfMemory) = ⊤
 
--- the points of the line are as many as a silo may have, and its hints as many as a cache may keep
+-- the points are as many as a silo may have, and the hints as many as a cache may keep
+abbrev pub AreInRange : Options → Type 0
+AreInRange options = (1 ≤ options.points) × (options.points ≤ 128) × (1 ≤ options.cache) × (options.cache ≤ 65536)
+
+-- the options of the line are in their ranges
 abbrev pub IsInRange : Line → Type 0
-IsInRange (Play hashing points cache) = (1 ≤ points) × (points ≤ 128) × (1 ≤ cache) × (cache ≤ 65536)
+IsInRange (Play options) = AreInRange options
+IsInRange (Threads options) = AreInRange options
 IsInRange Check = ⊤

@@ -1,8 +1,8 @@
-ghost use Rattle.std.specs.Prelude.{◌≡◌, IfOk, codes, false};
-ghost use Rattle.clap.specs.Walk.{rule_of, texts};
+ghost use Rattle.std.specs.Prelude.{◌≡◌, IfOk, false};
+ghost use Rattle.clap.specs.Walk.{rule_of};
 ghost use Rattle.clap.specs.Simple.{app_of};
 ghost use Rattle.clap.specs.declared.builder.command.Command.TheViews.{out-Command};
-ghost use Rattle.command_line.specs.Command.{OfCommand, check_app, option_rule, play_app, points_rule, cache_rule, hashing_rule, hashing_names, NameList};
+ghost use Rattle.command_line.specs.Command.{OfCommand, check_app, option_rule, player_app, players_app, points_rule, cache_rule, hashing_rule};
 
 use clap::builder::ValueParser;
 use clap::{Arg, ArgAction, Command, value_parser};
@@ -11,29 +11,46 @@ use std::alloc::{AllocError, Global};
 /// The program's version.
 const VERSION: &str = "0.1.0";
 
+/// What help says of the commands that play a script.
+const PLAY: &str = "Play a cluster's script, read from standard input";
+
+const THREADS: &str = "Play a cluster's script with a thread per silo, read from standard input";
+
 static HASHINGS: [&str; 2] = ["sha256", "stated"];
 
 /// The whole command: a call of `subcommand` for each subcommand.
 pub(crate) fn grain_directory<'a>(alloc: Global) -> Result<Command<'a>, AllocError>
     ensures { IfOk result (λ c. OfCommand (λ command. app_of c ≡ command)) }
 {
+    with_players(alloc, HASHINGS.as_slice())?.subcommand(check(alloc))
+}
+
+// The command with those of its subcommands that play a script.
+fn with_players<'a>(alloc: Global, hashings: &'a [&'a str]) -> Result<Command<'a>, AllocError>
+    ensures { IfOk result (λ c. app_of c ≡ players_app hashings.entry) }
+{
     Command::new(alloc, "grain-directory")
         .about("A directory of grains on a cluster of silos, played from a script")
         .version(VERSION)
         .bin_name("grain-directory")?
         .subcommand_required(true)
-        .subcommand(play(alloc)?)?
-        .subcommand(check(alloc))
+        .subcommand(player(alloc, "play", PLAY, hashings)?)?
+        .subcommand(player(alloc, "threads", THREADS, hashings)?)
 }
 
-// `play [--hashing NAME] [--points N] [--cache N]`.
-fn play<'a>(alloc: Global) -> Result<Command<'a>, AllocError>
-    ensures app { IfOk result (λ c. (names : NameList) × (texts names.now ≡ hashing_names) × (app_of c ≡ play_app names)) }
+// `NAME [--hashing HASHING] [--points N] [--cache N]`, which plays a script.
+fn player<'a>(
+    alloc: Global,
+    name: &'a str,
+    about: &'a str,
+    hashings: &'a [&'a str],
+) -> Result<Command<'a>, AllocError>
+    ensures app { IfOk result (λ c. app_of c ≡ player_app name.entry.now hashings.entry) }
     ensures local { IfOk result (λ c. (out-Command c).has_globals ≡ false) }
 {
-    Command::new(alloc, "play")
-        .about("Play a cluster's script, read from standard input")
-        .arg(hashing(alloc))?
+    Command::new(alloc, name)
+        .about(about)
+        .arg(hashing(alloc, hashings))?
         .arg(points(alloc))?
         .arg(cache(alloc))
 }
@@ -46,11 +63,11 @@ fn check<'a>(alloc: Global) -> Command<'a>
     Command::new(alloc, "check").about("Judge the dump of a cluster, read from standard input")
 }
 
-fn hashing<'a>(alloc: Global) -> Arg<'a>
-    ensures rule { (names : NameList) × (texts names.now ≡ hashing_names) × (rule_of result ≡ hashing_rule names) }
+fn hashing<'a>(alloc: Global, hashings: &'a [&'a str]) -> Arg<'a>
+    ensures rule { rule_of result ≡ hashing_rule hashings.entry }
     ensures local { result.global ≡ false }
 {
-    let names = ValueParser::Names(HASHINGS.as_slice());
+    let names = ValueParser::Names(hashings);
     option(alloc, "hashing", "HASHING", names, "sha256").help(
         "How points and grains are hashed: by their texts, or as the script states",
     )

@@ -6,4 +6,4 @@ mod error;
 mod line;
 
 pub use error::LineError;
-pub use line::{Line, read_line};
+pub use line::{Line, Options, read_line};

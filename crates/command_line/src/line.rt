@@ -2,7 +2,7 @@ ghost use Rattle.std.specs.Prelude.{◌≡◌, IfOk, map, option_and_then};
 ghost use Rattle.clap.specs.Matches.{found_of};
 ghost use Rattle.clap.specs.Walk.{rows_of};
 ghost use Rattle.clap.specs.Simple.{subcommand_rows_of};
-ghost use Rattle.command_line.specs.Line.{IsInRange, Reads, hashing_named, hashing_of, line_in, number_of};
+ghost use Rattle.command_line.specs.Line.{IsInRange, Reads, hashing_named, hashing_of, line_in, number_of, options_in};
 ghost use Rattle.command_line.specs.Refusal.{Refuses};
 
 use crate::LineError;
@@ -17,16 +17,22 @@ use std::convert::AsStr;
 #[derive(Clone, Copy, PartialEq, Eq)]
 pub enum Line {
     /// Play the script that comes on standard input.
-    Play {
-        /// How the cluster hashes.
-        hashing: Hashing,
-        /// How many points a silo has under `Hashing::Sha256`, from 1 to 128.
-        points: usize,
-        /// How many hints a silo's cache keeps, from 1 to 65536.
-        cache: usize,
-    },
+    Play(Options),
+    /// Play it with a thread per silo.
+    Threads(Options),
     /// Judge the dump that comes on standard input.
     Check,
+}
+
+/// What the options of a command that plays a script choose for its cluster.
+#[derive(Clone, Copy, PartialEq, Eq)]
+pub struct Options {
+    /// How the cluster hashes.
+    pub hashing: Hashing,
+    /// How many points a silo has under `Hashing::Sha256`, from 1 to 128.
+    pub points: usize,
+    /// How many hints a silo's cache keeps, from 1 to 65536.
+    pub cache: usize,
 }
 
 /// Reads a command line: its words as the system gives them, the program's name first.
@@ -62,13 +68,20 @@ fn line_in(matches: &ArgMatches<'_>) -> Option<Line>
 {
     let (name, settings) = matches.subcommand()?;
     match name {
-        "play" => Some(Line::Play {
-            hashing: hashing_of(settings),
-            points: number_of(settings, "points") as usize,
-            cache: number_of(settings, "cache") as usize,
-        }),
+        "play" => Some(Line::Play(options_in(settings))),
+        "threads" => Some(Line::Threads(options_in(settings))),
         "check" => Some(Line::Check),
         _ => None,
+    }
+}
+
+fn options_in(settings: &ArgMatches<'_>) -> Options
+    ensures { result ≡ options_in (rows_of (found_of settings.now)) }
+{
+    Options {
+        hashing: hashing_of(settings),
+        points: number_of(settings, "points") as usize,
+        cache: number_of(settings, "cache") as usize,
     }
 }
 

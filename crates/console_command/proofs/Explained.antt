@@ -9,7 +9,7 @@ use Rattle.command_line.specs.declared.error.LineError.{LineError}
 use Rattle.command_line.specs.declared.error.LineError.TheVariants as errors
 use Rattle.console_command.specs.Exits.{MakesCalls, WritesAnswer}
 use Rattle.console_command.specs.declared.exit.Exit.{Exit}
-use Rattle.console_command.specs.declared.exit.Exit.TheVariants.{Played, Checked}
+use Rattle.console_command.specs.declared.exit.Exit.TheVariants.{Played, Threaded, Checked}
 
 -- they ask for help or for the version
 pub asked : (error : LineError) → IsAnswer error → (words : List Text) → Reads words (Err error) → AskToBeTold words
@@ -26,5 +26,6 @@ mistaken errors.OutOfMemory not there words read = absurd (there refl)
 pub is_explained : {R W : Type 0} (reads : R → Option (List ℕ) → R → Type 0) (writes : W → List ℕ → Option ℕ → W → Type 0) (source : R) (old new : W) (exit : Exit)
     → WritesAnswer writes old new exit → MakesCalls reads writes (source, old) (source, new) exit
 is_explained reads writes source old new (Played ended) written = absurd written
+is_explained reads writes source old new (Threaded ended) written = absurd written
 is_explained reads writes source old new (Checked checked) written = absurd written
 is_explained reads writes source old new other written = (refl, written)

@@ -10,7 +10,8 @@ use Rattle.script_loop.specs.declared.ended.LineFault.{LineFault}
 use Rattle.console_command.specs.declared.exit.Exit.{Exit}
 use Rattle.console_command.specs.declared.exit.Exit.TheVariants.{Played, Refused}
 use Rattle.console_command.specs.Exits.{exit_without_words}
-use Rattle.console_command.specs.Telling.{IsTold, Tells, TellsEnd, TellsFault, Writes, fault_text, told_without_words}
+use Rattle.threaded_play.specs.Endings.{IsSent}
+use Rattle.console_command.specs.Telling.{IsTold, Tells, TellsEnd, TellsFault, fault_text, told_without_words}
 
 -- where there is nothing to tell, nothing is written
 pub nothing_told : {E : Type 0} (writes : E → List ℕ → Option ℕ → E → Type 0) (contents : E → Option (List ℕ)) (exit : Exit) (errors : E) → Tells exit [] → IsTold writes contents exit errors errors
@@ -27,7 +28,7 @@ refused_without _ not = refl
 
 -- and it is told that one isn't text
 pub told_so : {E : Type 0} (writes : E → List ℕ → Option ℕ → E → Type 0) (contents : E → Option (List ℕ)) (kind : ErrorKind) (old new : E) → kind ≢ kinds.OutOfMemory
-    → Writes writes contents (told_without_words kinds.InvalidData) old new → Writes writes contents (told_without_words kind) old new
+    → IsSent writes contents (told_without_words kinds.InvalidData) old new → IsSent writes contents (told_without_words kind) old new
 told_so writes contents kinds.OutOfMemory old new not told = absurd (not refl)
 told_so writes contents _ old new not told = told
 

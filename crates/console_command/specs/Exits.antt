@@ -4,13 +4,15 @@ use Rattle.std.specs.declared.io.ErrorKind.{ErrorKind}
 use Rattle.std.specs.declared.io.ErrorKind.TheVariants as kind
 use Rattle.script_loop.specs.Calls.{WritesText}
 use Rattle.script_loop.specs.Endings as play
+use Rattle.threaded_play.specs.Endings as threads
 use Rattle.console_check.specs.Checks as check
 use Rattle.console_command.specs.declared.exit.Exit.{Exit}
-use Rattle.console_command.specs.declared.exit.Exit.TheVariants.{Played, Checked, Answered, AnswerBroken, Refused, OutOfMemory}
+use Rattle.console_command.specs.declared.exit.Exit.TheVariants.{Played, Threaded, Checked, Answered, AnswerBroken, Refused, OutOfMemory}
 
 -- the exit status
 abbrev pub status_of : Exit → ℕ
 status_of (Played ended) = play.status_of ended
+status_of (Threaded ended) = threads.status_of ended
 status_of (Checked checked) = check.status_of checked
 status_of Answered = 0
 status_of OutOfMemory = 3
@@ -25,9 +27,10 @@ WritesAnswer writes old new Refused = new ≡ old
 WritesAnswer writes old new OutOfMemory = new ≡ old
 WritesAnswer writes old new other = ⊥
 
--- the reads of the source and the writes to the output: those of a play, or of a check; else nothing is read
+-- the reads of the source and the writes to the output: those of a play or of a check; else nothing is read
 abbrev pub MakesCalls : {R W : Type 0} → (reads : R → Option (List ℕ) → R → Type 0) → (writes : W → List ℕ → Option ℕ → W → Type 0) → (old new : R × W) → Exit → Type 0
 MakesCalls reads writes old new (Played ended) = play.MakesCalls reads writes old new ended
+MakesCalls reads writes old new (Threaded ended) = ⊥
 MakesCalls reads writes old new (Checked checked) = check.MakesCalls reads writes old new checked
 MakesCalls reads writes old new other = (new.0 ≡ old.0) × WritesAnswer writes old.1 new.1 other
 

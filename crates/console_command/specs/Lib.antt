@@ -1,3 +1,4 @@
 pub mod Exits
 pub mod Running
 pub mod Telling
+pub mod Carrying

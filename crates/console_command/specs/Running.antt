@@ -3,7 +3,7 @@ use Rattle.std.specs.Prelude.{◌≡◌, ℕ, ◌<◌, List, length, Option, IfS
 use Rattle.std.specs.Io.KnownBytes.{Appends}
 use Rattle.clap.specs.Walk.{Text}
 use Rattle.clap.specs.declared.error.kind.ErrorKind.{ErrorKind}
-use Rattle.directory_rules.specs.Settings.{directory_settings}
+use Rattle.directory_rules.specs.Settings.{Settings, directory_settings}
 use Rattle.directory_rules.specs.World.{first_world}
 use Rattle.script_loop.specs.Endings.{Ends}
 use Rattle.script_loop.specs.Sending.{WritesFront}
@@ -13,22 +13,24 @@ use Rattle.console_check.specs.Checks.{Checks}
 use Rattle.console_check.specs.declared.checked.Checked.{Checked}
 use Rattle.command_line.specs.Line.{AskFor, AskToBeTold, HaveFault}
 use Rattle.command_line.specs.Refusal.{IsRequest}
-use Rattle.command_line.specs.declared.line.Line.{Line}
 use Rattle.command_line.specs.declared.line.Line.TheVariants.{Play, Check}
+use Rattle.command_line.specs.declared.line.Options.{Options}
 use Rattle.console_command.specs.declared.exit.Exit.{Exit}
-use Rattle.console_command.specs.declared.exit.Exit.TheVariants.{Played, Checked as CheckedDump, Answered, AnswerBroken, Refused, OutOfMemory}
+use Rattle.console_command.specs.declared.exit.Exit.TheVariants.{Played, Threaded, Checked as CheckedDump, Answered, AnswerBroken, Refused, OutOfMemory}
 
 -- what the source has left, and what the sink of the output has
 pub record Streams : Type 0 where
   pub rest : Option (List ℕ)
   pub output : Option (List ℕ)
 
--- the source's script is played to a new cluster, with the settings of the line
-abbrev pub Plays : Line → (old new : Streams) → Ended → Type 0
-Plays (Play hashing points cache) old new ended = IfSome old.rest (λ script.
-    Ends script (lines_played (first_world (directory_settings hashing points cache)) 1)
-    new.rest old.output new.output ended)
-Plays Check old new ended = ⊥
+-- the settings that the options choose
+abbrev pub chosen_settings : Options → Settings
+chosen_settings options = directory_settings options.hashing options.points options.cache
+
+-- the source's script is played to a new cluster, with those settings
+abbrev pub Plays : Options → (old new : Streams) → Ended → Type 0
+Plays options old new ended = IfSome old.rest (λ script.
+    Ends script (lines_played (first_world (chosen_settings options)) 1) new.rest old.output new.output ended)
 
 -- the source's dump is judged
 abbrev pub ChecksDump : (old new : Streams) → Checked → Type 0
@@ -44,7 +46,8 @@ PrintsFront old new = (new.rest ≡ old.rest) × ((text : List ℕ) × (0 < leng
 
 -- what the words ask for is done; where they are a mistake, or memory runs out, nothing is read and nothing written to the output
 abbrev pub Does : (words : List Text) → (old new : Streams) → Exit → Type 0
-Does words old new (Played ended) = (line : Line) × AskFor words line × Plays line old new ended
+Does words old new (Played ended) = (options : Options) × AskFor words (Play options) × Plays options old new ended
+Does words old new (Threaded ended) = ⊥
 Does words old new (CheckedDump checked) = AskFor words Check × ChecksDump old new checked
 Does words old new Answered = AskToBeTold words × Prints old new
 Does words old new AnswerBroken = AskToBeTold words × PrintsFront old new

@@ -1,18 +1,19 @@
 -- What the program tells on standard error.
-use Rattle.std.specs.Prelude.{◌≡◌, ◌++◌, ℕ, ◌<◌, Bool, List, [], length, Option, codes}
+use Rattle.std.specs.Prelude.{◌≡◌, ◌++◌, ℕ, ◌<◌, List, [], length, Option, codes}
 use Rattle.std.specs.Fmt.{decimal}
 use Rattle.std.specs.declared.io.ErrorKind.{ErrorKind}
 use Rattle.std.specs.declared.io.ErrorKind.TheVariants as kind
 use Rattle.script_output.specs.Printed.{printed}
-use Rattle.script_loop.specs.Calls.{WritesText}
-use Rattle.script_loop.specs.Sending.{Sends}
 use Rattle.script_loop.specs.declared.ended.Ended.{Ended}
 use Rattle.script_loop.specs.declared.ended.Ended.TheVariants as ended
 use Rattle.script_loop.specs.declared.ended.LineFault.{LineFault}
+use Rattle.threaded_play.specs.Endings.{IsSent}
+use Rattle.threaded_play.specs.declared.ended.ThreadsEnded.{ThreadsEnded}
+use Rattle.threaded_play.specs.declared.ended.ThreadsEnded.TheVariants as threads
 use Rattle.console_check.specs.declared.checked.Checked.{Checked as Check}
 use Rattle.console_check.specs.declared.checked.Checked.TheVariants as checked
 use Rattle.console_command.specs.declared.exit.Exit.{Exit}
-use Rattle.console_command.specs.declared.exit.Exit.TheVariants.{Played, Checked, AnswerBroken, Refused, OutOfMemory}
+use Rattle.console_command.specs.declared.exit.Exit.TheVariants.{Played, Threaded, Checked, AnswerBroken, Refused, OutOfMemory}
 
 -- memory ran out
 abbrev pub out_of_memory : List ℕ
@@ -38,6 +39,12 @@ TellsEnd ended.TooLong text = text ≡ printed (codes "error: the script has mor
 TellsEnd ended.OutOfMemory text = text ≡ out_of_memory
 TellsEnd ended.Broken text = text ≡ failed_call
 
+-- what the end of a play on threads tells: as a play's, unless receipts differ or something lacks
+abbrev pub TellsThreads : ThreadsEnded → (text : List ℕ) → Type 0
+TellsThreads (threads.Played ended) text = TellsEnd ended text
+TellsThreads threads.ReceiptDiffers text = text ≡ printed (codes "error: the receipts aren't those of the journal")
+TellsThreads threads.Lacking text = text ≡ printed (codes "error: memory, a thread or a ring to publish is lacking, or a worker gave up")
+
 -- what a check's end tells: nothing where the dump was judged
 abbrev pub TellsCheck : Check → (text : List ℕ) → Type 0
 TellsCheck checked.Right text = text ≡ []
@@ -49,19 +56,16 @@ TellsCheck checked.Broken text = text ≡ failed_call
 -- what the program's end tells: of a mistake some words, of an answer nothing, unless it could not be written
 abbrev pub Tells : Exit → (text : List ℕ) → Type 0
 Tells (Played ended) text = TellsEnd ended text
+Tells (Threaded ended) text = TellsThreads ended text
 Tells (Checked ending) text = TellsCheck ending text
 Tells AnswerBroken text = text ≡ failed_call
 Tells Refused text = 0 < length text
 Tells OutOfMemory text = text ≡ out_of_memory
 Tells other text = text ≡ []
 
--- a text is written; or a beginning of it, since the last write failed or took nothing
-abbrev pub Writes : {E : Type 0} → (writes : E → List ℕ → Option ℕ → E → Type 0) → (contents : E → Option (List ℕ)) → (text : List ℕ) → (old new : E) → Type 0
-Writes writes contents text old new = (whole : Bool) × Sends text (contents old) (contents new) whole × WritesText writes text old new whole
-
 -- that is told
 abbrev pub IsTold : {E : Type 0} → (writes : E → List ℕ → Option ℕ → E → Type 0) → (contents : E → Option (List ℕ)) → Exit → (old new : E) → Type 0
-IsTold writes contents exit old new = (text : List ℕ) × Tells exit text × Writes writes contents text old new
+IsTold writes contents exit old new = (text : List ℕ) × Tells exit text × IsSent writes contents text old new
 
 -- what is told where the words of the command line can't be had
 abbrev pub told_without_words : ErrorKind → List ℕ

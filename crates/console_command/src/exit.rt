@@ -3,12 +3,15 @@ ghost use Rattle.console_command.specs.Exits.{status_of};
 
 use console_check::Checked;
 use script_loop::Ended;
+use threaded_play::ThreadsEnded;
 
 /// How the program ends.
 #[derive(Clone, Copy, PartialEq, Eq)]
 pub enum Exit {
     /// The script was played, up to its end or to what ended it before.
     Played(Ended),
+    /// The script was played with a thread per silo, up to its end or to what ended it before.
+    Threaded(ThreadsEnded),
     /// The dump was judged, or what ended it before.
     Checked(Checked),
     /// The words asked for help or for the version, which is written.
@@ -28,6 +31,7 @@ impl Exit {
     {
         match self {
             Exit::Played(ended) => ended.status(),
+            Exit::Threaded(ended) => ended.status(),
             Exit::Checked(checked) => checked.status(),
             Exit::Answered => 0,
             Exit::OutOfMemory => 3,

@@ -6,5 +6,5 @@ mod carrying;
 mod exit;
 mod telling;
 
-pub use carrying::{carry_out, carry_out_nothing};
+pub use carrying::{Carried, carry_out, carry_out_nothing, end_threads};
 pub use exit::Exit;

@@ -1,13 +1,15 @@
 //! What is told on standard error.
 
 ghost use Rattle.std.specs.Prelude.{◌≡◌, ◌≤◌, ◌<◌, ◌+◌, ◌++◌, IfOk, length, string_bytes, take};
-ghost use Rattle.console_command.specs.Telling.{IsTold, TellsFault, Writes, failed_call, fault_text};
+ghost use Rattle.threaded_play.specs.Endings.{IsSent};
+ghost use Rattle.console_command.specs.Telling.{IsTold, TellsFault, failed_call, fault_text};
 
 use crate::Exit;
 use console_check::Checked;
 use itoa::Buffer;
 use script_loop::{Ended, LineFault, Sink, send};
 use std::alloc::{AllocError, Global};
+use threaded_play::ThreadsEnded;
 
 /// What is said of a fault for which there are no words.
 const UNEXPLAINED: &str = "a fault, whose number stands on the output";
@@ -25,6 +27,22 @@ pub(crate) fn tell_end<E: Sink>(alloc: Global, ended: Ended, errors: &mut E)
         Ended::TooLong => tell(errors, b"error: the script has more than 268435456 bytes\n"),
         Ended::OutOfMemory => tell(errors, b"error: out of memory\n"),
         Ended::Broken => tell_failed_call(errors),
+    }
+}
+
+/// Tells what ended a play on threads too early; nothing where all was played.
+pub(crate) fn tell_threads<E: Sink>(alloc: Global, ended: ThreadsEnded, errors: &mut E)
+    ensures { IsTold E.writes E.contents (Exit.Threaded ended) errors.old errors.new }
+{
+    match ended {
+        ThreadsEnded::Played(ended) => tell_end(alloc, ended, errors),
+        ThreadsEnded::ReceiptDiffers => {
+            tell(errors, b"error: the receipts aren't those of the journal\n")
+        }
+        ThreadsEnded::Lacking => tell(
+            errors,
+            b"error: memory, a thread or a ring to publish is lacking, or a worker gave up\n",
+        ),
     }
 }
 
@@ -109,14 +127,14 @@ pub(crate) fn tell_no_memory<E: Sink>(errors: &mut E) -> Exit
 
 /// Tells that a read or a write failed.
 pub(crate) fn tell_failed_call<E: Sink>(errors: &mut E)
-    ensures { Writes E.writes E.contents failed_call errors.old errors.new }
+    ensures { IsSent E.writes E.contents failed_call errors.old errors.new }
 {
     tell(errors, b"error: a read or a write failed\n");
 }
 
 /// Writes a text.
 pub(crate) fn tell<E: Sink>(errors: &mut E, text: &[u8])
-    ensures { Writes E.writes E.contents text.now errors.old errors.new }
+    ensures { IsSent E.writes E.contents text.now errors.old errors.new }
 {
     let _whole = send(errors, text);
 }

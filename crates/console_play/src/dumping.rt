@@ -26,7 +26,7 @@ pub(crate) fn tell_dump(alloc: Global, world: &World, out: &mut Vec<u8>) -> Resu
 }
 
 /// Judges the world's dump, and writes what is said of it.
-pub(crate) fn tell_verdict(
+pub fn tell_verdict(
     alloc: Global,
     world: &World,
     out: &mut Vec<u8>,

@@ -10,4 +10,6 @@ mod playing;
 mod showing;
 mod syncing;
 
+pub use dumping::tell_verdict;
 pub use playing::{play, play_to_new_cluster};
+pub use showing::show;

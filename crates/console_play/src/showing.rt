@@ -40,7 +40,7 @@ pub(crate) fn tell_owner(
 
 /// Writes the whole directory: the current version, each silo with what it holds, and the ranges of the current ring.
 #[tactic(auto, unfolding(script_rules::specs::Show::show_lines))]
-pub(crate) fn show(alloc: Global, world: &World, out: &mut Vec<u8>) -> Result<(), AllocError>
+pub fn show(alloc: Global, world: &World, out: &mut Vec<u8>) -> Result<(), AllocError>
     ensures performed { OnOk result (Performs (printing (show_lines world.now) (in_session world.now)) out.old.items world.now out.new.items) }
     ensures kept { OnErr result (BeginsWith out.old.items out.new.items) }
 {

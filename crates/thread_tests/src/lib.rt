@@ -11,4 +11,6 @@ mod gate;
 #[cfg(test)]
 mod replay;
 #[cfg(test)]
+mod scripts;
+#[cfg(test)]
 mod watching;

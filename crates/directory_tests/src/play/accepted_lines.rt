@@ -1,18 +1,18 @@
 use clap::error::ErrorKind;
-use command_line::{Line, LineError, read_line};
+use command_line::{Line, LineError, Options, read_line};
 use hash_ring::Hashing;
 use std::alloc::Global;
 
-const fn play(hashing: Hashing, points: usize, cache: usize) -> Result<Line, ErrorKind> {
-    Ok(Line::Play {
+const fn options(hashing: Hashing, points: usize, cache: usize) -> Options {
+    Options {
         hashing,
         points,
         cache,
-    })
+    }
 }
 
 // What a line reads as, or of which kind its refusal is.
-fn answer(alloc: Global, words: &'static [&'static str]) -> Result<Line, ErrorKind> {
+fn answer(alloc: Global, words: &[&str]) -> Result<Line, ErrorKind> {
     match read_line(alloc, words) {
         Ok(line) => Ok(line),
         Err(LineError::Usage(error)) => Err(error.kind()),
@@ -83,11 +83,19 @@ const ACCEPTED: [Accepted; 14] = [
 fn lines_that_are_accepted(rt: HostRuntime) {
     for (words, hashing, points, cache) in &ACCEPTED {
         let given = answer(rt.alloc(), *words);
-        assert!(rt; given == play(*hashing, *points, *cache));
+        assert!(rt; given == Ok(Line::Play(options(*hashing, *points, *cache))));
     }
 }
 
-const REFUSED: [(&'static [&'static str], ErrorKind); 42] = [
+#[test]
+fn lines_of_other_commands(rt: HostRuntime) {
+    let threads = ["g", "threads", "--hashing=stated", "--cache", "6"];
+    let chosen = options(Hashing::Stated, 30, 6);
+    assert!(rt; answer(rt.alloc(), &threads) == Ok(Line::Threads(chosen)));
+    assert!(rt; answer(rt.alloc(), &["g", "check"]) == Ok(Line::Check));
+}
+
+const REFUSED: [(&'static [&'static str], ErrorKind); 43] = [
     (&[], ErrorKind::MissingSubcommand),
     (&["g"], ErrorKind::MissingSubcommand),
     (&["g", "run"], ErrorKind::InvalidSubcommand),
@@ -138,6 +146,7 @@ const REFUSED: [(&'static [&'static str], ErrorKind); 42] = [
     (&["g", "help", "help"], ErrorKind::DisplayHelp),
     (&["g", "help", "--"], ErrorKind::InvalidSubcommand),
     (&["g", "help", "play"], ErrorKind::DisplayHelp),
+    (&["g", "threads", "script"], ErrorKind::UnknownArgument),
     (&["g", "--help"], ErrorKind::DisplayHelp),
     (&["g", "-h"], ErrorKind::DisplayHelp),
     (&["g", "-hx"], ErrorKind::DisplayHelp),
@@ -166,9 +175,10 @@ const HELP: &str = "A directory of grains on a cluster of silos, played from a s
 Usage: grain-directory <COMMAND>
 
 Commands:
-  play   Play a cluster's script, read from standard input
-  check  Judge the dump of a cluster, read from standard input
-  help   Print this message or the help of the given subcommand(s)
+  play     Play a cluster's script, read from standard input
+  threads  Play a cluster's script with a thread per silo, read from standard input
+  check    Judge the dump of a cluster, read from standard input
+  help     Print this message or the help of the given subcommand(s)
 
 Options:
   -h, --help     Print help

@@ -1,16 +1,27 @@
 //! Command lines carried out, from their words to the exit.
 
 use crate::fakes::{BrokenReader, NarrowWriter};
-use console_command::{Exit, carry_out, carry_out_nothing};
+use console_command::{Carried, Exit, carry_out, carry_out_nothing, end_threads};
+use directory_rules::Settings;
+use hash_ring::Hashing;
 use script_loop::Ended;
 use std::alloc::Global;
 use std::io::ErrorKind;
 use std::process::Abort;
+use threaded_play::ThreadsEnded;
 
 const PLAY: [&str; 2] = ["g", "play"];
 
 // What comes of a command line: its status, what is printed and what is told.
 type Course<'a> = (u8, &'a str, &'a str);
+
+// Whether it was carried out, and the program ends with that status.
+fn ends_with(carried: Carried, status: u8) -> bool {
+    match carried {
+        Carried::Ended(exit) => exit.status() == status,
+        Carried::OnThreads(_) => false,
+    }
+}
 
 // Carries out a command line where the writers take so many bytes.
 fn check_course(
@@ -22,8 +33,8 @@ fn check_course(
 ) {
     let mut output = NarrowWriter::new(alloc, printed_room);
     let mut errors = NarrowWriter::new(alloc, told_room);
-    let exit = carry_out(alloc, words, &mut script, &mut output, &mut errors);
-    assert!(rt; exit.status() == status);
+    let carried = carry_out(alloc, words, &mut script, &mut output, &mut errors);
+    assert!(rt; ends_with(carried, status));
     assert!(rt; output.taken.as_slice() == printed.as_bytes());
     assert!(rt; errors.taken.as_slice() == told.as_bytes());
 }
@@ -159,14 +170,14 @@ fn writers_that_fail(rt: HostRuntime) {
 fn an_input_that_fails(rt: HostRuntime) {
     let mut printed = Vec::new(rt.alloc());
     let mut told = Vec::new(rt.alloc());
-    let exit = carry_out(
+    let carried = carry_out(
         rt.alloc(),
         &PLAY,
         &mut BrokenReader,
         &mut printed,
         &mut told,
     );
-    assert!(rt; exit == Exit::Played(Ended::Broken));
+    assert!(rt; carried == Carried::Ended(Exit::Played(Ended::Broken)));
     assert!(rt; printed.is_empty());
 }
 
@@ -175,5 +186,22 @@ fn without_words(rt: HostRuntime) {
     let mut told = Vec::new(rt.alloc());
     assert!(rt; carry_out_nothing(ErrorKind::InvalidData, &mut told) == Exit::Refused);
     let text = b"error: a word of the command line is not UTF-8\n";
+    assert!(rt; told.as_slice() == text.as_slice());
+}
+
+// A play on threads is left to whoever has them, and its end is told.
+#[test]
+fn on_threads(rt: HostRuntime) {
+    let mut printed = Vec::new(rt.alloc());
+    let mut told = Vec::new(rt.alloc());
+    let words = ["g", "threads", "--points", "3"];
+    let mut script = b"show\n".as_slice();
+    let carried = carry_out(rt.alloc(), &words, &mut script, &mut printed, &mut told);
+    let settings = Settings::of_directory(Hashing::Sha256, 3, 1024).expect(&rt, "3 points");
+    assert!(rt; carried == Carried::OnThreads(settings));
+    assert!(rt; printed.is_empty() && told.is_empty() && script.len() == 5);
+    let exit = end_threads(rt.alloc(), ThreadsEnded::ReceiptDiffers, &mut told);
+    assert!(rt; exit.status() == 1);
+    let text = b"error: the receipts aren't those of the journal\n";
     assert!(rt; told.as_slice() == text.as_slice());
 }

@@ -1,0 +1,130 @@
+-- How a script ends that was played on threads.
+use Rattle.std.proofs.Common.{◌≡◌, ◌∙◌, ◌+◌, ◌++◌, ℕ, Bool, true, false, List, [], ◌∷◌, Option, Some, None, Result, Ok, Err, ap, sym, subst, refl, append-nil, inl, inr, arith}
+use Rattle.std.specs.Prelude.{IfSome}
+use Rattle.std.specs.Io.KnownBytes.{Appends}
+use Rattle.directory_rules.specs.Settings.{Settings}
+use Rattle.directory_rules.specs.World.{World}
+use Rattle.cluster_journal.specs.Entry.{EntryValue}
+use Rattle.script_rules.specs.Script.{Command, lines_of, read_line}
+use Rattle.texts.specs.Printed.{Output}
+use Rattle.script_commands.specs.Known.{known_commands}
+use Rattle.script_output.specs.Spaced.{BeginsWith}
+use Rattle.script_loop.specs.Calls.{ReadsInTurn}
+use Rattle.script_loop.specs.Endings as play
+use Rattle.script_loop.specs.Lines.{no_output}
+use Rattle.script_loop.specs.Sending.{Sends}
+use Rattle.script_loop.specs.declared.ended.Ended.{Ended}
+use Rattle.script_loop.specs.declared.ended.Ended.TheVariants as ended
+use Rattle.script_loop.specs.declared.ended.LineFault.{LineFault}
+use Rattle.threaded_play.specs.Endings.{Ends, MakesCalls}
+use Rattle.threaded_play.proofs.Nothing.{kept}
+use Rattle.threaded_play.specs.Faults.{faults_alone, line_told}
+use Rattle.threaded_play.specs.Printing.{IsPrinted}
+use Rattle.threaded_play.specs.declared.ended.ThreadsEnded.{ThreadsEnded}
+use Rattle.threaded_play.specs.declared.ended.ThreadsEnded.TheVariants.{Played, ReceiptDiffers, Lacking}
+use Rattle.console_threads.specs.Held.{is_read_well}
+use Rattle.console_threads.specs.Telling.{EndsBy, IsUnclosed, IsWritten, LinesEnd, Tells, WritesOnce, sent_ending}
+
+-- ---- What the lines print by themselves.
+
+-- where all is well, that is nothing
+silent : (number : ℕ) (lines : List (List ℕ)) (text : List ℕ) → faults_alone number lines ≡ record { text = text; status = 0 } → faults_alone number lines ≡ no_output
+unfolding faults_alone
+silent number [] text is = refl
+silent number (line ∷ lines) text is = go (read_line known_commands line) (silent (number + 1) lines text) is
+  where
+    go : (read : Result (Option Command) ℕ) → (faults_alone (number + 1) lines ≡ record { text = text; status = 0 } → faults_alone (number + 1) lines ≡ no_output)
+        → line_told read number (faults_alone (number + 1) lines) ≡ record { text = text; status = 0 } → line_told read number (faults_alone (number + 1) lines) ≡ no_output
+    go (Ok command) later same = later same
+    go (Err fault) later same = absurd (omega (arith, ap (λ (o : Output). o.status) same))
+
+module _ (script : List ℕ) (rest : Option (List ℕ)) (text : List ℕ) (end : Ended) (lines : LinesEnd script rest text end) where
+  -- so the script ends, whatever the sink had
+  abbrev alone : play.Ends script (faults_alone 1) rest None None end
+  alone = record { text = lines.text; writes = tt; concludes = lines.concludes; read = lines.read; reads = lines.reads }
+
+-- a text begins with itself
+whole : (text : List ℕ) → BeginsWith text text
+whole text = record { more = []; joined = sym (append-nil text) }
+
+broken : (script : List ℕ) (rest : Option (List ℕ)) (text : List ℕ) (end : Ended) → BeginsWith text (faults_alone 1 (lines_of script)).text
+    → (lines : play.Ends script (faults_alone 1) rest None None end) → lines.text ≡ text → play.Ends script (faults_alone 1) rest None None ended.Broken
+broken script rest text end begins lines is = record {
+  text = lines.text;
+  writes = tt;
+  concludes = subst (λ (t : List ℕ). BeginsWith t (faults_alone 1 (lines_of script)).text) (sym is) begins;
+  read = lines.read;
+  reads = tt;
+}
+
+-- ---- By what was written.
+
+module _ {W : Type 0} (writes : W → List ℕ → Option ℕ → W → Type 0) (contents : W → Option (List ℕ)) (journal : List EntryValue) (world : World) where
+  -- the line of a fault
+  fault_ends : (text : List ℕ) (fault : LineFault) (old new : W) (well : Bool) → Sends text (contents old) (contents new) well
+      → EndsBy journal world text (ended.Faulted fault) (contents old) (contents new) (sent_ending (ended.Faulted fault) well)
+  fault_ends text fault old new true sent = λ settings script rest journaled lines.
+      let output : faults_alone 1 (lines_of script) ≡ record { text = lines.text; status = 2 } = lines.concludes.0 in
+      let same : text ≡ (faults_alone 1 (lines_of script)).text = lines.writes ∙ sym (ap (λ (o : Output). o.text) output) in
+      (alone script rest text _ lines, subst (Appends (contents old) (contents new)) same sent)
+  fault_ends text fault old new false sent = λ settings script rest journaled lines.
+      let output : faults_alone 1 (lines_of script) ≡ record { text = lines.text; status = 2 } = lines.concludes.0 in
+      let same : faults_alone 1 (lines_of script) ≡ record { text = text; status = 2 } = output ∙ ap (λ (t : List ℕ). let o : Output = record { text = t; status = 2 } in o) (sym lines.writes) in
+      let begins : BeginsWith lines.text (faults_alone 1 (lines_of script)).text = subst (BeginsWith lines.text) (sym (ap (λ (o : Output). o.text) output)) (whole lines.text) in
+      (broken script rest lines.text _ begins (alone script rest text _ lines) refl, inr (text, inl same, sent))
+
+  -- what the cluster came to
+  world_ends : (printed text : List ℕ) (old new : W) (well : Bool) → Tells journal world text → Sends text (contents old) (contents new) well
+      → EndsBy journal world printed ended.Played (contents old) (contents new) (sent_ending ended.Played well)
+  world_ends printed text old new true tells sent = λ settings script rest journaled lines.
+      (alone script rest printed _ lines, (text, tells settings journaled, sent))
+  world_ends printed text old new false tells sent = λ settings script rest journaled lines.
+      let output : faults_alone 1 (lines_of script) ≡ record { text = lines.text; status = 0 } = lines.concludes in
+      let begins : BeginsWith lines.text (faults_alone 1 (lines_of script)).text = subst (BeginsWith lines.text) (sym (ap (λ (o : Output). o.text) output)) (whole lines.text) in
+      let none : faults_alone 1 (lines_of script) ≡ no_output = silent 1 (lines_of script) lines.text output in
+      (broken script rest lines.text _ begins (alone script rest printed _ lines) refl, inr (text, inr (none, tells settings journaled), sent))
+
+  pub fault_written : (text : List ℕ) (fault : LineFault) (end : Ended) (old new : W) (result : ThreadsEnded) → end ≡ ended.Faulted fault
+      → IsWritten writes contents text end old new result → EndsBy journal world text end (contents old) (contents new) result
+  fault_written text fault end old new result is written =
+      subst (λ (r : ThreadsEnded). EndsBy journal world text end (contents old) (contents new) r) (sym written.1)
+      (subst (λ (e : Ended). EndsBy journal world text e (contents old) (contents new) (sent_ending e written.0)) (sym is)
+      (fault_ends text fault old new written.0 written.2))
+
+  pub world_written : (printed text : List ℕ) (old new : W) (result : ThreadsEnded) → Tells journal world text
+      → IsWritten writes contents text ended.Played old new result → EndsBy journal world printed ended.Played (contents old) (contents new) result
+  world_written printed text old new result tells written =
+      subst (λ (r : ThreadsEnded). EndsBy journal world printed ended.Played (contents old) (contents new) r) (sym written.1)
+      (world_ends printed text old new written.0 tells written.2)
+
+-- ---- The calls.
+
+-- the reads, and these writes, are all that is called
+pub calls_made : {R W : Type 0} (reads : R → Option (List ℕ) → R → Type 0) (writes : W → List ℕ → Option ℕ → W → Type 0) (source rest : R) (old new : W) (end : Ended) (result : ThreadsEnded)
+    → ReadsInTurn reads source rest (is_read_well end) → WritesOnce writes old new end result → MakesCalls reads writes (source, old) (rest, new) result
+calls_made reads writes source rest old new end (Played ended.Played) read once = (subst (ReadsInTurn reads source rest) once.0 read, once.1)
+calls_made reads writes source rest old new end (Played (ended.Faulted fault)) read once = (subst (ReadsInTurn reads source rest) once.0 read, once.1)
+calls_made reads writes source rest old new end (Played ended.TooLong) read once = (subst (ReadsInTurn reads source rest) once.0 read, once.1)
+calls_made reads writes source rest old new end (Played ended.OutOfMemory) read once = (subst (ReadsInTurn reads source rest) once.0 read, once.1)
+calls_made reads writes source rest old new end (Played ended.Broken) read (inl once) = inl (subst (ReadsInTurn reads source rest) once.0 read, once.1)
+calls_made reads writes source rest old new end (Played ended.Broken) read (inr once) = inr (subst (ReadsInTurn reads source rest) once.0 read, once.1)
+calls_made reads writes source rest old new end ReceiptDiffers read once = ((is_read_well end, read), once)
+calls_made reads writes source rest old new end Lacking read once = ((is_read_well end, read), once)
+
+-- ---- Where the cluster wasn't closed.
+
+pub unclosed_ends : (settings : Settings) (script : List ℕ) (rest known : Option (List ℕ)) (result : ThreadsEnded) → IsUnclosed result → Ends settings script rest known known result
+unclosed_ends settings script rest known (Played end) is = absurd is
+unclosed_ends settings script rest known ReceiptDiffers is = kept known
+unclosed_ends settings script rest known Lacking is = kept known
+
+pub unclosed_calls : {R W : Type 0} (reads : R → Option (List ℕ) → R → Type 0) (writes : W → List ℕ → Option ℕ → W → Type 0) (source rest : R) (same : W) (result : ThreadsEnded) → IsUnclosed result
+    → (well : Bool) × ReadsInTurn reads source rest well → MakesCalls reads writes (source, same) (rest, same) result
+unclosed_calls reads writes source rest same (Played end) is read = absurd is
+unclosed_calls reads writes source rest same ReceiptDiffers is read = (read, refl)
+unclosed_calls reads writes source rest same Lacking is read = (read, refl)
+
+-- a fact of what is known gives another
+pub some_then : (known : Option (List ℕ)) (P Q : List ℕ → Type 0) → ((script : List ℕ) → P script → Q script) → IfSome known P → IfSome known Q
+some_then None P Q then there = tt
+some_then (Some script) P Q then there = then script there

@@ -1,0 +1,5 @@
+mod Faulted
+mod Closed
+mod Lost
+mod Endings
+mod World

@@ -1,0 +1,28 @@
+-- Lines of which nothing is printed but the fault that ends them.
+use Rattle.std.specs.Prelude.{◌≡◌, ℕ, ◌+◌, ◌<◌, List, [], ◌∷◌, length, Option, Result, Ok, Err, refl}
+use Rattle.std.proofs.lemmas.Bool.{lt-ltb}
+use Rattle.script_rules.specs.Script.{Command, longest_line, read_line}
+use Rattle.texts.specs.Printed.{Output}
+use Rattle.script_commands.specs.Known.{known_commands}
+use Rattle.script_loop.specs.Lines.{faulty_output, no_output}
+
+-- what one line prints, by its number from 1, and what comes next
+abbrev pub line_told : Result (Option Command) ℕ → ℕ → Output → Output
+line_told (Ok command) number next = next
+line_told (Err fault) number next = faulty_output number fault
+
+-- lines of known commands, the first of which has this number
+unfoldable pub faults_alone : (number : ℕ) → (lines : List (List ℕ)) → Output
+faults_alone number [] = no_output
+faults_alone number (line ∷ lines) = line_told (read_line known_commands line) number (faults_alone (number + 1) lines)
+
+-- no line prints nothing
+pub nothing_is_wrong : (number : ℕ) → faults_alone number [] ≡ no_output
+unfolding faults_alone
+nothing_is_wrong number = refl
+
+-- a line that is too long is a fault
+pub long_lines_are_faults : (number : ℕ) (line : List ℕ) (lines : List (List ℕ)) → longest_line < length line
+    → faults_alone number (line ∷ lines) ≡ faulty_output number 924
+unfolding faults_alone read_line
+long_lines_are_faults number line lines long = rw (lt-ltb longest_line (length line) long) refl

@@ -1,0 +1,3 @@
+pub mod Faults
+pub mod Printing
+pub mod Endings
