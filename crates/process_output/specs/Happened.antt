@@ -1,23 +1,21 @@
 -- What a line says that happened: as scripts say it, but that a letter has no number, and that what concerns the application names its
 -- grain.
-use Rattle.std.specs.Prelude.{ℕ, Bool, true, false, List, [], ◌∷◌, codes, if◌then◌else◌, Option, Some, None}
+use Rattle.std.specs.Prelude.{ℕ, Bool, true, false, List, [], ◌∷◌, ◌++◌, codes, if◌then◌else◌, Option, Some, None}
 use Rattle.std.specs.Fmt.{decimal}
 use Rattle.std.specs.Ordering.{nat_cmp}
 use Rattle.std.specs.Map.{lookup}
 use Rattle.std.specs.BTreeMap.{is_at}
 use Rattle.silo_address.specs.Silo.{Silo}
-use Rattle.silo_address.specs.Grain.{grain_text}
+use Rattle.silo_address.specs.Grain.{Grain, grain_text}
 use Rattle.silo_address.specs.ActivationText.{activation_text}
-use Rattle.directory_rules.specs.declared.act.Act.{Act}
-use Rattle.directory_rules.specs.declared.act.Act.TheVariants as act
 use Rattle.directory_rules.specs.declared.effect.Effect.{Effect}
 use Rattle.directory_rules.specs.declared.effect.Effect.TheVariants as effect
+use Rattle.directory_rules.specs.declared.held.Held.{Held}
 use Rattle.directory_rules.specs.declared.reply.Reply.{Reply}
 use Rattle.directory_rules.specs.declared.reply.Reply.TheVariants as reply
 use Rattle.directory_rules.specs.Event.{Did, Joined, Left, Died}
-use Rattle.directory_rules.specs.Host.{Host, outstanding}
+use Rattle.directory_rules.specs.Host.{Host, entry_of, asking_under, closing_under}
 use Rattle.directory_rules.specs.Letter.{Letter, Body, Reply_letter, Offer_letter, kind_of}
-use Rattle.directory_rules.specs.Sending.{grain_of}
 use Rattle.silo_rules.specs.declared.news.News.{News}
 use Rattle.silo_rules.specs.declared.news.News.TheVariants.{Known, Made, Replaced}
 use Rattle.silo_rules.specs.Membership.{Change, Join, Leave, Die}
@@ -48,34 +46,38 @@ news_words version change news = made_words version change (replaced_in news)
 abbrev pub delivered_words : Letter → Effect → List (List ℕ)
 delivered_words letter effect = codes "delivered" ∷ kind_word (kind_of letter.body) ∷ effect_words effect
 
--- what the silo had asked under that number, and waits for
-abbrev pub asked_under : Host → (number : ℕ) → Option Act
-asked_under host number = lookup (is_at (nat_cmp number)) (outstanding host)
+-- the silo's own activation that waited for the reply
+abbrev pub own_words : Host → Option (Grain × Held) → List (List ℕ)
+own_words host None = []
+own_words host (Some e) = entry_words (entry_of host e.0 e.1)
 
--- the silo's own activation that waited, or the grain that it searched for
-abbrev pub awaited_words : Act → List (List ℕ)
-awaited_words (act.Register entry previous) = entry_words entry
-awaited_words (act.Deregister entry) = entry_words entry
-awaited_words (act.Find grain) = grain_text grain ∷ []
+-- and its grain
+abbrev pub own_grain : Option (Grain × Held) → List (List ℕ)
+own_grain None = []
+own_grain (Some e) = grain_text e.0 ∷ []
 
--- what a reply tells that counts, by what was asked; a retry leaves all as it was
-abbrev pub counted_words : Act → Reply → (delivered : List (List ℕ)) → List (List ℕ)
-counted_words act (reply.Registered entry) delivered = codes "firm" ∷ awaited_words act
-counted_words act (reply.Taken entry) delivered = codes "taken" ∷ grain_text (grain_of act) ∷ codes "by" ∷ activation_text entry.activation ∷ []
-counted_words act reply.Removed delivered = codes "ended" ∷ awaited_words act
-counted_words act reply.Absent delivered = codes "ended" ∷ awaited_words act
-counted_words act (reply.Found entry) delivered = codes "found" ∷ entry_words entry
-counted_words act reply.Nothing delivered = codes "nothing" ∷ awaited_words act
-counted_words act (reply.Retry why) delivered = delivered
+-- the grain that was searched for
+abbrev pub sought_words : Option Grain → List (List ℕ)
+sought_words None = []
+sought_words (Some grain) = grain_text grain ∷ []
 
--- by what was asked under the reply's number, if anything was
-abbrev pub replied_words : Option Act → Reply → (delivered : List (List ℕ)) → List (List ℕ)
-replied_words None reply delivered = delivered
-replied_words (Some act) reply delivered = counted_words act reply delivered
+-- the grain that was searched for under that number
+abbrev pub sought_grain : Host → (number : ℕ) → List (List ℕ)
+sought_grain host number = sought_words (lookup (is_at (nat_cmp number)) host.finds)
+
+-- what a reply tells that counts, by what waited under its number; a retry leaves all as it was
+abbrev pub counted_words : Host → (number : ℕ) → Reply → (delivered : List (List ℕ)) → List (List ℕ)
+counted_words host number (reply.Registered entry) delivered = codes "firm" ∷ own_words host (asking_under host number)
+counted_words host number (reply.Taken entry) delivered = codes "taken" ∷ (own_grain (asking_under host number) ++ codes "by" ∷ activation_text entry.activation ∷ [])
+counted_words host number reply.Removed delivered = codes "ended" ∷ own_words host (closing_under host number)
+counted_words host number reply.Absent delivered = codes "ended" ∷ own_words host (closing_under host number)
+counted_words host number (reply.Found entry) delivered = codes "found" ∷ entry_words entry
+counted_words host number reply.Nothing delivered = codes "nothing" ∷ sought_grain host number
+counted_words host number (reply.Retry why) delivered = delivered
 
 -- what a letter tells that counts, by its body
 abbrev pub body_words : Body → Host → Effect → (delivered : List (List ℕ)) → List (List ℕ)
-body_words (Reply_letter number reply) host effect delivered = replied_words (asked_under host number) reply delivered
+body_words (Reply_letter number reply) host effect delivered = counted_words host number reply delivered
 body_words (Offer_letter entry) host effect delivered = happening_words (Did host.silo effect)
 body_words other host effect delivered = delivered
 

@@ -1,11 +1,10 @@
 //! The journal of a cluster, run once more on a new world.
 use cluster_journal::Entry;
 use directory_core::World;
-use dump_verdict::judged_text;
 use letter_mail::MailedLetter;
-use rebuild_checker::write_dump;
+use rebuild_checker::{check, write_dump};
 use std::alloc::{AllocError, Global};
-use world_dump::dump;
+use world_dump::{dump, is_right};
 
 /// Whether the journal's events tell its outcomes again, and leave the same world, whose dump is right.
 pub(crate) fn tells(alloc: Global, journal: &[Entry], left: &World) -> Result<bool, AllocError> {
@@ -60,7 +59,7 @@ fn is_same_letter(one: Option<MailedLetter>, other: Option<MailedLetter>) -> boo
 
 // Whether the two have one dump, members and all, and it is right.
 fn have_right_dump(alloc: Global, one: &World, other: &World) -> Result<bool, AllocError> {
-    let (one, other) = (dump(alloc, one)?, dump(alloc, other)?);
-    let right = judged_text(alloc, &one)?;
-    Ok(right.as_str() == "check ok\n" && write_dump(alloc, &one)? == write_dump(alloc, &other)?)
+    is_right(one);
+    let (its, others) = (dump(alloc, one)?, dump(alloc, other)?);
+    Ok(check(alloc, &its).is_ok() && write_dump(alloc, &its)? == write_dump(alloc, &others)?)
 }
