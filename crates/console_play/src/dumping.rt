@@ -26,11 +26,7 @@ pub(crate) fn tell_dump(alloc: Global, world: &World, out: &mut Vec<u8>) -> Resu
 }
 
 /// Judges the world's dump, and writes what is said of it.
-pub fn tell_verdict(
-    alloc: Global,
-    world: &World,
-    out: &mut Vec<u8>,
-) -> Result<(), AllocError>
+pub fn tell_verdict(alloc: Global, world: &World, out: &mut Vec<u8>) -> Result<(), AllocError>
     ensures performed { OnOk result (Performs (checked (verdict (dump_of world.now)) (in_session world.now)) out.old.items world.now out.new.items) }
     ensures kept { OnErr result (BeginsWith out.old.items out.new.items) }
 {

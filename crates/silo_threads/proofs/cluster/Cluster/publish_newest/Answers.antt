@@ -11,4 +11,4 @@ returns-clause-published g c =
     let board = c.deref-2.result.now in
     let moment : Moment = record { settings = board.settings; journal = board.journal; world = board.world; journaled = c.newest-newest.ensures.journaled } in
     subst (λ (cluster : ClusterValue). HasPublished cluster.published c.show.new.publisher) c.self.view_is
-      (published_at moment _ _ _ _ c.in_ok-view.ensures.view c.in_ok-view.ensures.places c.in_ok-show.ensures.shown)
+    (published_at moment _ _ _ _ c.in_ok-view.ensures.view c.in_ok-view.ensures.places c.in_ok-show.ensures.shown)
