@@ -1,4 +1,4 @@
-ghost use Rattle.std.specs.Prelude.{◌≡◌, IfOk, IsSome, MatchOption, Some};
+ghost use Rattle.std.specs.Prelude.{◌≡◌, IfOk, IsSome, MatchOption, OnErr, Some};
 ghost use Rattle.directory_rules.specs.Mail.{letter_of};
 ghost use Rattle.cluster_board.specs.Lending.{HasNoWork, IsWorkOf};
 
@@ -15,9 +15,10 @@ use value_marks::Names;
 impl<L: Ledger + Names> Board<L> {
     /// The silo's node, shared, with the least fresh letter to it and that letter's number; `None` where the silo has no node, or
     /// there is no fresh letter to it. The cluster stays as it is, and so does the letter: it may be lent more than once. Fails
-    /// only when memory runs out (`docs/RULES.md#the-board`).
+    /// only when memory runs out, and only where there is work (`docs/RULES.md#the-board`).
     pub fn lend(&mut self, silo: &SiloAddress) -> Result<Option<Job<L>>, AllocError>
         ensures lent { IfOk result (λ lent. MatchOption lent (HasNoWork self.old.world silo.now) (IsWorkOf self.old.world silo.now)) }
+        ensures memory { OnErr result (¬ (HasNoWork self.old.world silo.now)) }
         ensures unchanged { self.new ≡ self.old }
     {
         let Some(number) = self.world.least_fresh_to(silo) else {
