@@ -8,7 +8,7 @@ ghost use Rattle.script_commands.specs.WordCounts.{only_three_words, only_two_wo
 use texts::first_position;
 
 /// The first word of a line, and what follows it, where there is a word.
-pub(crate) fn split_word(line: &[u8]) -> Option<(&[u8], &[u8])>
+pub fn split_word(line: &[u8]) -> Option<(&[u8], &[u8])>
     ensures words { MatchOption result (words_in line.now ≡ []) (λ parts. words_in line.now ≡ parts.0.now ∷ words_in parts.1.now) }
     ensures shorter { IfSome result (λ parts. length parts.1.now < length line.now) }
 {
@@ -36,7 +36,7 @@ fn leading_spaces(line: &[u8]) -> usize
 }
 
 /// The word of a line that has one.
-pub(crate) fn only_word(line: &[u8]) -> Option<&[u8]>
+pub fn only_word(line: &[u8]) -> Option<&[u8]>
     ensures { option_copied result ≡ only_word (words_in line.now) }
 {
     let (word, rest) = split_word(line)?;
@@ -47,7 +47,7 @@ pub(crate) fn only_word(line: &[u8]) -> Option<&[u8]>
 }
 
 /// The words of a line that has two.
-pub(crate) fn only_two_words(line: &[u8]) -> Option<(&[u8], &[u8])>
+pub fn only_two_words(line: &[u8]) -> Option<(&[u8], &[u8])>
     ensures { two_copied result ≡ only_two_words (words_in line.now) }
 {
     let (first, rest) = split_word(line)?;
@@ -56,7 +56,7 @@ pub(crate) fn only_two_words(line: &[u8]) -> Option<(&[u8], &[u8])>
 }
 
 /// The words of a line that has three.
-pub(crate) fn only_three_words(line: &[u8]) -> Option<(&[u8], &[u8], &[u8])>
+pub fn only_three_words(line: &[u8]) -> Option<(&[u8], &[u8], &[u8])>
     ensures { three_copied result ≡ only_three_words (words_in line.now) }
 {
     let (first, rest) = split_word(line)?;

@@ -10,7 +10,7 @@ use texts::taken_back_at_error;
 
 /// Ends the line whose words were written behind the first `start` bytes, or takes back what was written of it.
 #[tactic(auto, using(crate::proofs::Fronts::front_taken))]
-pub(crate) fn end_line(
+pub fn end_line(
     out: &mut Vec<u8>,
     start: usize,
     written: Result<(), AllocError>,

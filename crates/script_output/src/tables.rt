@@ -9,7 +9,7 @@ use directory_rules::{Effect, LetterKind, Phase};
 use membership_view::Status;
 
 /// The word for a kind of letter.
-pub(crate) fn kind_word(kind: LetterKind) -> &'static [u8]
+pub fn kind_word(kind: LetterKind) -> &'static [u8]
     ensures { result.now ≡ kind_word kind }
 {
     match kind {

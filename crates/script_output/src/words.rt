@@ -20,7 +20,7 @@ use std::alloc::AllocError;
 
 /// A word.
 #[tactic(auto, unfolding(crate::specs::Spaced::spaced))]
-pub(crate) fn push_word(out: &mut Vec<u8>, word: &[u8]) -> Result<(), AllocError>
+pub fn push_word(out: &mut Vec<u8>, word: &[u8]) -> Result<(), AllocError>
     ensures written { OnOk result (out.new.items ≡ out.old.items ++ spaced (word.now ∷ [])) }
     ensures kept { BeginsWith out.old.items out.new.items }
 {
@@ -29,7 +29,7 @@ pub(crate) fn push_word(out: &mut Vec<u8>, word: &[u8]) -> Result<(), AllocError
 
 /// A number in decimal.
 #[tactic(auto, unfolding(crate::specs::Spaced::spaced))]
-pub(crate) fn push_number(out: &mut Vec<u8>, number: u64) -> Result<(), AllocError>
+pub fn push_number(out: &mut Vec<u8>, number: u64) -> Result<(), AllocError>
     ensures written { OnOk result (out.new.items ≡ out.old.items ++ spaced (decimal number ∷ [])) }
     ensures kept { BeginsWith out.old.items out.new.items }
 {
@@ -37,7 +37,7 @@ pub(crate) fn push_number(out: &mut Vec<u8>, number: u64) -> Result<(), AllocErr
 }
 
 /// A word, and a number behind it.
-pub(crate) fn push_named(out: &mut Vec<u8>, name: &[u8], number: u64) -> Result<(), AllocError>
+pub fn push_named(out: &mut Vec<u8>, name: &[u8], number: u64) -> Result<(), AllocError>
     ensures written { OnOk result (out.new.items ≡ out.old.items ++ spaced (name.now ∷ decimal number ∷ [])) }
     ensures kept { BeginsWith out.old.items out.new.items }
 {
@@ -48,7 +48,7 @@ pub(crate) fn push_named(out: &mut Vec<u8>, name: &[u8], number: u64) -> Result<
 
 /// A silo.
 #[tactic(auto, unfolding(crate::specs::Spaced::spaced))]
-pub(crate) fn push_silo(out: &mut Vec<u8>, silo: &SiloAddress) -> Result<(), AllocError>
+pub fn push_silo(out: &mut Vec<u8>, silo: &SiloAddress) -> Result<(), AllocError>
     ensures written { OnOk result (out.new.items ≡ out.old.items ++ spaced (silo_text silo.now ∷ [])) }
     ensures kept { BeginsWith out.old.items out.new.items }
 {
@@ -57,10 +57,7 @@ pub(crate) fn push_silo(out: &mut Vec<u8>, silo: &SiloAddress) -> Result<(), All
 
 /// An activation.
 #[tactic(auto, using(crate::proofs::Writing::part_by_part))]
-pub(crate) fn push_activation(
-    out: &mut Vec<u8>,
-    activation: &ActivationId,
-) -> Result<(), AllocError>
+pub fn push_activation(out: &mut Vec<u8>, activation: &ActivationId) -> Result<(), AllocError>
     ensures written { OnOk result (out.new.items ≡ out.old.items ++ spaced (activation_text activation.now ∷ [])) }
     ensures kept { BeginsWith out.old.items out.new.items }
 {
@@ -70,7 +67,7 @@ pub(crate) fn push_activation(
 }
 
 /// A grain.
-pub(crate) fn push_grain(out: &mut Vec<u8>, grain: &GrainId) -> Result<(), AllocError>
+pub fn push_grain(out: &mut Vec<u8>, grain: &GrainId) -> Result<(), AllocError>
     ensures written { OnOk result (out.new.items ≡ out.old.items ++ spaced (grain_text grain.now ∷ [])) }
     ensures kept { BeginsWith out.old.items out.new.items }
 {
@@ -101,7 +98,7 @@ pub(crate) fn push_span(out: &mut Vec<u8>, span: &Span) -> Result<(), AllocError
 
 /// A range: its start, a plus, its size.
 #[tactic(auto, using(crate::proofs::Writing::part_by_part))]
-pub(crate) fn push_range(out: &mut Vec<u8>, range: &RingRange) -> Result<(), AllocError>
+pub fn push_range(out: &mut Vec<u8>, range: &RingRange) -> Result<(), AllocError>
     ensures written { OnOk result (out.new.items ≡ out.old.items ++ spaced (range_text range.now ∷ [])) }
     ensures kept { BeginsWith out.old.items out.new.items }
 {

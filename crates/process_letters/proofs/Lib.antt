@@ -1,0 +1,3 @@
+pub mod EachEntry
+pub mod Forms
+pub mod Written

@@ -1,0 +1,65 @@
+//! The entries of a page or a report.
+
+ghost use Rattle.std.specs.Prelude.{◌≡◌};
+ghost use Rattle.texts.specs.Words.{words_in};
+ghost use Rattle.process_rules.specs.LetterReading as rule;
+ghost use Rattle.process_letters.specs.Reading.{Fails, Reads};
+
+use crate::words::entry_of_words;
+use crate::{LetterError, LineFault};
+use script_commands::split_word;
+use silo_address::Entry;
+use std::alloc::Global;
+
+/// Whether each word has one beside it.
+#[tactic(auto, using(crate::proofs::EachEntry::pair_by_pair))]
+pub(crate) fn are_pairs(words: &[u8]) -> bool
+    ensures { result ≡ rule.are_pairs (words_in words.now) }
+{
+    let mut rest = words;
+    'words: while let Some((_, behind)) = split_word(rest) {
+        let Some((_, after)) = split_word(behind) else {
+            return false;
+        };
+        rest = after;
+    }
+    true
+}
+
+/// The entries that the words tell.
+#[tactic(auto, using(crate::proofs::EachEntry::entry_by_entry))]
+pub(crate) fn entries_in(alloc: Global, words: &[u8]) -> Result<Vec<Entry>, LetterError>
+    ensures { Reads (λ entries. entries.items) result (rule.entries_in (words_in words.now)) }
+{
+    let mut entries = Vec::new(alloc);
+    let mut rest = words;
+    'words: while let Some((grain, behind)) = split_word(rest) {
+        let Some((activation, after)) = split_word(behind) else {
+            return Err(LetterError::Fault(LineFault::WordCount));
+        };
+        let entry = entry_of_words(grain, activation)?;
+        if entries.push(entry).is_err() {
+            return Err(without_memory(after));
+        }
+        rest = after;
+    }
+    Ok(entries)
+}
+
+/// The first fault of the entries, else that memory ran out.
+#[tactic(auto, using(crate::proofs::EachEntry::entry_by_entry))]
+fn without_memory(words: &[u8]) -> LetterError
+    ensures { Fails result (rule.entries_in (words_in words.now)) }
+{
+    let mut rest = words;
+    'words: while let Some((grain, behind)) = split_word(rest) {
+        let Some((activation, after)) = split_word(behind) else {
+            return LetterError::Fault(LineFault::WordCount);
+        };
+        if let Err(fault) = entry_of_words(grain, activation) {
+            return LetterError::Fault(fault);
+        }
+        rest = after;
+    }
+    LetterError::OutOfMemory
+}
