@@ -1,6 +1,6 @@
 -- Letters, and what steps and events tell, cross.
-use mathlib.Core.List.{List, [], ◌∷◌}
-use Rattle.worker_crossing.proofs.Parts.{Crosses, All, fields, structure, modelled, variants, choice, number16, number32, number64}
+use mathlib.Core.List.{[], ◌∷◌}
+use Rattle.worker_crossing.proofs.Parts.{Crosses, All, fields, modelled, variants, number16, number32, number64}
 use Rattle.worker_crossing.proofs.Holders.{optional}
 use Rattle.worker_crossing.proofs.Names.{silo_crosses, grain_crosses, activation_crosses, entry_field_crosses, range_crosses}
 use Rattle.worker_crossing.proofs.Tables.{page_crosses, report_crosses}
@@ -34,7 +34,7 @@ body_crosses =
     let range : All (range.the_row ∷ []) = (range_crosses, tt) in
     variants body.the_type (
       (request_crosses, tt),
-      ((number64, (reply_crosses, tt)), ((range_crosses, (number64, tt)), ((page_crosses, tt), (range, (range, (range, ((report_crosses, tt), (range, (range, ((entry_field_crosses, tt), tt))))))))))
+      ((number64, (reply_crosses, tt)), ((range_crosses, (number64, tt)), ((page_crosses, tt), (range, (range, (range, ((report_crosses, tt), (range, (range, ((entry_field_crosses, tt), tt)))))))))),
     )
 
 pub letter_crosses : Crosses letter.the_row
