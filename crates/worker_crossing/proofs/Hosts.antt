@@ -1,6 +1,6 @@
 -- What a silo hosts, and what it knows of others' activations, crosses.
 use denote.RattleType.{RattleType}
-use denote.Builtin.{RawPtr, u8, u32, u64}
+use denote.Builtin.{RawPtr, u8, u32}
 use denote.Param.Send.{sendable}
 use Rattle.worker_crossing.proofs.Parts.{Crosses, fields, structure, modelled, inverted, variants, choice, array, byte, number32, number64}
 use Rattle.worker_crossing.proofs.Holders.{heap_crosses, heap_field_crosses, listed, mapped, hashed}
@@ -36,8 +36,6 @@ use Rattle.indexmap.specs.contracts.index_table.IndexTable.TheInside as table_in
 use Rattle.indexmap.specs.contracts.index_table.group.Group as group
 use Rattle.indexmap.specs.contracts.map.IndexMap as index_map
 use Rattle.indexmap.specs.contracts.map.IndexMap.TheInside as index_map_inside
-use Rattle.silo_address.specs.contracts.grain.GrainId as grain
-use Rattle.silo_address.specs.contracts.activation.ActivationId as activation
 use Rattle.lookup_cache.specs.contracts.cache.Cache as cache
 use Rattle.lookup_cache.specs.contracts.cache.Cache.TheInside as cache_inside
 use Rattle.grain_names.specs.contracts.grain_map.GrainMap as grain_map

@@ -1,6 +1,6 @@
 -- Letters, and what steps and events tell, cross.
-use mathlib.Core.List.{List, [], ◌∷◌}
-use Rattle.worker_crossing.proofs.Parts.{Crosses, All, fields, structure, modelled, variants, choice, number16, number32, number64}
+use mathlib.Core.List.{[], ◌∷◌}
+use Rattle.worker_crossing.proofs.Parts.{Crosses, All, fields, modelled, variants, number16, number32, number64}
 use Rattle.worker_crossing.proofs.Holders.{optional}
 use Rattle.worker_crossing.proofs.Names.{silo_crosses, grain_crosses, activation_crosses, entry_field_crosses, range_crosses}
 use Rattle.worker_crossing.proofs.Tables.{page_crosses, report_crosses}

@@ -10,3 +10,4 @@ pub mod Events
 pub mod Worlds
 pub mod Boards
 pub mod Sites
+pub mod Closures

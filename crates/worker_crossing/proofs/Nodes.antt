@@ -1,7 +1,7 @@
 -- A silo's node crosses, shared as it is, and so does a plan of its step.
-use mathlib.Core.List.{List, [], ◌∷◌}
+use mathlib.Core.List.{[], ◌∷◌}
 use denote.Builtin.{u64}
-use Rattle.worker_crossing.proofs.Parts.{Crosses, All, fields, structure, modelled, variants, choice, number32, number64, truth}
+use Rattle.worker_crossing.proofs.Parts.{Crosses, All, fields, structure, modelled, variants, number32, number64, truth}
 use Rattle.worker_crossing.proofs.Holders.{heap_field_crosses, optional, boxed, listed, counted, mapped}
 use Rattle.worker_crossing.proofs.Names.{silo_crosses, grain_crosses, activation_crosses, activation_field_crosses, entry_field_crosses, range_crosses}
 use Rattle.worker_crossing.proofs.Members.{settings_cross, view_crosses, ring_crosses}
@@ -13,8 +13,6 @@ use Rattle.silo_address.specs.contracts.entry.Entry as entry
 use Rattle.silo_address.specs.contracts.activation.ActivationId as activation
 use Rattle.hash_ring.specs.contracts.ring.Ring as ring
 use Rattle.seal_snapshot.specs.contracts.snapshot.Snapshot as snapshot
-use Rattle.seal_snapshot.specs.contracts.gathering.Gathering as gathering
-use Rattle.range_recovery.specs.contracts.recovery.Recovery as recovery
 use Rattle.grain_partition.specs.contracts.by_silo.ArcsBySilo as by_silo
 use Rattle.lookup_cache.specs.contracts.cache.Cache as cache
 use Rattle.directory_letters.specs.contracts.letter.Letter as letter

@@ -7,7 +7,7 @@ use Rattle.core.proofs.atomic.Sent.{Atomic-send, Atomic-sync}
 use Rattle.core.proofs.sync.Sent.{Mutex-send, Mutex-sync}
 use Rattle.std.proofs.Crossing as crossing
 use Rattle.worker_crossing.proofs.Parts.{Crosses, fields, structure, modelled, variants, choice, number64}
-use Rattle.worker_crossing.proofs.Holders.{heap_crosses, optional, queued, counted}
+use Rattle.worker_crossing.proofs.Holders.{optional, queued, counted}
 use Rattle.worker_crossing.proofs.Events.{receipt_crosses}
 use Rattle.worker_crossing.proofs.Boards.{board_sends}
 use Rattle.std.specs.declared.sync.ledger.Ledger as ledger
@@ -17,6 +17,7 @@ use Rattle.std.specs.contracts.prelude.GlobalAllocator.TheImpl.{ghosts}
 use Rattle.std.specs.contracts.collections.VecDeque as Deque
 use Rattle.cluster_journal.specs.contracts.entry.Receipt as receipt
 use Rattle.cluster_board.specs.contracts.board.Board as board
+use Rattle.std.specs.contracts.sync.Arc as Arc
 use Rattle.std.specs.contracts.sync.Condvar as bell
 use Rattle.std.specs.contracts.sync.Mutex as mutex
 use Rattle.std.specs.contracts.sync.atomic.AtomicU64 as word
@@ -96,3 +97,6 @@ module _ (T : RattleType) (l : ledger.Ghosts T.Denot) where
 
     pub site_syncs : IsSend T → IsSend G → IsSync G → IsSync (site.the_row T G l g)
     site_syncs s sent shared = (site_crosses s (record { moved = sent; shared = shared })).shared
+
+    pub shared_site_sends : IsSend T → IsSend G → IsSync G → IsSend (Arc.the_row (site.the_row T G l g) Heap.the_row ghosts)
+    shared_site_sends s sent shared = (counted (site.the_row T G l g) (site_crosses s (record { moved = sent; shared = shared }))).moved

@@ -1,7 +1,7 @@
 -- Tables, and what is made of their entries, cross.
-use denote.Builtin.{u8, u32, u64}
-use Rattle.worker_crossing.proofs.Parts.{Crosses, fields, structure, modelled, variants, choice, array, byte, number32, number64, truth, nothing}
-use Rattle.worker_crossing.proofs.Holders.{heap_crosses, heap_field_crosses, optional, listed, mapped, gathered}
+use denote.Builtin.{u8, u32}
+use Rattle.worker_crossing.proofs.Parts.{Crosses, fields, structure, modelled, variants, array, byte, number32, number64, truth}
+use Rattle.worker_crossing.proofs.Holders.{heap_field_crosses, optional, listed, mapped, gathered}
 use Rattle.worker_crossing.proofs.Names.{silo_crosses, activation_crosses, entry_crosses, range_crosses, arc_crosses}
 use Rattle.worker_crossing.proofs.Members.{hashing_crosses}
 use Rattle.std.specs.contracts.alloc.Global as Heap
@@ -9,8 +9,6 @@ use Rattle.std.specs.contracts.prelude.GlobalAllocator.TheImpl.{ghosts}
 use Rattle.std.specs.contracts.boxed.BoxedSlice as key
 use Rattle.sha2.specs.contracts.Sha256 as hasher
 use Rattle.sha2.specs.contracts.block256.Core256 as digest
-use Rattle.silo_address.specs.contracts.silo.SiloAddress as silo
-use Rattle.silo_address.specs.contracts.activation.ActivationId as activation
 use Rattle.silo_address.specs.contracts.entry.Entry as entry
 use Rattle.range_moves.specs.contracts.arc.Arc as arc
 use Rattle.directory_rules.specs.contracts.piece_state.PieceState as state

@@ -1,6 +1,6 @@
 -- The mail and the world cross.
 use denote.Builtin.{u64, unit}
-use Rattle.worker_crossing.proofs.Parts.{Crosses, fields, structure, modelled, variants, choice, number32, number64, truth, nothing}
+use Rattle.worker_crossing.proofs.Parts.{Crosses, fields, modelled, variants, choice, number32, number64, truth, nothing}
 use Rattle.worker_crossing.proofs.Holders.{heap_field_crosses, optional, boxed, listed, queued, mapped}
 use Rattle.worker_crossing.proofs.Names.{silo_crosses}
 use Rattle.worker_crossing.proofs.Members.{settings_cross, views_cross, places_cross}

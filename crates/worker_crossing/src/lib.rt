@@ -1,5 +1,5 @@
-//! What a worker takes with it, what it hands back, and the board that it shares, may go to another thread: laws, and the lemmas by
-//! which `std::thread::spawn` takes a closure that has them.
+//! A board may go to another thread, and so may what a worker takes with it and what it hands back: laws, and the lemmas by which a
+//! thread's closure is proved to be `Send` (`proofs/Sites.antt`, `Closures.antt`).
 #![tactic(auto)]
 
 mod laws;
