@@ -1,12 +1,14 @@
 use denote.Param.{param, copied}
 use denote.Param.Send.{param_send}
 use Rattle.worker_crossing.proofs.Sites.{tally_sends}
-use Rattle.silo_threads.proofs.Desks.{copy_sends, desk_sends, three_send}
+use Rattle.silo_threads.proofs.Desks.{desk_sends, three_send}
+use Rattle.silo_threads.proofs.starting.start.Lts as lts
 use Rattle.silo_threads.proofs.starting.start.Goals as goal
 
 -- a worker's thread takes its handle, its desk and its tally along
 pub spawn-requires-send-F : goal.spawn-requires-send-F
 spawn-requires-send-F g c κs within =
     let sends = c.type_bounds in
+    let name = lts.name-1 g.row.L g.row.G g.row.R g.L.laws g.G.laws g.R.laws g.R.copy g.L.Ledger g.L.Ledger-dict g.L.Names g.L.Names-dict g.G.Gate g.G.Gate-dict g.R.Threads g.R.Threads-dict g.R.Wait g.R.Wait-dict g.R.Clone g.R.Clone-dict g.G.Destruct-dict in
     let desk = desk_sends (param 0 g.row.L) (param 1 g.row.G) g.L.Ledger g.L.Names sends.send-L sends.send-G sends.sync-G in
-    param_send 1 _ (three_send _ (copied 2 g.row.R) _ _ (copy_sends 2 g.row.R sends.send-R) desk (tally_sends (param 0 g.row.L) g.L.Ledger))
+    param_send 1 _ (three_send name (copied 2 g.row.R) _ _ sends.send-R desk (tally_sends (param 0 g.row.L) g.L.Ledger))
