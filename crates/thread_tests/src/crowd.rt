@@ -1,6 +1,6 @@
 //! Four silos whose workers deliver while a driver goes on posting and readers route.
 ghost use Rattle.std.specs.Prelude.{◌≡◌, ◌<◌};
-ghost use Rattle.silo_threads.specs.declared.TheConstants.{PARTS};
+ghost use Rattle.silo_threads.specs.declared.cluster.TheConstants.{PARTS};
 
 use crate::driver::{Driver, grain, join, silo};
 use crate::replay::tells;

@@ -1,6 +1,6 @@
 //! Who runs a cluster: it has all parts of the share that no worker has, and the receipts of all that it posted.
 ghost use Rattle.std.specs.Prelude.{◌≡◌, ◌+◌, ◌<◌, ◌≤◌};
-ghost use Rattle.silo_threads.specs.declared.TheConstants.{PARTS};
+ghost use Rattle.silo_threads.specs.declared.cluster.TheConstants.{PARTS};
 
 use cluster_board::Board;
 use cluster_events::Event;

@@ -2,7 +2,7 @@
 //! first one stands in it while what the second one gets to do is still being posted. A cluster of one thread for all silos, or of
 //! workers that hold the lock from lending to committing, fails it (`tools/one-lock`).
 ghost use Rattle.std.specs.Prelude.{◌≡◌};
-ghost use Rattle.silo_threads.specs.declared.TheConstants.{PARTS};
+ghost use Rattle.silo_threads.specs.declared.cluster.TheConstants.{PARTS};
 
 use crate::driver::{Driver, grain, join, silo};
 use cluster_events::Event;
