@@ -16,7 +16,7 @@ const PLAY: [&str; 2] = ["g", "play"];
 type Course<'a> = (u8, &'a str, &'a str);
 
 // Whether it was carried out, and the program ends with that status.
-fn ends_with(carried: Carried, status: u8) -> bool {
+pub(crate) fn ends_with(carried: Carried, status: u8) -> bool {
     match carried {
         Carried::Ended(exit) => exit.status() == status,
         Carried::OnThreads(_) => false,
