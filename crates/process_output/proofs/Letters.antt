@@ -12,7 +12,7 @@ use Rattle.silo_rules.specs.SiloValue.{SiloValue}
 use Rattle.script_rules.specs.Script.{is_text}
 use Rattle.process_rules.specs.LetterText.{letter_line}
 use Rattle.process_rules.specs.LineReading.{Asked, Receive, longest_line, read_silo_line}
-use Rattle.process_rules.specs.Told.{IsTold}
+use Rattle.process_rules.specs.Told.{IsNumber, IsTold}
 use Rattle.process_rules.proofs.LineWords.{line_is_text}
 use Rattle.process_rules.proofs.LinesAgain.{line_again}
 use Rattle.process_output.specs.Answer.{answered}
@@ -34,7 +34,7 @@ stripped line text = last_by line text (ends_with_byte carriage_return line) ref
 
 letter_said : (letter : Letter) (s : SiloValue) → IsTold s.node.settings.hashing letter → length (letter_line letter) ≤ longest_line → said (letter_line letter) s ≡ Ok (Some (Receive letter))
 letter_said letter s is fits =
-    ap (read_silo_line s.node.settings.hashing) (stripped (letter_line letter) (line_is_text s.node.settings.hashing letter is))
+    ap (read_silo_line s.node.settings.hashing) (stripped (letter_line letter) (line_is_text IsNumber s.node.settings.hashing letter is))
     ∙ line_again s.node.settings.hashing letter is fits
 
 pub letter_received : (letter : Letter) (next : List ℕ) (lines : List (List ℕ)) (s : SiloValue) → IsTold s.node.settings.hashing letter → length (letter_line letter) ≤ longest_line

@@ -1,14 +1,30 @@
 -- Readings one after another: what each gives, and that all were read where something is given.
-use Rattle.std.proofs.Common.{◌≡◌, ℕ, Result, Ok, Err, refl, ap, ◌∙◌}
+use Rattle.std.proofs.Common.{◌≡◌, ℕ, Result, Ok, Err, refl, ap, sym, ◌∙◌, subst}
+use Rattle.std.specs.Prelude.{IfOk}
 use Rattle.std.specs.Result.{result_unwrap_or}
 use Rattle.script_rules.specs.Script.{◌>>=◌}
 
 pub ok_is : {A : Type 0} {a b : A} → ◌≡◌ {A = Result A ℕ} (Ok a) (Ok b) → a ≡ b
 ok_is {A = A} {a = a} same = ap (λ (r : Result A ℕ). result_unwrap_or r a) same
 
+-- a reading gives what was said, or nothing
+abbrev pub IsSaid : {A : Type 0} → Result A ℕ → A → Type 0
+IsSaid read told = IfOk read (λ given. given ≡ told)
+
+pub is_said : {A : Type 0} (read : Result A ℕ) (told : A) → read ≡ Ok told → IsSaid read told
+is_said {A = A} read told is = subst (λ (r : Result A ℕ). IsSaid r told) (sym is) refl
+
+pub one_said : {A X : Type 0} (make : A → X) (x : Result A ℕ) (a : A) → IsSaid x a → IsSaid (x >>= λ p. Ok (make p)) (make a)
+one_said make (Ok p) a first = ap make first
+one_said make (Err fault) a first = tt
+
 module _ {A B X : Type 0} (make : A → B → X) where
   pub two_again : (x : Result A ℕ) (y : Result B ℕ) (a : A) (b : B) → x ≡ Ok a → y ≡ Ok b → (x >>= λ p. y >>= λ q. Ok (make p q)) ≡ Ok (make a b)
   two_again x y a b first second = ap (λ o. o >>= λ p. y >>= λ q. Ok (make p q)) first ∙ ap (λ o. o >>= λ q. Ok (make a q)) second
+
+  pub two_said : (x : Result A ℕ) (y : Result B ℕ) (a : A) (b : B) → IsSaid x a → IsSaid y b → IsSaid (x >>= λ p. y >>= λ q. Ok (make p q)) (make a b)
+  two_said (Ok p) y a b first second = subst (λ m. IsSaid (y >>= λ q. Ok (make p q)) (make m b)) first (one_said (make p) y b second)
+  two_said (Err fault) y a b first second = tt
 
   pub two_gave : (x : Result A ℕ) (y : Result B ℕ) (z : X) → (x >>= λ p. y >>= λ q. Ok (make p q)) ≡ Ok z
       → (a : A) × (b : B) × (x ≡ Ok a) × (y ≡ Ok b) × (make a b ≡ z)
@@ -22,6 +38,11 @@ module _ {A B C X : Type 0} (make : A → B → C → X) where
   three_again x y z a b c first second third =
       ap (λ o. o >>= λ p. y >>= λ q. z >>= λ r. Ok (make p q r)) first ∙ two_again (make a) y z b c second third
 
+  pub three_said : (x : Result A ℕ) (y : Result B ℕ) (z : Result C ℕ) (a : A) (b : B) (c : C) → IsSaid x a → IsSaid y b → IsSaid z c
+      → IsSaid (x >>= λ p. y >>= λ q. z >>= λ r. Ok (make p q r)) (make a b c)
+  three_said (Ok p) y z a b c first second third = subst (λ m. IsSaid (y >>= λ q. z >>= λ r. Ok (make p q r)) (make m b c)) first (two_said (make p) y z b c second third)
+  three_said (Err fault) y z a b c first second third = tt
+
   pub three_gave : (x : Result A ℕ) (y : Result B ℕ) (z : Result C ℕ) (w : X) → (x >>= λ p. y >>= λ q. z >>= λ r. Ok (make p q r)) ≡ Ok w
       → (a : A) × (b : B) × (c : C) × (x ≡ Ok a) × (y ≡ Ok b) × (z ≡ Ok c) × (make a b c ≡ w)
   three_gave (Ok a) y z w is = let rest = two_gave (make a) y z w is in (a, rest.0, rest.1, refl, rest.2, rest.3, rest.4)
@@ -32,6 +53,12 @@ module _ {A B C D X : Type 0} (make : A → B → C → D → X) where
       → (x >>= λ p. y >>= λ q. z >>= λ r. w >>= λ s. Ok (make p q r s)) ≡ Ok (make a b c d)
   four_again x y z w a b c d first second third fourth =
       ap (λ o. o >>= λ p. y >>= λ q. z >>= λ r. w >>= λ s. Ok (make p q r s)) first ∙ three_again (make a) y z w b c d second third fourth
+
+  pub four_said : (x : Result A ℕ) (y : Result B ℕ) (z : Result C ℕ) (w : Result D ℕ) (a : A) (b : B) (c : C) (d : D) → IsSaid x a → IsSaid y b → IsSaid z c → IsSaid w d
+      → IsSaid (x >>= λ p. y >>= λ q. z >>= λ r. w >>= λ s. Ok (make p q r s)) (make a b c d)
+  four_said (Ok p) y z w a b c d first second third fourth =
+      subst (λ m. IsSaid (y >>= λ q. z >>= λ r. w >>= λ s. Ok (make p q r s)) (make m b c d)) first (three_said (make p) y z w b c d second third fourth)
+  four_said (Err fault) y z w a b c d first second third fourth = tt
 
   pub four_gave : (x : Result A ℕ) (y : Result B ℕ) (z : Result C ℕ) (w : Result D ℕ) (v : X) → (x >>= λ p. y >>= λ q. z >>= λ r. w >>= λ s. Ok (make p q r s)) ≡ Ok v
       → (a : A) × (b : B) × (c : C) × (d : D) × (x ≡ Ok a) × (y ≡ Ok b) × (z ≡ Ok c) × (w ≡ Ok d) × (make a b c d ≡ v)
@@ -46,6 +73,15 @@ module _ {A B C D E F X : Type 0} (make : A → B → C → D → E → F → X)
       ap (λ i. i >>= λ p. y >>= λ q. z >>= λ r. w >>= λ s. v >>= λ t. u >>= λ o. Ok (make p q r s t o)) first
       ∙ ap (λ i. i >>= λ q. z >>= λ r. w >>= λ s. v >>= λ t. u >>= λ o. Ok (make a q r s t o)) second
       ∙ four_again (make a b) z w v u c d e f third fourth fifth sixth
+
+  pub six_said : (x : Result A ℕ) (y : Result B ℕ) (z : Result C ℕ) (w : Result D ℕ) (v : Result E ℕ) (u : Result F ℕ) (a : A) (b : B) (c : C) (d : D) (e : E) (f : F)
+      → IsSaid x a → IsSaid y b → IsSaid z c → IsSaid w d → IsSaid v e → IsSaid u f
+      → IsSaid (x >>= λ p. y >>= λ q. z >>= λ r. w >>= λ s. v >>= λ t. u >>= λ o. Ok (make p q r s t o)) (make a b c d e f)
+  six_said (Ok p) (Ok q) z w v u a b c d e f first second third fourth fifth sixth =
+      subst (λ m. IsSaid (z >>= λ r. w >>= λ s. v >>= λ t. u >>= λ o. Ok (make p q r s t o)) (make m b c d e f)) first
+      (subst (λ n. IsSaid (z >>= λ r. w >>= λ s. v >>= λ t. u >>= λ o. Ok (make p q r s t o)) (make p n c d e f)) second (four_said (make p q) z w v u c d e f third fourth fifth sixth))
+  six_said (Ok p) (Err fault) z w v u a b c d e f first second third fourth fifth sixth = tt
+  six_said (Err fault) y z w v u a b c d e f first second third fourth fifth sixth = tt
 
   pub six_gave : (x : Result A ℕ) (y : Result B ℕ) (z : Result C ℕ) (w : Result D ℕ) (v : Result E ℕ) (u : Result F ℕ) (i : X)
       → (x >>= λ p. y >>= λ q. z >>= λ r. w >>= λ s. v >>= λ t. u >>= λ o. Ok (make p q r s t o)) ≡ Ok i

@@ -28,40 +28,40 @@ use Rattle.process_rules.proofs.WordsAgain.{number_again, number_gave, grain_aga
 use Rattle.process_rules.proofs.WordsTold.{number_told, grain_told, activation_told, range_told, digest_told, entry_told, entries_told}
 
 -- ---- what each form makes of what it reads
-abbrev first_register : Hashing → Head → ℕ → Entry → Letter
+abbrev pub first_register : Hashing → Head → ℕ → Entry → Letter
 first_register hashing head number entry = request_of hashing head number (act.Register entry None)
 
-abbrev next_register : Hashing → Head → ℕ → Entry → ActivationId → Letter
+abbrev pub next_register : Hashing → Head → ℕ → Entry → ActivationId → Letter
 next_register hashing head number entry previous = request_of hashing head number (act.Register entry (Some previous))
 
-abbrev find_made : Hashing → Head → ℕ → Grain → Letter
+abbrev pub find_made : Hashing → Head → ℕ → Grain → Letter
 find_made hashing head number grain = request_of hashing head number (act.Find grain)
 
-abbrev reply_made : Reply → Head → ℕ → Letter
+abbrev pub reply_made : Reply → Head → ℕ → Letter
 reply_made reply head number = letter_of head (Reply_letter number reply)
 
-abbrev retry_made : Head → ℕ → Why → Letter
+abbrev pub retry_made : Head → ℕ → Why → Letter
 retry_made head number why = letter_of head (Reply_letter number (reply.Retry why))
 
-abbrev ask_made : Head → Range → ℕ → Letter
+abbrev pub ask_made : Head → Range → ℕ → Letter
 ask_made head range page = letter_of head (Ask_letter range page)
 
-abbrev page_made : Head → Range → ℕ → ℕ → List ℕ → List Entry → Letter
+abbrev pub page_made : Head → Range → ℕ → ℕ → List ℕ → List Entry → Letter
 page_made head range page pages digest entries =
     letter_of head (Page_letter (record { version = head.version; range = range; page = page; pages = pages; digest = digest; entries = entries }))
 
-abbrev range_made : (Range → Body) → Head → Range → Letter
+abbrev pub range_made : (Range → Body) → Head → Range → Letter
 range_made of head range = letter_of head (of range)
 
-abbrev report_made : Head → Range → List Entry → Letter
+abbrev pub report_made : Head → Range → List Entry → Letter
 report_made head range entries = letter_of head (Report_letter (record { version = head.version; range = range; silo = head.from; entries = entries }))
 
-abbrev offer_made : Head → Entry → Letter
+abbrev pub offer_made : Head → Entry → Letter
 offer_made head entry = letter_of head (Offer_letter entry)
 
 -- ---- written, and read again
 module _ (hashing : Hashing) (head : Head) (read : Result Head ℕ) (reads : read ≡ Ok head) where
-  entry_form_again : (of : Head → ℕ → Entry → Letter) (number : ℕ) (entry : Entry) → IsNumber number → IsEntry entry
+  entry_form_again : (of : Head → ℕ → Entry → Letter) (number : ℕ) (entry : Entry) → IsNumber number → IsEntry IsNumber entry
       → a_number_and_an_entry of read (decimal number ∷ entry_words entry) ≡ Ok (of head number entry)
   entry_form_again of number entry is is_entry =
       three_again of read (number_word (decimal number)) (entry_of_words (grain_text entry.grain) (activation_text entry.activation)) head number entry
@@ -73,7 +73,7 @@ module _ (hashing : Hashing) (head : Head) (read : Result Head ℕ) (reads : rea
   range_form_again : (of : Range → Body) (range : Range) → IsRange range → a_range of read (range_text range ∷ []) ≡ Ok (letter_of head (of range))
   range_form_again of range is = two_again (range_made of) read (range_word (range_text range)) head range reads (range_again range is)
 
-  pub act_again : (number : ℕ) (act : Act) → IsNumber number → IsAct act → form_of hashing (act_kind act) read (decimal number ∷ act_words act) ≡ Ok (request_of hashing head number act)
+  pub act_again : (number : ℕ) (act : Act) → IsNumber number → IsAct IsNumber act → form_of hashing (act_kind act) read (decimal number ∷ act_words act) ≡ Ok (request_of hashing head number act)
   act_again number (act.Register entry None) is is_act =
       three_again (first_register hashing) read (number_word (decimal number)) (entry_of_words (grain_text entry.grain) (activation_text entry.activation)) head number entry
       reads (number_again number is) (entry_again entry is_act.0)
@@ -88,7 +88,7 @@ module _ (hashing : Hashing) (head : Head) (read : Result Head ℕ) (reads : rea
   retry_with : (number : ℕ) (why : Why) (given : Result Why ℕ) → IsNumber number → given ≡ Ok why → retry_for read (decimal number) (Some given) ≡ Ok (retry_made head number why)
   retry_with number why given is is_why = three_again retry_made read (number_word (decimal number)) given head number why reads (number_again number is) is_why
 
-  retry_again : (number : ℕ) (why : Why) → IsNumber number → IsWhy why → a_retry read (decimal number ∷ why_words why) ≡ Ok (retry_made head number why)
+  retry_again : (number : ℕ) (why : Why) → IsNumber number → IsWhy IsNumber why → a_retry read (decimal number ∷ why_words why) ≡ Ok (retry_made head number why)
   retry_again number (why.View seen) is is_why =
       retry_with number (why.View seen) (number_word (decimal seen) >>= λ n. Ok (why.View n)) is (ap (λ o. o >>= λ n. Ok (why.View n)) (number_again seen is_why))
   retry_again number why.Unsettled is is_why = retry_with number why.Unsettled (Ok why.Unsettled) is refl
@@ -96,7 +96,7 @@ module _ (hashing : Hashing) (head : Head) (read : Result Head ℕ) (reads : rea
       retry_with number (why.OldNumber last) (number_word (decimal last) >>= λ n. Ok (why.OldNumber n)) is (ap (λ o. o >>= λ n. Ok (why.OldNumber n)) (number_again last is_why))
   retry_again number why.NotOwner is is_why = retry_with number why.NotOwner (Ok why.NotOwner) is refl
 
-  pub reply_again : (number : ℕ) (reply : Reply) → IsNumber number → IsReply reply
+  pub reply_again : (number : ℕ) (reply : Reply) → IsNumber number → IsReply IsNumber reply
       → form_of hashing (reply_kind reply) read (decimal number ∷ reply_words reply) ≡ Ok (letter_of head (Reply_letter number reply))
   reply_again number (reply.Registered entry) is is_reply = entry_form_again (reply_of reply.Registered) number entry is is_reply
   reply_again number (reply.Taken entry) is is_reply = entry_form_again (reply_of reply.Taken) number entry is is_reply
@@ -107,7 +107,7 @@ module _ (hashing : Hashing) (head : Head) (read : Result Head ℕ) (reads : rea
   reply_again number (reply.Retry why) is is_reply = retry_again number why is is_reply
 
   -- what is the letter's sender's, of its version or its grain's hash is left out, and put back
-  pub body_again : (body : Body) → IsToldBody hashing head.from head.version body → form_of hashing (kind_of body) read (body_words body) ≡ Ok (letter_of head body)
+  pub body_again : (body : Body) → IsToldBody IsNumber hashing head.from head.version body → form_of hashing (kind_of body) read (body_words body) ≡ Ok (letter_of head body)
   body_again (Request_letter request) is =
       act_again request.number request.act is.number is.act
       ∙ (λ i. Ok (letter_of head (Request_letter (record { sender = sym is.sender i; version = sym is.version i; number = request.number; hash = sym is.hash i; act = request.act }))))
@@ -140,7 +140,7 @@ pub record Gave (hashing : Hashing) (read : Result Head ℕ) (kind : LetterKind)
   pub head_is : read ≡ Ok (head_in letter)
   pub kind_is : kind ≡ kind_of letter.body
   pub words_are : words ≡ body_words letter.body
-  pub body : IsToldBody hashing letter.from letter.version letter.body
+  pub body : IsToldBody IsNumber hashing letter.from letter.version letter.body
 
 moved : (hashing : Hashing) (read : Result Head ℕ) (head : Head) (named : LetterKind) (words says : List (List ℕ)) (made letter : Letter)
     → read ≡ Ok head → words ≡ says → made ≡ letter → Gave hashing (Ok head) named says made → Gave hashing read named words letter
@@ -148,11 +148,11 @@ moved hashing read head named words says made letter reads writes makes gave = r
   head_is = reads ∙ gave.head_is ∙ ap (λ (l : Letter). Ok (head_in l)) makes;
   kind_is = gave.kind_is ∙ ap (λ (l : Letter). kind_of l.body) makes;
   words_are = writes ∙ gave.words_are ∙ ap (λ (l : Letter). body_words l.body) makes;
-  body = subst (λ (l : Letter). IsToldBody hashing l.from l.version l.body) makes gave.body;
+  body = subst (λ (l : Letter). IsToldBody IsNumber hashing l.from l.version l.body) makes gave.body;
 }
 
 module _ (hashing : Hashing) (read : Result Head ℕ) (letter : Letter) where
-  entry_form_gave : (of : Head → ℕ → Entry → Letter) (named : LetterKind) → ((head : Head) (number : ℕ) (entry : Entry) → IsNumber number → IsEntry entry → Gave hashing (Ok head) named (decimal number ∷ entry_words entry) (of head number entry))
+  entry_form_gave : (of : Head → ℕ → Entry → Letter) (named : LetterKind) → ((head : Head) (number : ℕ) (entry : Entry) → IsNumber number → IsEntry IsNumber entry → Gave hashing (Ok head) named (decimal number ∷ entry_words entry) (of head number entry))
       → (words : List (List ℕ)) → a_number_and_an_entry of read words ≡ Ok letter → Gave hashing read named words letter
   entry_form_gave of named gives [] given = cc given
   entry_form_gave of named gives (one ∷ []) given = cc given
@@ -165,7 +165,7 @@ module _ (hashing : Hashing) (read : Result Head ℕ) (letter : Letter) where
       (gives p.0 p.1 p.2 (number_told number p.1 p.4) (entry_told grain activation p.2 p.5))
   entry_form_gave of named gives (one ∷ two ∷ three ∷ four ∷ words) given = cc given
 
-  number_form_gave : (reply : Reply) → IsReply reply → reply_words reply ≡ [] → (words : List (List ℕ)) → a_number reply read words ≡ Ok letter → Gave hashing read (reply_kind reply) words letter
+  number_form_gave : (reply : Reply) → IsReply IsNumber reply → reply_words reply ≡ [] → (words : List (List ℕ)) → a_number reply read words ≡ Ok letter → Gave hashing read (reply_kind reply) words letter
   number_form_gave reply is says [] given = cc given
   number_form_gave reply is says (number ∷ []) given =
       let p = two_gave (reply_made reply) read (number_word number) letter given in
@@ -255,7 +255,7 @@ module _ (hashing : Hashing) (read : Result Head ℕ) (letter : Letter) where
 
   -- a reason that gave something: its words are those of what it gave
   retry_of : (number reason : List ℕ) (words : List (List ℕ)) (why : Option (Result Why ℕ))
-      → ((given : Result Why ℕ) (made : Why) → why ≡ Some given → given ≡ Ok made → (reason ∷ words ≡ why_words made) × IsWhy made)
+      → ((given : Result Why ℕ) (made : Why) → why ≡ Some given → given ≡ Ok made → (reason ∷ words ≡ why_words made) × IsWhy IsNumber made)
       → retry_for read number why ≡ Ok letter → Gave hashing read kind.Retry (number ∷ reason ∷ words) letter
   retry_of number reason words None says given = cc given
   retry_of number reason words (Some why) says given =
@@ -264,25 +264,25 @@ module _ (hashing : Hashing) (read : Result Head ℕ) (letter : Letter) where
       moved hashing read p.0 kind.Retry (number ∷ reason ∷ words) (decimal p.1 ∷ why_words p.2) (retry_made p.0 p.1 p.2) letter p.3
       (λ i. number_gave number p.1 p.4 i ∷ told_why.0 i) p.6 (record { head_is = refl; kind_is = refl; words_are = refl; body = (number_told number p.1 p.4, told_why.1) })
 
-  numbered : (of : ℕ → Why) (name reason : List ℕ) → ((n : ℕ) → IsNumber n → (name ∷ decimal n ∷ [] ≡ why_words (of n)) × IsWhy (of n)) → reason ≡ name → (words : List (List ℕ)) (given : Result Why ℕ) (made : Why)
-      → with_number of words ≡ Some given → given ≡ Ok made → (reason ∷ words ≡ why_words made) × IsWhy made
+  numbered : (of : ℕ → Why) (name reason : List ℕ) → ((n : ℕ) → IsNumber n → (name ∷ decimal n ∷ [] ≡ why_words (of n)) × IsWhy IsNumber (of n)) → reason ≡ name → (words : List (List ℕ)) (given : Result Why ℕ) (made : Why)
+      → with_number of words ≡ Some given → given ≡ Ok made → (reason ∷ words ≡ why_words made) × IsWhy IsNumber made
   numbered of name reason writes is [] given made some gives = cc some
   numbered of name reason writes is (number ∷ []) given made some gives = by (number_word number) refl (some_is some ∙ gives)
     where
       some_is : {a b : Result Why ℕ} → Some a ≡ Some b → a ≡ b
       some_is same = cc
 
-      by : (read : Result ℕ ℕ) → number_word number ≡ read → (read >>= λ n. Ok (of n)) ≡ Ok made → (reason ∷ number ∷ [] ≡ why_words made) × IsWhy made
+      by : (read : Result ℕ ℕ) → number_word number ≡ read → (read >>= λ n. Ok (of n)) ≡ Ok made → (reason ∷ number ∷ [] ≡ why_words made) × IsWhy IsNumber made
       by (Ok n) reads makes =
           let says = writes n (number_told number n reads) in
-          ((λ i. is i ∷ number_gave number n reads i ∷ []) ∙ says.0 ∙ ap why_words (ok_is makes), subst IsWhy (ok_is makes) says.1)
+          ((λ i. is i ∷ number_gave number n reads i ∷ []) ∙ says.0 ∙ ap why_words (ok_is makes), subst (IsWhy IsNumber) (ok_is makes) says.1)
       by (Err fault) reads makes = cc makes
   numbered of name reason writes is (one ∷ two ∷ words) given made some gives = cc some
 
-  lone : (of : Why) (name reason : List ℕ) → (name ∷ [] ≡ why_words of) × IsWhy of → reason ≡ name → (words : List (List ℕ)) (given : Result Why ℕ) (made : Why)
-      → alone of words ≡ Some given → given ≡ Ok made → (reason ∷ words ≡ why_words made) × IsWhy made
+  lone : (of : Why) (name reason : List ℕ) → (name ∷ [] ≡ why_words of) × IsWhy IsNumber of → reason ≡ name → (words : List (List ℕ)) (given : Result Why ℕ) (made : Why)
+      → alone of words ≡ Some given → given ≡ Ok made → (reason ∷ words ≡ why_words made) × IsWhy IsNumber made
   lone of name reason writes is [] given made some gives =
-      ((λ i. is i ∷ []) ∙ writes.0 ∙ ap why_words (ok_is (some_is some ∙ gives)), subst IsWhy (ok_is (some_is some ∙ gives)) writes.1)
+      ((λ i. is i ∷ []) ∙ writes.0 ∙ ap why_words (ok_is (some_is some ∙ gives)), subst (IsWhy IsNumber) (ok_is (some_is some ∙ gives)) writes.1)
     where
       some_is : {a b : Result Why ℕ} → Some a ≡ Some b → a ≡ b
       some_is same = cc
@@ -317,7 +317,7 @@ module _ (hashing : Hashing) (read : Result Head ℕ) (letter : Letter) where
       first true is given = retry_of number reason words (with_number why.View words) (numbered why.View (codes "601") reason (λ n is. (refl, is)) (same (codes "601") is) words) given
       first false is given = second (bytes_eq reason (codes "602")) refl given
 
-  as_told : (head : Head) (letter : Letter) → head_in letter ≡ head → IsToldBody hashing letter.from letter.version letter.body
+  as_told : (head : Head) (letter : Letter) → head_in letter ≡ head → IsToldBody IsNumber hashing letter.from letter.version letter.body
       → Gave hashing (Ok head) (kind_of letter.body) (body_words letter.body) letter
   as_told head letter is body = record { head_is = ap Ok (sym is); kind_is = refl; words_are = refl; body = body }
 

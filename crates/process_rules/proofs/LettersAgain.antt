@@ -19,7 +19,7 @@ use Rattle.process_rules.proofs.WordsTold.{number_told, silo_told}
 use Rattle.process_rules.proofs.FormsAgain.{head_in, body_again, form_gave}
 
 -- ---- kinds
-kind_again : (kind : LetterKind) → kind_among kinds (kind_word kind) ≡ Some kind
+pub kind_again : (kind : LetterKind) → kind_among kinds (kind_word kind) ≡ Some kind
 kind_again kind.Register = refl
 kind_again kind.Deregister = refl
 kind_again kind.Find = refl
@@ -54,7 +54,7 @@ kind_gave (first ∷ kinds) word named given =
     kind_by first named word (kind_among kinds word) (bytes_eq word (kind_word first)) refl (λ rest. kind_gave kinds word named rest) given
 
 -- ---- heads
-abbrev head_with : Silo → Silo → ℕ → Head
+abbrev pub head_with : Silo → Silo → ℕ → Head
 head_with from to version = record { from = from; to = to; version = version }
 
 -- ---- letters

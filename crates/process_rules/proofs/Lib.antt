@@ -1,7 +1,12 @@
 mod Chains
 mod WordsAgain
 mod WordsTold
+mod Numbers
+mod WordsSaid
 pub mod FormsAgain
-mod LettersAgain
+pub mod LettersAgain
 pub mod LineWords
 pub mod LinesAgain
+mod FormsSaid
+pub mod LinesSaid
+mod LinesInRange

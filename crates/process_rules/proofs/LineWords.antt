@@ -10,7 +10,6 @@ use Rattle.std.proofs.lemmas.List.Folds.{list_all-append}
 use Rattle.texts.specs.Words.{tilde, space, pieces_at, with_byte, is_some_bytes, words_in, sentence}
 use Rattle.texts.specs.Numeral.{IsDigit, IsNumeral}
 use Rattle.texts.proofs.Decided.{both}
-use Rattle.texts.proofs.NumeralLaws.{decimal_is_numeral}
 use Rattle.silo_address.specs.Marks.{dot, colon, at_sign, exclamation_mark}
 use Rattle.silo_address.specs.Silo.{Silo, IsSilo}
 use Rattle.silo_address.specs.SiloText.{Words, AreNumerals, words_text, words_of, silo_text}
@@ -36,7 +35,8 @@ use Rattle.directory_rules.specs.Letter.{Letter, Body, Request_letter, Reply_let
 use Rattle.script_rules.specs.Lines.{kind_word}
 use Rattle.script_rules.specs.Script.{is_text}
 use Rattle.process_rules.specs.LetterText.{entry_words, entries_words, previous_words, act_words, why_words, reply_words, body_words, letter_words, letter_line}
-use Rattle.process_rules.specs.Told.{IsNumber, IsActivation, IsEntry, IsDigest, IsAct, IsWhy, IsReply, IsToldBody, IsTold}
+use Rattle.process_rules.specs.Told.{IsActivation, IsEntry, IsDigest, IsAct, IsWhy, IsReply, IsToldBody, IsLetterWith}
+use Rattle.process_rules.proofs.Numbers.{decimal_some, decimal_visible}
 
 -- ---- visible words
 abbrev IsSeen : List ℕ → Type 0
@@ -110,8 +110,8 @@ kind_whole kind.Offer = refl
 numeral_seen : (word : List ℕ) → IsNumeral word → IsSeen word
 numeral_seen word numeral = All-weaker IsDigit IsVisible (λ byte digit. let least = digit.0 in let most = digit.1 in (omega (arith, least), omega (arith, most))) word numeral.digits
 
-number_whole : (number : ℕ) → IsNumber number → IsWhole (decimal number)
-number_whole number is = let numeral = decimal_is_numeral number is in record { some = numeral.some; seen = numeral_seen (decimal number) numeral }
+number_whole : (number : ℕ) → IsWhole (decimal number)
+number_whole number = record { some = decimal_some number; seen = decimal_visible number }
 
 marked : (word : List ℕ) (mark : ℕ) (rest : List ℕ) → IsSeen word → IsVisible mark → IsSeen rest → IsSeen (word ++ mark ∷ rest)
 marked word mark rest seen visible more = All-append IsVisible word (mark ∷ rest) seen (All-cons IsVisible mark rest visible more)
@@ -137,22 +137,17 @@ grain_whole grain is = record {
   seen = is.visible;
 }
 
-activation_whole : (activation : ActivationId) → IsActivation activation → IsWhole (activation_text activation)
+activation_whole : (activation : ActivationId) → IsSilo activation.silo → IsWhole (activation_text activation)
 activation_whole activation is = record {
   some = some_marked (silo_text activation.silo) exclamation_mark (decimal activation.count);
-  seen = marked (silo_text activation.silo) exclamation_mark (decimal activation.count) (silo_whole activation.silo is.silo).seen (omega arith, omega arith) (number_whole activation.count is.count).seen;
+  seen = marked (silo_text activation.silo) exclamation_mark (decimal activation.count) (silo_whole activation.silo is).seen (omega arith, omega arith) (number_whole activation.count).seen;
 }
 
-range_whole : (range : Range) → IsRange range → IsWhole (range_text range)
-range_whole range is =
-    let below = is.start_below in
-    let within = is.size_within in
-    let start_small : range.start < 2 ^ 64 = omega (arith, below) in
-    let size_small : range.size < 2 ^ 64 = omega (arith, within) in
-    record {
-      some = some_marked (decimal range.start) plus_sign (decimal range.size);
-      seen = marked (decimal range.start) plus_sign (decimal range.size) (number_whole range.start start_small).seen (omega arith, omega arith) (number_whole range.size size_small).seen;
-    }
+range_whole : (range : Range) → IsWhole (range_text range)
+range_whole range = record {
+  some = some_marked (decimal range.start) plus_sign (decimal range.size);
+  seen = marked (decimal range.start) plus_sign (decimal range.size) (number_whole range.start).seen (omega arith, omega arith) (number_whole range.size).seen;
+}
 
 digits_seen : IsSeen lower_digits
 digits_seen = (Decides-all_visible lower_digits).0 refl
@@ -172,84 +167,6 @@ digest_whole digest is =
     let long : length (encode_lower digest) ≡ 2 * length digest = length-encode_with lower_digits digest in
     let bytes = is.long in
     record { some = omega (arith, long, bytes); seen = digest_seen digest is.bytes }
-
--- ---- letters
-none : AreWhole []
-none = All-nil IsWhole
-
-cons : (word : List ℕ) (words : List (List ℕ)) → IsWhole word → AreWhole words → AreWhole (word ∷ words)
-cons word words is are = All-cons IsWhole word words is are
-
-entry_then : (entry : Entry) (words : List (List ℕ)) → IsEntry entry → AreWhole words → AreWhole (entry_words entry ++ words)
-entry_then entry words is are =
-    cons (grain_text entry.grain) (activation_text entry.activation ∷ words) (grain_whole entry.grain is.grain)
-    (cons (activation_text entry.activation) words (activation_whole entry.activation is.activation) are)
-
-entry_whole : (entry : Entry) → IsEntry entry → AreWhole (entry_words entry)
-entry_whole entry is = entry_then entry [] is none
-
-entries_whole : (entries : List Entry) → All IsEntry entries → AreWhole (entries_words entries)
-entries_whole [] are = none
-entries_whole (entry ∷ entries) are =
-    entry_then entry (entries_words entries) (All-head IsEntry entry entries are) (entries_whole entries (All-tail IsEntry entry entries are))
-
-previous_whole : (previous : Option ActivationId) → IfSome previous IsActivation → AreWhole (previous_words previous)
-previous_whole None is = none
-previous_whole (Some activation) is = cons (activation_text activation) [] (activation_whole activation is) none
-
-act_whole : (act : Act) → IsAct act → AreWhole (act_words act)
-act_whole (act.Register entry previous) is = entry_then entry (previous_words previous) is.0 (previous_whole previous is.1)
-act_whole (act.Deregister entry) is = entry_whole entry is
-act_whole (act.Find grain) is = cons (grain_text grain) [] (grain_whole grain is) none
-
-why_whole : (why : Why) → IsWhy why → AreWhole (why_words why)
-why_whole (why.View seen) is = cons (codes "601") (decimal seen ∷ []) (whole_by (codes "601") refl) (cons (decimal seen) [] (number_whole seen is) none)
-why_whole why.Unsettled is = cons (codes "602") [] (whole_by (codes "602") refl) none
-why_whole (why.OldNumber last) is = cons (codes "603") (decimal last ∷ []) (whole_by (codes "603") refl) (cons (decimal last) [] (number_whole last is) none)
-why_whole why.NotOwner is = cons (codes "604") [] (whole_by (codes "604") refl) none
-
-reply_whole : (reply : Reply) → IsReply reply → AreWhole (reply_words reply)
-reply_whole (reply.Registered entry) is = entry_whole entry is
-reply_whole (reply.Taken entry) is = entry_whole entry is
-reply_whole reply.Removed is = none
-reply_whole reply.Absent is = none
-reply_whole (reply.Found entry) is = entry_whole entry is
-reply_whole reply.Nothing is = none
-reply_whole (reply.Retry why) is = why_whole why is
-
-range_alone : (range : Range) → IsRange range → AreWhole (range_text range ∷ [])
-range_alone range is = cons (range_text range) [] (range_whole range is) none
-
-body_whole : (hashing : Hashing) (from : Silo) (version : ℕ) (body : Body) → IsToldBody hashing from version body → AreWhole (body_words body)
-body_whole hashing from version (Request_letter request) is = cons (decimal request.number) (act_words request.act) (number_whole request.number is.number) (act_whole request.act is.act)
-body_whole hashing from version (Reply_letter number reply) is = cons (decimal number) (reply_words reply) (number_whole number is.0) (reply_whole reply is.1)
-body_whole hashing from version (Ask_letter range page) is = cons (range_text range) (decimal page ∷ []) (range_whole range is.0) (cons (decimal page) [] (number_whole page is.1) none)
-body_whole hashing from version (Page_letter page) is =
-    let entries : List (List ℕ) = entries_words page.entries in
-    let behind : List (List ℕ) = encode_lower page.digest ∷ entries in
-    let counted : List (List ℕ) = decimal page.pages ∷ behind in
-    cons (range_text page.range) (decimal page.page ∷ counted) (range_whole page.range is.range)
-    (cons (decimal page.page) counted (number_whole page.page is.page)
-    (cons (decimal page.pages) behind (number_whole page.pages is.pages)
-    (cons (encode_lower page.digest) entries (digest_whole page.digest is.digest) (entries_whole page.entries is.entries))))
-body_whole hashing from version (Missing_letter range) is = range_alone range is
-body_whole hashing from version (Done_letter range) is = range_alone range is
-body_whole hashing from version (Query_letter range) is = range_alone range is
-body_whole hashing from version (Report_letter report) is = cons (range_text report.range) (entries_words report.entries) (range_whole report.range is.range) (entries_whole report.entries is.entries)
-body_whole hashing from version (Behind_letter range) is = range_alone range is
-body_whole hashing from version (Ahead_letter range) is = range_alone range is
-body_whole hashing from version (Offer_letter entry) is = entry_whole entry is
-
-letter_whole : (hashing : Hashing) (letter : Letter) → IsTold hashing letter → AreWhole (codes "letter" ∷ letter_words letter)
-letter_whole hashing letter is =
-    let kind : List ℕ = kind_word (kind_of letter.body) in
-    let says : List (List ℕ) = body_words letter.body in
-    let version : List ℕ = decimal letter.version in
-    cons (codes "letter") (letter_words letter) (whole_by (codes "letter") refl)
-    (cons (silo_text letter.from) (silo_text letter.to ∷ version ∷ kind ∷ says) (silo_whole letter.from is.from)
-    (cons (silo_text letter.to) (version ∷ kind ∷ says) (silo_whole letter.to is.to)
-    (cons version (kind ∷ says) (number_whole letter.version is.version)
-    (cons kind says (whole_by kind (kind_whole (kind_of letter.body))) (body_whole hashing letter.from letter.version letter.body is.body)))))
 
 -- ---- the line is text
 text_byte : (byte : ℕ) → IsVisible byte → is_text byte ≡ true
@@ -273,10 +190,89 @@ text_sentence (word ∷ next ∷ words) whole =
     let back = text_sentence (next ∷ words) (All-tail IsWhole word (next ∷ words) whole) in
     list_all-append is_text word (space ∷ sentence (next ∷ words)) ∙ rw (front, back) refl
 
-pub line_is_text : (hashing : Hashing) (letter : Letter) → IsTold hashing letter → list_all is_text (letter_line letter) ≡ true
-unfolding letter_line
-line_is_text hashing letter is = text_sentence (codes "letter" ∷ letter_words letter) (letter_whole hashing letter is)
+-- ---- letters
+none : AreWhole []
+none = All-nil IsWhole
 
-pub line_words : (hashing : Hashing) (letter : Letter) → IsTold hashing letter → words_in (letter_line letter) ≡ codes "letter" ∷ letter_words letter
-unfolding letter_line
-line_words hashing letter is = words_again (codes "letter" ∷ letter_words letter) (letter_whole hashing letter is)
+cons : (word : List ℕ) (words : List (List ℕ)) → IsWhole word → AreWhole words → AreWhole (word ∷ words)
+cons word words is are = All-cons IsWhole word words is are
+
+module _ (Fits : ℕ → Type 0) where
+  entry_then : (entry : Entry) (words : List (List ℕ)) → IsEntry Fits entry → AreWhole words → AreWhole (entry_words entry ++ words)
+  entry_then entry words is are =
+      cons (grain_text entry.grain) (activation_text entry.activation ∷ words) (grain_whole entry.grain is.grain)
+      (cons (activation_text entry.activation) words (activation_whole entry.activation is.activation.silo) are)
+
+  entry_whole : (entry : Entry) → IsEntry Fits entry → AreWhole (entry_words entry)
+  entry_whole entry is = entry_then entry [] is none
+
+  entries_whole : (entries : List Entry) → All (IsEntry Fits) entries → AreWhole (entries_words entries)
+  entries_whole [] are = none
+  entries_whole (entry ∷ entries) are =
+      entry_then entry (entries_words entries) (All-head (IsEntry Fits) entry entries are) (entries_whole entries (All-tail (IsEntry Fits) entry entries are))
+
+  previous_whole : (previous : Option ActivationId) → IfSome previous (IsActivation Fits) → AreWhole (previous_words previous)
+  previous_whole None is = none
+  previous_whole (Some activation) is = cons (activation_text activation) [] (activation_whole activation is.silo) none
+
+  act_whole : (act : Act) → IsAct Fits act → AreWhole (act_words act)
+  act_whole (act.Register entry previous) is = entry_then entry (previous_words previous) is.0 (previous_whole previous is.1)
+  act_whole (act.Deregister entry) is = entry_whole entry is
+  act_whole (act.Find grain) is = cons (grain_text grain) [] (grain_whole grain is) none
+
+  why_whole : (why : Why) → IsWhy Fits why → AreWhole (why_words why)
+  why_whole (why.View seen) is = cons (codes "601") (decimal seen ∷ []) (whole_by (codes "601") refl) (cons (decimal seen) [] (number_whole seen) none)
+  why_whole why.Unsettled is = cons (codes "602") [] (whole_by (codes "602") refl) none
+  why_whole (why.OldNumber last) is = cons (codes "603") (decimal last ∷ []) (whole_by (codes "603") refl) (cons (decimal last) [] (number_whole last) none)
+  why_whole why.NotOwner is = cons (codes "604") [] (whole_by (codes "604") refl) none
+
+  reply_whole : (reply : Reply) → IsReply Fits reply → AreWhole (reply_words reply)
+  reply_whole (reply.Registered entry) is = entry_whole entry is
+  reply_whole (reply.Taken entry) is = entry_whole entry is
+  reply_whole reply.Removed is = none
+  reply_whole reply.Absent is = none
+  reply_whole (reply.Found entry) is = entry_whole entry is
+  reply_whole reply.Nothing is = none
+  reply_whole (reply.Retry why) is = why_whole why is
+
+  range_alone : (range : Range) → AreWhole (range_text range ∷ [])
+  range_alone range = cons (range_text range) [] (range_whole range) none
+
+  body_whole : (hashing : Hashing) (from : Silo) (version : ℕ) (body : Body) → IsToldBody Fits hashing from version body → AreWhole (body_words body)
+  body_whole hashing from version (Request_letter request) is = cons (decimal request.number) (act_words request.act) (number_whole request.number) (act_whole request.act is.act)
+  body_whole hashing from version (Reply_letter number reply) is = cons (decimal number) (reply_words reply) (number_whole number) (reply_whole reply is.1)
+  body_whole hashing from version (Ask_letter range page) is = cons (range_text range) (decimal page ∷ []) (range_whole range) (cons (decimal page) [] (number_whole page) none)
+  body_whole hashing from version (Page_letter page) is =
+      let entries : List (List ℕ) = entries_words page.entries in
+      let behind : List (List ℕ) = encode_lower page.digest ∷ entries in
+      let counted : List (List ℕ) = decimal page.pages ∷ behind in
+      cons (range_text page.range) (decimal page.page ∷ counted) (range_whole page.range)
+      (cons (decimal page.page) counted (number_whole page.page)
+      (cons (decimal page.pages) behind (number_whole page.pages)
+      (cons (encode_lower page.digest) entries (digest_whole page.digest is.digest) (entries_whole page.entries is.entries))))
+  body_whole hashing from version (Missing_letter range) is = range_alone range
+  body_whole hashing from version (Done_letter range) is = range_alone range
+  body_whole hashing from version (Query_letter range) is = range_alone range
+  body_whole hashing from version (Report_letter report) is = cons (range_text report.range) (entries_words report.entries) (range_whole report.range) (entries_whole report.entries is.entries)
+  body_whole hashing from version (Behind_letter range) is = range_alone range
+  body_whole hashing from version (Ahead_letter range) is = range_alone range
+  body_whole hashing from version (Offer_letter entry) is = entry_whole entry is
+
+  letter_whole : (hashing : Hashing) (letter : Letter) → IsLetterWith Fits hashing letter → AreWhole (codes "letter" ∷ letter_words letter)
+  letter_whole hashing letter is =
+      let kind : List ℕ = kind_word (kind_of letter.body) in
+      let says : List (List ℕ) = body_words letter.body in
+      let version : List ℕ = decimal letter.version in
+      cons (codes "letter") (letter_words letter) (whole_by (codes "letter") refl)
+      (cons (silo_text letter.from) (silo_text letter.to ∷ version ∷ kind ∷ says) (silo_whole letter.from is.from)
+      (cons (silo_text letter.to) (version ∷ kind ∷ says) (silo_whole letter.to is.to)
+      (cons version (kind ∷ says) (number_whole letter.version)
+      (cons kind says (whole_by kind (kind_whole (kind_of letter.body))) (body_whole hashing letter.from letter.version letter.body is.body)))))
+
+  pub line_is_text : (hashing : Hashing) (letter : Letter) → IsLetterWith Fits hashing letter → list_all is_text (letter_line letter) ≡ true
+  unfolding letter_line
+  line_is_text hashing letter is = text_sentence (codes "letter" ∷ letter_words letter) (letter_whole hashing letter is)
+
+  pub line_words : (hashing : Hashing) (letter : Letter) → IsLetterWith Fits hashing letter → words_in (letter_line letter) ≡ codes "letter" ∷ letter_words letter
+  unfolding letter_line
+  line_words hashing letter is = words_again (codes "letter" ∷ letter_words letter) (letter_whole hashing letter is)

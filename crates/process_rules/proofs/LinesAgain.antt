@@ -8,7 +8,7 @@ use Rattle.directory_rules.specs.Letter.{Letter}
 use Rattle.script_rules.specs.Script.{◌>>=◌}
 use Rattle.process_rules.specs.LetterText.{letter_line}
 use Rattle.process_rules.specs.LineReading.{Receive, longest_line, asked_of_words, read_silo_line}
-use Rattle.process_rules.specs.Told.{IsTold}
+use Rattle.process_rules.specs.Told.{IsNumber, IsTold}
 use Rattle.process_rules.proofs.LettersAgain.{again}
 use Rattle.process_rules.proofs.LineWords.{line_is_text, line_words}
 
@@ -16,6 +16,6 @@ pub line_again : (hashing : Hashing) (letter : Letter) → IsTold hashing letter
 unfolding read_silo_line
 line_again hashing letter is fits =
     let short : nat_lt longest_line (length (letter_line letter)) ≡ false = grind (arith, nat_tests) in
-    rw (short, line_is_text hashing letter is)
-    (ap (asked_of_words hashing) (line_words hashing letter is)
+    rw (short, line_is_text IsNumber hashing letter is)
+    (ap (asked_of_words hashing) (line_words IsNumber hashing letter is)
     ∙ ap (λ (read : Result Letter ℕ). read >>= (λ letter. Ok (Receive letter)) >>= (λ asked. Ok (Some asked))) (again hashing letter is))

@@ -70,7 +70,7 @@ pub grain_gave : (word : List ℕ) (grain : Grain) → grain_word word ≡ Ok gr
 grain_gave word grain given = grain_by word grain (read_grain word) (grain_clauses word (read_grain word) refl).found given
 
 -- ---- activations
-pub activation_again : (activation : ActivationId) → IsActivation activation → activation_word (activation_text activation) ≡ Ok activation
+pub activation_again : (activation : ActivationId) → IsActivation IsNumber activation → activation_word (activation_text activation) ≡ Ok activation
 activation_again activation is = ap activation_or_fault (activation_only (activation_text activation) activation is.silo is.count refl)
 
 activation_by : (word : List ℕ) (activation : ActivationId) (read : Result ActivationId ActivationError) → IfOk read (λ other. word ≡ activation_text other)
@@ -117,7 +117,7 @@ digest_gave word digest given = digest_by word digest (decode_sized word 32) giv
 abbrev entry_with : Grain → ActivationId → Entry
 entry_with grain activation = record { grain = grain; activation = activation }
 
-pub entry_again : (entry : Entry) → IsEntry entry → entry_of_words (grain_text entry.grain) (activation_text entry.activation) ≡ Ok entry
+pub entry_again : (entry : Entry) → IsEntry IsNumber entry → entry_of_words (grain_text entry.grain) (activation_text entry.activation) ≡ Ok entry
 entry_again entry is =
     two_again entry_with (grain_word (grain_text entry.grain)) (activation_word (activation_text entry.activation)) entry.grain entry.activation
     (grain_again entry.grain is.grain) (activation_again entry.activation is.activation)
@@ -136,11 +136,11 @@ pub pairs_again : (entries : List Entry) → are_pairs (entries_words entries) �
 pairs_again [] = refl
 pairs_again (entry ∷ entries) = pairs_again entries
 
-pub entries_again : (entries : List Entry) → All IsEntry entries → entries_in (entries_words entries) ≡ Ok entries
+pub entries_again : (entries : List Entry) → All (IsEntry IsNumber) entries → entries_in (entries_words entries) ≡ Ok entries
 entries_again [] all = refl
 entries_again (entry ∷ entries) all =
     two_again more (entry_of_words (grain_text entry.grain) (activation_text entry.activation)) (entries_in (entries_words entries)) entry entries
-    (entry_again entry (All-head IsEntry entry entries all)) (entries_again entries (All-tail IsEntry entry entries all))
+    (entry_again entry (All-head (IsEntry IsNumber) entry entries all)) (entries_again entries (All-tail (IsEntry IsNumber) entry entries all))
 
 pub entries_gave : (words : List (List ℕ)) (entries : List Entry) → entries_in words ≡ Ok entries → words ≡ entries_words entries
 entries_gave [] entries given = ap entries_words (ok_is given)

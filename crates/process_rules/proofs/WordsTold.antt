@@ -101,26 +101,26 @@ pub grain_told : (word : List ℕ) (grain : Grain) → grain_word word ≡ Ok gr
 grain_told word grain given = grain_from grain (read_grain word) (grain_reads word) given
 
 -- ---- activations
-activation_with : (silo : Result Silo SiloError) (count : Result ℕ NumberError) → IfOk silo IsSilo → IfOk count IsNumber → IfOk (activation_of silo count) IsActivation
+activation_with : (silo : Result Silo SiloError) (count : Result ℕ NumberError) → IfOk silo IsSilo → IfOk count IsNumber → IfOk (activation_of silo count) (IsActivation IsNumber)
 activation_with (Ok silo) (Ok count) is_silo is_count = record { silo = is_silo; count = is_count }
 activation_with (Ok silo) (Err fault) is_silo is_count = tt
 activation_with (Err fault) count is_silo is_count = tt
 
-activation_reads : (word : List ℕ) → IfOk (read_activation word) IsActivation
+activation_reads : (word : List ℕ) → IfOk (read_activation word) (IsActivation IsNumber)
 unfolding read_activation
 activation_reads word = by (nat_lt (position_or_len is_exclamation_mark word) (length word))
   where
-    by : (marked : Bool) → IfOk (cond marked (activation_of (read_silo (before_first is_exclamation_mark word)) (read_number 18446744073709551615 (after_first is_exclamation_mark word))) (Err activation_fault.Shape)) IsActivation
+    by : (marked : Bool) → IfOk (cond marked (activation_of (read_silo (before_first is_exclamation_mark word)) (read_number 18446744073709551615 (after_first is_exclamation_mark word))) (Err activation_fault.Shape)) (IsActivation IsNumber)
     by true =
         activation_with (read_silo (before_first is_exclamation_mark word)) (read_number 18446744073709551615 (after_first is_exclamation_mark word))
         (silo_reads (before_first is_exclamation_mark word)) (number_reads (after_first is_exclamation_mark word))
     by false = tt
 
-activation_from : (activation : ActivationId) (read : Result ActivationId ActivationError) → IfOk read IsActivation → activation_or_fault read ≡ Ok activation → IsActivation activation
-activation_from activation (Ok other) found given = subst IsActivation (ok_is given) found
+activation_from : (activation : ActivationId) (read : Result ActivationId ActivationError) → IfOk read (IsActivation IsNumber) → activation_or_fault read ≡ Ok activation → IsActivation IsNumber activation
+activation_from activation (Ok other) found given = subst (IsActivation IsNumber) (ok_is given) found
 activation_from activation (Err fault) found given = cc given
 
-pub activation_told : (word : List ℕ) (activation : ActivationId) → activation_word word ≡ Ok activation → IsActivation activation
+pub activation_told : (word : List ℕ) (activation : ActivationId) → activation_word word ≡ Ok activation → IsActivation IsNumber activation
 activation_told word activation given = activation_from activation (read_activation word) (activation_reads word) given
 
 -- ---- ranges
@@ -169,17 +169,17 @@ digest_told word digest given = digest_from word digest (decode_sized word 32) r
 abbrev entry_with : Grain → ActivationId → Entry
 entry_with grain activation = record { grain = grain; activation = activation }
 
-pub entry_told : (grain activation : List ℕ) (entry : Entry) → entry_of_words grain activation ≡ Ok entry → IsEntry entry
+pub entry_told : (grain activation : List ℕ) (entry : Entry) → entry_of_words grain activation ≡ Ok entry → IsEntry IsNumber entry
 entry_told grain activation entry given =
     let parts = two_gave entry_with (grain_word grain) (activation_word activation) entry given in
-    subst IsEntry parts.4 (record { grain = grain_told grain parts.0 parts.2; activation = activation_told activation parts.1 parts.3 })
+    subst (IsEntry IsNumber) parts.4 (record { grain = grain_told grain parts.0 parts.2; activation = activation_told activation parts.1 parts.3 })
 
 abbrev more : Entry → List Entry → List Entry
 more entry entries = entry ∷ entries
 
-pub entries_told : (words : List (List ℕ)) (entries : List Entry) → entries_in words ≡ Ok entries → All IsEntry entries
-entries_told [] entries given = subst (All IsEntry) (ok_is given) (All-nil IsEntry)
+pub entries_told : (words : List (List ℕ)) (entries : List Entry) → entries_in words ≡ Ok entries → All (IsEntry IsNumber) entries
+entries_told [] entries given = subst (All (IsEntry IsNumber)) (ok_is given) (All-nil (IsEntry IsNumber))
 entries_told (one ∷ []) entries given = cc given
 entries_told (grain ∷ activation ∷ words) entries given =
     let parts = two_gave more (entry_of_words grain activation) (entries_in words) entries given in
-    subst (All IsEntry) parts.4 (All-cons IsEntry parts.0 parts.1 (entry_told grain activation parts.0 parts.2) (entries_told words parts.1 parts.3))
+    subst (All (IsEntry IsNumber)) parts.4 (All-cons (IsEntry IsNumber) parts.0 parts.1 (entry_told grain activation parts.0 parts.2) (entries_told words parts.1 parts.3))

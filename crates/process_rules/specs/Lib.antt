@@ -2,3 +2,4 @@ pub mod LetterText
 pub mod LetterReading
 pub mod Told
 pub mod LineReading
+pub mod InRange

@@ -1,13 +1,14 @@
 //! Laws of the lines: each function has a law as its contract, and does nothing.
 
-ghost use Rattle.std.specs.Prelude.{◌≡◌, ◌≤◌, ℕ, List, ◌∷◌, Ok, Some, codes, length};
+ghost use Rattle.std.specs.Prelude.{◌≡◌, ◌≤◌, ℕ, IfOk, List, ◌∷◌, Ok, Some, codes, length};
 ghost use Rattle.texts.specs.Words.{words_in};
 ghost use Rattle.hash_ring.specs.declared.hashing.Hashing.{Hashing};
 ghost use Rattle.directory_rules.specs.Letter.{Letter};
 ghost use Rattle.process_rules.specs.LetterText.{letter_line, letter_words};
 ghost use Rattle.process_rules.specs.LetterReading.{read_letter};
-ghost use Rattle.process_rules.specs.LineReading.{Receive, longest_line, read_silo_line};
-ghost use Rattle.process_rules.specs.Told.{IsTold};
+ghost use Rattle.process_rules.specs.LineReading.{Asked, Receive, longest_line, read_silo_line};
+ghost use Rattle.process_rules.specs.InRange.{IsInRange};
+ghost use Rattle.process_rules.specs.Told.{IsSayable, IsTold};
 
 /// A letter that a line can tell is read of its words, no words but a letter's own are read as that letter, and no letter is read but
 /// one that a line can tell.
@@ -25,4 +26,14 @@ pub fn lines_of_letters()
 /// The line of such a letter says that letter, where it isn't too long to be read.
 pub fn lines_say_their_letters()
     ensures { (hashing : Hashing) (letter : Letter) → IsTold hashing letter → length (letter_line letter) ≤ longest_line → read_silo_line hashing (letter_line letter) ≡ Ok (Some (Receive letter)) }
+{}
+
+/// The line of a letter that a silo may send is read as that letter, or it is refused: its numbers may be too large, or it may be too long.
+pub fn lines_say_no_other_letters()
+    ensures { (hashing : Hashing) (letter : Letter) → IsSayable hashing letter → IfOk (read_silo_line hashing (letter_line letter)) (λ asked. asked ≡ Some (Receive letter)) }
+{}
+
+/// What a line asks for is in its range.
+pub fn lines_are_in_range()
+    ensures { (hashing : Hashing) (line : List ℕ) (asked : Asked) → read_silo_line hashing line ≡ Ok (Some asked) → IsInRange hashing asked }
 {}

@@ -1,0 +1,181 @@
+-- Whatever a line asks for is in its range.
+use Rattle.std.proofs.Common.{arith, ◌≡◌, ℕ, ◌<◌, Bool, true, false, List, [], ◌∷◌, Option, Some, None, Result, Ok, Err, refl, subst, length, codes}
+use Rattle.std.specs.Prelude.{All, IfOk, bytes_eq, cond, nat_le, nat_lt}
+use Rattle.std.specs.List.{list_all}
+use Rattle.std.specs.Map.{lookup}
+use Rattle.std.proofs.lemmas.Bool.{leb-true}
+use Rattle.std.proofs.lemmas.List.Elements.{All-nil, All-cons, All-head, All-tail}
+use Rattle.texts.specs.declared.NumberError.{NumberError}
+use Rattle.texts.specs.declared.NumberError.TheVariants as number_fault
+use Rattle.texts.specs.Numeral.{is_numeral, numeral_value, read_number}
+use Rattle.texts.specs.Words.{words_in}
+use Rattle.silo_address.specs.Silo.{Silo, IsSilo}
+use Rattle.silo_address.specs.Grain.{Grain, IsGrain}
+use Rattle.ring_range.specs.Range.{circle}
+use Rattle.hash_ring.specs.declared.hashing.Hashing.{Hashing}
+use Rattle.directory_rules.specs.Letter.{Letter}
+use Rattle.script_rules.specs.Script.{silo_word, grain_word, number_word, number_or_fault, hash_word, places_in, is_text, is_remark, ◌>>=◌}
+use Rattle.process_rules.specs.LetterReading.{read_letter}
+use Rattle.process_rules.specs.LineReading.{Asked, Joined, Leaving, Dead, See, Wake, Close, Offer, Find, Forget, Nudge, Receive, Ping, Show, Dump, Grammar, no_word, a_word, a_join, a_version_and_a_silo, a_version, a_grain, a_grain_and_a_silo, a_letter, commands, longest_line, asked_if_known, asked_of_words, read_silo_line}
+use Rattle.process_rules.specs.Told.{IsNumber, IsTold}
+use Rattle.process_rules.specs.InRange.{IsInRange}
+use Rattle.process_rules.proofs.LettersAgain.{was_told}
+use Rattle.process_rules.proofs.WordsTold.{number_told, silo_told, grain_told}
+
+-- ---- what is read is in its range
+of_given : {A : Type 0} (Is : A → Type 0) (read : Result A ℕ) → ((given : A) → read ≡ Ok given → Is given) → IfOk read Is
+of_given Is (Ok given) each = each given refl
+of_given Is (Err fault) each = tt
+
+module _ {A X : Type 0} (P : A → Type 0) (Is : X → Type 0) (make : A → X) where
+  one_in : (x : Result A ℕ) → ((a : A) → P a → Is (make a)) → IfOk x P → IfOk (x >>= λ p. Ok (make p)) Is
+  one_in (Ok a) makes first = makes a first
+  one_in (Err fault) makes first = tt
+
+module _ {A B X : Type 0} (P : A → Type 0) (Q : B → Type 0) (Is : X → Type 0) (make : A → B → X) where
+  two_in : (x : Result A ℕ) (y : Result B ℕ) → ((a : A) (b : B) → P a → Q b → Is (make a b)) → IfOk x P → IfOk y Q → IfOk (x >>= λ p. y >>= λ q. Ok (make p q)) Is
+  two_in (Ok a) (Ok b) makes first second = makes a b first second
+  two_in (Ok a) (Err fault) makes first second = tt
+  two_in (Err fault) y makes first second = tt
+
+module _ {A B C X : Type 0} (P : A → Type 0) (Q : B → Type 0) (R : C → Type 0) (Is : X → Type 0) (make : A → B → C → X) where
+  three_in : (x : Result A ℕ) (y : Result B ℕ) (z : Result C ℕ) → ((a : A) (b : B) (c : C) → P a → Q b → R c → Is (make a b c)) → IfOk x P → IfOk y Q → IfOk z R
+      → IfOk (x >>= λ p. y >>= λ q. z >>= λ r. Ok (make p q r)) Is
+  three_in (Ok a) (Ok b) (Ok c) makes first second third = makes a b c first second third
+  three_in (Ok a) (Ok b) (Err fault) makes first second third = tt
+  three_in (Ok a) (Err fault) z makes first second third = tt
+  three_in (Err fault) y z makes first second third = tt
+
+-- ---- words
+number_in : (word : List ℕ) → IfOk (number_word word) IsNumber
+number_in word = of_given IsNumber (number_word word) (number_told word)
+
+silo_in : (word : List ℕ) → IfOk (silo_word word) IsSilo
+silo_in word = of_given IsSilo (silo_word word) (silo_told word)
+
+grain_in : (word : List ℕ) → IfOk (grain_word word) IsGrain
+grain_in word = of_given IsGrain (grain_word word) (grain_told word)
+
+abbrev IsHash : ℕ → Type 0
+IsHash place = place < circle
+
+hash_by : (value : ℕ) (numeral within : Bool) → nat_le value 4294967295 ≡ within → IfOk (number_or_fault (cond numeral (cond within (Ok value) (Err number_fault.OutOfRange)) (Err number_fault.NotANumber))) IsHash
+hash_by value true true is = let most = leb-true value 4294967295 is in omega (arith, most)
+hash_by value true false is = tt
+hash_by value false within is = tt
+
+hash_in : (word : List ℕ) → IfOk (hash_word word) IsHash
+hash_in word = hash_by (numeral_value word) (is_numeral word) (nat_le (numeral_value word) 4294967295) refl
+
+abbrev more : ℕ → List ℕ → List ℕ
+more place places = place ∷ places
+
+all_in : (words : List (List ℕ)) → IfOk (places_in words) (All IsHash)
+all_in [] = All-nil IsHash
+all_in (word ∷ words) = two_in IsHash (All IsHash) (All IsHash) more (hash_word word) (places_in words) (λ place places is are. All-cons IsHash place places is are) (hash_in word) (all_in words)
+
+-- ---- commands
+module _ (hashing : Hashing) where
+  abbrev Asks : Grammar → Type 0
+  Asks grammar = (words : List (List ℕ)) → IfOk (grammar words) (IsInRange hashing)
+
+  none_asks : (asked : Asked) → IsInRange hashing asked → Asks (no_word asked)
+  none_asks asked is [] = is
+  none_asks asked is (word ∷ words) = tt
+
+  word_asks : Asks a_word
+  word_asks [] = tt
+  word_asks (word ∷ []) = tt
+  word_asks (one ∷ other ∷ words) = tt
+
+  join_asks : Asks a_join
+  join_asks [] = tt
+  join_asks (one ∷ []) = tt
+  join_asks (version ∷ silo ∷ places) =
+      three_in IsNumber IsSilo (All IsHash) (IsInRange hashing) Joined (number_word version) (silo_word silo) (places_in places) (λ v s p first second third. (first, second, third)) (number_in version) (silo_in silo) (all_in places)
+
+  change_asks : (of : ℕ → Silo → Asked) → ((version : ℕ) (silo : Silo) → IsNumber version → IsSilo silo → IsInRange hashing (of version silo)) → Asks (a_version_and_a_silo of)
+  change_asks of makes [] = tt
+  change_asks of makes (one ∷ []) = tt
+  change_asks of makes (version ∷ silo ∷ []) = two_in IsNumber IsSilo (IsInRange hashing) of (number_word version) (silo_word silo) makes (number_in version) (silo_in silo)
+  change_asks of makes (one ∷ two ∷ three ∷ words) = tt
+
+  version_asks : Asks a_version
+  version_asks [] = tt
+  version_asks (version ∷ []) = one_in IsNumber (IsInRange hashing) See (number_word version) (λ v is. is) (number_in version)
+  version_asks (one ∷ two ∷ words) = tt
+
+  grain_asks : (of : Grain → Asked) → ((grain : Grain) → IsGrain grain → IsInRange hashing (of grain)) → Asks (a_grain of)
+  grain_asks of makes [] = tt
+  grain_asks of makes (grain ∷ []) = one_in IsGrain (IsInRange hashing) of (grain_word grain) makes (grain_in grain)
+  grain_asks of makes (one ∷ two ∷ words) = tt
+
+  offer_asks : Asks a_grain_and_a_silo
+  offer_asks [] = tt
+  offer_asks (one ∷ []) = tt
+  offer_asks (grain ∷ silo ∷ []) = two_in IsGrain IsSilo (IsInRange hashing) Offer (grain_word grain) (silo_word silo) (λ g s first second. (first, second)) (grain_in grain) (silo_in silo)
+  offer_asks (one ∷ two ∷ three ∷ words) = tt
+
+  letter_asks : Asks (a_letter hashing)
+  letter_asks words = one_in (IsTold hashing) (IsInRange hashing) Receive (read_letter hashing words) (λ l is. is) (of_given (IsTold hashing) (read_letter hashing words) (λ l given. (was_told hashing words l given).told))
+
+  abbrev AskAll : List (List ℕ × Grammar) → Type 0
+  AskAll named = All (λ e. Asks e.1) named
+
+  also : (name : List ℕ) (grammar : Grammar) (named : List (List ℕ × Grammar)) → Asks grammar → AskAll named → AskAll ((name, grammar) ∷ named)
+  also name grammar named asks all = All-cons (λ (e : List ℕ × Grammar). Asks e.1) (name, grammar) named asks all
+
+  commands_ask : AskAll (commands hashing)
+  commands_ask =
+      also (codes "joined") a_join _ join_asks
+      (also (codes "leaving") (a_version_and_a_silo Leaving) _ (change_asks Leaving (λ v s first second. (first, second)))
+      (also (codes "dead") (a_version_and_a_silo Dead) _ (change_asks Dead (λ v s first second. (first, second)))
+      (also (codes "see") a_version _ version_asks
+      (also (codes "wake") (a_grain Wake) _ (grain_asks Wake (λ g is. is))
+      (also (codes "close") (a_grain Close) _ (grain_asks Close (λ g is. is))
+      (also (codes "offer") a_grain_and_a_silo _ offer_asks
+      (also (codes "find") (a_grain Find) _ (grain_asks Find (λ g is. is))
+      (also (codes "forget") (a_grain Forget) _ (grain_asks Forget (λ g is. is))
+      (also (codes "nudge") (no_word Nudge) _ (none_asks Nudge tt)
+      (also (codes "letter") (a_letter hashing) _ letter_asks
+      (also (codes "ping") a_word _ word_asks
+      (also (codes "show") (no_word Show) _ (none_asks Show tt)
+      (also (codes "dump") (no_word Dump) _ (none_asks Dump tt)
+      (All-nil (λ (e : List ℕ × Grammar). Asks e.1)))))))))))))))
+
+  -- ---- lines
+  abbrev Says : Result (Option Asked) ℕ → Type 0
+  Says read = (asked : Asked) → read ≡ Ok (Some asked) → IsInRange hashing asked
+
+  given_says : (read : Result Asked ℕ) → IfOk read (IsInRange hashing) → Says (read >>= λ asked. Ok (Some asked))
+  given_says (Ok other) is asked given = subst (IsInRange hashing) (same given) is
+    where
+      same : {a b : Asked} → ◌≡◌ {A = Result (Option Asked) ℕ} (Ok (Some a)) (Ok (Some b)) → a ≡ b
+      same equal = cc
+  given_says (Err fault) is asked given = cc given
+
+  known_says : (test : List ℕ → Bool) (named : List (List ℕ × Grammar)) → AskAll named → (words : List (List ℕ)) → Says (asked_if_known (lookup test named) words)
+  known_says test [] all words asked given = cc given
+  known_says test (e ∷ named) all words =
+      by (test e.0) (known_says test named (All-tail (λ (x : List ℕ × Grammar). Asks x.1) e named all) words)
+    where
+      by : (b : Bool) → Says (asked_if_known (lookup test named) words) → Says (asked_if_known (cond b (Some e.1) (lookup test named)) words)
+      by true later = given_says (e.1 words) (All-head (λ (x : List ℕ × Grammar). Asks x.1) e named all words)
+      by false later = later
+
+  words_say : (words : List (List ℕ)) → Says (asked_of_words hashing words)
+  words_say [] asked given = cc given
+  words_say (name ∷ words) = by (is_remark name)
+    where
+      by : (b : Bool) → Says (cond b (Ok None) (asked_if_known (lookup (bytes_eq name) (commands hashing)) words))
+      by true asked given = cc given
+      by false = known_says (bytes_eq name) (commands hashing) commands_ask words
+
+  pub line_in_range : (line : List ℕ) → Says (read_silo_line hashing line)
+  unfolding read_silo_line
+  line_in_range line = by (nat_lt longest_line (length line)) (list_all is_text line)
+    where
+      by : (long text : Bool) → Says (cond long (Err 924) (cond text (asked_of_words hashing (words_in line)) (Err 925)))
+      by true text asked given = cc given
+      by false true = words_say (words_in line)
+      by false false asked given = cc given

@@ -1,0 +1,25 @@
+-- What a line may ask for, with all that it names in its range.
+use Rattle.std.specs.Prelude.{⊤, ◌<◌, All}
+use Rattle.silo_address.specs.Silo.{IsSilo}
+use Rattle.silo_address.specs.Grain.{IsGrain}
+use Rattle.ring_range.specs.Range.{circle}
+use Rattle.hash_ring.specs.declared.hashing.Hashing.{Hashing}
+use Rattle.process_rules.specs.LineReading.{Asked, Joined, Leaving, Dead, See, Wake, Close, Offer, Find, Forget, Nudge, Receive, Ping, Show, Dump}
+use Rattle.process_rules.specs.Told.{IsNumber, IsTold}
+
+-- versions are below 2^64, silos and grains are such, places are hashes, and a letter is one that a line can tell
+abbrev pub IsInRange : Hashing → Asked → Type 0
+IsInRange hashing (Joined version silo places) = IsNumber version × IsSilo silo × All (λ place. place < circle) places
+IsInRange hashing (Leaving version silo) = IsNumber version × IsSilo silo
+IsInRange hashing (Dead version silo) = IsNumber version × IsSilo silo
+IsInRange hashing (See version) = IsNumber version
+IsInRange hashing (Wake grain) = IsGrain grain
+IsInRange hashing (Close grain) = IsGrain grain
+IsInRange hashing (Offer grain to) = IsGrain grain × IsSilo to
+IsInRange hashing (Find grain) = IsGrain grain
+IsInRange hashing (Forget grain) = IsGrain grain
+IsInRange hashing Nudge = ⊤
+IsInRange hashing (Receive letter) = IsTold hashing letter
+IsInRange hashing (Ping word) = ⊤
+IsInRange hashing Show = ⊤
+IsInRange hashing Dump = ⊤
