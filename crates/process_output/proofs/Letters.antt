@@ -7,6 +7,7 @@ use Rattle.std.proofs.lemmas.Bool.{eqb-true, ltb-true}
 use Rattle.std.proofs.lemmas.List.Folds.{list_all_at}
 use Rattle.texts.proofs.Decided.{both}
 use Rattle.texts.specs.Words.{carriage_return}
+use Rattle.ring_range.specs.Range.{IsRange}
 use Rattle.directory_rules.specs.Letter.{Letter}
 use Rattle.silo_rules.specs.SiloValue.{SiloValue}
 use Rattle.script_rules.specs.Script.{is_text}
@@ -34,7 +35,7 @@ stripped line text = last_by line text (ends_with_byte carriage_return line) ref
 
 letter_said : (letter : Letter) (s : SiloValue) → IsTold s.node.settings.hashing letter → length (letter_line letter) ≤ longest_line → said (letter_line letter) s ≡ Ok (Some (Receive letter))
 letter_said letter s is fits =
-    ap (read_silo_line s.node.settings.hashing) (stripped (letter_line letter) (line_is_text IsNumber s.node.settings.hashing letter is))
+    ap (read_silo_line s.node.settings.hashing) (stripped (letter_line letter) (line_is_text IsNumber IsRange s.node.settings.hashing letter is))
     ∙ line_again s.node.settings.hashing letter is fits
 
 pub letter_received : (letter : Letter) (next : List ℕ) (lines : List (List ℕ)) (s : SiloValue) → IsTold s.node.settings.hashing letter → length (letter_line letter) ≤ longest_line

@@ -107,7 +107,7 @@ module _ (hashing : Hashing) (head : Head) (read : Result Head ℕ) (reads : rea
   reply_again number (reply.Retry why) is is_reply = retry_again number why is is_reply
 
   -- what is the letter's sender's, of its version or its grain's hash is left out, and put back
-  pub body_again : (body : Body) → IsToldBody IsNumber hashing head.from head.version body → form_of hashing (kind_of body) read (body_words body) ≡ Ok (letter_of head body)
+  pub body_again : (body : Body) → IsToldBody IsNumber IsRange hashing head.from head.version body → form_of hashing (kind_of body) read (body_words body) ≡ Ok (letter_of head body)
   body_again (Request_letter request) is =
       act_again request.number request.act is.number is.act
       ∙ (λ i. Ok (letter_of head (Request_letter (record { sender = sym is.sender i; version = sym is.version i; number = request.number; hash = sym is.hash i; act = request.act }))))
@@ -140,7 +140,7 @@ pub record Gave (hashing : Hashing) (read : Result Head ℕ) (kind : LetterKind)
   pub head_is : read ≡ Ok (head_in letter)
   pub kind_is : kind ≡ kind_of letter.body
   pub words_are : words ≡ body_words letter.body
-  pub body : IsToldBody IsNumber hashing letter.from letter.version letter.body
+  pub body : IsToldBody IsNumber IsRange hashing letter.from letter.version letter.body
 
 moved : (hashing : Hashing) (read : Result Head ℕ) (head : Head) (named : LetterKind) (words says : List (List ℕ)) (made letter : Letter)
     → read ≡ Ok head → words ≡ says → made ≡ letter → Gave hashing (Ok head) named says made → Gave hashing read named words letter
@@ -148,7 +148,7 @@ moved hashing read head named words says made letter reads writes makes gave = r
   head_is = reads ∙ gave.head_is ∙ ap (λ (l : Letter). Ok (head_in l)) makes;
   kind_is = gave.kind_is ∙ ap (λ (l : Letter). kind_of l.body) makes;
   words_are = writes ∙ gave.words_are ∙ ap (λ (l : Letter). body_words l.body) makes;
-  body = subst (λ (l : Letter). IsToldBody IsNumber hashing l.from l.version l.body) makes gave.body;
+  body = subst (λ (l : Letter). IsToldBody IsNumber IsRange hashing l.from l.version l.body) makes gave.body;
 }
 
 module _ (hashing : Hashing) (read : Result Head ℕ) (letter : Letter) where
@@ -317,7 +317,7 @@ module _ (hashing : Hashing) (read : Result Head ℕ) (letter : Letter) where
       first true is given = retry_of number reason words (with_number why.View words) (numbered why.View (codes "601") reason (λ n is. (refl, is)) (same (codes "601") is) words) given
       first false is given = second (bytes_eq reason (codes "602")) refl given
 
-  as_told : (head : Head) (letter : Letter) → head_in letter ≡ head → IsToldBody IsNumber hashing letter.from letter.version letter.body
+  as_told : (head : Head) (letter : Letter) → head_in letter ≡ head → IsToldBody IsNumber IsRange hashing letter.from letter.version letter.body
       → Gave hashing (Ok head) (kind_of letter.body) (body_words letter.body) letter
   as_told head letter is body = record { head_is = ap Ok (sym is); kind_is = refl; words_are = refl; body = body }
 

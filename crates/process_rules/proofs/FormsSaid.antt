@@ -5,7 +5,7 @@ use Rattle.silo_address.specs.Grain.{Grain, IsGrain, grain_text}
 use Rattle.silo_address.specs.declared.ActivationId.{ActivationId}
 use Rattle.silo_address.specs.declared.Entry.{Entry}
 use Rattle.silo_address.specs.ActivationText.{activation_text}
-use Rattle.ring_range.specs.Range.{Range, IsRange}
+use Rattle.ring_range.specs.Range.{Range}
 use Rattle.ring_range.specs.Text.{range_text}
 use Rattle.hash_ring.specs.declared.hashing.Hashing.{Hashing}
 use Rattle.directory_rules.specs.declared.act.Act.{Act}
@@ -20,13 +20,10 @@ use Rattle.process_rules.specs.LetterText.{entry_words, entries_words, act_words
 use Rattle.process_rules.specs.LetterReading.{activation_word, range_word, digest_word, entry_of_words, entries_in, Head, letter_of, request_of, a_number_and_an_entry, a_number, retry_for, a_retry, page_for, a_range, report_for, reply_of, form_of}
 use Rattle.process_rules.specs.Told.{IsEntry, IsAct, IsWhy, IsReply, IsToldBody}
 use Rattle.process_rules.proofs.Chains.{IsSaid, is_said, one_said, two_said, three_said, four_said, six_said}
-use Rattle.process_rules.proofs.WordsAgain.{grain_again, range_again, digest_again, pairs_again}
+use Rattle.process_rules.proofs.WordsAgain.{grain_again, digest_again, pairs_again}
 use Rattle.process_rules.proofs.Numbers.{number_said}
-use Rattle.process_rules.proofs.WordsSaid.{activation_said, entry_said, entries_said}
+use Rattle.process_rules.proofs.WordsSaid.{activation_said, range_said, entry_said, entries_said}
 use Rattle.process_rules.proofs.FormsAgain.{first_register, next_register, find_made, reply_made, retry_made, ask_made, page_made, range_made, report_made, offer_made}
-
-range_said : (range : Range) → IsRange range → IsSaid (range_word (range_text range)) range
-range_said range is = is_said (range_word (range_text range)) range (range_again range is)
 
 grain_said : (grain : Grain) → IsGrain grain → IsSaid (grain_word (grain_text grain)) grain
 grain_said grain is = is_said (grain_word (grain_text grain)) grain (grain_again grain is)
@@ -43,8 +40,8 @@ module _ (Fits : ℕ → Type 0) (hashing : Hashing) (head : Head) (read : Resul
   number_form_said : (reply : Reply) (number : ℕ) → IsSaid (a_number reply read (decimal number ∷ [])) (reply_made reply head number)
   number_form_said reply number = two_said (reply_made reply) read (number_word (decimal number)) head number reads (number_said number)
 
-  range_form_said : (of : Range → Body) (range : Range) → IsRange range → IsSaid (a_range of read (range_text range ∷ [])) (letter_of head (of range))
-  range_form_said of range is = two_said (range_made of) read (range_word (range_text range)) head range reads (range_said range is)
+  range_form_said : (of : Range → Body) (range : Range) → IsSaid (a_range of read (range_text range ∷ [])) (letter_of head (of range))
+  range_form_said of range = two_said (range_made of) read (range_word (range_text range)) head range reads (range_said range)
 
   act_said : (number : ℕ) (act : Act) → IsAct Fits act → IsSaid (form_of hashing (act_kind act) read (decimal number ∷ act_words act)) (request_of hashing head number act)
   act_said number (act.Register entry None) is =
@@ -77,32 +74,32 @@ module _ (Fits : ℕ → Type 0) (hashing : Hashing) (head : Head) (read : Resul
   reply_said number reply.Nothing is = number_form_said reply.Nothing number
   reply_said number (reply.Retry why) is = retry_said number why
 
-  pub body_said : (body : Body) → IsToldBody Fits hashing head.from head.version body → IsSaid (form_of hashing (kind_of body) read (body_words body)) (letter_of head body)
-  body_said (Request_letter request) is =
+  pub body_said : (Lies : Range → Type 0) (body : Body) → IsToldBody Fits Lies hashing head.from head.version body → IsSaid (form_of hashing (kind_of body) read (body_words body)) (letter_of head body)
+  body_said Lies (Request_letter request) is =
       same_letter (form_of hashing (act_kind request.act) read (decimal request.number ∷ act_words request.act)) (request_of hashing head request.number request.act) (letter_of head (Request_letter request))
       (λ i. letter_of head (Request_letter (record { sender = sym is.sender i; version = sym is.version i; number = request.number; hash = sym is.hash i; act = request.act })))
       (act_said request.number request.act is.act)
-  body_said (Reply_letter number reply) is = reply_said number reply is.1
-  body_said (Ask_letter range page) is = three_said ask_made read (range_word (range_text range)) (number_word (decimal page)) head range page reads (range_said range is.0) (number_said page)
-  body_said (Page_letter page) is =
+  body_said Lies (Reply_letter number reply) is = reply_said number reply is.1
+  body_said Lies (Ask_letter range page) is = three_said ask_made read (range_word (range_text range)) (number_word (decimal page)) head range page reads (range_said range) (number_said page)
+  body_said Lies (Page_letter page) is =
       subst (λ (b : Bool). IsSaid (page_for b read (range_text page.range) (decimal page.page) (decimal page.pages) (encode_lower page.digest) (entries_words page.entries)) (letter_of head (Page_letter page)))
       (sym (pairs_again page.entries))
       (same_letter _ (page_made head page.range page.page page.pages page.digest page.entries) (letter_of head (Page_letter page))
       (λ i. letter_of head (Page_letter (record { version = sym is.version i; range = page.range; page = page.page; pages = page.pages; digest = page.digest; entries = page.entries })))
       (six_said page_made read (range_word (range_text page.range)) (number_word (decimal page.page)) (number_word (decimal page.pages)) (digest_word (encode_lower page.digest))
       (entries_in (entries_words page.entries)) head page.range page.page page.pages page.digest page.entries
-      reads (range_said page.range is.range) (number_said page.page) (number_said page.pages)
+      reads (range_said page.range) (number_said page.page) (number_said page.pages)
       (is_said (digest_word (encode_lower page.digest)) page.digest (digest_again page.digest is.digest)) (entries_said Fits page.entries is.entries)))
-  body_said (Missing_letter range) is = range_form_said Missing_letter range is
-  body_said (Done_letter range) is = range_form_said Done_letter range is
-  body_said (Query_letter range) is = range_form_said Query_letter range is
-  body_said (Report_letter report) is =
+  body_said Lies (Missing_letter range) is = range_form_said Missing_letter range
+  body_said Lies (Done_letter range) is = range_form_said Done_letter range
+  body_said Lies (Query_letter range) is = range_form_said Query_letter range
+  body_said Lies (Report_letter report) is =
       subst (λ (b : Bool). IsSaid (report_for b read (range_text report.range) (entries_words report.entries)) (letter_of head (Report_letter report)))
       (sym (pairs_again report.entries))
       (same_letter _ (report_made head report.range report.entries) (letter_of head (Report_letter report))
       (λ i. letter_of head (Report_letter (record { version = sym is.version i; range = report.range; silo = sym is.silo i; entries = report.entries })))
       (three_said report_made read (range_word (range_text report.range)) (entries_in (entries_words report.entries)) head report.range report.entries
-      reads (range_said report.range is.range) (entries_said Fits report.entries is.entries)))
-  body_said (Behind_letter range) is = range_form_said Behind_letter range is
-  body_said (Ahead_letter range) is = range_form_said Ahead_letter range is
-  body_said (Offer_letter entry) is = two_said offer_made read (entry_of_words (grain_text entry.grain) (activation_text entry.activation)) head entry reads (entry_said Fits entry is)
+      reads (range_said report.range) (entries_said Fits report.entries is.entries)))
+  body_said Lies (Behind_letter range) is = range_form_said Behind_letter range
+  body_said Lies (Ahead_letter range) is = range_form_said Ahead_letter range
+  body_said Lies (Offer_letter entry) is = two_said offer_made read (entry_of_words (grain_text entry.grain) (activation_text entry.activation)) head entry reads (entry_said Fits entry is)

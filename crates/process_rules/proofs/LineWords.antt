@@ -20,7 +20,7 @@ use Rattle.silo_address.specs.Grain.{Grain, IsGrain, IsVisible, grain_text}
 use Rattle.silo_address.specs.declared.ActivationId.{ActivationId}
 use Rattle.silo_address.specs.declared.Entry.{Entry}
 use Rattle.silo_address.specs.ActivationText.{activation_text}
-use Rattle.ring_range.specs.Range.{Range, IsRange}
+use Rattle.ring_range.specs.Range.{Range}
 use Rattle.ring_range.specs.Text.{plus_sign, range_text}
 use Rattle.hash_ring.specs.declared.hashing.Hashing.{Hashing}
 use Rattle.directory_rules.specs.declared.act.Act.{Act}
@@ -238,41 +238,42 @@ module _ (Fits : ℕ → Type 0) where
   range_alone : (range : Range) → AreWhole (range_text range ∷ [])
   range_alone range = cons (range_text range) [] (range_whole range) none
 
-  body_whole : (hashing : Hashing) (from : Silo) (version : ℕ) (body : Body) → IsToldBody Fits hashing from version body → AreWhole (body_words body)
-  body_whole hashing from version (Request_letter request) is = cons (decimal request.number) (act_words request.act) (number_whole request.number) (act_whole request.act is.act)
-  body_whole hashing from version (Reply_letter number reply) is = cons (decimal number) (reply_words reply) (number_whole number) (reply_whole reply is.1)
-  body_whole hashing from version (Ask_letter range page) is = cons (range_text range) (decimal page ∷ []) (range_whole range) (cons (decimal page) [] (number_whole page) none)
-  body_whole hashing from version (Page_letter page) is =
-      let entries : List (List ℕ) = entries_words page.entries in
-      let behind : List (List ℕ) = encode_lower page.digest ∷ entries in
-      let counted : List (List ℕ) = decimal page.pages ∷ behind in
-      cons (range_text page.range) (decimal page.page ∷ counted) (range_whole page.range)
-      (cons (decimal page.page) counted (number_whole page.page)
-      (cons (decimal page.pages) behind (number_whole page.pages)
-      (cons (encode_lower page.digest) entries (digest_whole page.digest is.digest) (entries_whole page.entries is.entries))))
-  body_whole hashing from version (Missing_letter range) is = range_alone range
-  body_whole hashing from version (Done_letter range) is = range_alone range
-  body_whole hashing from version (Query_letter range) is = range_alone range
-  body_whole hashing from version (Report_letter report) is = cons (range_text report.range) (entries_words report.entries) (range_whole report.range) (entries_whole report.entries is.entries)
-  body_whole hashing from version (Behind_letter range) is = range_alone range
-  body_whole hashing from version (Ahead_letter range) is = range_alone range
-  body_whole hashing from version (Offer_letter entry) is = entry_whole entry is
+  module _ (Lies : Range → Type 0) where
+    body_whole : (hashing : Hashing) (from : Silo) (version : ℕ) (body : Body) → IsToldBody Fits Lies hashing from version body → AreWhole (body_words body)
+    body_whole hashing from version (Request_letter request) is = cons (decimal request.number) (act_words request.act) (number_whole request.number) (act_whole request.act is.act)
+    body_whole hashing from version (Reply_letter number reply) is = cons (decimal number) (reply_words reply) (number_whole number) (reply_whole reply is.1)
+    body_whole hashing from version (Ask_letter range page) is = cons (range_text range) (decimal page ∷ []) (range_whole range) (cons (decimal page) [] (number_whole page) none)
+    body_whole hashing from version (Page_letter page) is =
+        let entries : List (List ℕ) = entries_words page.entries in
+        let behind : List (List ℕ) = encode_lower page.digest ∷ entries in
+        let counted : List (List ℕ) = decimal page.pages ∷ behind in
+        cons (range_text page.range) (decimal page.page ∷ counted) (range_whole page.range)
+        (cons (decimal page.page) counted (number_whole page.page)
+        (cons (decimal page.pages) behind (number_whole page.pages)
+        (cons (encode_lower page.digest) entries (digest_whole page.digest is.digest) (entries_whole page.entries is.entries))))
+    body_whole hashing from version (Missing_letter range) is = range_alone range
+    body_whole hashing from version (Done_letter range) is = range_alone range
+    body_whole hashing from version (Query_letter range) is = range_alone range
+    body_whole hashing from version (Report_letter report) is = cons (range_text report.range) (entries_words report.entries) (range_whole report.range) (entries_whole report.entries is.entries)
+    body_whole hashing from version (Behind_letter range) is = range_alone range
+    body_whole hashing from version (Ahead_letter range) is = range_alone range
+    body_whole hashing from version (Offer_letter entry) is = entry_whole entry is
 
-  letter_whole : (hashing : Hashing) (letter : Letter) → IsLetterWith Fits hashing letter → AreWhole (codes "letter" ∷ letter_words letter)
-  letter_whole hashing letter is =
-      let kind : List ℕ = kind_word (kind_of letter.body) in
-      let says : List (List ℕ) = body_words letter.body in
-      let version : List ℕ = decimal letter.version in
-      cons (codes "letter") (letter_words letter) (whole_by (codes "letter") refl)
-      (cons (silo_text letter.from) (silo_text letter.to ∷ version ∷ kind ∷ says) (silo_whole letter.from is.from)
-      (cons (silo_text letter.to) (version ∷ kind ∷ says) (silo_whole letter.to is.to)
-      (cons version (kind ∷ says) (number_whole letter.version)
-      (cons kind says (whole_by kind (kind_whole (kind_of letter.body))) (body_whole hashing letter.from letter.version letter.body is.body)))))
+    letter_whole : (hashing : Hashing) (letter : Letter) → IsLetterWith Fits Lies hashing letter → AreWhole (codes "letter" ∷ letter_words letter)
+    letter_whole hashing letter is =
+        let kind : List ℕ = kind_word (kind_of letter.body) in
+        let says : List (List ℕ) = body_words letter.body in
+        let version : List ℕ = decimal letter.version in
+        cons (codes "letter") (letter_words letter) (whole_by (codes "letter") refl)
+        (cons (silo_text letter.from) (silo_text letter.to ∷ version ∷ kind ∷ says) (silo_whole letter.from is.from)
+        (cons (silo_text letter.to) (version ∷ kind ∷ says) (silo_whole letter.to is.to)
+        (cons version (kind ∷ says) (number_whole letter.version)
+        (cons kind says (whole_by kind (kind_whole (kind_of letter.body))) (body_whole hashing letter.from letter.version letter.body is.body)))))
 
-  pub line_is_text : (hashing : Hashing) (letter : Letter) → IsLetterWith Fits hashing letter → list_all is_text (letter_line letter) ≡ true
-  unfolding letter_line
-  line_is_text hashing letter is = text_sentence (codes "letter" ∷ letter_words letter) (letter_whole hashing letter is)
+    pub line_is_text : (hashing : Hashing) (letter : Letter) → IsLetterWith Fits Lies hashing letter → list_all is_text (letter_line letter) ≡ true
+    unfolding letter_line
+    line_is_text hashing letter is = text_sentence (codes "letter" ∷ letter_words letter) (letter_whole hashing letter is)
 
-  pub line_words : (hashing : Hashing) (letter : Letter) → IsLetterWith Fits hashing letter → words_in (letter_line letter) ≡ codes "letter" ∷ letter_words letter
-  unfolding letter_line
-  line_words hashing letter is = words_again (codes "letter" ∷ letter_words letter) (letter_whole hashing letter is)
+    pub line_words : (hashing : Hashing) (letter : Letter) → IsLetterWith Fits Lies hashing letter → words_in (letter_line letter) ≡ codes "letter" ∷ letter_words letter
+    unfolding letter_line
+    line_words hashing letter is = words_again (codes "letter" ∷ letter_words letter) (letter_whole hashing letter is)

@@ -3,6 +3,7 @@ use Rattle.std.proofs.Common.{◌≡◌, ℕ, ◌≤◌, false, Some, Result, Ok
 use Rattle.std.specs.Prelude.{nat_lt}
 use Rattle.std.proofs.Common.{arith}
 use Rattle.std.proofs.lemmas.Bool.Decides.{nat_tests}
+use Rattle.ring_range.specs.Range.{IsRange}
 use Rattle.hash_ring.specs.declared.hashing.Hashing.{Hashing}
 use Rattle.directory_rules.specs.Letter.{Letter}
 use Rattle.script_rules.specs.Script.{◌>>=◌}
@@ -16,6 +17,6 @@ pub line_again : (hashing : Hashing) (letter : Letter) → IsTold hashing letter
 unfolding read_silo_line
 line_again hashing letter is fits =
     let short : nat_lt longest_line (length (letter_line letter)) ≡ false = grind (arith, nat_tests) in
-    rw (short, line_is_text IsNumber hashing letter is)
-    (ap (asked_of_words hashing) (line_words IsNumber hashing letter is)
+    rw (short, line_is_text IsNumber IsRange hashing letter is)
+    (ap (asked_of_words hashing) (line_words IsNumber IsRange hashing letter is)
     ∙ ap (λ (read : Result Letter ℕ). read >>= (λ letter. Ok (Receive letter)) >>= (λ asked. Ok (Some asked))) (again hashing letter is))

@@ -5,6 +5,7 @@ use Rattle.std.specs.List.{list_all}
 use Rattle.texts.specs.Words.{words_in}
 use Rattle.silo_address.specs.Silo.{Silo}
 use Rattle.silo_address.specs.SiloText.{silo_text}
+use Rattle.ring_range.specs.Range.{Range}
 use Rattle.hash_ring.specs.declared.hashing.Hashing.{Hashing}
 use Rattle.directory_rules.specs.declared.letter_kind.LetterKind.{LetterKind}
 use Rattle.directory_rules.specs.Letter.{Letter, kind_of}
@@ -21,7 +22,7 @@ use Rattle.process_rules.proofs.FormsSaid.{body_said}
 use Rattle.process_rules.proofs.LettersAgain.{head_with, kind_again}
 use Rattle.process_rules.proofs.LineWords.{line_is_text, line_words}
 
-module _ (Fits : ℕ → Type 0) (hashing : Hashing) (letter : Letter) (is : IsLetterWith Fits hashing letter) where
+module _ (Fits : ℕ → Type 0) (Lies : Range → Type 0) (hashing : Hashing) (letter : Letter) (is : IsLetterWith Fits Lies hashing letter) where
   head_said : IsSaid (head_of_words (silo_text letter.from) (silo_text letter.to) (decimal letter.version)) (head_in letter)
   head_said =
       three_said head_with (silo_word (silo_text letter.from)) (silo_word (silo_text letter.to)) (number_word (decimal letter.version)) letter.from letter.to letter.version
@@ -33,7 +34,7 @@ module _ (Fits : ℕ → Type 0) (hashing : Hashing) (letter : Letter) (is : IsL
   letter_said =
       let read = head_of_words (silo_text letter.from) (silo_text letter.to) (decimal letter.version) in
       subst (λ (found : Option LetterKind). IsSaid (letter_by found hashing read (body_words letter.body)) letter) (sym (kind_again (kind_of letter.body)))
-      (body_said Fits hashing (head_in letter) read head_said letter.body is.body)
+      (body_said Fits hashing (head_in letter) read head_said Lies letter.body is.body)
 
   asked_said : (read : Result Letter ℕ) → IsSaid read letter → IsSaid (read >>= (λ letter. Ok (Receive letter)) >>= (λ asked. Ok (Some asked))) (Some (Receive letter))
   asked_said (Ok other) same = λ i. Some (Receive (same i))
@@ -44,9 +45,9 @@ module _ (Fits : ℕ → Type 0) (hashing : Hashing) (letter : Letter) (is : IsL
 
   by_length : (long text : Bool) → text ≡ true → IsSaid (cond long (Err 924) (cond text (asked_of_words hashing (words_in (letter_line letter))) (Err 925))) (Some (Receive letter))
   by_length true text is_so = tt
-  by_length false true is_so = words_said (words_in (letter_line letter)) (line_words Fits hashing letter is)
+  by_length false true is_so = words_said (words_in (letter_line letter)) (line_words Fits Lies hashing letter is)
   by_length false false is_so = tt
 
   pub line_said : IsSaid (read_silo_line hashing (letter_line letter)) (Some (Receive letter))
   unfolding read_silo_line
-  line_said = by_length (nat_lt longest_line (length (letter_line letter))) (list_all is_text (letter_line letter)) (line_is_text Fits hashing letter is)
+  line_said = by_length (nat_lt longest_line (length (letter_line letter))) (list_all is_text (letter_line letter)) (line_is_text Fits Lies hashing letter is)

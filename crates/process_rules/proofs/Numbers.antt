@@ -6,12 +6,11 @@ use Rattle.std.specs.Str.Parse.{digits_value}
 use Rattle.std.proofs.lemmas.Bool.{eqb-true, ltb-true, ltb-false}
 use Rattle.std.proofs.Math.Nat.{pow-suc, one-le-pow}
 use Rattle.std.proofs.lemmas.Fmt.{decimal_is_IsNumeral_wide, length-decimal-le_wide}
-use Rattle.std.proofs.lemmas.List.Elements.{All-nil, All-cons}
+use Rattle.std.proofs.lemmas.List.Elements.{All-nil, All-cons, All-weaker}
 use Rattle.silo_address.specs.Grain.{IsVisible}
 use Rattle.script_rules.specs.Script.{number_word}
-use Rattle.process_rules.specs.Told.{IsNumber}
-use Rattle.process_rules.proofs.Chains.{IsSaid, is_said}
-use Rattle.process_rules.proofs.WordsAgain.{number_again, number_gave}
+use Rattle.process_rules.proofs.Chains.{IsSaid}
+use Rattle.process_rules.proofs.WordsAgain.{number_gave}
 use Rattle.process_rules.proofs.WordsTold.{number_told}
 
 abbrev onto : ℕ → ℕ → List ℕ → List ℕ
@@ -24,23 +23,29 @@ either : (P : List ℕ → Type 0) (b : Bool) (xs ys : List ℕ) → P xs → P 
 either P true xs ys one other = one
 either P false xs ys one other = other
 
--- ---- by visible bytes, one at least
-glyph_visible : (n : ℕ) → IsVisible (glyph n)
-glyph_visible n = by (nat_lt (n % 10) 10)
+-- ---- by digits, one at least
+abbrev pub IsGlyph : ℕ → Type 0
+IsGlyph byte = (48 ≤ byte) × (byte ≤ 126)
+
+is_glyph : (n : ℕ) → IsGlyph (glyph n)
+is_glyph n = by (nat_lt (n % 10) 10)
   where
-    by : (b : Bool) → IsVisible (cond b (48 + n % 10) (87 + n % 10))
+    by : (b : Bool) → IsGlyph (cond b (48 + n % 10) (87 + n % 10))
     by true = (omega arith, omega arith)
     by false = (omega arith, omega arith)
 
-onto_visible : (k n : ℕ) (acc : List ℕ) → All IsVisible acc → All IsVisible (onto k n acc)
-onto_visible zero n acc seen = seen
-onto_visible (suc k) n acc seen =
-    let more = All-cons IsVisible (glyph n) acc (glyph_visible n) seen in
-    either (All IsVisible) (n / 10 == 0) (glyph n ∷ acc) (onto k (n / 10) (glyph n ∷ acc)) more (onto_visible k (n / 10) (glyph n ∷ acc) more)
+onto_glyphs : (k n : ℕ) (acc : List ℕ) → All IsGlyph acc → All IsGlyph (onto k n acc)
+onto_glyphs zero n acc are = are
+onto_glyphs (suc k) n acc are =
+    let more = All-cons IsGlyph (glyph n) acc (is_glyph n) are in
+    either (All IsGlyph) (n / 10 == 0) (glyph n ∷ acc) (onto k (n / 10) (glyph n ∷ acc)) more (onto_glyphs k (n / 10) (glyph n ∷ acc) more)
+
+pub decimal_glyphs : (n : ℕ) → All IsGlyph (decimal n)
+unfolding digits
+decimal_glyphs n = onto_glyphs 64 n [] (All-nil IsGlyph)
 
 pub decimal_visible : (n : ℕ) → All IsVisible (decimal n)
-unfolding digits
-decimal_visible n = onto_visible 64 n [] (All-nil IsVisible)
+decimal_visible n = All-weaker IsGlyph IsVisible (λ byte is. let least = is.0 in (omega (arith, least), is.1)) (decimal n) (decimal_glyphs n)
 
 abbrev IsSome : List ℕ → Type 0
 IsSome bytes = 0 < length bytes
@@ -72,28 +77,20 @@ unfolding digits
 decimal_long n large = onto_long 64 n [] large
 
 -- ---- so it is read as no other
-not_another : (n other : ℕ) → 2 ^ 64 ≤ n → other < 2 ^ 64 → decimal n ≡ decimal other → ⊥
-not_another n other large small same = by (nat_lt n (10 ^ 64)) refl
+pub same_number : (n other : ℕ) → other < 2 ^ 64 → decimal n ≡ decimal other → n ≡ other
+same_number n other small same = by (nat_lt n (10 ^ 64)) refl
   where
-    by : (b : Bool) → nat_lt n (10 ^ 64) ≡ b → ⊥
-    by true is =
-        let itself = (decimal_is_IsNumeral_wide n (ltb-true n (10 ^ 64) is)).1 in
-        let its = (decimal_is_IsNumeral_wide other (omega (arith, small))).1 in
-        let equal : n ≡ other = sym itself ∙ ap (digits_value 10) same ∙ its in
-        omega (arith, equal, large, small)
+    by : (b : Bool) → nat_lt n (10 ^ 64) ≡ b → n ≡ other
+    by true is = sym (decimal_is_IsNumeral_wide n (ltb-true n (10 ^ 64) is)).1 ∙ ap (digits_value 10) same ∙ (decimal_is_IsNumeral_wide other (omega (arith, small))).1
     by false is =
         let long = decimal_long n (ltb-false n (10 ^ 64) is) in
         let short = length-decimal-le_wide 20 other (omega arith) (omega (arith, small)) (omega (arith, small)) in
         let equal = ap length same in
-        omega (arith, long, short, equal)
+        absurd (omega (arith, long, short, equal))
 
 pub number_said : (number : ℕ) → IsSaid (number_word (decimal number)) number
-number_said number = by (nat_lt number (2 ^ 64)) refl
+number_said number = by (number_word (decimal number)) refl
   where
-    large : 2 ^ 64 ≤ number → (read : Result ℕ ℕ) → number_word (decimal number) ≡ read → IsSaid read number
-    large most (Ok other) reads = absurd (not_another number other most (number_told (decimal number) other reads) (number_gave (decimal number) other reads))
-    large most (Err fault) reads = tt
-
-    by : (b : Bool) → nat_lt number (2 ^ 64) ≡ b → IsSaid (number_word (decimal number)) number
-    by true is = is_said (number_word (decimal number)) number (number_again number (ltb-true number (2 ^ 64) is))
-    by false is = large (ltb-false number (2 ^ 64) is) (number_word (decimal number)) refl
+    by : (read : Result ℕ ℕ) → number_word (decimal number) ≡ read → IsSaid read number
+    by (Ok other) reads = sym (same_number number other (number_told (decimal number) other reads) (number_gave (decimal number) other reads))
+    by (Err fault) reads = tt

@@ -18,13 +18,17 @@ use Rattle.silo_address.specs.ActivationText.{activation_text, is_exclamation_ma
 use Rattle.silo_address.proofs.SiloCases.{silo_only}
 use Rattle.silo_address.proofs.SiloLaws.{words_are_numerals}
 use Rattle.silo_address.proofs.ActivationLaws.{read_activation-cut}
+use Rattle.ring_range.specs.Range.{Range}
+use Rattle.ring_range.specs.Text.{range_text, start_word, size_word, HasWords}
+use Rattle.ring_range.proofs.Reading.{start_word_is, size_word_is}
 use Rattle.script_rules.specs.Script.{grain_word, number_or_fault}
 use Rattle.process_rules.specs.LetterText.{entries_words}
-use Rattle.process_rules.specs.LetterReading.{activation_word, activation_or_fault, entry_of_words, entries_in}
+use Rattle.process_rules.specs.LetterReading.{activation_word, activation_or_fault, range_word, entry_of_words, entries_in}
 use Rattle.process_rules.specs.Told.{IsActivation, IsEntry}
 use Rattle.process_rules.proofs.Chains.{IsSaid, is_said, two_said}
-use Rattle.process_rules.proofs.WordsAgain.{grain_again}
-use Rattle.process_rules.proofs.Numbers.{number_said}
+use Rattle.process_rules.proofs.WordsAgain.{grain_again, range_gave}
+use Rattle.process_rules.proofs.WordsTold.{range_told}
+use Rattle.process_rules.proofs.Numbers.{decimal_glyphs, decimal_some, same_number, number_said}
 
 -- ---- no silo's text has an exclamation mark in it
 abbrev IsFree : List ℕ → Type 0
@@ -67,6 +71,39 @@ pub activation_said : (activation : ActivationId) → IsSilo activation.silo →
 activation_said activation is =
     subst (λ read. IsSaid (activation_or_fault read) activation) (sym (activation_reads activation is))
     (counted_said activation.silo activation.count (read_number 18446744073709551615 (decimal activation.count)) (number_said activation.count))
+
+-- ---- ranges
+range_words : (range : Range) → HasWords (range_text range) (decimal range.start) (decimal range.size)
+range_words range = record {
+  joined = refl;
+  first_plus = λ k d below same. let least = (decimal_glyphs range.start k d below).0 in absurd (omega (arith, least, same));
+  some_start = decimal_some range.start;
+  some_size = decimal_some range.size;
+}
+
+pub range_said : (range : Range) → IsSaid (range_word (range_text range)) range
+range_said range = by (range_word (range_text range)) refl
+  where
+    same_start : (other : Range) → range_text range ≡ range_text other → decimal range.start ≡ decimal other.start
+    same_start other texts =
+        sym (start_word_is (range_text range) (decimal range.start) (decimal range.size) (range_words range)) ∙ ap start_word texts
+        ∙ start_word_is (range_text other) (decimal other.start) (decimal other.size) (range_words other)
+
+    same_size : (other : Range) → range_text range ≡ range_text other → decimal range.size ≡ decimal other.size
+    same_size other texts =
+        sym (size_word_is (range_text range) (decimal range.start) (decimal range.size) (range_words range)) ∙ ap size_word texts
+        ∙ size_word_is (range_text other) (decimal other.start) (decimal other.size) (range_words other)
+
+    by : (read : Result Range ℕ) → range_word (range_text range) ≡ read → IsSaid read range
+    by (Ok other) reads =
+        let texts = range_gave (range_text range) other reads in
+        let is = range_told (range_text range) other reads in
+        let below = is.start_below in
+        let within = is.size_within in
+        let start = same_number range.start other.start (omega (arith, below)) (same_start other texts) in
+        let size = same_number range.size other.size (omega (arith, within)) (same_size other texts) in
+        (λ i. record { start = sym start i; size = sym size i })
+    by (Err fault) reads = tt
 
 -- ---- entries
 abbrev entry_with : Grain → ActivationId → Entry

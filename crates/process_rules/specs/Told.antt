@@ -1,12 +1,12 @@
 -- Letters that a line can tell: everything in them is in its range, and what a line says once, or leaves out, is so throughout. Letters
--- that silos send are like that, but for how large a version may be, the count of an activation, and the number of a request or a page.
+-- that silos send are like that, but for how large their numbers are, and where their ranges lie.
 use Rattle.std.specs.Prelude.{◌≡◌, ℕ, ◌<◌, ◌^◌, ⊤, List, All, length, IfSome}
 use Rattle.hex.specs.Hex.{IsBytes}
 use Rattle.silo_address.specs.Silo.{Silo, IsSilo}
 use Rattle.silo_address.specs.Grain.{IsGrain}
 use Rattle.silo_address.specs.declared.ActivationId.{ActivationId}
 use Rattle.silo_address.specs.declared.Entry.{Entry}
-use Rattle.ring_range.specs.Range.{IsRange}
+use Rattle.ring_range.specs.Range.{Range, IsRange}
 use Rattle.hash_ring.specs.declared.hashing.Hashing.{Hashing}
 use Rattle.hash_ring.specs.Hash.{hash_grain}
 use Rattle.directory_rules.specs.declared.act.Act.{Act}
@@ -68,47 +68,49 @@ module _ (Fits : ℕ → Type 0) where
     pub hash : request.hash ≡ hash_grain hashing (grain_of request.act)
     pub act : IsAct request.act
 
-  -- a page is of its letter's version
-  pub record IsToldPage (stated : ℕ) (told : Page) : Type 0 where
-    pub version : told.version ≡ stated
-    pub range : IsRange told.range
-    pub page : Fits told.page
-    pub pages : Fits told.pages
-    pub digest : IsDigest told.digest
-    pub entries : All IsEntry told.entries
+  -- and `Lies` which ranges
+  module _ (Lies : Range → Type 0) where
+    -- a page is of its letter's version
+    pub record IsToldPage (stated : ℕ) (told : Page) : Type 0 where
+      pub version : told.version ≡ stated
+      pub range : Lies told.range
+      pub page : Fits told.page
+      pub pages : Fits told.pages
+      pub digest : IsDigest told.digest
+      pub entries : All IsEntry told.entries
 
-  -- a report is its letter's sender's, of its letter's version
-  pub record IsToldReport (from : Silo) (stated : ℕ) (report : Report) : Type 0 where
-    pub version : report.version ≡ stated
-    pub range : IsRange report.range
-    pub silo : report.silo ≡ from
-    pub entries : All IsEntry report.entries
+    -- a report is its letter's sender's, of its letter's version
+    pub record IsToldReport (from : Silo) (stated : ℕ) (report : Report) : Type 0 where
+      pub version : report.version ≡ stated
+      pub range : Lies report.range
+      pub silo : report.silo ≡ from
+      pub entries : All IsEntry report.entries
 
-  -- what a letter from that silo and of that version says
-  abbrev pub IsToldBody : Hashing → (from : Silo) → (version : ℕ) → Body → Type 0
-  IsToldBody hashing from version (Request_letter request) = IsToldRequest hashing from version request
-  IsToldBody hashing from version (Reply_letter number reply) = Fits number × IsReply reply
-  IsToldBody hashing from version (Ask_letter range page) = IsRange range × Fits page
-  IsToldBody hashing from version (Page_letter page) = IsToldPage version page
-  IsToldBody hashing from version (Missing_letter range) = IsRange range
-  IsToldBody hashing from version (Done_letter range) = IsRange range
-  IsToldBody hashing from version (Query_letter range) = IsRange range
-  IsToldBody hashing from version (Report_letter report) = IsToldReport from version report
-  IsToldBody hashing from version (Behind_letter range) = IsRange range
-  IsToldBody hashing from version (Ahead_letter range) = IsRange range
-  IsToldBody hashing from version (Offer_letter entry) = IsEntry entry
+    -- what a letter from that silo and of that version says
+    abbrev pub IsToldBody : Hashing → (from : Silo) → (version : ℕ) → Body → Type 0
+    IsToldBody hashing from version (Request_letter request) = IsToldRequest hashing from version request
+    IsToldBody hashing from version (Reply_letter number reply) = Fits number × IsReply reply
+    IsToldBody hashing from version (Ask_letter range page) = Lies range × Fits page
+    IsToldBody hashing from version (Page_letter page) = IsToldPage version page
+    IsToldBody hashing from version (Missing_letter range) = Lies range
+    IsToldBody hashing from version (Done_letter range) = Lies range
+    IsToldBody hashing from version (Query_letter range) = Lies range
+    IsToldBody hashing from version (Report_letter report) = IsToldReport from version report
+    IsToldBody hashing from version (Behind_letter range) = Lies range
+    IsToldBody hashing from version (Ahead_letter range) = Lies range
+    IsToldBody hashing from version (Offer_letter entry) = IsEntry entry
 
-  -- the letter is so, whoever it is from and whatever it says
-  pub record IsLetterWith (hashing : Hashing) (letter : Letter) : Type 0 where
-    pub from : IsSilo letter.from
-    pub to : IsSilo letter.to
-    pub version : Fits letter.version
-    pub body : IsToldBody hashing letter.from letter.version letter.body
+    -- the letter is so, whoever it is from and whatever it says
+    pub record IsLetterWith (hashing : Hashing) (letter : Letter) : Type 0 where
+      pub from : IsSilo letter.from
+      pub to : IsSilo letter.to
+      pub version : Fits letter.version
+      pub body : IsToldBody hashing letter.from letter.version letter.body
 
 -- a letter that a line can tell
 abbrev pub IsTold : Hashing → Letter → Type 0
-IsTold hashing letter = IsLetterWith IsNumber hashing letter
+IsTold hashing letter = IsLetterWith IsNumber IsRange hashing letter
 
 -- a letter that a silo may send: its line is read as that letter, or not at all
 abbrev pub IsSayable : Hashing → Letter → Type 0
-IsSayable hashing letter = IsLetterWith (λ number. ⊤) hashing letter
+IsSayable hashing letter = IsLetterWith (λ number. ⊤) (λ range. ⊤) hashing letter

@@ -1,0 +1,2 @@
+pub mod SayableLetters
+pub mod SayableWritten

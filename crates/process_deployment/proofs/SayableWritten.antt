@@ -1,0 +1,1 @@
+-- What a deployment's processes wrote may be said by lines.
