@@ -4,7 +4,7 @@ use Rattle.std.specs.Prelude.{All, IfOk, bytes_eq, cond, nat_le, nat_lt}
 use Rattle.std.specs.List.{list_all}
 use Rattle.std.specs.Map.{lookup}
 use Rattle.std.proofs.lemmas.Bool.{leb-true}
-use Rattle.std.proofs.lemmas.List.Elements.{All-nil, All-cons, All-head, All-tail}
+use Rattle.std.proofs.lemmas.List.Elements.{All-from_recursion, All-nil, All-cons, All-head, All-tail}
 use Rattle.texts.specs.declared.NumberError.{NumberError}
 use Rattle.texts.specs.declared.NumberError.TheVariants as number_fault
 use Rattle.texts.specs.Numeral.{is_numeral, numeral_value, read_number}
@@ -122,26 +122,36 @@ module _ (hashing : Hashing) where
   abbrev AskAll : List (List ℕ × Grammar) → Type 0
   AskAll named = All (λ e. Asks e.1) named
 
-  also : (name : List ℕ) (grammar : Grammar) (named : List (List ℕ × Grammar)) → Asks grammar → AskAll named → AskAll ((name, grammar) ∷ named)
-  also name grammar named asks all = All-cons (λ (e : List ℕ × Grammar). Asks e.1) (name, grammar) named asks all
-
   commands_ask : AskAll (commands hashing)
   commands_ask =
-      also (codes "joined") a_join _ join_asks
-      (also (codes "leaving") (a_version_and_a_silo Leaving) _ (change_asks Leaving (λ v s first second. (first, second)))
-      (also (codes "dead") (a_version_and_a_silo Dead) _ (change_asks Dead (λ v s first second. (first, second)))
-      (also (codes "see") a_version _ version_asks
-      (also (codes "wake") (a_grain Wake) _ (grain_asks Wake (λ g is. is))
-      (also (codes "close") (a_grain Close) _ (grain_asks Close (λ g is. is))
-      (also (codes "offer") a_grain_and_a_silo _ offer_asks
-      (also (codes "find") (a_grain Find) _ (grain_asks Find (λ g is. is))
-      (also (codes "forget") (a_grain Forget) _ (grain_asks Forget (λ g is. is))
-      (also (codes "nudge") (no_word Nudge) _ (none_asks Nudge tt)
-      (also (codes "letter") (a_letter hashing) _ letter_asks
-      (also (codes "ping") a_word _ word_asks
-      (also (codes "show") (no_word Show) _ (none_asks Show tt)
-      (also (codes "dump") (no_word Dump) _ (none_asks Dump tt)
-      (All-nil (λ (e : List ℕ × Grammar). Asks e.1)))))))))))))))
+      All-from_recursion (λ (e : List ℕ × Grammar). Asks e.1) (commands hashing) (
+        join_asks,
+        (
+          change_asks Leaving (λ v s first second. (first, second)),
+          (
+            change_asks Dead (λ v s first second. (first, second)),
+            (
+              version_asks,
+              (
+                grain_asks Wake (λ g is. is),
+                (
+                  grain_asks Close (λ g is. is),
+                  (
+                    offer_asks,
+                    (
+                      grain_asks Find (λ g is. is),
+                      (
+                        grain_asks Forget (λ g is. is),
+                        (none_asks Nudge tt, (letter_asks, (word_asks, (none_asks Show tt, (none_asks Dump tt, tt))))),
+                      ),
+                    ),
+                  ),
+                ),
+              ),
+            ),
+          ),
+        ),
+      )
 
   -- ---- lines
   abbrev Says : Result (Option Asked) ℕ → Type 0
@@ -156,8 +166,8 @@ module _ (hashing : Hashing) where
 
   known_says : (test : List ℕ → Bool) (named : List (List ℕ × Grammar)) → AskAll named → (words : List (List ℕ)) → Says (asked_if_known (lookup test named) words)
   known_says test [] all words asked given = cc given
-  known_says test (e ∷ named) all words =
-      by (test e.0) (known_says test named (All-tail (λ (x : List ℕ × Grammar). Asks x.1) e named all) words)
+  known_says test (e ∷ named) all words asked given =
+      by (test e.0) (known_says test named (All-tail (λ (x : List ℕ × Grammar). Asks x.1) e named all) words) asked given
     where
       by : (b : Bool) → Says (asked_if_known (lookup test named) words) → Says (asked_if_known (cond b (Some e.1) (lookup test named)) words)
       by true later = given_says (e.1 words) (All-head (λ (x : List ℕ × Grammar). Asks x.1) e named all words)
@@ -165,11 +175,11 @@ module _ (hashing : Hashing) where
 
   words_say : (words : List (List ℕ)) → Says (asked_of_words hashing words)
   words_say [] asked given = cc given
-  words_say (name ∷ words) = by (is_remark name)
+  words_say (name ∷ words) asked given = by (is_remark name) asked given
     where
       by : (b : Bool) → Says (cond b (Ok None) (asked_if_known (lookup (bytes_eq name) (commands hashing)) words))
       by true asked given = cc given
-      by false = known_says (bytes_eq name) (commands hashing) commands_ask words
+      by false asked given = known_says (bytes_eq name) (commands hashing) commands_ask words asked given
 
   pub line_in_range : (line : List ℕ) → Says (read_silo_line hashing line)
   unfolding read_silo_line
@@ -177,5 +187,5 @@ module _ (hashing : Hashing) where
     where
       by : (long text : Bool) → Says (cond long (Err 924) (cond text (asked_of_words hashing (words_in line)) (Err 925)))
       by true text asked given = cc given
-      by false true = words_say (words_in line)
+      by false true asked given = words_say (words_in line) asked given
       by false false asked given = cc given
