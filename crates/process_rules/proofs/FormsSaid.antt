@@ -1,8 +1,7 @@
 -- What stands behind a kind is read again, or not at all.
-use Rattle.std.proofs.Common.{◌≡◌, ℕ, Bool, List, [], ◌∷◌, Option, Some, None, Result, Ok, Err, refl, ap, sym, ◌∙◌, subst, decimal}
+use Rattle.std.proofs.Common.{◌≡◌, ℕ, Bool, [], ◌∷◌, Some, None, Result, Ok, refl, sym, subst, decimal}
 use Rattle.hex.specs.Hex.{encode_lower}
 use Rattle.silo_address.specs.Grain.{Grain, IsGrain, grain_text}
-use Rattle.silo_address.specs.declared.ActivationId.{ActivationId}
 use Rattle.silo_address.specs.declared.Entry.{Entry}
 use Rattle.silo_address.specs.ActivationText.{activation_text}
 use Rattle.ring_range.specs.Range.{Range}
@@ -18,7 +17,7 @@ use Rattle.directory_rules.specs.Letter.{Letter, Body, Request_letter, Reply_let
 use Rattle.script_rules.specs.Script.{grain_word, number_word, ◌>>=◌}
 use Rattle.process_rules.specs.LetterText.{entry_words, entries_words, act_words, why_words, reply_words, body_words}
 use Rattle.process_rules.specs.LetterReading.{activation_word, range_word, digest_word, entry_of_words, entries_in, Head, letter_of, request_of, a_number_and_an_entry, a_number, retry_for, a_retry, page_for, a_range, report_for, reply_of, form_of}
-use Rattle.process_rules.specs.Told.{IsEntry, IsAct, IsWhy, IsReply, IsToldBody}
+use Rattle.process_rules.specs.Told.{IsEntry, IsAct, IsReply, IsToldBody}
 use Rattle.process_rules.proofs.Chains.{IsSaid, is_said, one_said, two_said, three_said, four_said, six_said}
 use Rattle.process_rules.proofs.WordsAgain.{grain_again, digest_again, pairs_again}
 use Rattle.process_rules.proofs.Numbers.{number_said}

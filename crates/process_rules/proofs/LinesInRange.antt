@@ -1,22 +1,20 @@
 -- Whatever a line asks for is in its range.
-use Rattle.std.proofs.Common.{arith, ◌≡◌, ℕ, ◌<◌, Bool, true, false, List, [], ◌∷◌, Option, Some, None, Result, Ok, Err, refl, subst, length, codes}
+use Rattle.std.proofs.Common.{arith, ◌≡◌, ℕ, ◌<◌, Bool, true, false, List, [], ◌∷◌, Option, Some, None, Result, Ok, Err, refl, subst, length}
 use Rattle.std.specs.Prelude.{All, IfOk, bytes_eq, cond, nat_le, nat_lt}
 use Rattle.std.specs.List.{list_all}
 use Rattle.std.specs.Map.{lookup}
 use Rattle.std.proofs.lemmas.Bool.{leb-true}
 use Rattle.std.proofs.lemmas.List.Elements.{All-from_recursion, All-nil, All-cons, All-head, All-tail}
-use Rattle.texts.specs.declared.NumberError.{NumberError}
 use Rattle.texts.specs.declared.NumberError.TheVariants as number_fault
-use Rattle.texts.specs.Numeral.{is_numeral, numeral_value, read_number}
+use Rattle.texts.specs.Numeral.{is_numeral, numeral_value}
 use Rattle.texts.specs.Words.{words_in}
 use Rattle.silo_address.specs.Silo.{Silo, IsSilo}
 use Rattle.silo_address.specs.Grain.{Grain, IsGrain}
 use Rattle.ring_range.specs.Range.{circle}
 use Rattle.hash_ring.specs.declared.hashing.Hashing.{Hashing}
-use Rattle.directory_rules.specs.Letter.{Letter}
 use Rattle.script_rules.specs.Script.{silo_word, grain_word, number_word, number_or_fault, hash_word, places_in, is_text, is_remark, ◌>>=◌}
 use Rattle.process_rules.specs.LetterReading.{read_letter}
-use Rattle.process_rules.specs.LineReading.{Asked, Joined, Leaving, Dead, See, Wake, Close, Offer, Find, Forget, Nudge, Receive, Ping, Show, Dump, Grammar, no_word, a_word, a_join, a_version_and_a_silo, a_version, a_grain, a_grain_and_a_silo, a_letter, commands, longest_line, asked_if_known, asked_of_words, read_silo_line}
+use Rattle.process_rules.specs.LineReading.{Asked, Joined, Leaving, Dead, See, Wake, Close, Offer, Find, Forget, Nudge, Receive, Show, Dump, Grammar, no_word, a_word, a_join, a_version_and_a_silo, a_version, a_grain, a_grain_and_a_silo, a_letter, commands, longest_line, asked_if_known, asked_of_words, read_silo_line}
 use Rattle.process_rules.specs.Told.{IsNumber, IsTold}
 use Rattle.process_rules.specs.InRange.{IsInRange}
 use Rattle.process_rules.proofs.LettersAgain.{was_told}

@@ -1,9 +1,8 @@
 -- The line of a letter that a silo may send says that letter, or nothing.
-use Rattle.std.proofs.Common.{◌≡◌, ℕ, Bool, true, false, List, ◌∷◌, Option, Some, Result, Ok, Err, refl, sym, subst, length, decimal}
+use Rattle.std.proofs.Common.{◌≡◌, ℕ, Bool, true, false, List, ◌∷◌, Option, Some, Result, Ok, Err, sym, subst, length, decimal}
 use Rattle.std.specs.Prelude.{cond, codes, nat_lt}
 use Rattle.std.specs.List.{list_all}
 use Rattle.texts.specs.Words.{words_in}
-use Rattle.silo_address.specs.Silo.{Silo}
 use Rattle.silo_address.specs.SiloText.{silo_text}
 use Rattle.ring_range.specs.Range.{Range}
 use Rattle.hash_ring.specs.declared.hashing.Hashing.{Hashing}
@@ -11,8 +10,8 @@ use Rattle.directory_rules.specs.declared.letter_kind.LetterKind.{LetterKind}
 use Rattle.directory_rules.specs.Letter.{Letter, kind_of}
 use Rattle.script_rules.specs.Script.{silo_word, number_word, is_text, ◌>>=◌}
 use Rattle.process_rules.specs.LetterText.{body_words, letter_line, letter_words}
-use Rattle.process_rules.specs.LetterReading.{Head, head_of_words, letter_by, read_letter}
-use Rattle.process_rules.specs.LineReading.{Asked, Receive, longest_line, asked_of_words, read_silo_line}
+use Rattle.process_rules.specs.LetterReading.{head_of_words, letter_by, read_letter}
+use Rattle.process_rules.specs.LineReading.{Receive, longest_line, asked_of_words, read_silo_line}
 use Rattle.process_rules.specs.Told.{IsLetterWith}
 use Rattle.process_rules.proofs.Chains.{IsSaid, is_said, three_said}
 use Rattle.process_rules.proofs.WordsAgain.{silo_again}

@@ -1,5 +1,5 @@
 -- A number of any size is written by digits, and is read as itself, or is refused as too large.
-use Rattle.std.proofs.Common.{arith, ◌≡◌, ℕ, ◌+◌, ◌/◌, ◌%◌, ◌^◌, ◌<◌, ◌≤◌, zero, suc, Bool, true, false, List, [], ◌∷◌, Result, Ok, Err, ap, ◌∙◌, sym, subst, refl, length, decimal}
+use Rattle.std.proofs.Common.{arith, ◌≡◌, ℕ, ◌+◌, ◌/◌, ◌%◌, ◌^◌, ◌<◌, ◌≤◌, zero, suc, Bool, true, false, List, [], ◌∷◌, Result, Ok, Err, ap, ◌∙◌, sym, refl, length, decimal}
 use Rattle.std.specs.Prelude.{All, ◌==◌, cond, nat_lt}
 use Rattle.std.specs.Fmt.{digit_glyph, digits_onto, digits}
 use Rattle.std.specs.Str.Parse.{digits_value}

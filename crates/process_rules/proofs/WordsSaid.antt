@@ -1,5 +1,5 @@
 -- Words that are written are read again, or not at all: a number in them may be too large.
-use Rattle.std.proofs.Common.{arith, ◌≡◌, ℕ, ◌+◌, ◌<◌, List, [], ◌∷◌, ◌++◌, Result, Ok, Err, refl, ap, sym, ◌∙◌, subst, length, decimal}
+use Rattle.std.proofs.Common.{arith, ◌≡◌, ℕ, ◌<◌, List, [], ◌∷◌, ◌++◌, Result, Ok, Err, refl, ap, sym, ◌∙◌, subst, length, decimal}
 use Rattle.std.specs.Prelude.{All, false}
 use Rattle.std.specs.List.{position_or_len, before_first, after_first}
 use Rattle.std.proofs.lemmas.Bool.{ne_eqb}
@@ -11,7 +11,7 @@ use Rattle.texts.proofs.Cuts.{IsCutAt, position-cut, before_first-cut, after_fir
 use Rattle.silo_address.specs.Marks.{dot, colon, at_sign, exclamation_mark}
 use Rattle.silo_address.specs.Silo.{Silo, IsSilo}
 use Rattle.silo_address.specs.SiloText.{Words, AreNumerals, words_text, words_of, silo_text}
-use Rattle.silo_address.specs.Grain.{Grain, IsGrain, grain_text}
+use Rattle.silo_address.specs.Grain.{Grain, grain_text}
 use Rattle.silo_address.specs.declared.ActivationId.{ActivationId}
 use Rattle.silo_address.specs.declared.Entry.{Entry}
 use Rattle.silo_address.specs.ActivationText.{activation_text, is_exclamation_mark, activation_of, read_activation}
@@ -24,7 +24,7 @@ use Rattle.ring_range.proofs.Reading.{start_word_is, size_word_is}
 use Rattle.script_rules.specs.Script.{grain_word, number_or_fault}
 use Rattle.process_rules.specs.LetterText.{entries_words}
 use Rattle.process_rules.specs.LetterReading.{activation_word, activation_or_fault, range_word, entry_of_words, entries_in}
-use Rattle.process_rules.specs.Told.{IsActivation, IsEntry}
+use Rattle.process_rules.specs.Told.{IsEntry}
 use Rattle.process_rules.proofs.Chains.{IsSaid, is_said, two_said}
 use Rattle.process_rules.proofs.WordsAgain.{grain_again, range_gave}
 use Rattle.process_rules.proofs.WordsTold.{range_told}
