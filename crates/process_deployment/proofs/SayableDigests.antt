@@ -13,7 +13,7 @@ no_bytes zero = omega arith
 no_bytes (suc i) = omega arith
 
 more_bytes : (xs ys : List ℕ) → IsBytes xs → IsBytes ys → IsBytes (xs ++ ys)
-more_bytes [] ys front back = back
+more_bytes [] ys front back i = back i
 more_bytes (x ∷ xs) ys front back zero = front 0
 more_bytes (x ∷ xs) ys front back (suc i) = more_bytes xs ys (λ k. front (suc k)) back i
 
@@ -22,7 +22,7 @@ byte_below zero n = omega arith
 byte_below (suc k) n = omega arith
 
 high_bytes : (k n : ℕ) → IsBytes (bytes_high_first k n)
-high_bytes zero n = no_bytes
+high_bytes zero n i = no_bytes i
 high_bytes (suc k) n zero = byte_below k n
 high_bytes (suc k) n (suc i) = high_bytes k n i
 

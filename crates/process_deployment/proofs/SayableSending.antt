@@ -1,8 +1,9 @@
 -- What a node sends goes from a silo to silos.
 use Rattle.std.proofs.Common.{◌≡◌, ℕ, List, [], ◌∷◌, refl, sym, ap, ◌∙◌, subst}
-use Rattle.std.specs.Prelude.{⊤, Bool, true, false, cond, not, All, IfSome, Option, Some, None, filter, flat_map, fold}
+use Rattle.std.specs.Prelude.{⊤, Bool, true, false, cond, nat_le, not, All, Option, Some, None, filter, flat_map, fold}
 use Rattle.std.specs.List.{filter_map, cons_option}
 use Rattle.std.specs.Map.{keys_of}
+use Rattle.std.specs.Option.{option_map}
 use Rattle.std.specs.Ordering.{nat_cmp}
 use Rattle.std.specs.BTreeMap.{is_at, insert_entry}
 use Rattle.std.proofs.lemmas.List.Elements.{All-nil, All-cons, All-head, All-tail, All-append, All-map, All-weaker}
@@ -11,8 +12,9 @@ use Rattle.silo_address.specs.Silo.{Silo, IsSilo}
 use Rattle.silo_address.specs.Grain.{Grain}
 use Rattle.membership_view.specs.declared.row.Row.{Row}
 use Rattle.membership_view.specs.declared.status.Status.{Status}
+use Rattle.membership_view.specs.Row.{status_in}
 use Rattle.membership_view.specs.View.{ViewValue}
-use Rattle.membership_view.specs.Views.{ViewsValue, view_at}
+use Rattle.membership_view.specs.Views.{ViewsValue, rows_in, view_at}
 use Rattle.ring_range.specs.Range.{Range}
 use Rattle.hash_ring.specs.declared.point.Point.{Point}
 use Rattle.hash_ring.specs.Places.{PlacesValue, is_added}
@@ -31,17 +33,17 @@ use Rattle.directory_rules.specs.Letter.{Letter, Body, Request_letter, Ask_lette
 use Rattle.directory_rules.specs.Node.{Node}
 use Rattle.directory_rules.specs.Sending.{letter_to, letter_if_owned, owner_by, hash_of, request_of, request_letters, all_requests, recovery_of, query_letters, wants_by, all_wants}
 use Rattle.directory_rules.specs.Settings.{Settings}
+use Rattle.directory_rules.proofs.Cases.{on_bool}
 use Rattle.directory_facts.specs.Named.{IsNamed, AwaitsSilo}
 use Rattle.directory_facts.specs.Seen.{SeesItsVersion}
 use Rattle.directory_facts.proofs.Collecting.{found_or}
 use Rattle.directory_facts.proofs.Entries.{all_put}
 use Rattle.directory_facts.proofs.Naming.{NamesOf, SharedNames, OfSilos, place_silo, ring_silos, owner_named}
-use Rattle.directory_facts.proofs.Placing.{AllAdded, added_view}
 use Rattle.directory_facts.proofs.Seeing.{AreViews}
 use Rattle.process_deployment.proofs.SayableFacts.{Asks, Tells, Goes, Replaces, Looks, Waits, Sends}
 
 -- ---- who is in a view is a silo
-kept_keys : (test : Silo × Row → Bool) (rows : List (Silo × Row)) → All IsSilo (keys_of rows) → All IsSilo (keys_of (filter test rows))
+kept_keys : (test : Silo × Status → Bool) (rows : List (Silo × Status)) → All IsSilo (keys_of rows) → All IsSilo (keys_of (filter test rows))
 kept_keys test [] silos = silos
 kept_keys test (e ∷ es) silos = by (test e) (kept_keys test es (All-tail IsSilo e.0 (keys_of es) silos))
   where
@@ -49,11 +51,21 @@ kept_keys test (e ∷ es) silos = by (test e) (kept_keys test es (All-tail IsSil
     by true later = All-cons IsSilo e.0 (keys_of (filter test es)) (All-head IsSilo e.0 (keys_of es) silos) later
     by false later = later
 
+with_status : (silo : Silo) (status : Option Status) (rows : List (Silo × Status)) → IsSilo silo → All IsSilo (keys_of rows) → All IsSilo (keys_of (cons_option (option_map (λ s. (silo, s)) status) rows))
+with_status silo None rows is silos = silos
+with_status silo (Some status) rows is silos = All-cons IsSilo silo (keys_of rows) is silos
+
+silos_in : (version : ℕ) (rows : List (Silo × Row)) → All IsSilo (keys_of rows) → All IsSilo (keys_of (rows_in version rows))
+silos_in version [] silos = silos
+silos_in version (e ∷ es) silos =
+    with_status e.0 (status_in version e.1) (rows_in version es) (All-head IsSilo e.0 (keys_of es) silos) (silos_in version es (All-tail IsSilo e.0 (keys_of es) silos))
+
 pub view_silos : (settings : Settings) (views : ViewsValue) (places : PlacesValue) (version : ℕ) → AreViews settings views places → SharedNames settings places → All IsSilo (members_of (view_at views version))
 view_silos settings views places version are shared =
-    let rows = (view_at views version).rows in
-    kept_keys (λ row. not (is_dead_status row.1)) rows
-    (All-weaker (λ silo. is_added places silo ≡ true) IsSilo (λ silo added. place_silo places silo shared.silos added) (keys_of rows) (added_view places views version are.added))
+    kept_keys (λ row. not (is_dead_status row.1)) (view_at views version).rows
+    (on_bool (λ b. All IsSilo (keys_of (cond b (rows_in version views.rows) []))) (nat_le version views.version)
+    (λ t. silos_in version views.rows (All-weaker (λ silo. is_added places silo ≡ true) IsSilo (λ silo added. place_silo places silo shared.silos added) (keys_of views.rows) are.added))
+    (λ f. All-nil IsSilo))
 
 -- ---- what a node knows, to send letters
 pub record Knows (node : Node) : Type 0 where

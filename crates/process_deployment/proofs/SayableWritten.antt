@@ -1,1 +1,0 @@
--- What a deployment's processes wrote may be said by lines.
