@@ -1,6 +1,6 @@
 -- What a node answers: an entry is one of its tables', or that of the request; a page has a digest; and who still has to report was awaited.
 use Rattle.std.proofs.Common.{◌≡◌, ℕ, List, [], ◌∷◌, refl, subst}
-use Rattle.std.specs.Prelude.{⊤, Bool, true, false, cond, not, nat_lt, ◌==◌, ◌&&◌, ◌||◌, All, Option, Some, None, Result, Ok, Err, find, filter, length}
+use Rattle.std.specs.Prelude.{⊤, Bool, true, false, cond, not, nat_lt, ◌==◌, ◌&&◌, ◌||◌, All, Option, Some, None, Result, Ok, Err, find, length}
 use Rattle.std.specs.Option.{option_map}
 use Rattle.std.specs.BTreeMap.{is_at}
 use Rattle.std.proofs.lemmas.List.Elements.{All-head, All-tail, All-filter}
@@ -20,7 +20,7 @@ use Rattle.directory_rules.specs.Table.{Table, entry_at, with_entry, without_gra
 use Rattle.directory_rules.specs.Piece.{Piece, Holding}
 use Rattle.directory_rules.specs.Snapshot.{Snapshot, Page, page_count, page_of, page_from, is_snapshot, shelf_answer, Hands_page, Has_none, Is_behind}
 use Rattle.directory_rules.specs.Recovery.{Report, Recovery, Recovered, Awaits_more, Has_union, Rejects, with_report, is_among, awaits_still, recovered}
-use Rattle.directory_rules.specs.Answer.{Turned, is_previous, registered_over, deregistered_from, found_reply, turned, piece_with, serving_piece, served_by, answered_from, answered}
+use Rattle.directory_rules.specs.Answer.{Turned, is_previous, registered_over, deregistered_from, found_reply, piece_with, serving_piece, served_by, answered_from, answered}
 use Rattle.directory_rules.proofs.Cases.{on_bool}
 use Rattle.directory_facts.specs.Named.{IsNamed, AreNamed}
 use Rattle.directory_facts.proofs.Entries.{found_so}

@@ -1,6 +1,6 @@
 -- What is carried of letters besides what they name and say of their own: from whom and to whom they are, and what requests and replies
 -- name. And what a node has to make such letters.
-use Rattle.std.proofs.Common.{◌≡◌, ℕ, List, [], ◌∷◌, refl, subst}
+use Rattle.std.proofs.Common.{ℕ, List}
 use Rattle.std.specs.Prelude.{⊤, All, IfSome, Option, Some, None}
 use Rattle.silo_address.specs.Silo.{IsSilo}
 use Rattle.silo_address.specs.Grain.{Grain, IsGrain}
@@ -9,7 +9,6 @@ use Rattle.silo_address.specs.declared.Entry.{Entry}
 use Rattle.hash_ring.specs.declared.hashing.Hashing.{Hashing}
 use Rattle.directory_rules.specs.declared.act.Act.{Act}
 use Rattle.directory_rules.specs.declared.act.Act.TheVariants as act
-use Rattle.directory_rules.specs.declared.act.Request.{Request}
 use Rattle.directory_rules.specs.declared.held.Held.{Held}
 use Rattle.directory_rules.specs.declared.reply.Why.{Why}
 use Rattle.directory_rules.specs.declared.reply.Why.TheVariants as why

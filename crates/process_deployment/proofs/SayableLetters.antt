@@ -3,7 +3,6 @@ use Rattle.std.proofs.Common.{arith, ◌≡◌, ℕ, suc, ◌+◌, ◌≤◌, Li
 use Rattle.std.specs.Prelude.{⊤, All, map}
 use Rattle.std.specs.List.{enumerate_from}
 use Rattle.std.proofs.lemmas.List.Elements.{All-map, All-weaker}
-use Rattle.directory_rules.specs.Event.{Event, IsEvent}
 use Rattle.directory_rules.specs.Letter.{Letter}
 use Rattle.directory_rules.specs.Run.{run_from_start}
 use Rattle.directory_rules.specs.Settings.{Settings, AreSettings}
@@ -11,7 +10,7 @@ use Rattle.directory_rules.specs.World.{Posted, World}
 use Rattle.directory_facts.proofs.Lawful.{settings_stay}
 use Rattle.directory_facts.proofs.Reached.{everywhere}
 use Rattle.deployment_headline.specs.Limits.{with_room}
-use Rattle.deployment_headline.specs.Steps.{Step, IsStep, deployed}
+use Rattle.deployment_headline.specs.Steps.{deployed}
 use Rattle.deployment_headline.proofs.Lists.{over}
 use Rattle.deployment_headline.proofs.Running.{made_so}
 use Rattle.deployment_headline.proofs.Worlds.{its_letter}

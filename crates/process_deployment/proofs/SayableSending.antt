@@ -1,6 +1,6 @@
 -- What a node sends goes from a silo to silos.
-use Rattle.std.proofs.Common.{◌≡◌, ℕ, List, [], ◌∷◌, refl, sym, ap, ◌∙◌, subst}
-use Rattle.std.specs.Prelude.{⊤, Bool, true, false, cond, nat_le, not, All, Option, Some, None, filter, flat_map, fold}
+use Rattle.std.proofs.Common.{◌≡◌, ℕ, List, [], ◌∷◌, refl, sym, ap, subst}
+use Rattle.std.specs.Prelude.{Bool, true, false, cond, nat_le, not, All, Option, Some, None, filter, flat_map, fold}
 use Rattle.std.specs.List.{filter_map, cons_option}
 use Rattle.std.specs.Map.{keys_of}
 use Rattle.std.specs.Option.{option_map}
@@ -16,7 +16,6 @@ use Rattle.membership_view.specs.Row.{status_in}
 use Rattle.membership_view.specs.View.{ViewValue}
 use Rattle.membership_view.specs.Views.{ViewsValue, rows_in, view_at}
 use Rattle.ring_range.specs.Range.{Range}
-use Rattle.hash_ring.specs.declared.point.Point.{Point}
 use Rattle.hash_ring.specs.Places.{PlacesValue, is_added}
 use Rattle.directory_rules.specs.declared.act.Act.{Act}
 use Rattle.directory_rules.specs.declared.act.Act.TheVariants as act
@@ -29,7 +28,7 @@ use Rattle.directory_rules.specs.Membership.{is_dead_status, members_of}
 use Rattle.directory_rules.specs.Piece.{Piece}
 use Rattle.directory_rules.specs.Recovery.{Recovery, new_recovery}
 use Rattle.directory_rules.specs.Host.{Host, entry_of, act_in, held_acts, find_acts, outstanding}
-use Rattle.directory_rules.specs.Letter.{Letter, Body, Request_letter, Ask_letter, Query_letter}
+use Rattle.directory_rules.specs.Letter.{Letter, Body, Request_letter, Query_letter}
 use Rattle.directory_rules.specs.Node.{Node}
 use Rattle.directory_rules.specs.Sending.{letter_to, letter_if_owned, owner_by, hash_of, request_of, request_letters, all_requests, recovery_of, query_letters, wants_by, all_wants}
 use Rattle.directory_rules.specs.Settings.{Settings}
@@ -40,7 +39,7 @@ use Rattle.directory_facts.proofs.Collecting.{found_or}
 use Rattle.directory_facts.proofs.Entries.{all_put}
 use Rattle.directory_facts.proofs.Naming.{NamesOf, SharedNames, OfSilos, place_silo, ring_silos, owner_named}
 use Rattle.directory_facts.proofs.Seeing.{AreViews}
-use Rattle.process_deployment.proofs.SayableFacts.{Asks, Tells, Goes, Replaces, Looks, Waits, Sends}
+use Rattle.process_deployment.proofs.SayableFacts.{Asks, Tells, Goes, Replaces, Looks, Sends}
 
 -- ---- who is in a view is a silo
 kept_keys : (test : Silo × Status → Bool) (rows : List (Silo × Status)) → All IsSilo (keys_of rows) → All IsSilo (keys_of (filter test rows))
