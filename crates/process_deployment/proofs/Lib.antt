@@ -4,3 +4,15 @@ pub mod SayableAnswers
 pub mod SayableSending
 pub mod SayableSteps
 pub mod SayableLetters
+mod Silent
+mod Answers
+mod Everyone
+mod Outputs
+mod Lists
+mod Moving
+mod Departed
+mod Following
+mod Themselves
+mod Plain
+mod Ended
+mod Worked

@@ -43,7 +43,7 @@ values n (e ∷ mail) (letter ∷ letters) is =
     ap (λ l. l ∷ map (λ e. e.1.letter) mail) first ∙ ap (λ l. letter ∷ l) (values (n + 1) mail letters rest)
 
 -- settings under limits that are high enough
-roomy : (settings : Settings) (events letters : ℕ) → AreSettings settings → 1 ≤ events → 1 ≤ letters → AreSettings (with_room events letters settings)
+pub roomy : (settings : Settings) (events letters : ℕ) → AreSettings settings → 1 ≤ events → 1 ≤ letters → AreSettings (with_room events letters settings)
 roomy settings events letters are some any = record {
   points_above = are.points_above;
   points_within = are.points_within;

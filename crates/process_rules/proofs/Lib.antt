@@ -9,4 +9,4 @@ pub mod LineWords
 pub mod LinesAgain
 mod FormsSaid
 pub mod LinesSaid
-mod LinesInRange
+pub mod LinesInRange

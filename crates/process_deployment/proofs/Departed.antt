@@ -1,0 +1,61 @@
+-- A process whose silo is Dead by the changes decided writes no letter: neither a step nor a letter comes to it.
+use Rattle.std.proofs.Common.{◌≡◌, ℕ, Bool, true, false, [], ◌∷◌, Option, Some, None, Result, Ok, Err, refl}
+use Rattle.std.specs.Prelude.{cond, codes}
+use Rattle.std.proofs.lemmas.List.Elements.{All-nil}
+use Rattle.texts.specs.Words.{sentence}
+use Rattle.silo_address.specs.Silo.{silo_eq}
+use Rattle.silo_address.proofs.Same.{Decides-silo}
+use Rattle.hash_ring.specs.declared.hashing.Hashing.{Hashing}
+use Rattle.directory_rules.specs.Letter.{Letter}
+use Rattle.silo_rules.specs.Membership.{Change, Join, Leave, Die}
+use Rattle.silo_rules.specs.SiloValue.{SiloValue, own_status}
+use Rattle.silo_rules.specs.Stepping.{receives}
+use Rattle.silo_rules.specs.Telling.{Heard, told}
+use Rattle.script_rules.specs.Lines.{refusal_line}
+use Rattle.process_rules.specs.LineReading.{Asked, Joined, Leaving, Dead, See, Wake, Close, Offer, Find, Forget, Nudge, Receive, Ping, Show, Dump}
+use Rattle.process_output.specs.Happened.{news_words, received_words}
+use Rattle.process_output.specs.Answer.{printing, heard, told_so, stepped, received_so, answered}
+use Rattle.process_output.specs.Show.{dump_line}
+use Rattle.process_output.specs.Output.{answered_to, fault_line}
+use Rattle.process_deployment.specs.Allowed.{MayAskDead, IfAsks}
+use Rattle.process_deployment.proofs.Answers.{AreSilent, silent_alone, news_silent, told_silent, refusal_silent, fault_silent, pong_silent, show_silent, dump_silent}
+use Rattle.process_deployment.proofs.Silent.{IsSilent}
+
+module _ (hashing : Hashing) where
+  dead_told : (version : ℕ) (change : Change) (s : SiloValue) → AreSilent hashing (told_so version change s).lines
+  dead_told version change s = by (told s.node.settings s.membership version change)
+    where
+      by : (o : Result Heard ℕ) → AreSilent hashing (heard o version change s).lines
+      by (Err number) = silent_alone hashing (refusal_line number) (refusal_silent hashing number)
+      by (Ok its) =
+          let next = record s { membership = its.membership } in
+          told_silent hashing (own_status next) (sentence (news_words version change its.news)) next (news_silent hashing version change its.news)
+
+  dead_received : (letter : Letter) (s : SiloValue) → (letter.to ≡ s.node.host.silo → ⊥) → AreSilent hashing (received_so letter s).lines
+  dead_received letter s other = by (silo_eq letter.to s.node.host.silo) refl
+    where
+      by : (own : Bool) → silo_eq letter.to s.node.host.silo ≡ own → AreSilent hashing (cond own (stepped (received_words s.node.host letter) (receives s letter) s) (printing [] s)).lines
+      by false is = All-nil (IsSilent hashing)
+      by true is = absurd (other ((Decides-silo letter.to s.node.host.silo).0 is))
+
+  dead_answers : (asked : Asked) (s : SiloValue) → MayAskDead s asked → AreSilent hashing (answered asked s).lines
+  unfolding answered
+  dead_answers (Joined version who places) s may = dead_told version (Join who places) s
+  dead_answers (Leaving version who) s may = dead_told version (Leave who) s
+  dead_answers (Dead version who) s may = dead_told version (Die who) s
+  dead_answers (See version) s may = absurd may
+  dead_answers (Wake grain) s may = absurd may
+  dead_answers (Close grain) s may = absurd may
+  dead_answers (Offer grain to) s may = absurd may
+  dead_answers (Find grain) s may = absurd may
+  dead_answers (Forget grain) s may = absurd may
+  dead_answers Nudge s may = absurd may
+  dead_answers (Receive letter) s may = dead_received letter s may
+  dead_answers (Ping word) s may = silent_alone hashing (sentence (codes "pong" ∷ word ∷ [])) (pong_silent hashing word)
+  dead_answers Show s may = show_silent hashing s
+  dead_answers Dump s may = silent_alone hashing (dump_line s) (dump_silent hashing s)
+
+  pub dead_lines : (read : Result (Option Asked) ℕ) (s : SiloValue) → IfAsks read (MayAskDead s) → AreSilent hashing (answered_to read s).lines
+  dead_lines (Ok None) s may = All-nil (IsSilent hashing)
+  dead_lines (Ok (Some asked)) s may = dead_answers asked s may
+  dead_lines (Err fault) s may = silent_alone hashing (fault_line fault) (fault_silent hashing fault)

@@ -1,0 +1,131 @@
+-- The worked clusters, computed.
+use Rattle.std.proofs.Common.{◌≡◌, ℕ, ◌<◌, Bool, true, List, [], ◌∷◌, Some, Ok, refl}
+use Rattle.std.specs.Prelude.{◌==◌, not, nat_lt, All, slice_get, codes}
+use Rattle.std.specs.Fmt.{digits}
+use Rattle.std.specs.List.{list_all}
+use Rattle.std.proofs.lemmas.Bool.{ltb-true}
+use Rattle.std.proofs.lemmas.List.Elements.{All-nil, All-cons}
+use Rattle.std.proofs.lemmas.Option.{slice_get_within, get_or_from_slice_get}
+use Rattle.sha2.specs.Sha256.{sha256, hash_after, compress, rounds, schedule, first_words, digest_bytes}
+use Rattle.hex.specs.Hex.{encode_with, decode_pairs}
+use Rattle.texts.specs.Words.{line_feed}
+use Rattle.texts.proofs.Decided.{both}
+use Rattle.silo_address.specs.Silo.{IsSilo}
+use Rattle.silo_address.specs.SiloReading.{silo_words, read_silo}
+use Rattle.silo_address.specs.GrainReading.{read_grain}
+use Rattle.silo_address.specs.ActivationText.{read_activation}
+use Rattle.silo_address.specs.StatedHash.{stated_hash}
+use Rattle.silo_address.proofs.SiloLaws.{Decides-is_silo}
+use Rattle.ring_range.specs.Range.{circle}
+use Rattle.ring_range.specs.Text.{read_range}
+use Rattle.ring_range.specs.Meet.{meet_of}
+use Rattle.ring_range.specs.Cut.{cut_parts}
+use Rattle.directory_rules.specs.Letter.{Letter}
+use Rattle.directory_rules.specs.Worked.{silo_a, silo_b}
+use Rattle.process_rules.specs.LetterText.{letter_line}
+use Rattle.process_rules.specs.LetterReading.{read_letter}
+use Rattle.process_rules.specs.LineReading.{Receive, read_silo_line}
+use Rattle.process_output.specs.Answer.{answered}
+use Rattle.process_deployment.specs.Allowed.{IsWritten, IsLine, May, MayAll}
+use Rattle.process_deployment.specs.Cluster.{Cluster, all_lines}
+use Rattle.process_deployment.specs.Steps.{after, after_all}
+use Rattle.process_deployment.specs.Worked.{WorkedCluster}
+use Rattle.process_deployment.specs.Wrong.{AForgedLineConfirms, ADeadProcessGoesOn, AnotherChangeIsTold}
+
+unfoldable pub all_opened : Type 0
+unfolding digits sha256 hash_after compress rounds schedule first_words digest_bytes encode_with decode_pairs silo_words read_silo read_grain read_activation stated_hash read_range meet_of cut_parts letter_line read_letter read_silo_line answered after after_all May MayAll
+all_opened = Unit {0}
+
+a : IsSilo silo_a
+a = (Decides-is_silo silo_a).0 refl
+
+b : IsSilo silo_b
+b = (Decides-is_silo silo_b).0 refl
+
+abbrev is_inner : ℕ → Bool
+is_inner byte = not (byte == line_feed)
+
+no_end : (byte : ℕ) → is_inner byte ≡ true → byte ≡ line_feed → ⊥
+no_end byte inner same = absurd (cc (inner, same))
+
+abbrev IsNoEnd : ℕ → Type 0
+IsNoEnd byte = byte ≡ line_feed → ⊥
+
+line : (bytes : List ℕ) → list_all is_inner bytes ≡ true → IsLine bytes
+line [] inner = All-nil IsNoEnd
+line (byte ∷ bytes) inner = let parts = both (is_inner byte) (list_all is_inner bytes) inner in All-cons IsNoEnd byte bytes (no_end byte parts.0) (line bytes parts.1)
+
+-- a place that is a hash
+place : (place : ℕ) → nat_lt place circle ≡ true → All (λ place. place < circle) (place ∷ [])
+place at below = All-cons (λ place. place < circle) at [] (ltb-true at circle below) (All-nil (λ place. place < circle))
+
+-- a line that stands behind so many others says the letter
+said_so : (c : Cluster) (letter : Letter) (k : ℕ) (line : List ℕ) → slice_get (all_lines c) k ≡ Some line → read_silo_line c.settings.hashing line ≡ Ok (Some (Receive letter)) → IsWritten c letter
+said_so c letter k line is says = record { line = line; wrote = (k, slice_get_within (all_lines c) k line is, get_or_from_slice_get (all_lines c) k line line is); says = says }
+
+pub worked_cluster : WorkedCluster
+unfolding all_opened
+worked_cluster = record {
+  may = (
+    (a, place 0 refl),
+    (
+      (a, line (codes "joined 1 10.0.0.1:1000@1 0") refl, λ makes. refl, tt),
+      (
+        (a, line (codes "see 1") refl, tt, tt),
+        (
+          (a, line (codes "letter 10.0.0.1:1000@1 10.0.0.1:1000@1 1 query 0+4294967296") refl, λ own joined. said_so _ _ 2 (codes "letter 10.0.0.1:1000@1 10.0.0.1:1000@1 1 query 0+4294967296") refl refl, tt),
+          (
+            (a, line (codes "letter 10.0.0.1:1000@1 10.0.0.1:1000@1 1 report 0+4294967296") refl, λ own joined. said_so _ _ 4 (codes "letter 10.0.0.1:1000@1 10.0.0.1:1000@1 1 report 0+4294967296") refl refl, tt),
+            (
+              (b, place 1000 refl),
+              (
+                (a, line (codes "joined 2 10.0.0.2:1000@1 1000") refl, λ makes. refl, tt),
+                (
+                  (a, line (codes "see 2") refl, tt, tt),
+                  (
+                    (b, line (codes "joined 1 10.0.0.1:1000@1 0") refl, λ makes. refl, tt),
+                    (
+                      (b, line (codes "joined 2 10.0.0.2:1000@1 1000") refl, λ makes. refl, tt),
+                      (
+                        (b, line (codes "see 2") refl, tt, tt),
+                        (
+                          (b, line (codes "wake user/a#7") refl, tt, tt),
+                          (
+                            (a, line (codes "letter 10.0.0.2:1000@1 10.0.0.1:1000@1 2 register 1 user/a#7 10.0.0.2:1000@1!1") refl, λ own joined. said_so _ _ 13 (codes "letter 10.0.0.2:1000@1 10.0.0.1:1000@1 2 register 1 user/a#7 10.0.0.2:1000@1!1") refl refl, tt),
+                            (
+                              (b, line (codes "letter 10.0.0.1:1000@1 10.0.0.2:1000@1 2 registered 1 user/a#7 10.0.0.2:1000@1!1") refl, λ own joined. said_so _ _ 9 (codes "letter 10.0.0.1:1000@1 10.0.0.2:1000@1 2 registered 1 user/a#7 10.0.0.2:1000@1!1") refl refl, tt),
+                              (
+                                b,
+                                (
+                                  (b, line (codes "dead 3 10.0.0.2:1000@1") refl, tt, tt),
+                                  tt,
+                                ),
+                              ),
+                            ),
+                          ),
+                        ),
+                      ),
+                    ),
+                  ),
+                ),
+              ),
+            ),
+          ),
+        ),
+      ),
+    ),
+  );
+  wrote = refl;
+}
+
+pub a_forged_line_confirms : AForgedLineConfirms
+unfolding all_opened
+a_forged_line_confirms = refl
+
+pub a_dead_process_goes_on : ADeadProcessGoesOn
+unfolding all_opened
+a_dead_process_goes_on = refl
+
+pub another_change_is_told : AnotherChangeIsTold
+unfolding all_opened
+another_change_is_told = refl

@@ -1,0 +1,6 @@
+use Rattle.process_deployment.proofs.Following.{lines_keep_one_firm}
+use Rattle.process_deployment.proofs.Themselves.{written_read_as_themselves}
+use Rattle.process_deployment.proofs.laws.lines_keep_one_firm.Goals as goal
+
+pub returns : goal.returns
+returns c = lines_keep_one_firm written_read_as_themselves

@@ -1,0 +1,68 @@
+-- What the promise stands on: which lines may come to a process.
+use Rattle.std.specs.Prelude.{◌≡◌, ⊤, true, ℕ, ◌-◌, ◌≢◌, List, [], ◌∷◌, All, Contains, IfSome, Option, Some, None, Result, Ok, Err, slice_get}
+use Rattle.texts.specs.Words.{line_feed}
+use Rattle.silo_address.specs.Silo.{IsSilo}
+use Rattle.directory_rules.specs.Letter.{Letter}
+use Rattle.silo_rules.specs.Membership.{Change, Join, Leave, Die}
+use Rattle.silo_rules.specs.SiloValue.{SiloValue, told_of_its_join}
+use Rattle.silo_rules.specs.Telling.{MakesVersion, told}
+use Rattle.deployment_headline.specs.Steps.{IsChange}
+use Rattle.process_rules.specs.LineReading.{Asked, Joined, Leaving, Dead, See, Wake, Close, Offer, Find, Forget, Nudge, Receive, read_silo_line}
+use Rattle.process_output.specs.Output.{said}
+use Rattle.process_deployment.specs.Cluster.{Cluster, process_at, all_lines}
+use Rattle.process_deployment.specs.Steps.{Step, Decide, Read, after}
+
+-- some process wrote a line that says the letter
+pub record IsWritten (c : Cluster) (letter : Letter) : Type 0 where
+  pub line : List ℕ
+  pub wrote : Contains (all_lines c) line
+  pub says : read_silo_line c.settings.hashing line ≡ Ok (Some (Receive letter))
+
+-- a change by which the silo knows one version more is the one that was decided for that version. Of a change that it knows or refuses
+-- nothing is asked
+abbrev pub IsDecided : Cluster → SiloValue → (version : ℕ) → Change → Type 0
+IsDecided c s version change = MakesVersion s.membership version (told s.node.settings s.membership version change) → slice_get c.changes (version - 1) ≡ Some change
+
+-- what may be asked of a silo that isn't Dead by the changes decided: a letter to it was written, unless the silo wasn't told of its own
+-- join yet, and refuses it. All else may be asked of it at any time
+abbrev pub MayAsk : Cluster → SiloValue → Asked → Type 0
+MayAsk c s (Joined version silo places) = IsDecided c s version (Join silo places)
+MayAsk c s (Leaving version silo) = IsDecided c s version (Leave silo)
+MayAsk c s (Dead version silo) = IsDecided c s version (Die silo)
+MayAsk c s (Receive letter) = letter.to ≡ s.node.host.silo → told_of_its_join s ≡ true → IsWritten c letter
+MayAsk c s other = ⊤
+
+-- what may be asked of one that is Dead by them: neither a step of its own nor a letter to it
+abbrev pub MayAskDead : SiloValue → Asked → Type 0
+MayAskDead s (See version) = ⊥
+MayAskDead s (Wake grain) = ⊥
+MayAskDead s (Close grain) = ⊥
+MayAskDead s (Offer grain to) = ⊥
+MayAskDead s (Find grain) = ⊥
+MayAskDead s (Forget grain) = ⊥
+MayAskDead s Nudge = ⊥
+MayAskDead s (Receive letter) = letter.to ≢ s.node.host.silo
+MayAskDead s other = ⊤
+
+-- a line may come if what it asks for may be asked. One that asks for nothing may come, and so may one with a fault
+abbrev pub IfAsks : Result (Option Asked) ℕ → (Asked → Type 0) → Type 0
+IfAsks (Ok (Some asked)) May = May asked
+IfAsks (Ok None) May = ⊤
+IfAsks (Err fault) May = ⊤
+
+-- the bytes of a line: a line feed would end it
+abbrev pub IsLine : List ℕ → Type 0
+IsLine line = All (λ byte. byte ≢ line_feed) line
+
+-- a step that may come
+unfoldable pub May : Cluster → Step → Type 0
+May c (Decide change) = IsChange change
+May c (Read silo line) =
+    IsSilo silo × IsLine line
+    × IfSome (process_at silo c.processes) (λ p. IfAsks (said line p.silo) (MayAsk c p.silo))
+    × IfSome (process_at silo c.dead) (λ p. IfAsks (said line p.silo) (MayAskDead p.silo))
+
+-- steps that may come one after the other
+unfoldable pub MayAll : Cluster → List Step → Type 0
+MayAll c [] = ⊤
+MayAll c (step ∷ steps) = May c step × MayAll (after c step) steps

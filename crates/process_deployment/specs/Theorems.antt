@@ -1,0 +1,82 @@
+-- What holds of a cluster after any steps that may come.
+use Rattle.std.specs.Prelude.{◌≡◌, List, [], All, Contains, false, Some, map}
+use Rattle.texts.specs.Printed.{text_of_lines}
+use Rattle.silo_address.specs.Silo.{Silo}
+use Rattle.silo_address.specs.Grain.{Grain}
+use Rattle.directory_rules.specs.declared.held.Held.{Held}
+use Rattle.directory_rules.specs.declared.held.Phase.TheVariants.{Firm}
+use Rattle.directory_rules.specs.Headline.{Headline}
+use Rattle.directory_rules.specs.Host.{held_of}
+use Rattle.directory_rules.specs.Letter.{Letter}
+use Rattle.directory_rules.specs.PlainMachine.{PlainStep, IsPlainStep, plain_of}
+use Rattle.directory_rules.specs.Settings.{Settings, AreSettings}
+use Rattle.directory_rules.specs.World.{World}
+use Rattle.deployment_headline.specs.Deployment.{Deployment}
+use Rattle.deployment_headline.specs.Steps as deployment
+use Rattle.deployment_headline.specs.Theorems as deployment_theorems
+use Rattle.process_output.specs.Output.{written}
+use Rattle.process_deployment.specs.Allowed.{IsWritten, May, MayAll}
+use Rattle.process_deployment.specs.Cluster.{Process, Cluster, first_cluster, process_at, everyone}
+use Rattle.process_deployment.specs.Steps.{Step, after, clustered}
+
+-- what holds of the cluster after any steps that may come
+abbrev pub AfterAnySteps : (Cluster → Type 0) → Type 0
+AfterAnySteps Holds = (settings : Settings) (steps : List Step) → AreSettings settings → MayAll (first_cluster settings) steps → Holds (clustered settings steps)
+
+-- the silos of the processes that aren't Dead, as a deployment in which these letters were written
+abbrev pub deployment_of : Cluster → List Letter → Deployment
+deployment_of c letters = record {
+  settings = c.settings;
+  changes = c.changes;
+  membership = c.membership;
+  processes = map (λ e. (e.0, e.1.silo)) c.processes;
+  written = letters;
+}
+
+-- a deployment's steps make it, and each letter that a line says was written there
+pub record IsDeployment (c : Cluster) : Type 0 where
+  pub steps : List deployment.Step
+  pub named : All deployment.IsStep steps
+  pub letters : List Letter
+  pub same : deployment.deployed c.settings steps ≡ deployment_of c letters
+  pub told : (letter : Letter) → IsWritten c letter → Contains letters letter
+
+abbrev pub ClustersAreDeployments : Type 0
+ClustersAreDeployments = AfterAnySteps IsDeployment
+
+-- the cluster as a world in which nothing is on its way
+abbrev pub world_of : Cluster → World
+world_of c = deployment_theorems.world_of (deployment_of c [])
+
+abbrev pub LinesKeepTheHeadline : Type 0
+LinesKeepTheHeadline = AfterAnySteps (λ c. Headline (world_of c))
+
+-- the process of a silo that isn't Dead has an activation of the grain firm
+pub record IsFirmAt (c : Cluster) (grain : Grain) (silo : Silo) : Type 0 where
+  pub process : Process
+  pub there : process_at silo c.processes ≡ Some process
+  pub held : Held
+  pub found : held_of process.silo.node.host grain ≡ Some held
+  pub firm : held.phase ≡ Firm
+
+-- no two have
+abbrev pub NoTwoFirm : Cluster → Type 0
+NoTwoFirm c = (grain : Grain) (s t : Silo) → IsFirmAt c grain s → IsFirmAt c grain t → s ≡ t
+
+abbrev pub LinesKeepOneFirm : Type 0
+LinesKeepOneFirm = AfterAnySteps NoTwoFirm
+
+-- seen from outside, each step that may come is one step of the plain machine
+abbrev pub LinesArePlain : Type 0
+LinesArePlain = AfterAnySteps (λ c. (step : Step) → May c step → (kind : PlainStep) × IsPlainStep (plain_of (world_of c)) kind (plain_of (world_of (after c step))))
+
+-- the process of a silo that isn't Dead by the changes decided goes on
+abbrev pub LivingGoOn : Type 0
+LivingGoOn = AfterAnySteps (λ c. (silo : Silo) (p : Process) → process_at silo c.processes ≡ Some p → p.ended ≡ false)
+
+-- what the process wrote is the output of the bytes that it read
+abbrev pub HasItsOutput : Settings → Silo × Process → Type 0
+HasItsOutput settings e = text_of_lines e.1.wrote ≡ written settings e.0 (text_of_lines e.1.read)
+
+abbrev pub ProcessesWriteTheirOutput : Type 0
+ProcessesWriteTheirOutput = AfterAnySteps (λ c. All (HasItsOutput c.settings) (everyone c))

@@ -1,0 +1,70 @@
+-- Clusters in which a line comes that may not come, or a dead silo's process goes on, and two processes have the grain firm.
+use Rattle.std.specs.Prelude.{◌≡◌, List, [], ◌∷◌, ◌++◌, map, filter, codes}
+use Rattle.silo_address.specs.Silo.{Silo}
+use Rattle.silo_address.specs.Grain.{Grain}
+use Rattle.directory_rules.specs.Worked.{silo_a, silo_b, grain_a}
+use Rattle.silo_rules.specs.Membership.{Join, Die}
+use Rattle.deployment_headline.specs.Worked.{worked_settings}
+use Rattle.deployment_headline.specs.Wrong.{has_firm}
+use Rattle.process_deployment.specs.Cluster.{Cluster}
+use Rattle.process_deployment.specs.Steps.{Step, Decide, Read, after, after_all, clustered}
+use Rattle.process_deployment.specs.Worked.{opening, joining}
+
+-- the silos, not Dead by the changes decided, at whose processes it is firm
+abbrev pub firm_at : Grain → Cluster → List Silo
+firm_at grain c = map (λ e. e.0) (filter (λ e. has_firm grain e.1.silo) c.processes)
+
+-- the first silo has the grain firm
+abbrev pub waking : List Step
+waking =
+    Read silo_a (codes "wake user/a#7")
+    ∷ Read silo_a (codes "letter 10.0.0.1:1000@1 10.0.0.1:1000@1 1 register 1 user/a#7 10.0.0.1:1000@1!1")
+    ∷ Read silo_a (codes "letter 10.0.0.1:1000@1 10.0.0.1:1000@1 1 registered 1 user/a#7 10.0.0.1:1000@1!1")
+    ∷ []
+
+-- the second one is woken for it too, and a line that nobody wrote says that it is entered
+abbrev pub AForgedLineConfirms : Type 0
+AForgedLineConfirms =
+    firm_at grain_a
+    (clustered worked_settings
+    (opening ++ waking ++ joining
+    ++ Read silo_b (codes "wake user/a#7")
+    ∷ Read silo_b (codes "letter 10.0.0.1:1000@1 10.0.0.2:1000@1 2 registered 1 user/a#7 10.0.0.2:1000@1!1")
+    ∷ []))
+    ≡ silo_a ∷ silo_b ∷ []
+
+-- the first silo's death is decided, but its process goes on
+abbrev pub dies_in_vain : Cluster → Cluster
+dies_in_vain c = record (after c (Decide (Die silo_a))) { processes = c.processes }
+
+-- the second silo, which is told so, recovers the grain's range and is woken for the grain
+abbrev pub ADeadProcessGoesOn : Type 0
+ADeadProcessGoesOn =
+    firm_at grain_a
+    (after_all (dies_in_vain (clustered worked_settings (opening ++ waking ++ joining)))
+    (Read silo_b (codes "dead 3 10.0.0.1:1000@1")
+    ∷ Read silo_b (codes "see 3")
+    ∷ Read silo_b (codes "letter 10.0.0.2:1000@1 10.0.0.2:1000@1 3 query 0+1000")
+    ∷ Read silo_b (codes "letter 10.0.0.2:1000@1 10.0.0.2:1000@1 3 report 0+1000")
+    ∷ Read silo_b (codes "wake user/a#7")
+    ∷ Read silo_b (codes "letter 10.0.0.2:1000@1 10.0.0.2:1000@1 3 register 1 user/a#7 10.0.0.2:1000@1!1")
+    ∷ Read silo_b (codes "letter 10.0.0.2:1000@1 10.0.0.2:1000@1 3 registered 1 user/a#7 10.0.0.2:1000@1!1")
+    ∷ []))
+    ≡ silo_a ∷ silo_b ∷ []
+
+-- the second silo's process reads that the first change was its own join: it finds itself alone
+abbrev pub AnotherChangeIsTold : Type 0
+AnotherChangeIsTold =
+    firm_at grain_a
+    (clustered worked_settings
+    (opening ++ waking
+    ++ Decide (Join silo_b (5 ∷ []))
+    ∷ Read silo_b (codes "joined 1 10.0.0.2:1000@1 5")
+    ∷ Read silo_b (codes "see 1")
+    ∷ Read silo_b (codes "letter 10.0.0.2:1000@1 10.0.0.2:1000@1 1 query 0+4294967296")
+    ∷ Read silo_b (codes "letter 10.0.0.2:1000@1 10.0.0.2:1000@1 1 report 0+4294967296")
+    ∷ Read silo_b (codes "wake user/a#7")
+    ∷ Read silo_b (codes "letter 10.0.0.2:1000@1 10.0.0.2:1000@1 1 register 1 user/a#7 10.0.0.2:1000@1!1")
+    ∷ Read silo_b (codes "letter 10.0.0.2:1000@1 10.0.0.2:1000@1 1 registered 1 user/a#7 10.0.0.2:1000@1!1")
+    ∷ []))
+    ≡ silo_a ∷ silo_b ∷ []
