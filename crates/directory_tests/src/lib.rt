@@ -1,12 +1,14 @@
 //! Tests of the whole directory over public calls: of how a script's lines are read and written and of the loop between (`script`),
-//! of whole scripts, command lines and dumps (`play`), and of letters as lines (`letters`). They stand in a crate of their own, since
-//! a crate with tests is proved twice.
+//! of whole scripts, command lines and dumps (`play`), of letters as lines (`letters`), and of all lines of a silo's process (`lines`).
+//! They stand in a crate of their own, since a crate with tests is proved twice.
 #![tactic(auto)]
 
 #[cfg(test)]
 mod fakes;
 #[cfg(test)]
 mod letters;
+#[cfg(test)]
+mod lines;
 #[cfg(test)]
 mod play;
 #[cfg(test)]
