@@ -2,6 +2,7 @@ ghost use Rattle.std.specs.Prelude.{◌≡◌, ◌<◌, IfErr, IfOk, OnErr};
 ghost use Rattle.cluster_events.specs.EventModel.{event_of};
 ghost use Rattle.directory_rules.specs.Happens.{attempted, happens};
 ghost use Rattle.directory_rules.specs.Headline.{Headline};
+ghost use Rattle.dump_headline.specs.Told.{IsRightlyTold};
 ghost use Rattle.directory_node.specs.Follows.{Follows};
 ghost use Rattle.directory_core.specs.Applying.{IsPlainlyTold, accepted_as, excused};
 ghost use Rattle.directory_core.specs.Numbers.{IsNumberedUnlessMemory, event_refusal_number};
@@ -18,12 +19,14 @@ impl World {
     /// 909 (`docs/RULES.md#memory`).
     ///
     /// The headline holds of the world that is left, and what is accepted is the step of the plain machine that it tells
-    /// (`docs/RULES.md#what-is-to-hold-of-the-world`).
+    /// (`docs/RULES.md#what-is-to-hold-of-the-world`); the dump of that world is right
+    /// (`docs/RULES.md#the-dump-and-the-verdict`).
     pub fn apply(&mut self, event: &Event) -> Result<Outcome, EventRefusal>
         ensures told { Follows (accepted_as self.new) event_refusal_number (excused event.now) (happens self.old (event_of event.now)) result }
         ensures numbered { IfErr result IsNumberedUnlessMemory }
         ensures unchanged { OnErr result (self.new ≡ self.old) }
         ensures headline { Headline self.new }
+        ensures right { IsRightlyTold self.new }
         ensures plain { IfOk result (λ outcome. IsPlainlyTold self.old outcome self.new) }
     {
         event.in_range();
