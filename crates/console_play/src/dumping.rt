@@ -13,14 +13,13 @@ ghost use Rattle.console_play.specs.Performing.{Performs, in_session};
 use directory_core::World;
 use rebuild_checker::{check, verdict_text, write_dump};
 use std::alloc::{AllocError, Global};
-use world_dump::{dump, is_right};
 
 /// Writes the line of the world's dump.
 pub(crate) fn tell_dump(alloc: Global, world: &World, out: &mut Vec<u8>) -> Result<(), AllocError>
     ensures performed { OnOk result (Performs (printing (dump_text (dump_of world.now) ∷ []) (in_session world.now)) out.old.items world.now out.new.items) }
     ensures kept { OnErr result (BeginsWith out.old.items out.new.items) }
 {
-    let dump = dump(alloc, world)?;
+    let dump = world.dump(alloc)?;
     let text = write_dump(alloc, &dump)?;
     write_line(out, &text)
 }
@@ -30,8 +29,7 @@ pub fn tell_verdict(alloc: Global, world: &World, out: &mut Vec<u8>) -> Result<(
     ensures performed { OnOk result (Performs (checked (verdict (dump_of world.now)) (in_session world.now)) out.old.items world.now out.new.items) }
     ensures kept { OnErr result (BeginsWith out.old.items out.new.items) }
 {
-    is_right(world);
-    let dump = dump(alloc, world)?;
+    let dump = world.dump(alloc)?;
     let text = verdict_text(alloc, &check(alloc, &dump))?;
     out.extend_from_slice(text.as_bytes())?;
     Ok(())

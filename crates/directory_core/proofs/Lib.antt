@@ -7,3 +7,4 @@ pub mod Running
 pub mod CurrentView
 pub mod Numbered
 pub mod Idle
+pub mod Unchanged

@@ -5,6 +5,7 @@ ghost use Rattle.directory_rules.specs.Happens.{deliver, happens, node_of};
 ghost use Rattle.directory_rules.specs.Headline.{Headline};
 ghost use Rattle.directory_rules.specs.Letter.{Letter as LetterValue};
 ghost use Rattle.directory_rules.specs.Mail.{letter_of, with_delivered};
+ghost use Rattle.dump_headline.specs.Told.{IsRightlyTold};
 ghost use Rattle.directory_node.specs.Follows.{Follows};
 ghost use Rattle.directory_node.specs.SteppedModel.{stepped_of};
 ghost use Rattle.directory_core.specs.Applying.{IsOkOfUse, IsPlainlyTold, accepted_as};
@@ -39,6 +40,7 @@ impl World {
         ensures back { IfErr result (λ undelivered. undelivered.stepped ≡ stepped) }
         ensures unchanged { OnErr result (self.new ≡ self.old) }
         ensures headline { Headline self.new }
+        ensures right { IsRightlyTold self.new }
         ensures plain { IfOk result (λ outcome. IsPlainlyTold self.old outcome self.new) }
     {
         self.whole();

@@ -4,6 +4,7 @@
 
 mod apply;
 mod delivering;
+mod dumping;
 mod join;
 mod leaving;
 mod nodes;
@@ -11,6 +12,7 @@ mod passing;
 mod planned;
 mod posting;
 mod refusal;
+mod rows;
 mod run;
 mod sight;
 mod steps;
@@ -22,6 +24,7 @@ pub use delivering::Undelivered;
 pub use directory_letters::{Body, Letter};
 pub use directory_node::Node;
 pub use directory_rules::{Effect, LetterKind, Policy, Settings};
+pub use dump_lists::Dump;
 pub use hash_ring::Hashing;
 pub use membership_view::{Status, Views};
 pub use planned::UndeliveredPlan;

@@ -1,6 +1,7 @@
-//! A letter of which nothing comes: it is fresh no more, and that is all. No memory is needed.
+//! What nothing comes of: a letter that is fresh no more, and a step of a silo's own that leaves its node as it is. No memory is needed.
 ghost use Rattle.std.specs.Prelude.{◌≡◌, ◌<◌, IsSome, Ok, Some};
-ghost use Rattle.directory_rules.specs.Happens.{counted, deliver};
+ghost use Rattle.directory_rules.specs.Event.{Did};
+ghost use Rattle.directory_rules.specs.Happens.{counted, deliver, tells};
 ghost use Rattle.directory_rules.specs.Letter.{Letter as LetterValue};
 ghost use Rattle.directory_rules.specs.Mail.{letter_of, with_delivered};
 ghost use Rattle.directory_core.specs.Applying.{accepted_as};
@@ -10,6 +11,7 @@ ghost use Rattle.directory_core.specs.Whole.{IsWorld, LeavesWorld};
 use crate::World;
 use cluster_events::{Happening, Outcome};
 use directory_rules::{Effect, LetterKind};
+use silo_address::SiloAddress;
 
 impl World {
     // The letter of a number comes to its receiver, and nothing comes of it.
@@ -25,6 +27,23 @@ impl World {
             happening: Happening::Delivered {
                 number,
                 kind,
+                effect,
+            },
+            sent: None,
+        }
+    }
+
+    // A silo takes a step of its own, and nothing comes of it.
+    pub(crate) fn stay(&mut self, silo: &SiloAddress, effect: Effect) -> Outcome
+        requires room { self.old.accepted < self.old.settings.events }
+        requires leaves { IsWorld (counted self.old) }
+        ensures { accepted_as self.new result ≡ tells self.old (Did silo.now effect) }
+    {
+        self.settings.counts_fit();
+        self.accepted += 1;
+        Outcome {
+            happening: Happening::Did {
+                silo: *silo,
                 effect,
             },
             sent: None,

@@ -7,7 +7,7 @@ use Rattle.console_play.proofs.dumping.tell_verdict.Goals as goal
 
 pub returns-clause-performed : goal.returns-clause-performed
 returns-clause-performed c =
-    verdict_told c.args.world.now c.in_ok-dump.dump c.check.result c.as_bytes.result.now c.args.out.now.items _ c.is_right.ensures c.in_ok-dump.ensures.told
+    verdict_told c.args.world.now c.in_ok-dump.dump c.check.result c.as_bytes.result.now c.args.out.now.items _ c.in_ok-dump.ensures.right c.in_ok-dump.ensures.told
     c.check.ensures.verdict (subst (IsLineOf c.check.result) (sym c.as_bytes.ensures.value) c.in_ok-text.ensures) c.in_ok-extend_from_slice.ensures.items
 
 pub returns-in_err-dump-clause-performed : goal.returns-in_err-dump-clause-performed

@@ -18,7 +18,7 @@ pub returns-clause-told : goal.returns-clause-told
 returns-clause-told c =
     let events_are = ap (λ (s : Settings). s.events) c.settings.ensures in
     let room : c.args.self.now.accepted < c.args.self.now.settings.events = omega (arith, c.if-accepted-events.false, c.accepted.ensures, c.events.ensures, events_are) in
-    subst (λ h. Follows (accepted_as c.attempt.new.self) event_refusal_number (excused c.args.event.now) h c.attempt.result) (sym (has_room c.args.self.now (event_of c.args.event.now) room)) c.attempt.ensures.told
+    subst (λ h. Follows (accepted_as c.attempt.new.self) event_refusal_number (excused c.args.self.now c.args.event.now) h c.attempt.result) (sym (has_room c.args.self.now (event_of c.args.event.now) room)) c.attempt.ensures.told
 
 pub returns-then-accepted-events-clause-unchanged : goal.returns-then-accepted-events-clause-unchanged
 returns-then-accepted-events-clause-unchanged c = search rules

@@ -1,9 +1,9 @@
-//! The rows of all silos that ever joined.
+//! The rows of all silos that ever joined, as a dump tells them.
 ghost use Rattle.std.specs.Prelude.{◌≡◌, IfOk, map};
 ghost use Rattle.hash_ring.specs.declared.hashing.Hashing.{Hashing as HashingSeen};
 ghost use Rattle.dump_rules.specs.Dump.{dump_row, named_places};
 
-use directory_core::World;
+use crate::World;
 use dump_lists::Row as DumpRow;
 use hash_ring::{Hashing, Places};
 use membership_view::Row;
@@ -11,7 +11,7 @@ use silo_address::SiloAddress;
 use std::alloc::{AllocError, Global};
 
 /// A row for each silo that ever joined, by address (`docs/RULES.md#the-dump-and-the-verdict`). Fails only when memory runs out.
-pub fn listed_rows(alloc: Global, world: &World) -> Result<Vec<DumpRow>, AllocError>
+pub(crate) fn listed_rows(alloc: Global, world: &World) -> Result<Vec<DumpRow>, AllocError>
     ensures { IfOk result (λ rows. rows.items ≡ map (λ e. dump_row world.now.places e.0 e.1) world.now.views.rows) }
 {
     let mut rows = Vec::new(alloc);
