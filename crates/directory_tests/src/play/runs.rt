@@ -28,7 +28,6 @@ use script_commands::{Command, first_line, read_command};
 use script_output::{write_outcome, write_refusal};
 use std::alloc::{AllocError, Global};
 use std::process::Abort;
-use world_dump::dump;
 
 /// As many lines as a script or what it prints has at most here, and as many events as a settle or a sync makes.
 const MOST: usize = 1000;
@@ -71,7 +70,7 @@ fn write(rt: &(impl Abort + Eprint), out: &mut Vec<u8>, told: &Result<Outcome, E
 
 // The text of the world's dump.
 fn dump_text(rt: &impl Abort, alloc: Global, world: &World) -> Vec<u8> {
-    let dump = dump(alloc, world).expect(rt, "memory");
+    let dump = world.dump(alloc).expect(rt, "memory");
     write_dump(alloc, &dump).expect(rt, "memory")
 }
 
