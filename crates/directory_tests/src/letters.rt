@@ -1,6 +1,6 @@
 //! Letters as lines of a silo's process: each kind both ways, and each fault.
 use hash_ring::Hashing;
-use process_letters::{LetterError, read_letter, write_letter};
+use process_letters::{LineError, read_letter, write_letter};
 use std::alloc::{AllocError, Global};
 use std::test::Fail;
 
@@ -20,7 +20,7 @@ fn is_written(alloc: Global, words: &str, line: &str) -> Result<bool, AllocError
 
 fn fault_of(alloc: Global, words: &str) -> Option<u16> {
     match read_letter(alloc, Hashing::Stated, words.as_bytes()) {
-        Err(LetterError::Fault(fault)) => Some(fault.number()),
+        Err(LineError::Fault(fault)) => Some(fault.number()),
         _ => None,
     }
 }

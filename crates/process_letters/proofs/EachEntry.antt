@@ -7,8 +7,8 @@ use Rattle.ring_range.specs.Range.{Range}
 use Rattle.directory_rules.specs.Letter.{Page_letter, Report_letter}
 use Rattle.script_rules.specs.Script.{number_word, ◌>>=◌}
 use Rattle.process_rules.specs.LetterReading.{Head, letter_of, range_word, digest_word, are_pairs, entries_in, entry_of_words, report_for, a_report, page_for}
-use Rattle.process_letters.specs.declared.fault.LetterError.{LetterError}
-use Rattle.process_letters.specs.declared.fault.LetterError.TheVariants.{Fault, OutOfMemory}
+use Rattle.process_letters.specs.declared.fault.LineError.{LineError}
+use Rattle.process_letters.specs.declared.fault.LineError.TheVariants.{Fault, OutOfMemory}
 use Rattle.process_letters.specs.Reading.{Fails, Reads}
 
 -- ---- pairs
@@ -58,7 +58,7 @@ entries_odd before words behind grain first second = ap (λ (ws : List (List ℕ
 pub entries_end : (before : List Entry) (words : List (List ℕ)) → words ≡ [] → onto before (entries_in words) ≡ Ok before
 entries_end before words none = ap (λ (ws : List (List ℕ)). onto before (entries_in ws)) none ∙ ap Ok (append-nil before)
 
-pub fails_behind : (error : LetterError) (before : List Entry) (read : Result (List Entry) ℕ) → Fails error read → Fails error (onto before read)
+pub fails_behind : (error : LineError) (before : List Entry) (read : Result (List Entry) ℕ) → Fails error read → Fails error (onto before read)
 fails_behind (Fault fault) before read fails = ap (onto before) fails
 fails_behind OutOfMemory before (Ok entries) fails = fails
 fails_behind OutOfMemory before (Err fault) fails = fails
@@ -66,16 +66,16 @@ fails_behind OutOfMemory before (Err fault) fails = fails
 pub ruleset entry_by_entry = (entries_first, entries_more, entries_fault, entries_odd, entries_end, fails_behind)
 
 -- ---- what fails in the entries fails in what is made of them
-fails_then : {B : Type 0} (error : LetterError) (read : Result (List Entry) ℕ) (make : List Entry → B) → Fails error read → Fails error (read >>= λ entries. Ok (make entries))
+fails_then : {B : Type 0} (error : LineError) (read : Result (List Entry) ℕ) (make : List Entry → B) → Fails error read → Fails error (read >>= λ entries. Ok (make entries))
 fails_then (Fault fault) read make fails = ap (λ (r : Result (List Entry) ℕ). r >>= λ entries. Ok (make entries)) fails
 fails_then OutOfMemory (Ok entries) make fails = fails
 fails_then OutOfMemory (Err fault) make fails = fails
 
-pub handed_on : {A B : Type 0} (view : A → B) (result : Result A LetterError) (error : LetterError) (read : Result B ℕ) → IsErrAnd result (λ e. e ≡ error) → Fails error read → Reads view result read
+pub handed_on : {A B : Type 0} (view : A → B) (result : Result A LineError) (error : LineError) (read : Result B ℕ) → IsErrAnd result (λ e. e ≡ error) → Fails error read → Reads view result read
 handed_on view (Ok value) error read is fails = absurd is
-handed_on view (Err same) error read is fails = subst (λ (e : LetterError). Fails e read) (sym is) fails
+handed_on view (Err same) error read is fails = subst (λ (e : LineError). Fails e read) (sym is) fails
 
-pub report_fails : (error : LetterError) (read : Result Head ℕ) (words behind : List (List ℕ)) (word : List ℕ) (head : Head) (range : Range) → words ≡ word ∷ behind → are_pairs behind ≡ true
+pub report_fails : (error : LineError) (read : Result Head ℕ) (words behind : List (List ℕ)) (word : List ℕ) (head : Head) (range : Range) → words ≡ word ∷ behind → are_pairs behind ≡ true
     → read ≡ Ok head → range_word word ≡ Ok range → Fails error (entries_in behind) → Fails error (a_report read words)
 report_fails error read words behind word head range first pairs read_is range_is fails =
     subst (Fails error)
@@ -85,7 +85,7 @@ report_fails error read words behind word head range first pairs read_is range_i
     ∙ ap (λ (r : Result Range ℕ). r >>= λ range. entries_in behind >>= λ entries. Ok (letter_of head (Report_letter (record { version = head.version; range = range; silo = head.from; entries = entries })))) range_is))
     (fails_then error (entries_in behind) (λ entries. letter_of head (Report_letter (record { version = head.version; range = range; silo = head.from; entries = entries }))) fails)
 
-pub page_fails : (error : LetterError) (read : Result Head ℕ) (first second third fourth : List ℕ) (behind : List (List ℕ)) (head : Head) (range : Range) (page pages : ℕ) (digest : List ℕ)
+pub page_fails : (error : LineError) (read : Result Head ℕ) (first second third fourth : List ℕ) (behind : List (List ℕ)) (head : Head) (range : Range) (page pages : ℕ) (digest : List ℕ)
     → read ≡ Ok head → range_word first ≡ Ok range → number_word second ≡ Ok page → number_word third ≡ Ok pages → digest_word fourth ≡ Ok digest
     → Fails error (entries_in behind) → Fails error (page_for true read first second third fourth behind)
 page_fails error read first second third fourth behind head range page pages digest read_is range_is page_is pages_is digest_is fails =

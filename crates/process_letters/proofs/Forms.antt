@@ -9,8 +9,8 @@ use Rattle.process_rules.specs.LetterReading.{Head, form_of, a_number_and_an_ent
 use Rattle.script_commands.specs.WordCounts.{only_three_words}
 use Rattle.process_letters.specs.Fronts.{Four, four_in, only_four_words}
 use Rattle.process_rules.proofs.FormsAgain.{form_gave}
-use Rattle.process_letters.specs.declared.fault.LetterError.{LetterError}
-use Rattle.process_letters.specs.declared.fault.LetterError.TheVariants.{OutOfMemory}
+use Rattle.process_letters.specs.declared.fault.LineError.{LineError}
+use Rattle.process_letters.specs.declared.fault.LineError.TheVariants.{OutOfMemory}
 use Rattle.process_letters.specs.Reading.{Reads}
 use Rattle.process_letters.specs.Short.{HasEntries, IsShort}
 
@@ -58,10 +58,10 @@ entries_by : (kind : LetterKind) (hashing : Hashing) (head : Result Head ℕ) (w
 entries_by named hashing head words (Ok letter) long is ok = λ short. long (subst IsShort (sym (form_gave hashing head letter named words is).kind_is) short)
 entries_by named hashing head words (Err fault) long is ok = cc ok
 
-pub entries_needed : (kind : LetterKind) (hashing : Hashing) (head : Result Head ℕ) (words : List (List ℕ)) (result : Result Letter LetterError) → ¬ (IsShort kind)
+pub entries_needed : (kind : LetterKind) (hashing : Hashing) (head : Result Head ℕ) (words : List (List ℕ)) (result : Result Letter LineError) → ¬ (IsShort kind)
     → Reads (λ letter. letter) result (form_of hashing kind head words) → IsErrOf result OutOfMemory → HasEntries (form_of hashing kind head words)
 entries_needed named hashing head words result long reads memory =
-    entries_by named hashing head words (form_of hashing named head words) long refl (subst (λ (r : Result Letter LetterError). Reads (λ letter. letter) r (form_of hashing named head words)) memory reads)
+    entries_by named hashing head words (form_of hashing named head words) long refl (subst (λ (r : Result Letter LineError). Reads (λ letter. letter) r (form_of hashing named head words)) memory reads)
 
 pub ruleset by_kind = (short_kind, entries_needed)
 

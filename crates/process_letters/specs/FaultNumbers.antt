@@ -2,10 +2,14 @@
 use Rattle.std.specs.Prelude.{ℕ}
 use Rattle.silo_address.specs.Numbers.{silo_error_number, grain_error_number}
 use Rattle.process_letters.specs.declared.fault.LineFault.{LineFault}
-use Rattle.process_letters.specs.declared.fault.LineFault.TheVariants.{WordCount, Kind, Silo, Grain, Activation, Range, Digest, NotANumber}
+use Rattle.process_letters.specs.declared.fault.LineFault.TheVariants.{LineTooLong, Unended, NotText, UnknownCommand, WordCount, Kind, Silo, Grain, Activation, Range, Digest, NotANumber}
 
 -- the stated number of a fault
 abbrev pub line_fault_number : LineFault → ℕ
+line_fault_number LineTooLong = 924
+line_fault_number Unended = 931
+line_fault_number NotText = 925
+line_fault_number UnknownCommand = 921
 line_fault_number WordCount = 922
 line_fault_number Kind = 927
 line_fault_number (Silo fault) = silo_error_number fault

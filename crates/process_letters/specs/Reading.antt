@@ -2,8 +2,8 @@
 use Rattle.std.specs.Prelude.{◌≡◌, ℕ, Result, Ok, Err, IsOk}
 use Rattle.process_rules.specs.LetterReading as rule
 use Rattle.process_letters.specs.declared.fault.LineFault.{LineFault}
-use Rattle.process_letters.specs.declared.fault.LetterError.{LetterError}
-use Rattle.process_letters.specs.declared.fault.LetterError.TheVariants.{Fault, OutOfMemory}
+use Rattle.process_letters.specs.declared.fault.LineError.{LineError}
+use Rattle.process_letters.specs.declared.fault.LineError.TheVariants.{Fault, OutOfMemory}
 use Rattle.process_letters.specs.declared.head.Head.{Head}
 use Rattle.process_letters.specs.FaultNumbers.{line_fault_number}
 
@@ -13,12 +13,12 @@ told view (Ok value) = Ok (view value)
 told view (Err fault) = Err (line_fault_number fault)
 
 -- a fault is the rule's, by its number; memory runs out only where the rule finds no fault
-abbrev pub Fails : {B : Type 0} → LetterError → Result B ℕ → Type 0
+abbrev pub Fails : {B : Type 0} → LineError → Result B ℕ → Type 0
 Fails (Fault fault) rule = rule ≡ Err (line_fault_number fault)
 Fails OutOfMemory rule = IsOk rule
 
 -- what was read is what the rule reads, or the reading fails as the rule says
-abbrev pub Reads : {A B : Type 0} → (A → B) → Result A LetterError → Result B ℕ → Type 0
+abbrev pub Reads : {A B : Type 0} → (A → B) → Result A LineError → Result B ℕ → Type 0
 Reads view (Ok value) rule = rule ≡ Ok (view value)
 Reads view (Err error) rule = Fails error rule
 

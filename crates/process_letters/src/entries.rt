@@ -6,7 +6,7 @@ ghost use Rattle.process_rules.specs.LetterReading as rule;
 ghost use Rattle.process_letters.specs.Reading.{Fails, Reads};
 
 use crate::words::entry_of_words;
-use crate::{LetterError, LineFault};
+use crate::{LineError, LineFault};
 use script_commands::split_word;
 use silo_address::Entry;
 use std::alloc::Global;
@@ -28,14 +28,14 @@ pub(crate) fn are_pairs(words: &[u8]) -> bool
 
 /// The entries that the words tell.
 #[tactic(auto, using(crate::proofs::EachEntry::entry_by_entry))]
-pub(crate) fn entries_in(alloc: Global, words: &[u8]) -> Result<Vec<Entry>, LetterError>
+pub(crate) fn entries_in(alloc: Global, words: &[u8]) -> Result<Vec<Entry>, LineError>
     ensures { Reads (λ entries. entries.items) result (rule.entries_in (words_in words.now)) }
 {
     let mut entries = Vec::new(alloc);
     let mut rest = words;
     'words: while let Some((grain, behind)) = split_word(rest) {
         let Some((activation, after)) = split_word(behind) else {
-            return Err(LetterError::Fault(LineFault::WordCount));
+            return Err(LineError::Fault(LineFault::WordCount));
         };
         let entry = entry_of_words(grain, activation)?;
         if entries.push(entry).is_err() {
@@ -48,18 +48,18 @@ pub(crate) fn entries_in(alloc: Global, words: &[u8]) -> Result<Vec<Entry>, Lett
 
 /// The first fault of the entries, else that memory ran out.
 #[tactic(auto, using(crate::proofs::EachEntry::entry_by_entry))]
-fn without_memory(words: &[u8]) -> LetterError
+fn without_memory(words: &[u8]) -> LineError
     ensures { Fails result (rule.entries_in (words_in words.now)) }
 {
     let mut rest = words;
     'words: while let Some((grain, behind)) = split_word(rest) {
         let Some((activation, after)) = split_word(behind) else {
-            return LetterError::Fault(LineFault::WordCount);
+            return LineError::Fault(LineFault::WordCount);
         };
         if let Err(fault) = entry_of_words(grain, activation) {
-            return LetterError::Fault(fault);
+            return LineError::Fault(fault);
         }
         rest = after;
     }
-    LetterError::OutOfMemory
+    LineError::OutOfMemory
 }

@@ -10,7 +10,7 @@ use crate::replies::{a_found, a_number, a_registered, a_retry, a_taken};
 use crate::requests::{a_deregister, a_find, a_register, an_offer};
 use crate::transfers::{a_behind, a_done, a_missing, a_page, a_query, a_report, an_ahead, an_ask};
 use crate::words::four_words;
-use crate::{LetterError, LineFault};
+use crate::{LineError, LineFault};
 use directory_letters::Letter;
 use directory_rules::{LetterKind, Reply};
 use hash_ring::Hashing;
@@ -20,15 +20,15 @@ use std::alloc::Global;
 /// of a page or a report alone, and that it runs out is told only where the line has no fault.
 /// (`docs/RULES.md#lines-of-a-silos-process`)
 #[tactic(auto, using(crate::proofs::Forms::fronts))]
-pub fn read_letter(alloc: Global, hashing: Hashing, words: &[u8]) -> Result<Letter, LetterError>
+pub fn read_letter(alloc: Global, hashing: Hashing, words: &[u8]) -> Result<Letter, LineError>
     ensures reads { Reads (λ letter. letter) result (read_letter hashing (words_in words.now)) }
-    ensures memory { IsErrOf result LetterError.OutOfMemory → HasEntries (read_letter hashing (words_in words.now)) }
+    ensures memory { IsErrOf result LineError.OutOfMemory → HasEntries (read_letter hashing (words_in words.now)) }
 {
     let Some(front) = four_words(words) else {
-        return Err(LetterError::Fault(LineFault::WordCount));
+        return Err(LineError::Fault(LineFault::WordCount));
     };
     let Some(kind) = kind_of_word(front.fourth) else {
-        return Err(LetterError::Fault(LineFault::Kind));
+        return Err(LineError::Fault(LineFault::Kind));
     };
     let head = read_head(front.first, front.second, front.third);
     letter_of_kind(alloc, hashing, kind, head, front.behind)
@@ -42,9 +42,9 @@ fn letter_of_kind(
     kind: LetterKind,
     head: Result<Head, LineFault>,
     words: &[u8],
-) -> Result<Letter, LetterError>
+) -> Result<Letter, LineError>
     ensures reads { Reads (λ letter. letter) result (form_of hashing kind (told head_of head) (words_in words.now)) }
-    ensures memory { IsErrOf result LetterError.OutOfMemory → HasEntries (form_of hashing kind (told head_of head) (words_in words.now)) }
+    ensures memory { IsErrOf result LineError.OutOfMemory → HasEntries (form_of hashing kind (told head_of head) (words_in words.now)) }
 {
     match kind {
         LetterKind::Page => a_page(alloc, head, words),
@@ -54,13 +54,13 @@ fn letter_of_kind(
 }
 
 /// A letter that needed no memory.
-fn without_entries(read: Result<Letter, LineFault>) -> Result<Letter, LetterError>
+fn without_entries(read: Result<Letter, LineFault>) -> Result<Letter, LineError>
     ensures reads { Reads (λ letter. letter) result (told (λ letter. letter) read) }
-    ensures never { ¬ (IsErrOf result LetterError.OutOfMemory) }
+    ensures never { ¬ (IsErrOf result LineError.OutOfMemory) }
 {
     match read {
         Ok(letter) => Ok(letter),
-        Err(fault) => Err(LetterError::Fault(fault)),
+        Err(fault) => Err(LineError::Fault(fault)),
     }
 }
 

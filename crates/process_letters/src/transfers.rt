@@ -10,7 +10,7 @@ ghost use Rattle.process_letters.specs.Reading.{Reads, head_of, told};
 use crate::entries::{are_pairs, entries_in};
 use crate::head::Head;
 use crate::words::{FourWords, digest_word, four_words, number_word, range_word};
-use crate::{LetterError, LineFault};
+use crate::{LineError, LineFault};
 use directory_letters::{Body, Letter};
 use range_recovery::Report;
 use ring_range::RingRange;
@@ -84,14 +84,14 @@ pub(crate) fn a_page(
     alloc: Global,
     head: Result<Head, LineFault>,
     words: &[u8],
-) -> Result<Letter, LetterError>
+) -> Result<Letter, LineError>
     ensures { Reads (λ letter. letter) result (rule.a_page (told head_of head) (words_in words.now)) }
 {
     let Some(front) = four_words(words) else {
-        return Err(LetterError::Fault(LineFault::WordCount));
+        return Err(LineError::Fault(LineFault::WordCount));
     };
     if !are_pairs(front.behind) {
-        return Err(LetterError::Fault(LineFault::WordCount));
+        return Err(LineError::Fault(LineFault::WordCount));
     }
     page_of(alloc, head, &front)
 }
@@ -101,7 +101,7 @@ fn page_of(
     alloc: Global,
     head: Result<Head, LineFault>,
     front: &FourWords<'_>,
-) -> Result<Letter, LetterError>
+) -> Result<Letter, LineError>
     ensures { Reads (λ letter. letter) result
         (rule.page_for true (told head_of head) front.now.first.now front.now.second.now front.now.third.now front.now.fourth.now (words_in front.now.behind.now)) }
 {
@@ -120,14 +120,14 @@ pub(crate) fn a_report(
     alloc: Global,
     head: Result<Head, LineFault>,
     words: &[u8],
-) -> Result<Letter, LetterError>
+) -> Result<Letter, LineError>
     ensures { Reads (λ letter. letter) result (rule.a_report (told head_of head) (words_in words.now)) }
 {
     let Some((range, behind)) = split_word(words) else {
-        return Err(LetterError::Fault(LineFault::WordCount));
+        return Err(LineError::Fault(LineFault::WordCount));
     };
     if !are_pairs(behind) {
-        return Err(LetterError::Fault(LineFault::WordCount));
+        return Err(LineError::Fault(LineFault::WordCount));
     }
     let head = head?;
     let range = range_word(range)?;

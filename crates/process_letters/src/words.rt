@@ -51,8 +51,8 @@ pub(crate) fn only_four_words(line: &[u8]) -> Option<(&[u8], &[u8], &[u8], &[u8]
     Some((first, second, third, fourth))
 }
 
-/// Reads a silo.
-pub(crate) fn silo_word(word: &[u8]) -> Result<SiloAddress, LineFault>
+/// Reads a silo, or tells its fault, 101 to 103 (`docs/RULES.md#identities-and-their-texts`).
+pub fn silo_word(word: &[u8]) -> Result<SiloAddress, LineFault>
     ensures { told (λ silo. silo) result ≡ script.silo_word word.now }
 {
     match SiloAddress::parse(word) {
@@ -61,8 +61,8 @@ pub(crate) fn silo_word(word: &[u8]) -> Result<SiloAddress, LineFault>
     }
 }
 
-/// Reads a grain.
-pub(crate) fn grain_word(word: &[u8]) -> Result<GrainId, LineFault>
+/// Reads a grain, or tells its fault, 111 to 113 (`docs/RULES.md#identities-and-their-texts`).
+pub fn grain_word(word: &[u8]) -> Result<GrainId, LineFault>
     ensures { told (λ grain. grain) result ≡ script.grain_word word.now }
 {
     match GrainId::parse(word) {
@@ -71,8 +71,9 @@ pub(crate) fn grain_word(word: &[u8]) -> Result<GrainId, LineFault>
     }
 }
 
-/// Reads a version, or the number of a request or a page.
-pub(crate) fn number_word(word: &[u8]) -> Result<u64, LineFault>
+/// Reads a version, or the number of a request or a page: a number up to 2^64 - 1, else 923
+/// (`docs/RULES.md#lines-of-a-silos-process`).
+pub fn number_word(word: &[u8]) -> Result<u64, LineFault>
     ensures { told (λ number. number) result ≡ script.number_word word.now }
 {
     match number_up_to(word, u64::MAX) {

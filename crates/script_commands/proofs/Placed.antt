@@ -1,10 +1,11 @@
 -- The places of a join, read word by word.
 use Rattle.std.proofs.Common.{◌≡◌, ap, ◌∙◌, sym, refl, ℕ, Result, Ok, Err, List, [], ◌∷◌, ◌++◌, append_assoc}
+use Rattle.std.specs.Prelude.{IsOk}
 use Rattle.std.proofs.lemmas.List.{append-nil}
 use Rattle.script_rules.specs.Script.{hash_word, places_in, ◌>>=◌}
 use Rattle.script_commands.specs.declared.error.ReadError.{ReadError}
 use Rattle.script_commands.specs.declared.error.ReadError.TheVariants.{Fault, OutOfMemory}
-use Rattle.script_commands.specs.Reading.{Fails}
+use Rattle.script_commands.specs.Reading.{Fails, HasPlaces}
 
 -- what is read with these places in front
 abbrev pub onto : List ℕ → Result (List ℕ) ℕ → Result (List ℕ) ℕ
@@ -47,3 +48,9 @@ pub fails_behind : (error : ReadError) (before : List ℕ) (read : Result (List 
 fails_behind (Fault fault) before read fails = ap (onto before) fails
 fails_behind OutOfMemory before (Ok places) fails = fails
 fails_behind OutOfMemory before (Err fault) fails = fails
+
+-- where those behind a place are places, there are some
+pub has_places : (before : List ℕ) (place : ℕ) (read : Result (List ℕ) ℕ) → IsOk read → HasPlaces (onto (before ++ place ∷ []) read)
+has_places [] place (Ok places) ok = tt
+has_places (first ∷ before) place (Ok places) ok = tt
+has_places before place (Err fault) ok = cc ok

@@ -1,5 +1,5 @@
 -- How what the code read is what the rule reads.
-use Rattle.std.specs.Prelude.{◌≡◌, ℕ, ⊤, Option, Some, Result, Ok, Err, IsOk}
+use Rattle.std.specs.Prelude.{◌≡◌, ℕ, ⊤, List, ◌∷◌, Option, Some, Result, Ok, Err, IsOk}
 use Rattle.directory_rules.specs.Event as event
 use Rattle.script_rules.specs.Script as script
 use Rattle.script_commands.specs.declared.error.ScriptFault.{ScriptFault}
@@ -26,3 +26,8 @@ Reads view (Err error) rule = Fails error rule
 abbrev pub IsJoin : Result (Option script.Command) ℕ → Type 0
 IsJoin (Ok (Some (script.Happen (event.Join silo places)))) = ⊤
 IsJoin line = ⊥
+
+-- places were read, and there are some
+abbrev pub HasPlaces : Result (List ℕ) ℕ → Type 0
+HasPlaces (Ok (place ∷ places)) = ⊤
+HasPlaces read = ⊥

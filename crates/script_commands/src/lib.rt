@@ -19,5 +19,6 @@ mod words;
 pub use command::Command;
 pub use error::{ReadError, ScriptFault};
 pub use lines::{first_line, without_return};
-pub use reading::read_command;
+pub use places::places_in;
+pub use reading::{is_remark, is_text, read_command};
 pub use words::{only_three_words, only_two_words, only_word, split_word};

@@ -36,8 +36,9 @@ pub fn read_command(alloc: Global, line: &[u8]) -> Result<Option<Command>, ReadE
     Ok(Some(command))
 }
 
-/// Whether each byte may stand in a line. Looks at all of them, whatever it finds, so that many can be looked at at once.
-fn is_text(line: &[u8]) -> bool
+/// Whether each byte may stand in a line (`docs/RULES.md#scripts`). Looks at all of them, whatever it finds, so that many can
+/// be looked at at once.
+pub fn is_text(line: &[u8]) -> bool
     ensures { result ≡ list_all script.is_text line.now }
 {
     let mut all = true;
@@ -54,8 +55,8 @@ fn may_stand(byte: u8) -> bool
     b' ' <= byte && byte <= b'~'
 }
 
-/// Whether a word begins a remark.
-fn is_remark(word: &[u8]) -> bool
+/// Whether a line with that first word is a remark (`docs/RULES.md#scripts`).
+pub fn is_remark(word: &[u8]) -> bool
     ensures { result ≡ script.is_remark word.now }
 {
     match word {

@@ -1,0 +1,21 @@
+-- How what the code was asked for is what the rule was asked for.
+use Rattle.process_rules.specs.LineReading as rule
+use Rattle.process_lines.specs.declared.asked.Asked.{Asked}
+use Rattle.process_lines.specs.declared.asked.Asked.TheVariants.{Joined, Leaving, Dead, See, Wake, Close, Offer, Find, Forget, Nudge, Receive, Ping, Show, Dump}
+
+-- what is asked for, in the rule's words
+abbrev pub asked_of : Asked → rule.Asked
+asked_of (Joined version silo places) = rule.Joined version silo places.items
+asked_of (Leaving version silo) = rule.Leaving version silo
+asked_of (Dead version silo) = rule.Dead version silo
+asked_of (See version) = rule.See version
+asked_of (Wake grain) = rule.Wake grain
+asked_of (Close grain) = rule.Close grain
+asked_of (Offer grain to) = rule.Offer grain to
+asked_of (Find grain) = rule.Find grain
+asked_of (Forget grain) = rule.Forget grain
+asked_of Nudge = rule.Nudge
+asked_of (Receive letter) = rule.Receive letter
+asked_of (Ping word) = rule.Ping word.now
+asked_of Show = rule.Show
+asked_of Dump = rule.Dump

@@ -1,0 +1,4 @@
+pub mod AskedModel
+pub mod Known
+pub mod Memory
+pub mod Named

@@ -1,0 +1,93 @@
+//! Changes of membership that a silo is told.
+
+ghost use Rattle.std.specs.Map.{lookup};
+ghost use Rattle.std.specs.Prelude.{◌≡◌, ℕ, IsErrOf, Some, bytes_eq, option_map};
+ghost use Rattle.silo_address.specs.Silo.{Silo};
+ghost use Rattle.texts.specs.Words.{words_in};
+ghost use Rattle.script_rules.specs.Script.{places_in};
+ghost use Rattle.script_commands.specs.Reading.{HasPlaces};
+ghost use Rattle.process_rules.specs.LineReading as rule;
+ghost use Rattle.process_letters.specs.Reading.{Reads, told};
+ghost use Rattle.process_lines.specs.AskedModel.{asked_of};
+ghost use Rattle.process_lines.specs.Known.{change_commands};
+ghost use Rattle.process_lines.specs.Memory.{WordsNeedMemory};
+ghost use Rattle.process_lines.specs.Named.{grammar_of};
+
+use crate::Asked;
+use crate::names::CommandName;
+use process_letters::{LineError, LineFault, number_word, silo_word};
+use script_commands::{ReadError, only_two_words, places_in, split_word};
+use silo_address::SiloAddress;
+use std::alloc::Global;
+
+/// The change of that name, but for a join.
+pub(crate) fn change_name(name: &[u8]) -> Option<CommandName>
+    ensures { option_map grammar_of result ≡ lookup (bytes_eq name.now) change_commands }
+{
+    if name == b"leaving".as_slice() {
+        return Some(CommandName::Leaving);
+    }
+    if name == b"dead".as_slice() {
+        return Some(CommandName::Dead);
+    }
+    None
+}
+
+/// A version, a silo, and any number of places.
+pub(crate) fn joined(alloc: Global, words: &[u8]) -> Result<Asked<'_>, LineError>
+    ensures reads { Reads asked_of result (rule.a_join (words_in words.now)) }
+    ensures memory { IsErrOf result LineError.OutOfMemory → WordsNeedMemory (rule.a_join (words_in words.now)) }
+{
+    let Some((version, behind)) = split_word(words) else {
+        return Err(LineError::Fault(LineFault::WordCount));
+    };
+    let Some((silo, places)) = split_word(behind) else {
+        return Err(LineError::Fault(LineFault::WordCount));
+    };
+    let version = number_word(version)?;
+    let silo = silo_word(silo)?;
+    let places = places_of(alloc, places)?;
+    Ok(Asked::Joined {
+        version,
+        silo,
+        places,
+    })
+}
+
+/// The places of a join.
+fn places_of(alloc: Global, words: &[u8]) -> Result<Vec<u32>, LineError>
+    ensures reads { Reads (λ places. places.items) result (places_in (words_in words.now)) }
+    ensures memory { IsErrOf result LineError.OutOfMemory → HasPlaces (places_in (words_in words.now)) }
+{
+    match places_in(alloc, words) {
+        Ok(places) => Ok(places),
+        Err(ReadError::Fault(_)) => Err(LineError::Fault(LineFault::NotANumber)),
+        Err(ReadError::OutOfMemory) => Err(LineError::OutOfMemory),
+    }
+}
+
+pub(crate) fn leaving(words: &[u8]) -> Result<Asked<'_>, LineFault>
+    ensures { told asked_of result ≡ rule.a_version_and_a_silo rule.Leaving (words_in words.now) }
+{
+    let (version, silo) = a_version_and_a_silo(words)?;
+    Ok(Asked::Leaving { version, silo })
+}
+
+pub(crate) fn dead(words: &[u8]) -> Result<Asked<'_>, LineFault>
+    ensures { told asked_of result ≡ rule.a_version_and_a_silo rule.Dead (words_in words.now) }
+{
+    let (version, silo) = a_version_and_a_silo(words)?;
+    Ok(Asked::Dead { version, silo })
+}
+
+/// A version and a silo.
+fn a_version_and_a_silo(words: &[u8]) -> Result<(u64, SiloAddress), LineFault>
+    ensures { (of : ℕ → Silo → rule.Asked) → told (λ parts. of parts.0 parts.1) result ≡ rule.a_version_and_a_silo of (words_in words.now) }
+{
+    let Some((version, silo)) = only_two_words(words) else {
+        return Err(LineFault::WordCount);
+    };
+    let version = number_word(version)?;
+    let silo = silo_word(silo)?;
+    Ok((version, silo))
+}

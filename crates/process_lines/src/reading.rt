@@ -1,0 +1,59 @@
+ghost use Rattle.std.specs.Prelude.{◌≡◌, IsErrOf, option_map};
+ghost use Rattle.process_rules.specs.LineReading as rule;
+ghost use Rattle.process_letters.specs.FaultNumbers.{line_fault_number};
+ghost use Rattle.process_letters.specs.Reading.{Reads};
+ghost use Rattle.process_lines.specs.AskedModel.{asked_of};
+ghost use Rattle.process_lines.specs.Memory.{LineNeedsMemory};
+
+use crate::Asked;
+use crate::known::asked_under;
+use hash_ring::Hashing;
+use process_letters::{LineError, LineFault};
+use script_commands::{is_remark, is_text, split_word};
+use std::alloc::Global;
+
+/// How many bytes a line may have.
+const LONGEST_LINE: usize = 16_777_216;
+
+/// Reads a line of a silo's process, given without its end, grains being hashed so: what it asks for, nothing, or its first
+/// fault. Memory is taken for the places of a join and the entries of a letter alone, and that it runs out is told only where
+/// the line has no fault. (`docs/RULES.md#lines-of-a-silos-process`)
+#[tactic(auto, unfolding(process_rules::specs::LineReading::read_silo_line))]
+pub fn read_line<'a>(
+    alloc: Global,
+    hashing: Hashing,
+    line: &'a [u8],
+) -> Result<Option<Asked<'a>>, LineError>
+    ensures reads { Reads (option_map asked_of) result (rule.read_silo_line hashing line.now) }
+    ensures memory { IsErrOf result LineError.OutOfMemory → LineNeedsMemory (rule.read_silo_line hashing line.now) }
+{
+    if line.len() > LONGEST_LINE {
+        return Err(LineError::Fault(LineFault::LineTooLong));
+    }
+    if !is_text(line) {
+        return Err(LineError::Fault(LineFault::NotText));
+    }
+    let Some((name, words)) = split_word(line) else {
+        return Ok(None);
+    };
+    if is_remark(name) {
+        return Ok(None);
+    }
+    let asked = asked_under(alloc, hashing, name, words)?;
+    Ok(Some(asked))
+}
+
+/// The fault of what stands behind the last line feed, if anything does: that it is too long, else that no end came, so that
+/// it may have been cut. (`docs/RULES.md#lines-of-a-silos-process`)
+#[tactic(auto, unfolding(process_rules::specs::LineReading::unended_fault))]
+pub fn unended_fault(line: &[u8]) -> Option<LineFault>
+    ensures { option_map line_fault_number result ≡ rule.unended_fault line.now }
+{
+    if line.is_empty() {
+        return None;
+    }
+    if line.len() > LONGEST_LINE {
+        return Some(LineFault::LineTooLong);
+    }
+    Some(LineFault::Unended)
+}
