@@ -36,6 +36,15 @@ pub fn write_dump(alloc: Global, dump: &Dump) -> Result<Vec<u8>, AllocError>
     Ok(out)
 }
 
+/// The text of one silo's node, as it stands in a dump's (`docs/RULES.md#the-dump-and-the-verdict`). Fails only when memory runs out.
+pub fn write_node(alloc: Global, node: &Node) -> Result<Vec<u8>, AllocError>
+    ensures { IfOk result (λ text. text.items ≡ node_json node.now) }
+{
+    let mut out = Vec::new(alloc);
+    node.write_to(alloc, &mut out)?;
+    Ok(out)
+}
+
 impl<'a> WriteJson for Dump<'a> {
     ghost json = { dump_text };
 

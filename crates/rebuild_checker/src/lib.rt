@@ -27,7 +27,7 @@ pub use dump_lists::{
     Dump, Entry, Held, LentGrain, ListedPoint, Node, Phase, Piece, ReadError, Row, State,
 };
 pub use dump_reader::is_dump;
-pub use dump_writer::write_dump;
+pub use dump_writer::{write_dump, write_node};
 pub use first_fault::check;
 pub use reading::read_dump;
 pub use text::verdict_text;

@@ -2,7 +2,6 @@
 #![tactic(auto)]
 
 mod nodes;
-mod pieces;
 mod rows;
 
 pub use nodes::listed_nodes;

@@ -1,16 +1,10 @@
 //! The nodes of all silos that aren't Dead.
 ghost use Rattle.std.specs.Prelude.{◌≡◌, IfOk, map};
-ghost use Rattle.dump_rules.specs.Dump.{dump_held, dump_node, dump_phase};
-ghost use Rattle.dump_lists.specs.DumpModel.{phase_of};
+ghost use Rattle.dump_rules.specs.Dump.{dump_node};
 
-use crate::pieces::pieces;
 use directory_core::World;
-use directory_node::Node;
-use directory_rules::{Held, Phase};
-use dump_lists::{Held as DumpHeld, LentGrain, ListedPoint, Node as DumpNode, Phase as DumpPhase};
-use hash_ring::Point;
-use host_activations::Host;
-use silo_address::{ActivationId, GrainId, SiloAddress};
+use dump_lists::Node as DumpNode;
+use node_lists::listed_node;
 use std::alloc::{AllocError, Global};
 
 /// The node of each silo that isn't Dead, by address, with all that it holds (`docs/RULES.md#the-dump-and-the-verdict`). Costs what
@@ -20,84 +14,8 @@ pub fn listed_nodes(alloc: Global, world: &World) -> Result<Vec<DumpNode<'static
 {
     let mut nodes = Vec::new(alloc);
     for (silo, node) in world.nodes() {
-        let node = dumped(alloc, silo, node.node())?;
+        let node = listed_node(alloc, silo, node.node())?;
         nodes.push(node)?;
     }
     Ok(nodes)
-}
-
-fn dumped(alloc: Global, silo: &SiloAddress, node: &Node) -> Result<DumpNode<'static>, AllocError>
-    ensures { IfOk result (λ dumped. dumped ≡ dump_node silo.now node.now) }
-{
-    let held = held(alloc, silo, node.host())?;
-    let pieces = pieces(alloc, node.holding())?;
-    let ring = points(alloc, node.ring().points())?;
-    Ok(DumpNode {
-        held,
-        pieces,
-        ring,
-        seen: node.view().version(),
-        silo: *silo,
-    })
-}
-
-// The activations that the silo holds, in the order in which they began.
-fn held(
-    alloc: Global,
-    silo: &SiloAddress,
-    host: &Host,
-) -> Result<Vec<DumpHeld<'static>>, AllocError>
-    ensures { IfOk result (λ held. held.items ≡ map (λ e. dump_held silo.now e.0 e.1) host.now.held) }
-{
-    let activations = host.activations(alloc)?;
-    let mut listed = Vec::with_capacity(alloc, activations.len())?;
-    for (grain, held) in &activations {
-        let held = dumped_held(alloc, silo, grain, held)?;
-        listed.push(held)?;
-    }
-    Ok(listed)
-}
-
-fn dumped_held(
-    alloc: Global,
-    silo: &SiloAddress,
-    grain: &GrainId,
-    held: &Held,
-) -> Result<DumpHeld<'static>, AllocError>
-    ensures { IfOk result (λ dumped. dumped ≡ dump_held silo.now grain.now held.now) }
-{
-    let activation = ActivationId {
-        silo: *silo,
-        count: held.count,
-    };
-    let grain = LentGrain::owned(alloc, grain)?;
-    Ok(DumpHeld {
-        activation,
-        grain,
-        phase: phase(&held.phase),
-    })
-}
-
-fn phase(phase: &Phase) -> DumpPhase
-    ensures { phase_of result ≡ dump_phase phase.now }
-{
-    match phase {
-        Phase::Asking(_) => DumpPhase::Asking,
-        Phase::Firm => DumpPhase::Firm,
-        Phase::Closing(_) => DumpPhase::Closing,
-    }
-}
-
-// The points of the silo's ring.
-fn points(alloc: Global, points: &[Point]) -> Result<Vec<ListedPoint>, AllocError>
-    ensures { IfOk result (λ listed. listed.items ≡ points.now) }
-{
-    points
-        .iter()
-        .map(|point| ListedPoint {
-            place: u64::from(point.place),
-            silo: point.silo,
-            index: point.index as u64,
-        })
-        .collect(alloc)
 }
