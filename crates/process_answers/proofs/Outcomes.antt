@@ -31,19 +31,9 @@ use Rattle.process_answers.specs.Answering.{IsAnswered}
 use Rattle.process_answers.specs.Ending.{EndsAsDead, is_ending, last_lines}
 use Rattle.process_answers.proofs.Written.{lines_behind_lines, one_line}
 
--- ---- what may lack memory more rarely may lack it so as well
-refuses_wider : {A : Type 0} (rarer wider : Result A ℕ → Type 0) (outcome : Result A ℕ) (number : Option ℕ) → (rarer outcome → wider outcome) → RefusesBy rarer number outcome → RefusesBy wider number outcome
-refuses_wider rarer wider outcome (Some number) widens refuses = refuses
-refuses_wider rarer wider outcome None widens refuses = widens refuses
-
-pub follows_wider : {A B E : Type 0} (value_of : B → A) (number_of : E → Option ℕ) (rarer wider : Result A ℕ → Type 0) (outcome : Result A ℕ) (result : Result B E) → (rarer outcome → wider outcome)
-    → Follows value_of number_of rarer outcome result → Follows value_of number_of wider outcome result
-follows_wider value_of number_of rarer wider outcome (Ok value) widens follows = follows
-follows_wider value_of number_of rarer wider outcome (Err refusal) widens follows = refuses_wider rarer wider outcome (number_of refusal) widens follows
-
 -- ---- refusals
 -- a refusal whose line was written is the rule's
-pub refused_by : {A : Type 0} (excused : Result A ℕ → Type 0) (outcome : Result A ℕ) (number : Option ℕ) (before after : List ℕ) → RefusesBy excused number outcome
+refused_by : {A : Type 0} (excused : Result A ℕ → Type 0) (outcome : Result A ℕ) (number : Option ℕ) (before after : List ℕ) → RefusesBy excused number outcome
     → IsSomeAnd number (λ n. after ≡ before ++ printed (refusal_line n)) → (n : ℕ) × (outcome ≡ Err n) × (after ≡ before ++ text_of_lines (refusal_line n ∷ []))
 refused_by excused outcome (Some n) before after refuses written = (n, refuses, one_line before after (refusal_line n) written)
 refused_by excused outcome None before after refuses written = absurd written
@@ -102,14 +92,5 @@ pub letter_answered : (letter : Letter) (s new : SiloValue) (before after : List
     → IsAnswered (stepped (received_words s.node.host letter) (receives s letter) s) before new after false → IsAnswered (received_so letter s) before new after false
 letter_answered letter s new before after own answered =
     subst (λ (a : Answered). IsAnswered a before new after false) (sym (own_letter letter s (silo_eq letter.to s.node.host.silo) own)) answered
-
-pub letter_left_alone : (letter : Letter) (s : SiloValue) (before : List ℕ) (own : Bool) → own ≡ false
-    → IsAnswered (cond own (stepped (received_words s.node.host letter) (receives s letter) s) (printing [] s)) before s before false
-letter_left_alone letter s before true is = absurd (cc)
-letter_left_alone letter s before false is = record { leaves = refl; prints = sym (append-nil before); ending = refl }
-
--- ---- questions
-pub question_answered : (lines : List (List ℕ)) (s : SiloValue) (before after : List ℕ) → after ≡ before ++ text_of_lines lines → IsAnswered (printing lines s) before s after false
-question_answered lines s before after written = record { leaves = refl; prints = written; ending = refl }
 
 pub ruleset outcome_by_outcome = (step_refused, step_taken, change_told, change_refused)

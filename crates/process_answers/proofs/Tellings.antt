@@ -31,10 +31,6 @@ pub grain_of_entry : (host : Host) (waited : Option (Grain × Held)) (entry : En
 grain_of_entry host None entry is = cc
 grain_of_entry host (Some e) entry is = ap (λ (found : Option Entry). option_map (λ (its : Entry). its.grain) found) is
 
-pub no_grain : (host : Host) (waited : Option (Grain × Held)) → None ≡ option_map (λ e. entry_of host e.0 e.1) waited → None ≡ option_map (λ e. e.0) waited
-no_grain host None is = refl
-no_grain host (Some e) is = absurd (cc)
-
 -- what is said of a letter is what it tells
 by_ignored : (ignored : Bool) (came told words : List (List ℕ)) → told ≡ words → cond ignored came told ≡ cond ignored came words
 by_ignored ignored came told words same = ap (cond ignored came) same

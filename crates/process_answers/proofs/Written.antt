@@ -46,31 +46,12 @@ pub each_row : {X : Type 0} (line : X → List ℕ) (start now : List ℕ) (rows
     → now ≡ start ++ text_of_lines (map line (take index rows)) → now ≡ start ++ text_of_lines (map line rows)
 each_row {X} line start now rows index past so_far = so_far ∙ ap (λ (es : List X). start ++ text_of_lines (map line es)) (take_all index rows past)
 
--- the rows that are left, where the next one is shown
-pub row_of_rest : {X : Type 0} (line : X → List ℕ) (now next whole : List ℕ) (row : X) (rest left : List X) → left ≡ row ∷ rest → next ≡ now ++ printed (line row)
-    → now ++ text_of_lines (map line left) ≡ whole → next ++ text_of_lines (map line rest) ≡ whole
-row_of_rest {X} line now next whole row rest left is written shows =
-    ap (λ (t : List ℕ). t ++ text_of_lines (map line rest)) written
-    ∙ append_assoc now (printed (line row)) (text_of_lines (map line rest))
-    ∙ ap (λ (es : List X). now ++ text_of_lines (map line es)) (sym is)
-    ∙ shows
-
--- none is left
-pub rest_is_shown : {X : Type 0} (line : X → List ℕ) (now whole : List ℕ) (left : List X) → left ≡ [] → now ++ text_of_lines (map line left) ≡ whole → now ≡ whole
-rest_is_shown {X} line now whole left none shows =
-    sym (append-nil now) ∙ ap (λ (es : List X). now ++ text_of_lines (map line es)) (sym none) ∙ shows
-
 -- ---- what stood there stays in front
 pub begins_with_more : (front more text : List ℕ) → text ≡ front ++ more → BeginsWith front text
 begins_with_more front more text joined = record { more = more; joined = joined }
 
 pub begins_unchanged : (front text : List ℕ) → text ≡ front → BeginsWith front text
 begins_unchanged front text same = record { more = []; joined = same ∙ sym (append-nil front) }
-
--- whether a line was written or not
-pub begins_anyhow : {A E : Type 0} (result : Result A E) (front more text : List ℕ) → OnOk result (text ≡ front ++ more) → OnErr result (text ≡ front) → BeginsWith front text
-begins_anyhow (Ok value) front more text written same = begins_with_more front more text written
-begins_anyhow (Err error) front more text written same = begins_unchanged front text same
 
 -- whether a line was ended or taken back
 pub ended_begins : {A E : Type 0} (pushed ended : Result A E) (start : ℕ) (front middle after : List ℕ) (words : List (List ℕ)) → 0 < length words → start ≡ length front → BeginsWith front middle

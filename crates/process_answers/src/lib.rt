@@ -2,9 +2,13 @@
 //! are in `docs/RULES.md#lines-of-a-silos-process`.
 #![tactic(auto)]
 
+mod answering;
 mod changes;
+mod dump;
 mod letters;
 mod lines;
 mod show;
 mod steps;
 mod telling;
+
+pub use answering::answer;

@@ -79,7 +79,7 @@ impl Telling {
             },
             Reply::Removed | Reply::Absent => Telling::Ended(closing_entry(host, number)),
             Reply::Found(entry) => Telling::Found(*entry),
-            Reply::Nothing => Telling::Nothing(None),
+            Reply::Nothing => Telling::Nothing(host.finding_under(number)),
             Reply::Retry(_) => Telling::Delivered,
         }
     }

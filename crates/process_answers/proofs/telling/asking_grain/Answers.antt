@@ -1,5 +1,5 @@
 use Rattle.directory_rules.specs.Host.{asking_under}
-use Rattle.process_answers.proofs.Tellings.{grain_of_entry, no_grain}
+use Rattle.process_answers.proofs.Tellings.{grain_of_entry}
 use Rattle.process_answers.proofs.telling.asking_grain.Goals as goal
 
 pub returns : goal.returns
