@@ -87,8 +87,8 @@ fn push_sent(out: &mut Vec<u8>, sent: Option<Span>) -> Result<(), AllocError>
     Ok(())
 }
 
-/// What happened.
-fn push_happening(out: &mut Vec<u8>, happening: &Happening) -> Result<(), AllocError>
+/// What happened, in words (`docs/RULES.md#what-a-script-prints`). Fails only when memory runs out.
+pub fn push_happening(out: &mut Vec<u8>, happening: &Happening) -> Result<(), AllocError>
     ensures written { OnOk result (out.new.items ≡ out.old.items ++ spaced (happening_words (happening_of happening.now))) }
     ensures kept { BeginsWith out.old.items out.new.items }
 {
@@ -197,8 +197,8 @@ fn push_delivered(
     Ok(())
 }
 
-/// The words for an effect.
-fn push_effect(out: &mut Vec<u8>, effect: &Effect) -> Result<(), AllocError>
+/// The words for an effect (`docs/RULES.md#what-a-script-prints`). Fails only when memory runs out.
+pub fn push_effect(out: &mut Vec<u8>, effect: &Effect) -> Result<(), AllocError>
     ensures written { OnOk result (out.new.items ≡ out.old.items ++ spaced (effect_words effect.now)) }
     ensures kept { BeginsWith out.old.items out.new.items }
 {

@@ -75,7 +75,7 @@ pub fn push_grain(out: &mut Vec<u8>, grain: &GrainId) -> Result<(), AllocError>
 }
 
 /// An activation and its grain.
-pub(crate) fn push_entry(out: &mut Vec<u8>, entry: &Entry) -> Result<(), AllocError>
+pub fn push_entry(out: &mut Vec<u8>, entry: &Entry) -> Result<(), AllocError>
     ensures written { OnOk result (out.new.items ≡ out.old.items ++ spaced (entry_words entry.now)) }
     ensures kept { BeginsWith out.old.items out.new.items }
 {
