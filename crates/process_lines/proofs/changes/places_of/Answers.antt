@@ -1,4 +1,3 @@
-use Rattle.std.proofs.Common.{rules, arith}
 use Rattle.texts.specs.Words.{words_in}
 use Rattle.process_lines.proofs.PlaceFaults.{a_place_is_a_number}
 use Rattle.process_lines.proofs.changes.places_of.Goals as goal
