@@ -6,8 +6,6 @@
 #[cfg(test)]
 mod cache;
 #[cfg(test)]
-mod digits;
-#[cfg(test)]
 mod holdings;
 #[cfg(test)]
 mod hosts;
