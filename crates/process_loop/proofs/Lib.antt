@@ -1,0 +1,8 @@
+mod Lines
+mod Kept
+mod Chunks
+mod Steps
+mod Calls
+mod Filled
+mod Stands
+pub mod TurnsTaken

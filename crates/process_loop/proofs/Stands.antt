@@ -1,0 +1,394 @@
+-- What steps, reads and writes keep of a process.
+use Rattle.std.proofs.Common.{◌≡◌, ℕ, ◌++◌, List, [], ◌∷◌, Option, Some, None, true, false, ap, arith, refl, sym, ◌∙◌, append_assoc, append-nil, subst}
+use Rattle.std.proofs.lemmas.List.{length-append}
+use Rattle.std.specs.Io.KnownBytes.{Appends, Consumes, IsAtEnd, Keeps}
+use Rattle.std.proofs.KnownBytes.{Appends-trans, Appends-nil, Consumes-trans, Consumes-kept}
+use Rattle.texts.specs.Words.{line_feed, pieces_at}
+use Rattle.silo_rules.specs.SiloValue.{SiloValue}
+use Rattle.process_rules.specs.LineReading.{unended_fault}
+use Rattle.script_output.specs.Spaced.{BeginsWith}
+use Rattle.script_loop.specs.Sending.{WritesFront}
+use Rattle.script_loop.specs.Transfers.{HasGot}
+use Rattle.process_output.specs.Output.{after_last, written_on}
+use Rattle.process_loop.specs.declared.stopped.Stopped.{Stopped}
+use Rattle.process_loop.specs.declared.stopped.Stopped.TheVariants as stopped
+use Rattle.process_loop.specs.Answering.{AnswersLine, before_last, ended_lines, ends_on}
+use Rattle.process_loop.specs.Endings.{Concludes, EndsReading, HasRead, Stops}
+use Rattle.process_loop.specs.Progress.{HasAnswered, HasEnded, HasNoEnd, NeedsMore, Progress, StopsStep, first_progress, kept}
+use Rattle.process_loop.specs.Transfers.{Fills, HasDrained, HasFilled}
+use Rattle.process_loop.specs.Turns.{Stands}
+use Rattle.process_loop.proofs.Kept.{kept_again, said_kept, unended_kept}
+use Rattle.process_loop.proofs.Lines.{before_the_last, behind_the_begun, ends_next, ends_on_nothing, ends_there, first_piece, no_end_in_both, nothing_ends, nothing_written, only_piece, written_last, written_next}
+
+-- ---- What was read.
+
+-- nothing yet
+abbrev pub none_read : (first : SiloValue) (input : List ℕ) → HasRead input first (Some input) []
+none_read first input = record {
+  front = [];
+  chunk = [];
+  consumes = refl;
+  chunk_fits = omega arith;
+  goes_on = ends_on_nothing first;
+  written = record { more = []; joined = sym (ap (λ (t : List ℕ). t ++ []) (nothing_written first)) };
+}
+
+-- as much, when more is written
+abbrev pub same_read : (first : SiloValue) (input : List ℕ) (rest : Option (List ℕ)) (text more : List ℕ) → HasRead input first rest text → HasRead input first rest (text ++ more)
+same_read first input rest text more read = record {
+  front = read.front;
+  chunk = read.chunk;
+  consumes = read.consumes;
+  chunk_fits = read.chunk_fits;
+  goes_on = read.goes_on;
+  written = record {
+    more = read.written.more ++ more;
+    joined = ap (λ (t : List ℕ). t ++ more) read.written.joined ∙ append_assoc (written_on (ended_lines read.front ++ [] ∷ []) first) read.written.more more;
+  };
+}
+
+-- as much, where a read failed
+abbrev pub kept_read : (first : SiloValue) (input : List ℕ) (read rest : Option (List ℕ)) (text : List ℕ) → Keeps read rest → HasRead input first read text → HasRead input first rest text
+kept_read first input read rest text keeps old = record {
+  front = old.front;
+  chunk = old.chunk;
+  consumes = Consumes-kept (Some input) read rest (old.front ++ old.chunk) old.consumes keeps;
+  chunk_fits = old.chunk_fits;
+  goes_on = old.goes_on;
+  written = old.written;
+}
+
+module _ (first : SiloValue) (input : List ℕ) (start : Option (List ℕ)) where
+  -- the bytes that were read
+  abbrev pub bytes_read : (silo : SiloValue) (at : Progress) (read written : Option (List ℕ)) → Stands first input start silo at read written → List ℕ
+  bytes_read silo at read written stands = stands.has_read.front ++ stands.has_read.chunk
+
+  -- where what is unread has no line feed, the lines that ended are those that were answered
+  pub ended_answered : (silo : SiloValue) (at : Progress) (read written : Option (List ℕ)) (stands : Stands first input start silo at read written) → HasNoEnd at.unread
+      → ended_lines (bytes_read silo at read written stands) ≡ stands.answered
+  ended_answered silo at read written stands none =
+      let bytes = bytes_read silo at read written stands in
+      let held = stands.begun ++ at.unread in
+      let one : pieces_at line_feed bytes ≡ stands.answered ++ held ∷ [] =
+      ap (pieces_at line_feed) (sym (append-nil bytes)) ∙ (stands.lines [] ∙ (ap (λ (bs : List ℕ). stands.answered ++ pieces_at line_feed bs) (append-nil held)
+      ∙ ap (λ (ps : List (List ℕ)). stands.answered ++ ps) (only_piece held (no_end_in_both stands.begun at.unread stands.no_end none)))) in
+      ap before_last one ∙ (before_the_last stands.answered held [] ∙ append-nil stands.answered)
+
+  -- and the process doesn't end by them
+  pub answered_goes_on : (silo : SiloValue) (at : Progress) (read written : Option (List ℕ)) (stands : Stands first input start silo at read written) → ends_on stands.answered first ≡ false
+  answered_goes_on silo at read written stands =
+      ap (λ (ls : List (List ℕ)). ends_on ls first) (sym (append-nil stands.answered)) ∙ (stands.goes_on [] ∙ ends_on_nothing silo)
+
+  -- a chunk more, where all that was read is looked at and nothing waits
+  abbrev pub more_read : (silo : SiloValue) (at : Progress) (read rest written : Option (List ℕ)) (got : List ℕ) → at.unread ≡ [] → at.waiting ≡ [] → HasGot read rest got
+      → (stands : Stands first input start silo at read written) → HasRead input first rest stands.sent
+  more_read silo at read rest written got seen none chunk stands =
+      let none_unread : HasNoEnd at.unread = subst HasNoEnd (sym seen) nothing_ends in
+      let ended = ended_answered silo at read written stands none_unread in
+      record {
+        front = bytes_read silo at read written stands;
+        chunk = got;
+        consumes = Consumes-trans (Some input) read rest (bytes_read silo at read written stands) got stands.has_read.consumes chunk.consumes;
+        chunk_fits = chunk.fits;
+        goes_on = ap (λ (ls : List (List ℕ)). ends_on ls first) ended ∙ answered_goes_on silo at read written stands;
+        written = record {
+          more = [];
+          joined = sym (ap (λ (ls : List (List ℕ)). written_on (ls ++ [] ∷ []) first ++ []) ended ∙ (append-nil (written_on (stands.answered ++ [] ∷ []) first)
+              ∙ (stands.makes [] [] ∙ (ap (λ (t : List ℕ). stands.sent ++ (at.waiting ++ t)) (nothing_written silo)
+              ∙ (ap (λ (w : List ℕ). stands.sent ++ (w ++ [])) none ∙ append-nil stands.sent)))));
+        };
+      }
+
+  -- ---- A process goes on.
+
+  -- before the first line
+  pub stands_first : (at : Progress) → at ≡ first_progress → Stands first input start first at (Some input) start
+  stands_first at is = subst (λ (p : Progress). Stands first input start first p (Some input) start) (sym is) (record {
+    sent = [];
+    appends = Appends-nil start;
+    has_read = none_read first input;
+    at_end = λ over. absurd (cc);
+    counted = omega arith;
+    answered = [];
+    begun = [];
+    begun_kept = refl;
+    no_end = nothing_ends;
+    lines = λ more. refl;
+    makes = λ next lines. refl;
+    goes_on = λ lines. refl;
+  })
+
+  -- a line that is begun, and goes on with bytes without a line feed up to one, is what the session keeps of it
+  kept_line : (silo : SiloValue) (at : Progress) (read written : Option (List ℕ)) (stands : Stands first input start silo at read written) (line : List ℕ)
+      → kept (at.begun ++ line) ≡ kept (stands.begun ++ line)
+  kept_line silo at read written stands line = ap (λ (b : List ℕ). kept (b ++ line)) stands.begun_kept ∙ kept_again stands.begun line
+
+  -- a line was answered
+  pub stands_answered : (read written : Option (List ℕ)) (silo : SiloValue) (old : Progress) (next : SiloValue) (new : Progress)
+      → HasAnswered silo old next new false → Stands first input start silo old read written → Stands first input start next new read written
+  stands_answered read written silo old next new step stands =
+      let line = stands.begun ++ step.line in
+      let answers = subst (λ (l : List ℕ). AnswersLine silo l old.waiting next new.waiting false) (kept_line silo old read written stands step.line) step.answers in
+      let same = said_kept line silo in
+      record {
+        sent = stands.sent;
+        appends = stands.appends;
+        has_read = stands.has_read;
+        at_end = λ over. stands.at_end (sym step.same_end ∙ over);
+        counted = omega (arith, step.same_left, stands.counted);
+        answered = stands.answered ++ line ∷ [];
+        begun = [];
+        begun_kept = step.none_begun;
+        no_end = nothing_ends;
+        lines = λ more.
+            let cut = first_piece (new.unread ++ more) in
+            stands.lines more ∙ (ap (λ (bs : List ℕ). stands.answered ++ pieces_at line_feed bs) (append_assoc stands.begun old.unread more)
+            ∙ (ap (λ (ps : List (List ℕ)). stands.answered ++ ps) (behind_the_begun stands.begun (old.unread ++ more) step.line (pieces_at line_feed (new.unread ++ more)) stands.no_end (step.cuts more))
+            ∙ sym (append_assoc stands.answered (line ∷ []) (pieces_at line_feed (new.unread ++ more)))));
+        makes = λ after lines.
+            ap (λ (ls : List (List ℕ)). written_on ls first) (append_assoc stands.answered (line ∷ []) (after ∷ lines))
+            ∙ (stands.makes line (after ∷ lines)
+            ∙ ap (λ (t : List ℕ). stands.sent ++ t) (sym (written_next line (kept line) after lines silo next old.waiting new.waiting same answers)));
+        goes_on = λ lines.
+            ap (λ (ls : List (List ℕ)). ends_on ls first) (append_assoc stands.answered (line ∷ []) lines)
+            ∙ (stands.goes_on (line ∷ lines) ∙ ends_next line (kept line) lines silo next old.waiting new.waiting same answers);
+      }
+
+  -- a line goes on with all that was read
+  pub stands_begun : (read written : Option (List ℕ)) (silo : SiloValue) (old : Progress) (next : SiloValue) (new : Progress)
+      → NeedsMore silo old next new → Stands first input start silo old read written → Stands first input start next new read written
+  stands_begun read written silo old next new step stands =
+      subst (λ (s : SiloValue). Stands first input start s new read written) (sym step.same_silo) (record {
+        sent = stands.sent;
+        appends = stands.appends;
+        has_read = stands.has_read;
+        at_end = λ over. stands.at_end (sym step.same_end ∙ over);
+        counted = omega (arith, step.same_left, stands.counted);
+        answered = stands.answered;
+        begun = stands.begun ++ old.unread;
+        begun_kept = step.begun ∙ kept_line silo old read written stands old.unread;
+        no_end = no_end_in_both stands.begun old.unread stands.no_end step.none;
+        lines = λ more. stands.lines more
+            ∙ ap (λ (bs : List ℕ). stands.answered ++ pieces_at line_feed (bs ++ more)) (sym (append-nil (stands.begun ++ old.unread)) ∙ ap (λ (u : List ℕ). (stands.begun ++ old.unread) ++ u) (sym step.seen));
+        makes = λ after lines. stands.makes after lines ∙ ap (λ (w : List ℕ). stands.sent ++ (w ++ written_on (after ∷ lines) silo)) (sym step.same_waiting);
+        goes_on = stands.goes_on;
+      })
+
+  -- what waited was written
+  pub stands_drained : (read before written : Option (List ℕ)) (silo : SiloValue) (old new : Progress)
+      → HasDrained old before new written → Stands first input start silo old read before → Stands first input start silo new read written
+  stands_drained read before written silo old new drain stands =
+      let drained : Progress = record old { waiting = [] } in
+      subst (λ (p : Progress). Stands first input start silo p read written) (sym drain.drained) (record {
+        sent = stands.sent ++ old.waiting;
+        appends = Appends-trans start before written _ _ stands.appends drain.appends;
+        has_read = same_read first input read stands.sent old.waiting stands.has_read;
+        at_end = stands.at_end;
+        counted = stands.counted;
+        answered = stands.answered;
+        begun = stands.begun;
+        begun_kept = stands.begun_kept;
+        no_end = stands.no_end;
+        lines = stands.lines;
+        makes = λ next lines. stands.makes next lines ∙ sym (append_assoc stands.sent old.waiting (written_on (next ∷ lines) silo));
+        goes_on = stands.goes_on;
+      })
+
+  -- more was read
+  pub stands_filled : (read rest written : Option (List ℕ)) (silo : SiloValue) (old new : Progress) → old.unread ≡ [] → old.waiting ≡ [] → HasFilled old read new rest
+      → Stands first input start silo old read written → Stands first input start silo new rest written
+  stands_filled read rest written silo old new seen none fill stands =
+      let bytes = bytes_read silo old read written stands in
+      record {
+        sent = stands.sent;
+        appends = stands.appends;
+        has_read = more_read silo old read rest written fill.got seen none fill.chunk stands;
+        at_end = fill.at_end;
+        counted = omega (arith, fill.counted, stands.counted, length-append bytes fill.got);
+        answered = stands.answered;
+        begun = stands.begun;
+        begun_kept = fill.same_begun ∙ stands.begun_kept;
+        no_end = stands.no_end;
+        lines = λ more. ap (pieces_at line_feed) (append_assoc bytes fill.got more)
+            ∙ (stands.lines (fill.got ++ more)
+            ∙ (ap (λ (u : List ℕ). stands.answered ++ pieces_at line_feed ((stands.begun ++ u) ++ (fill.got ++ more))) seen
+            ∙ (ap (λ (b : List ℕ). stands.answered ++ pieces_at line_feed (b ++ (fill.got ++ more))) (append-nil stands.begun)
+            ∙ (ap (λ (bs : List ℕ). stands.answered ++ pieces_at line_feed bs) (sym (append_assoc stands.begun fill.got more))
+            ∙ ap (λ (u : List ℕ). stands.answered ++ pieces_at line_feed ((stands.begun ++ u) ++ more)) (sym fill.unread)))));
+        makes = λ next lines. stands.makes next lines ∙ ap (λ (w : List ℕ). stands.sent ++ (w ++ written_on (next ∷ lines) silo)) (sym fill.same_waiting);
+        goes_on = stands.goes_on;
+      }
+
+  -- ---- A process stops.
+
+  -- what the source still has
+  rest_of : (read : Option (List ℕ)) (bytes : List ℕ) → Consumes (Some input) read bytes → (rest : List ℕ) × (read ≡ Some rest) × (input ≡ bytes ++ rest)
+  rest_of None bytes consumes = absurd consumes
+  rest_of (Some rest) bytes consumes = (rest, refl, consumes)
+
+  none_left : (read : Option (List ℕ)) (rest : List ℕ) → read ≡ Some rest → IsAtEnd read → rest ≡ []
+  none_left None rest is end = absurd (cc)
+  none_left (Some xs) rest is end = cc
+
+  -- what is written on all of the input, by its lines from the one that is begun on
+  whole_by : (silo : SiloValue) (at : Progress) (read written : Option (List ℕ)) (stands : Stands first input start silo at read written) (rest next : List ℕ) (lines : List (List ℕ))
+      → input ≡ bytes_read silo at read written stands ++ rest → pieces_at line_feed ((stands.begun ++ at.unread) ++ rest) ≡ next ∷ lines
+      → written_on (pieces_at line_feed input) first ≡ stands.sent ++ (at.waiting ++ written_on (next ∷ lines) silo)
+  whole_by silo at read written stands rest next lines is cut =
+      ap (λ (bs : List ℕ). written_on (pieces_at line_feed bs) first) is
+      ∙ (ap (λ (ps : List (List ℕ)). written_on ps first) (stands.lines rest ∙ ap (λ (ps : List (List ℕ)). stands.answered ++ ps) cut)
+      ∙ stands.makes next lines)
+
+  -- what was sent, and a beginning of what waits, is a beginning of it
+  begins_by : (sent front waiting later whole : List ℕ) → BeginsWith front waiting → whole ≡ sent ++ (waiting ++ later) → BeginsWith (sent ++ front) whole
+  begins_by sent front waiting later whole begins is = record {
+    more = begins.more ++ later;
+    joined = is ∙ (ap (λ (w : List ℕ). sent ++ (w ++ later)) begins.joined ∙ (ap (λ (t : List ℕ). sent ++ t) (append_assoc front begins.more later)
+        ∙ sym (append_assoc sent front (begins.more ++ later))));
+  }
+
+  sent_begins : (silo : SiloValue) (at : Progress) (read written : Option (List ℕ)) (stands : Stands first input start silo at read written) (front : List ℕ) → BeginsWith front at.waiting
+      → BeginsWith (stands.sent ++ front) (written_on (pieces_at line_feed input) first)
+  sent_begins silo at read written stands front begins =
+      let left = rest_of read (bytes_read silo at read written stands) stands.has_read.consumes in
+      let cut = first_piece ((stands.begun ++ at.unread) ++ left.0) in
+      begins_by stands.sent front at.waiting (written_on (cut.0 ∷ cut.1) silo) _ begins (whole_by silo at read written stands left.0 cut.0 cut.1 left.2 cut.2)
+
+  all_begins : (text : List ℕ) → BeginsWith text text
+  all_begins text = record { more = []; joined = sym (append-nil text) }
+
+  none_begins : (text : List ℕ) → BeginsWith [] text
+  none_begins text = record { more = text; joined = refl }
+
+  -- a read failed, or there were too many
+  pub stops_unread : (read rest written : Option (List ℕ)) (silo : SiloValue) (at new : Progress) (stopping : Stopped) → at.unread ≡ [] → at.waiting ≡ [] → Fills at read new rest (Some stopping)
+      → Stands first input start silo at read written → Stops input first rest start written stopping
+  stops_unread read rest written silo at new stopped.AtEnd seen none fill stands = absurd fill
+  stops_unread read rest written silo at new stopped.Dead seen none fill stands = absurd fill
+  stops_unread read rest written silo at new stopped.OutOfMemory seen none fill stands = absurd fill
+  stops_unread read rest written silo at new stopped.TooManyReads seen none fill stands = record {
+    text = stands.sent;
+    writes = stands.appends;
+    concludes = subst (λ (t : List ℕ). BeginsWith t (written_on (pieces_at line_feed input) first)) (append-nil stands.sent) (sent_begins silo at read written stands [] (none_begins at.waiting));
+    read = more_read silo at read rest written fill.0 seen none fill.1 stands;
+    reads = omega (arith, fill.2, fill.3, stands.counted, length-append (bytes_read silo at read written stands) fill.0);
+  }
+  stops_unread read rest written silo at new stopped.Broken seen none fill stands = record {
+    text = stands.sent;
+    writes = stands.appends;
+    concludes = subst (λ (t : List ℕ). BeginsWith t (written_on (pieces_at line_feed input) first)) (append-nil stands.sent) (sent_begins silo at read written stands [] (none_begins at.waiting));
+    read = kept_read first input read rest stands.sent fill stands.has_read;
+    reads = tt;
+  }
+
+  -- memory ran out before the first line
+  pub stops_at_once : Stops input first (Some input) start start stopped.OutOfMemory
+  stops_at_once = record {
+    text = [];
+    writes = Appends-nil start;
+    concludes = none_begins (written_on (pieces_at line_feed input) first);
+    read = none_read first input;
+    reads = tt;
+  }
+
+  -- a write failed
+  pub stops_unwritten : (read before written : Option (List ℕ)) (silo : SiloValue) (at : Progress) (waiting : List ℕ) (stopping : Stopped) → stopping ≡ stopped.Broken
+      → ((stands : Stands first input start silo at read before) → BeginsWith (stands.sent ++ waiting) (written_on (pieces_at line_feed input) first)) → WritesFront waiting before written
+      → Stands first input start silo at read before → Stops input first read start written stopping
+  stops_unwritten read before written silo at waiting stopping is begins front stands =
+      let whole = begins stands in
+      subst (λ (s : Stopped). Stops input first read start written s) (sym is) (record {
+        text = stands.sent ++ front.front;
+        writes = Appends-trans start before written _ _ stands.appends front.appends;
+        concludes = begins_by stands.sent front.front waiting whole.more _ front.begins (whole.joined ∙ append_assoc stands.sent waiting whole.more);
+        read = same_read first input read stands.sent front.front stands.has_read;
+        reads = tt;
+      })
+
+  pub waits_begins : (read before : Option (List ℕ)) (silo : SiloValue) (at : Progress) (stands : Stands first input start silo at read before)
+      → BeginsWith (stands.sent ++ at.waiting) (written_on (pieces_at line_feed input) first)
+  waits_begins read before silo at stands = sent_begins silo at read before stands at.waiting (all_begins at.waiting)
+
+  -- the line by which the process ends
+  died_whole : (read before : Option (List ℕ)) (silo : SiloValue) (at : Progress) (next : SiloValue) (last : Progress) (stands : Stands first input start silo at read before)
+      → HasAnswered silo at next last true → written_on (pieces_at line_feed input) first ≡ stands.sent ++ last.waiting
+  died_whole read before silo at next last stands step =
+      let line = stands.begun ++ step.line in
+      let left = rest_of read (bytes_read silo at read before stands) stands.has_read.consumes in
+      let behind = first_piece (last.unread ++ left.0) in
+      let cut : pieces_at line_feed ((stands.begun ++ at.unread) ++ left.0) ≡ line ∷ (behind.0 ∷ behind.1) =
+      ap (pieces_at line_feed) (append_assoc stands.begun at.unread left.0)
+      ∙ (behind_the_begun stands.begun (at.unread ++ left.0) step.line _ stands.no_end (step.cuts left.0) ∙ ap (λ (ps : List (List ℕ)). line ∷ ps) behind.2) in
+      let answers = subst (λ (l : List ℕ). AnswersLine silo l at.waiting next last.waiting true) (kept_line silo at read before stands step.line) step.answers in
+      whole_by silo at read before stands left.0 line (behind.0 ∷ behind.1) left.2 cut
+      ∙ ap (λ (t : List ℕ). stands.sent ++ t) (sym (written_last line (kept line) behind.0 behind.1 silo next at.waiting last.waiting (said_kept line silo) answers))
+
+  died_reading : (read before : Option (List ℕ)) (silo : SiloValue) (at : Progress) (next : SiloValue) (last : Progress) (stands : Stands first input start silo at read before)
+      → HasAnswered silo at next last true → ends_on (ended_lines (bytes_read silo at read before stands)) first ≡ true
+  died_reading read before silo at next last stands step =
+      let line = stands.begun ++ step.line in
+      let bytes = bytes_read silo at read before stands in
+      let behind = first_piece (last.unread ++ []) in
+      let cut : pieces_at line_feed bytes ≡ stands.answered ++ line ∷ (behind.0 ∷ behind.1) =
+      ap (pieces_at line_feed) (sym (append-nil bytes)) ∙ (stands.lines []
+      ∙ (ap (λ (bs : List ℕ). stands.answered ++ pieces_at line_feed bs) (append_assoc stands.begun at.unread [])
+      ∙ ap (λ (ps : List (List ℕ)). stands.answered ++ ps) (behind_the_begun stands.begun (at.unread ++ []) step.line _ stands.no_end (step.cuts []) ∙ ap (λ (ps : List (List ℕ)). line ∷ ps) behind.2))) in
+      let answers = subst (λ (l : List ℕ). AnswersLine silo l at.waiting next last.waiting true) (kept_line silo at read before stands step.line) step.answers in
+      ap (λ (ls : List (List ℕ)). ends_on ls first) (ap before_last cut ∙ before_the_last stands.answered line (behind.0 ∷ behind.1))
+      ∙ (stands.goes_on (line ∷ before_last (behind.0 ∷ behind.1))
+      ∙ ends_there line (kept line) (before_last (behind.0 ∷ behind.1)) silo next at.waiting last.waiting (said_kept line silo) answers)
+
+  -- the end of the input
+  ended_whole : (read before : Option (List ℕ)) (silo : SiloValue) (at last : Progress) (stands : Stands first input start silo at read before)
+      → HasEnded at last → written_on (pieces_at line_feed input) first ≡ stands.sent ++ last.waiting
+  unfolding written_on
+  ended_whole read before silo at last stands step =
+      let held = stands.begun ++ at.unread in
+      let left = rest_of read (bytes_read silo at read before stands) stands.has_read.consumes in
+      let cut : pieces_at line_feed (held ++ left.0) ≡ held ∷ [] =
+      ap (λ (bs : List ℕ). pieces_at line_feed (held ++ bs)) (none_left read left.0 left.1 (stands.at_end step.ended))
+      ∙ (ap (pieces_at line_feed) (append-nil held) ∙ only_piece held (no_end_in_both stands.begun at.unread stands.no_end step.none)) in
+      let told : unended_fault (kept (at.begun ++ at.unread)) ≡ unended_fault held = ap unended_fault (kept_line silo at read before stands at.unread) ∙ unended_kept held in
+      whole_by silo at read before stands left.0 held [] left.2 cut
+      ∙ ap (λ (t : List ℕ). stands.sent ++ t) (sym (step.told ∙ ap (λ (f : Option ℕ). at.waiting ++ after_last f) told))
+
+  -- what was told when the process stopped begins all, or is all of it
+  concludes_by : (read before : Option (List ℕ)) (silo : SiloValue) (at : Progress) (next : SiloValue) (last : Progress) (stopping : Stopped) → StopsStep silo at next last stopping
+      → (stands : Stands first input start silo at read before) → Concludes (written_on (pieces_at line_feed input) first) (stands.sent ++ last.waiting) stopping
+  concludes_by read before silo at next last stopped.AtEnd step stands = sym (ended_whole read before silo at last stands step)
+  concludes_by read before silo at next last stopped.Dead step stands = sym (died_whole read before silo at next last stands step)
+  concludes_by read before silo at next last stopped.OutOfMemory step stands =
+      subst (λ (w : List ℕ). BeginsWith (stands.sent ++ w) (written_on (pieces_at line_feed input) first)) (sym step) (waits_begins read before silo at stands)
+  concludes_by read before silo at next last stopped.TooManyReads step stands = absurd step
+  concludes_by read before silo at next last stopped.Broken step stands = absurd step
+
+  concluded_begins : (whole text : List ℕ) (stopping : Stopped) → Concludes whole text stopping → BeginsWith text whole
+  concluded_begins whole text stopped.AtEnd is = record { more = []; joined = sym (append-nil text ∙ is) }
+  concluded_begins whole text stopped.Dead is = record { more = []; joined = sym (append-nil text ∙ is) }
+  concluded_begins whole text stopped.TooManyReads is = is
+  concluded_begins whole text stopped.OutOfMemory is = is
+  concluded_begins whole text stopped.Broken is = is
+
+  pub stopping_begins : (read before : Option (List ℕ)) (silo : SiloValue) (at : Progress) (next : SiloValue) (last : Progress) (stopping : Stopped) → StopsStep silo at next last stopping
+      → (stands : Stands first input start silo at read before) → BeginsWith (stands.sent ++ last.waiting) (written_on (pieces_at line_feed input) first)
+  stopping_begins read before silo at next last stopping step stands = concluded_begins _ _ stopping (concludes_by read before silo at next last stopping step stands)
+
+  -- the reading ends where the step says
+  reading_ends : (read before : Option (List ℕ)) (silo : SiloValue) (at : Progress) (next : SiloValue) (last : Progress) (stopping : Stopped) → StopsStep silo at next last stopping
+      → (stands : Stands first input start silo at read before) → EndsReading (bytes_read silo at read before stands) first read stopping
+  reading_ends read before silo at next last stopped.AtEnd step stands =
+      (stands.at_end step.ended, ap (λ (ls : List (List ℕ)). ends_on ls first) (ended_answered silo at read before stands step.none) ∙ answered_goes_on silo at read before stands)
+  reading_ends read before silo at next last stopped.Dead step stands = died_reading read before silo at next last stands step
+  reading_ends read before silo at next last stopped.OutOfMemory step stands = tt
+  reading_ends read before silo at next last stopped.TooManyReads step stands = absurd step
+  reading_ends read before silo at next last stopped.Broken step stands = absurd step
+
+  pub stops_written : (read before written : Option (List ℕ)) (silo : SiloValue) (at : Progress) (next : SiloValue) (last : Progress) (stopping : Stopped) → StopsStep silo at next last stopping
+      → Appends before written last.waiting → Stands first input start silo at read before → Stops input first read start written stopping
+  stops_written read before written silo at next last stopping step drained stands = record {
+    text = stands.sent ++ last.waiting;
+    writes = Appends-trans start before written _ _ stands.appends drained;
+    concludes = concludes_by read before silo at next last stopping step stands;
+    read = same_read first input read stands.sent last.waiting stands.has_read;
+    reads = reading_ends read before silo at next last stopping step stands;
+  }

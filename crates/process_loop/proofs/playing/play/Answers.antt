@@ -1,0 +1,33 @@
+use Rattle.std.proofs.Common.{ap, rules, subst, sym}
+use Rattle.script_loop.specs.Calls.{no_read, no_text}
+use Rattle.script_loop.specs.Turns.{CallsSoFar}
+use Rattle.process_loop.specs.Progress.{Progress, progress}
+use Rattle.process_loop.proofs.Calls.{none_so_far}
+use Rattle.process_loop.proofs.TurnsTaken.{begins_standing, stops_at_first, stops_by_turn}
+use Rattle.process_loop.proofs.playing.play.Goals as goal
+
+pub returns-in_default-clause-stops : goal.returns-in_default-clause-stops
+returns-in_default-clause-stops g c = stops_at_first (g.P.SiloPlayer.silo c.args.player.now) _ _
+
+pub returns-in_default-clause-calls : goal.returns-in_default-clause-calls
+returns-in_default-clause-calls g c = (no_read, no_text)
+
+pub turns-init : goal.turns-init
+turns-init g c = record {
+  stands = begins_standing (g.P.SiloPlayer.silo c.args.player.now) _ _ (progress c.in-Ok.session) c.in-Ok.ensures;
+  calls = subst (CallsSoFar g.R.Source.reads g.W.Sink.writes (c.args.reader.now, c.args.writer.now) (c.args.reader.now, c.args.writer.now))
+      (ap (λ (p : Progress). p.ended) (sym c.in-Ok.ensures)) (none_so_far g.R.Source.reads g.W.Sink.writes (c.args.reader.now, c.args.writer.now));
+}
+
+pub turns-preserved : goal.turns-preserved
+turns-preserved g c = record {
+  stands = search rules;
+  calls = c.in_default-turn.ensures.calls (c.args.reader.now, c.args.writer.now) c.turns.invariant.calls;
+}
+
+pub returns-in-Some-clause-stops : goal.returns-in-Some-clause-stops
+returns-in-Some-clause-stops g c = stops_by_turn (g.P.SiloPlayer.silo c.args.player.now) (g.P.SiloPlayer.silo c.turns.player) (g.P.SiloPlayer.silo c.turn.new.player) _ _ _ _ _ _
+    (progress c.turns.session) (progress c.turn.new.self) c.in-Some.stopped c.turns.invariant.stands c.in-Some.ensures.goes
+
+pub returns-in-Some-clause-calls : goal.returns-in-Some-clause-calls
+returns-in-Some-clause-calls g c = c.in-Some.ensures.calls (c.args.reader.now, c.args.writer.now) c.turns.invariant.calls

@@ -1,0 +1,63 @@
+-- A silo's process up to where it stops: what is written, and what was read, by how it stops.
+use Rattle.std.specs.Prelude.{◌≡◌, ℕ, ◌<◌, ◌≤◌, ◌⊎◌, true, false, List, [], ◌∷◌, ◌++◌, length, Option, Some, ⊤}
+use Rattle.std.specs.Io.KnownBytes.{Appends, Consumes, IsAtEnd}
+use Rattle.texts.specs.Words.{line_feed, pieces_at}
+use Rattle.silo_rules.specs.SiloValue.{SiloValue}
+use Rattle.script_output.specs.Spaced.{BeginsWith}
+use Rattle.script_loop.specs.Calls.{ReadsInTurn, WritesTexts}
+use Rattle.script_loop.specs.Endings.{most_at_once}
+use Rattle.process_output.specs.Output.{written_on}
+use Rattle.process_loop.specs.declared.stopped.Stopped.{Stopped}
+use Rattle.process_loop.specs.declared.stopped.Stopped.TheVariants.{AtEnd, Dead, TooManyReads, OutOfMemory, Broken}
+use Rattle.process_loop.specs.Answering.{ended_lines, ends_on}
+
+-- the exit status
+abbrev pub status_of : Stopped → ℕ
+status_of AtEnd = 0
+status_of Dead = 0
+status_of OutOfMemory = 3
+status_of TooManyReads = 5
+status_of Broken = 5
+
+-- how many reads may give something
+abbrev pub most_reads : ℕ
+most_reads = 18446744073709551615
+
+-- the text that was written is what is written on the whole input, or a beginning of it
+abbrev pub Concludes : (whole text : List ℕ) → Stopped → Type 0
+Concludes whole text AtEnd = text ≡ whole
+Concludes whole text Dead = text ≡ whole
+Concludes whole text other = BeginsWith text whole
+
+-- what was read of the input: the chunk that came by the last read, and the bytes in front of it. By the lines that ended in those the
+-- process doesn't end, and the last chunk was read only after all was written that is answered to them.
+pub record HasRead (input : List ℕ) (silo : SiloValue) (rest : Option (List ℕ)) (text : List ℕ) : Type 0 where
+  pub front : List ℕ
+  pub chunk : List ℕ
+  pub consumes : Consumes (Some input) rest (front ++ chunk)
+  pub chunk_fits : length chunk ≤ most_at_once
+  pub goes_on : ends_on (ended_lines front) silo ≡ false
+  pub written : BeginsWith (written_on (ended_lines front ++ [] ∷ []) silo) text
+
+-- where the reading ends, by the bytes that were read: at the input's end, where the process doesn't end by a line; behind a line by
+-- which it does; or behind more than so many reads may give
+abbrev pub EndsReading : (bytes : List ℕ) → SiloValue → (rest : Option (List ℕ)) → Stopped → Type 0
+EndsReading bytes silo rest AtEnd = IsAtEnd rest × (ends_on (ended_lines bytes) silo ≡ false)
+EndsReading bytes silo rest Dead = ends_on (ended_lines bytes) silo ≡ true
+EndsReading bytes silo rest TooManyReads = most_reads < length bytes
+EndsReading bytes silo rest other = ⊤
+
+-- the input is answered by the silo, and written behind what the sink had before: the source's rest is then `rest`, what the sink has
+-- is `written`
+pub record Stops (input : List ℕ) (silo : SiloValue) (rest begun written : Option (List ℕ)) (stopped : Stopped) : Type 0 where
+  pub text : List ℕ
+  pub writes : Appends begun written text
+  pub concludes : Concludes (written_on (pieces_at line_feed input) silo) text stopped
+  pub read : HasRead input silo rest text
+  pub reads : EndsReading (read.front ++ read.chunk) silo rest stopped
+
+-- the calls of a process: where it breaks, the last read or the last write failed or a write took nothing; else none did
+abbrev pub MakesCalls : {R W : Type 0} → (reads : R → Option (List ℕ) → R → Type 0) → (writes : W → List ℕ → Option ℕ → W → Type 0) → (old new : R × W) → Stopped → Type 0
+MakesCalls reads writes old new Broken =
+    (ReadsInTurn reads old.0 new.0 false × WritesTexts writes old.1 new.1 true) ⊎ (ReadsInTurn reads old.0 new.0 true × WritesTexts writes old.1 new.1 false)
+MakesCalls reads writes old new other = ReadsInTurn reads old.0 new.0 true × WritesTexts writes old.1 new.1 true

@@ -1,0 +1,24 @@
+//! What answers lines.
+
+ghost use Rattle.std.specs.Prelude.{◌≡◌, IfOk, OnErr};
+ghost use Rattle.silo_rules.specs.SiloValue.{SiloValue};
+ghost use Rattle.process_loop.specs.Answering.{AnswersLine};
+
+use std::alloc::{AllocError, Global};
+
+/// What answers the lines of a silo's process, one after the other.
+pub trait SiloPlayer {
+    // The silo that answers, by the rule.
+    ghost silo: { Self → SiloValue };
+
+    /// Answers a line, given without its line feed: does what it asks for, and writes what that prints behind what is written already;
+    /// whether the process ends there. Fails only when memory runs out; then nothing is written, and the player may have changed.
+    fn answer_line(
+        &mut self,
+        alloc: Global,
+        line: &[u8],
+        out: &mut Vec<u8>,
+    ) -> Result<bool, AllocError>
+        ensures answered { IfOk result (λ ends. AnswersLine (silo self.old) line.now out.old.items (silo self.new) out.new.items ends) }
+        ensures unwritten { OnErr result (out.new.items ≡ out.old.items) };
+}

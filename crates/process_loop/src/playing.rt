@@ -1,0 +1,35 @@
+//! A silo's process, from a source to a sink.
+
+ghost use Rattle.std.specs.Prelude.{IfSome};
+ghost use Rattle.process_loop.specs.Endings.{MakesCalls, Stops};
+
+use crate::session::Session;
+use crate::{SiloPlayer, Stopped};
+use script_loop::{Sink, Source};
+use std::alloc::Global;
+
+/// Has the lines of a silo's process answered, from the first one on.
+///
+/// All that is answered to a line is written before the source is asked for more, and it is asked only where no line that is there is
+/// still to be answered. A line may have 16777216 bytes; of a longer one no more than two are kept. There may be any number of lines,
+/// of any size together, in up to 18446744073709551615 reads. No read or write is tried again, and a write that takes nothing is a
+/// failure.
+pub fn play<P: SiloPlayer, R: Source, W: Sink>(
+    alloc: Global,
+    player: &mut P,
+    reader: &mut R,
+    writer: &mut W,
+) -> Stopped
+    ensures stops { IfSome (R.remaining reader.old) (λ input.
+        Stops input (P.silo player.old) (R.remaining reader.new) (W.contents writer.old) (W.contents writer.new) result) }
+    ensures calls { MakesCalls R.reads W.writes (reader.old, writer.old) (reader.new, writer.new) result }
+{
+    let Ok(mut session) = Session::new(alloc) else {
+        return Stopped::OutOfMemory;
+    };
+    'turns: loop {
+        if let Some(stopped) = session.turn(player, reader, writer) {
+            return stopped;
+        }
+    }
+}

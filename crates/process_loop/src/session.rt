@@ -1,0 +1,188 @@
+//! The input of a process on its way.
+
+ghost use Rattle.std.specs.Prelude.{◌≡◌, ◌<◌, ◌≤◌, ◌-◌, ◌++◌, Some, vec_len, length, take, drop, IfOk, OnOk, OnErr};
+ghost use Rattle.memchr.specs.Find.{IsFirstByte, is_byte};
+ghost use Rattle.texts.specs.Words.{line_feed};
+ghost use Rattle.silo_rules.specs.SiloValue.{SiloValue};
+ghost use Rattle.process_rules.specs.LineReading.{unended_fault};
+ghost use Rattle.process_output.specs.Output.{after_last};
+
+use crate::step::Step;
+use crate::{SiloPlayer, Stopped, write_fault};
+use memchr::memchr;
+use std::alloc::{AllocError, Global};
+
+/// How many bytes are read at once at most.
+const CHUNK: usize = 65_536;
+
+/// How many reads may give something.
+const MOST_READS: u64 = 18_446_744_073_709_551_615;
+
+/// How many bytes a line may have.
+const LONGEST_LINE: usize = 16_777_216;
+
+/// How many bytes of a line are kept: with a carriage return at their end they still tell that the line is too long.
+const MOST_KEPT: usize = 16_777_218;
+
+/// The number of the fault of a line that is too long.
+const TOO_LONG: u16 = 924;
+
+/// The number of the fault of what no line feed ends.
+const UNENDED: u16 = 931;
+
+/// The input of a process on its way: what was read and not answered yet, and what is answered and not written yet.
+#[derive(Drop)]
+pub(crate) struct Session {
+    pub(crate) alloc: Global,
+    /// The line that is begun, as far as it is kept.
+    pub(crate) line: Vec<u8>,
+    /// The bytes that were read last; those between `from` and `to` are still to be looked at.
+    pub(crate) chunk: Vec<u8>,
+    pub(crate) from: usize,
+    pub(crate) to: usize,
+    /// How many more reads may give something.
+    pub(crate) left: u64,
+    /// Whether the input is at its end.
+    pub(crate) ended: bool,
+    /// What waits to be written.
+    pub(crate) out: Vec<u8>,
+    ghost within: { from ≤ to },
+    ghost filled: { to ≤ 65536 },
+    ghost room: { vec_len chunk ≡ 65536 },
+    // No more of a line is kept, however long it is.
+    ghost bounded: { vec_len line ≤ 16777218 },
+}
+
+impl Session {
+    ghost use Rattle.process_loop.specs.Progress.{HasNoEnd, Steps, begun_by, first_progress, line_taken, progress, rest_taken};
+
+    /// Before the first line.
+    pub(crate) fn new(alloc: Global) -> Result<Session, AllocError>
+        ensures { IfOk result (λ session. progress session ≡ first_progress) }
+    {
+        let chunk = empty_chunk(alloc)?;
+        Ok(Session {
+            alloc,
+            line: Vec::new(alloc),
+            chunk,
+            from: 0,
+            to: 0,
+            left: MOST_READS,
+            ended: false,
+            out: Vec::new(alloc),
+        })
+    }
+
+    /// Has the next line answered, if it is there.
+    pub(crate) fn step<P: SiloPlayer>(&mut self, player: &mut P) -> Step
+        ensures { Steps (P.silo player.old) (progress self.old) (P.silo player.new) (progress self.new) result }
+    {
+        match memchr(b'\n', unread(&self.chunk, self.from, self.to)) {
+            Some(length) => self.answer(player, length),
+            None => self.step_without_line_feed(),
+        }
+    }
+
+    // Has the line answered whose end stands behind so many bytes.
+    fn answer<P: SiloPlayer>(&mut self, player: &mut P, length: usize) -> Step
+        requires found { IsFirstByte (is_byte line_feed) (progress self.old).unread (Some length) }
+        ensures { Steps (P.silo player.old) (progress self.old) (P.silo player.new) (progress self.new) result }
+    {
+        let Ok(()) = self.take_line(length) else {
+            return Step::Stops(Stopped::OutOfMemory);
+        };
+        match player.answer_line(self.alloc, &self.line, &mut self.out) {
+            Ok(ends) => {
+                self.line.clear();
+                if ends {
+                    Step::Stops(Stopped::Dead)
+                } else {
+                    Step::Answered
+                }
+            }
+            Err(_) => Step::Stops(Stopped::OutOfMemory),
+        }
+    }
+
+    // What was read begins a line, or goes on with it; at the end of the input it is told that no line feed ends it.
+    fn step_without_line_feed(&mut self) -> Step
+        requires none { HasNoEnd (progress self.old).unread }
+        ensures { (silo : SiloValue) → Steps silo (progress self.old) silo (progress self.new) result }
+    {
+        let Ok(()) = self.take_rest() else {
+            return Step::Stops(Stopped::OutOfMemory);
+        };
+        if !self.ended {
+            return Step::Wants;
+        }
+        match self.tell_unended() {
+            Ok(()) => Step::Stops(Stopped::AtEnd),
+            Err(_) => Step::Stops(Stopped::OutOfMemory),
+        }
+    }
+
+    // Tells the fault of what stands behind the last line feed, if anything does.
+    fn tell_unended(&mut self) -> Result<(), AllocError>
+        ensures told { OnOk result (self.new.out.items ≡ self.old.out.items ++ after_last (unended_fault self.old.line.items)) }
+        ensures untold { OnErr result (self.new.out.items ≡ self.old.out.items) }
+        ensures same { (self.new.left ≡ self.old.left) × (self.new.ended ≡ self.old.ended) }
+    {
+        let length = self.line.len();
+        if length == 0 {
+            return Ok(());
+        }
+        if length > LONGEST_LINE {
+            return write_fault(&mut self.out, TOO_LONG);
+        }
+        write_fault(&mut self.out, UNENDED)
+    }
+
+    // Goes on with the line that is begun up to its end, which stands behind so many bytes, and passes over the line feed.
+    fn take_line(&mut self, count: usize) -> Result<(), AllocError>
+        requires within { count < length (progress self.old).unread }
+        ensures taken { OnOk result (progress self.new ≡ line_taken count (progress self.old)) }
+        ensures unchanged { OnErr result (progress self.new ≡ progress self.old) }
+    {
+        self.keep(count)?;
+        self.from += count + 1;
+        Ok(())
+    }
+
+    // Goes on with the line that is begun by all that was read.
+    fn take_rest(&mut self) -> Result<(), AllocError>
+        ensures taken { OnOk result (progress self.new ≡ rest_taken (progress self.old)) }
+        ensures unchanged { OnErr result (progress self.new ≡ progress self.old) }
+    {
+        self.keep(self.to - self.from)?;
+        self.from = self.to;
+        Ok(())
+    }
+
+    // Goes on with the line that is begun by so many bytes, as far as it is kept.
+    fn keep(&mut self, count: usize) -> Result<(), AllocError>
+        requires within { count ≤ length (progress self.old).unread }
+        ensures kept { OnOk result (progress self.new ≡ begun_by count (progress self.old)) }
+        ensures unchanged { OnErr result (progress self.new ≡ progress self.old) }
+    {
+        let room = MOST_KEPT - self.line.len();
+        let end = self.from + count.min(room);
+        self.line.extend_from_slice(&self.chunk[self.from..end])?;
+        Ok(())
+    }
+}
+
+// Room for what is read at once.
+fn empty_chunk(alloc: Global) -> Result<Vec<u8>, AllocError>
+    ensures { IfOk result (λ chunk. vec_len chunk ≡ 65536) }
+{
+    vec![in alloc; 0; CHUNK]
+}
+
+// What stands between two positions.
+fn unread(chunk: &Vec<u8>, from: usize, to: usize) -> &[u8]
+    requires within { from ≤ to }
+    requires filled { to ≤ vec_len chunk.now }
+    ensures { result.now ≡ take (to - from) (drop from chunk.now.items) }
+{
+    &chunk[from..to]
+}
