@@ -1,11 +1,11 @@
 -- Words in which clap finds no fault are a line, with numbers in their ranges.
-use Rattle.std.proofs.Common.{◌≡◌, ◌∙◌, ◌||◌, ◌<◌, ◌≤◌, ℕ, lit<, Bool, true, false, true≢false, cond, refl, ap, subst, sym, unwrap_or, codes, List, [], ◌∷◌, Option, Some, None, is_some, pos}
+use Rattle.std.proofs.Common.{◌≡◌, ◌∙◌, ◌||◌, ◌<◌, ◌≤◌, ℕ, lit<, Bool, true, false, true≢false, cond, refl, ap, subst, sym, unwrap_or, codes, List, [], ◌∷◌, Option, Some, None, Result, Ok, Err, is_some, pos}
 use Rattle.std.specs.Prelude.{IsSomeAnd, option_and_then, option_map}
 use Rattle.std.specs.Option.{option_map_or}
 use Rattle.std.specs.Str.{bytes_eq}
 use Rattle.std.proofs.lemmas.Slice.Eq.{bytes_eq-Decides}
 use Rattle.clap.specs.ValueTests.{accepts}
-use Rattle.clap.specs.Walk.{Row, Text, default_rows, finished, has_row, nothing_held, one_of, rows_after, settled, walk, walk_from, with_default, with_values, without}
+use Rattle.clap.specs.Walk.{Row, Rule, Text, default_rows, finished, has_row, nothing_held, one_of, rows_after, settled, walk, walk_from, with_default, with_values, without}
 use Rattle.clap.specs.Lexer.{without_minus}
 use Rattle.clap.specs.Simple.{Shape, argument_words, built, built_leaf, entered, filled, help_rule, help_shape, inherited, marked_built, names_of, rows_at, with_leaf_noted}
 use Rattle.clap.specs.Faults.{entered_fault, fault_of, level_fault}
@@ -15,8 +15,12 @@ use Rattle.clap.specs.declared.builder.value_parser.Reading.{Reading}
 use Rattle.clap.specs.declared.builder.value_parser.Reading.TheVariants as reading
 use Rattle.clap.specs.declared.builder.value_parser.ValueParser.TheVariants as parser
 use Rattle.clap.specs.declared.error.kind.ErrorKind.TheVariants as kind
-use Rattle.command_line.specs.Command.{NameList, app, cache_rule, check_app, hashing_rule, player_app, points_rule}
-use Rattle.command_line.specs.Line.{AreInRange, IsInRange, line_in, line_of, number_or_zero, options_in}
+use Rattle.command_line.specs.Command.{NameList, address_rule, app, cache_rule, check_app, hashing_rule, player_app, points_rule, silo_app}
+use Rattle.silo_address.specs.Silo.{Silo}
+use Rattle.silo_address.specs.SiloReading.{read_silo}
+use Rattle.silo_address.specs.declared.silo.SiloError.{SiloError}
+use Rattle.command_line.specs.Line.{AreInRange, AreReadInRange, line_in, line_of, number_or_zero, options_in, process_of, silo_text_in}
+use Rattle.command_line.specs.declared.line.Options.{Options}
 use Rattle.command_line.specs.declared.line.Line.{Line}
 use Rattle.command_line.proofs.Walks.{Every, Keeps, checks_pass, is_faulty, level_keeps, no_first, no_next, required_there}
 use Rattle.command_line.proofs.Stops.{StopsElsewhere, walk_stops}
@@ -156,35 +160,88 @@ player_options name names words e =
     let cache = in_range 1 65536 (one_of (codes "cache") after) (lit< tt) (fine_text (codes "cache") 1 65536 after rows.0.1 rows.1.1) in
     (points.0, points.1, cache.0, cache.1)
 
+-- ---- the process of a silo
+
+-- the command, as clap completes it
+abbrev silo_shape : NameList → Shape
+silo_shape names = built_leaf (inherited (with_leaf_noted (marked_built (app names).top)) (silo_app names).top)
+
+-- its address, the first word without a name
+abbrev placed_address : Rule
+placed_address = filled (record address_rule { index = Some 1 })
+
+address_keep : Keeps false HaveInRange placed_address
+address_keep values rows e all =
+    kept_with (codes "ADDR") reading.AsWritten CommandLine _ (λ is. absurd (true≢false (sym is))) (λ is. absurd (true≢false (sym is))) _ (kept_without (codes "ADDR") rows all)
+
+silo_keeps : (names : NameList) → Every (Keeps false HaveInRange) (silo_shape names).rules
+silo_keeps names = (address_keep, (hashing_keep names, (points_keep, (cache_keep, (help_keep, tt)))))
+
+no_default : (id : Text) (rows : List Row) → rows ≡ cond (has_row id rows) rows rows
+no_default id rows = go (has_row id rows)
+  where
+    go : (b : Bool) → rows ≡ cond b rows rows
+    go true = refl
+    go false = refl
+
+silo_rows : (names : NameList) (words : List Text) → level_fault (silo_shape names) [] nothing_held words false [] ≡ []
+    → HaveInRange (rows_after (silo_shape names).rules [] words) × HaveBoth (rows_after (silo_shape names).rules [] words)
+silo_rows names words e =
+    let walked = (settled (silo_shape names).rules (walk (silo_shape names).rules [] nothing_held words).held).rows in
+    let before = level_keeps (silo_shape names) HaveInRange (silo_keeps names) [] words false [] e (tt, tt) in
+    let addressed = with_default walked placed_address in
+    let kept : HaveInRange addressed = subst HaveInRange (no_default (codes "ADDR") walked) before in
+    let hashed = with_default addressed (filled (hashing_rule names)) in
+    let pointed = points_default hashed (hashing_default names addressed kept) in
+    let cached = cache_default (with_default hashed (filled points_rule)) pointed.0 pointed.1 in
+    let same = help_default (with_default (with_default hashed (filled points_rule)) (filled cache_rule)) in
+    (subst HaveInRange same cached.0, subst HaveBoth same cached.1)
+
+silo_options : (names : NameList) (words : List Text) → level_fault (silo_shape names) [] nothing_held words false [] ≡ []
+    → AreInRange (options_in (rows_after (silo_shape names).rules [] words))
+silo_options names words e =
+    let after = rows_after (silo_shape names).rules [] words in
+    let rows = silo_rows names words e in
+    let points = in_range 1 128 (one_of (codes "points") after) (lit< tt) (fine_text (codes "points") 1 128 after rows.0.0 rows.1.0) in
+    let cache = in_range 1 65536 (one_of (codes "cache") after) (lit< tt) (fine_text (codes "cache") 1 65536 after rows.0.1 rows.1.1) in
+    (points.0, points.1, cache.0, cache.1)
+
+-- whatever names the silo
+process_in_range : (read : Result Silo SiloError) (options : Options) → AreInRange options → AreReadInRange (process_of read options)
+process_in_range (Ok silo) options fine = fine
+process_in_range (Err error) options fine = tt
+
 -- ---- the subcommand
 
--- where clap finds no fault and enters a subcommand, that is `play`, `threads` or `check`
+-- where clap finds no fault and enters a subcommand, that is `play`, `threads`, `check` or `silo`
 command_entered : (names : NameList) (stop : Option (Text × List Text)) → StopsElsewhere stop → entered_fault (built (app names)) stop ≡ []
-    → is_some (entered (built (app names)) stop) ≡ true → IsSomeAnd (option_and_then line_in (entered (built (app names)) stop)) IsInRange
+    → is_some (entered (built (app names)) stop) ≡ true → IsSomeAnd (option_and_then line_in (entered (built (app names)) stop)) AreReadInRange
 command_entered names None elsewhere e enters = absurd (true≢false (sym enters))
 command_entered names (Some p) elsewhere e enters =
-    go (bytes_eq (codes "play") p.0) (bytes_eq (codes "threads") p.0) (bytes_eq (codes "check") p.0) (bytes_eq (codes "help") p.0) refl e enters
+    go (bytes_eq (codes "play") p.0) (bytes_eq (codes "threads") p.0) (bytes_eq (codes "silo") p.0) (bytes_eq (codes "check") p.0) (bytes_eq (codes "help") p.0) refl e enters
   where
-    shape : (a b c d : Bool) → Option Shape
-    shape a b c d =
+    shape : (a b c d h : Bool) → Option Shape
+    shape a b c d h =
         cond (a || false) (Some (player_shape (codes "play") names)) (cond (b || false) (Some (player_shape (codes "threads") names))
-        (cond (c || false) (Some (check_shape names)) (cond (d || false) (Some (built_leaf help_shape)) None)))
+        (cond (c || false) (Some (silo_shape names)) (cond (d || false) (Some (check_shape names)) (cond (h || false) (Some (built_leaf help_shape)) None))))
 
-    go : (a b c d : Bool) → bytes_eq (codes "help") p.0 ≡ d
-        → option_map_or (λ s. level_fault s [] nothing_held p.1 false []) (shape a b c d) [] ≡ []
-        → is_some (option_map (λ s. rows_at s p.1) (shape a b c d)) ≡ true
-        → IsSomeAnd (option_and_then line_in (option_map (λ s. rows_at s p.1) (shape a b c d))) IsInRange
-    go true b c d help none there = player_options (codes "play") names p.1 none
-    go false true c d help none there = player_options (codes "threads") names p.1 none
-    go false false true d help none there = tt
-    go false false false true help none there =
+    go : (a b c d h : Bool) → bytes_eq (codes "help") p.0 ≡ h
+        → option_map_or (λ s. level_fault s [] nothing_held p.1 false []) (shape a b c d h) [] ≡ []
+        → is_some (option_map (λ s. rows_at s p.1) (shape a b c d h)) ≡ true
+        → IsSomeAnd (option_and_then line_in (option_map (λ s. rows_at s p.1) (shape a b c d h))) AreReadInRange
+    go true b c d h help none there = player_options (codes "play") names p.1 none
+    go false true c d h help none there = player_options (codes "threads") names p.1 none
+    go false false false true h help none there = tt
+    go false false true d h help none there =
+        process_in_range (read_silo (silo_text_in (rows_after (silo_shape names).rules [] p.1))) _ (silo_options names p.1 none)
+    go false false false false true help none there =
         let named : codes "help" ≡ p.0 = (bytes_eq-Decides (codes "help") p.0).0 help in
         let is_help : bytes_eq p.0 (codes "help") ≡ true = subst (λ name. bytes_eq name (codes "help") ≡ true) named refl in
         absurd (true≢false (sym is_help ∙ elsewhere))
-    go false false false false help none there = absurd (true≢false (sym there))
+    go false false false false false help none there = absurd (true≢false (sym there))
 
--- words in which clap finds no fault are a line, with numbers in their ranges
-pub accepted : (names : NameList) (words : List Text) → fault_of (app names) words ≡ [] → IsSomeAnd (line_of (app names) words) IsInRange
+-- words in which clap finds no fault are a line, with numbers in their ranges, or name no silo
+pub accepted : (names : NameList) (words : List Text) → fault_of (app names) words ≡ [] → IsSomeAnd (line_of (app names) words) AreReadInRange
 accepted names words e =
     let command = built (app names) in
     let given = argument_words (app names) words in
@@ -194,11 +251,11 @@ accepted names words e =
     (is_some (entered command stop)) refl (checks_pass command.top (names_of command) given (is_some (entered command stop)) (entered_fault command stop) e))
 
 -- the line of such words has them
-pub range_of_line : (o : Option Line) (line : Line) → o ≡ Some line → IsSomeAnd o IsInRange → IsInRange line
-range_of_line None line is there = absurd there
-range_of_line (Some read) line is there = subst IsInRange (ap (λ o. unwrap_or o read) is) there
+pub range_of_line : (o : Option (Result Line SiloError)) (read : Result Line SiloError) → o ≡ Some read → IsSomeAnd o AreReadInRange → AreReadInRange read
+range_of_line None read is there = absurd there
+range_of_line (Some other) read is there = subst AreReadInRange (ap (λ o. unwrap_or o other) is) there
 
 -- so they are not without a line
-pub never_none : (o : Option Line) → o ≡ None → IsSomeAnd o IsInRange → ⊥
+pub never_none : (o : Option (Result Line SiloError)) → o ≡ None → IsSomeAnd o AreReadInRange → ⊥
 never_none None is there = there
-never_none (Some line) is there = true≢false (ap is_some is)
+never_none (Some read) is there = true≢false (ap is_some is)

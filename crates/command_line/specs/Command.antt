@@ -54,6 +54,15 @@ threads_app names = player_app (codes "threads") names
 abbrev pub check_app : App
 check_app = new_app (codes "check")
 
+-- a silo's address, which stands without a name
+abbrev pub address_rule : Rule
+address_rule = record (new_rule (codes "ADDR")) { action = Some Set; required = true }
+
+-- `silo ADDR [--hashing HASHING] [--points N] [--cache N]`
+abbrev pub silo_app : NameList → App
+silo_app names =
+    with_rule (with_rule (with_rule (with_rule (new_app (codes "silo")) address_rule) (hashing_rule names)) points_rule) cache_rule
+
 -- the program's name, and that it tells its version; a subcommand has to follow
 abbrev pub bare_app : App
 bare_app = on_top (λ shape. record shape { subcommand_required = true; has_version = true }) (new_app (codes "grain-directory"))
@@ -62,9 +71,13 @@ bare_app = on_top (λ shape. record shape { subcommand_required = true; has_vers
 abbrev pub players_app : NameList → App
 players_app names = with_subcommand (with_subcommand bare_app (play_app names).top) (threads_app names).top
 
+-- the commands that have options
+abbrev pub options_app : NameList → App
+options_app names = with_subcommand (players_app names) (silo_app names).top
+
 -- the whole command: one more `with_subcommand` for each subcommand
 abbrev pub app : NameList → App
-app names = with_subcommand (players_app names) check_app.top
+app names = with_subcommand (options_app names) check_app.top
 
 -- what holds of the command, whose names stand where some reference of the code points
 abbrev pub OfCommand : (App → Type 0) → Type 0

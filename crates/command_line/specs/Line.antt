@@ -1,5 +1,5 @@
 -- What an accepted command line asks for, as a function of what clap read.
-use Rattle.std.specs.Prelude.{◌≡◌, ◌≤◌, ◌&&◌, ℕ, nat_lt, List, [], length, Option, Some, None, Result, Ok, Err, option_and_then, codes, ⊤, if◌then◌else◌}
+use Rattle.std.specs.Prelude.{◌≡◌, ◌≤◌, ◌&&◌, ℕ, nat_lt, List, [], length, Option, Some, None, Result, Ok, Err, option_and_then, unwrap_or, codes, ⊤, if◌then◌else◌}
 use Rattle.std.specs.Option.{option_map_or}
 use Rattle.std.specs.Char.{digit_value}
 use Rattle.std.specs.List.{list_all}
@@ -14,7 +14,10 @@ use Rattle.clap.specs.declared.error.kind.ErrorKind.{ErrorKind}
 use Rattle.hash_ring.specs.declared.hashing.Hashing.{Hashing}
 use Rattle.hash_ring.specs.declared.hashing.Hashing.TheVariants.{Sha256, Stated}
 use Rattle.command_line.specs.declared.line.Line.{Line}
-use Rattle.command_line.specs.declared.line.Line.TheVariants.{Play, Threads, Check}
+use Rattle.silo_address.specs.Silo.{Silo as SiloValue}
+use Rattle.silo_address.specs.SiloReading.{read_silo}
+use Rattle.silo_address.specs.declared.silo.SiloError.{SiloError}
+use Rattle.command_line.specs.declared.line.Line.TheVariants.{Play, Threads, Check, Silo}
 use Rattle.command_line.specs.declared.line.Options.{Options}
 use Rattle.command_line.specs.declared.error.LineError.{LineError}
 use Rattle.command_line.specs.declared.error.LineError.TheVariants as error
@@ -48,20 +51,42 @@ options_in rows = record {
   cache = number_of (codes "cache") rows;
 }
 
--- the line that a subcommand with its matches asks for: a row for each subcommand
-abbrev pub line_in : Text × List Row → Option Line
+-- the process of a silo, if it is one
+abbrev pub process_of : Result SiloValue SiloError → Options → Result Line SiloError
+process_of (Ok silo) options = Ok (Silo silo options)
+process_of (Err error) options = Err error
+
+-- what should name the silo, by the matches of a subcommand; clap asks for it, so it is never left out
+abbrev pub silo_text_in : List Row → Text
+silo_text_in rows = unwrap_or (first_of (codes "ADDR") rows) []
+
+-- the process of the silo that the matches of a subcommand name
+abbrev pub silo_in : List Row → Result Line SiloError
+silo_in rows = process_of (read_silo (silo_text_in rows)) (options_in rows)
+
+-- the line that a subcommand with its matches asks for, or why its silo is none: a row for each subcommand
+abbrev pub line_in : Text × List Row → Option (Result Line SiloError)
 line_in (name, rows) =
-    if bytes_eq name (codes "play") then Some (Play (options_in rows))
-    else if bytes_eq name (codes "threads") then Some (Threads (options_in rows))
-    else if bytes_eq name (codes "check") then Some Check else None
+    if bytes_eq name (codes "play") then Some (Ok (Play (options_in rows)))
+    else if bytes_eq name (codes "threads") then Some (Ok (Threads (options_in rows)))
+    else if bytes_eq name (codes "check") then Some (Ok Check)
+    else if bytes_eq name (codes "silo") then Some (silo_in rows) else None
 
 -- the line that clap reads from the words
-abbrev pub line_of : App → List Text → Option Line
+abbrev pub line_of : App → List Text → Option (Result Line SiloError)
 line_of command words = option_and_then line_in (subcommand_of command words)
 
--- clap reads that line from the words, and finds no fault in them; the words begin with the program's name
+-- clap finds no fault in the words, and reads that from them; the words begin with the program's name
+abbrev pub Say : List Text → Result Line SiloError → Type 0
+Say words read = OfCommand (λ command. (line_of command words ≡ Some read) × (fault_of command words ≡ []))
+
+-- they ask for that line
 abbrev pub AskFor : List Text → Line → Type 0
-AskFor words line = OfCommand (λ command. (line_of command words ≡ Some line) × (fault_of command words ≡ []))
+AskFor words line = Say words (Ok line)
+
+-- they ask for the process of a silo, and name it by a text that is none
+abbrev pub NameNoSilo : List Text → SiloError → Type 0
+NameNoSilo words error = Say words (Err error)
 
 -- clap finds a fault of that kind in the words; a request for help or for the version is one
 abbrev pub HaveFault : List Text → ErrorKind → Type 0
@@ -71,10 +96,11 @@ HaveFault words kind = OfCommand (λ command. IsAmong kind (fault_of command wor
 abbrev pub AskToBeTold : List Text → Type 0
 AskToBeTold words = (kind : ErrorKind) × IsRequest kind × HaveFault words kind
 
--- an accepted line is what the words ask for; a refusal has one of their faults, or memory ran out
+-- an accepted line is what the words ask for; a refusal has one of their faults, or the silo that they name is none, or memory ran out
 abbrev pub Reads : List Text → Result Line LineError → Type 0
 Reads words (Ok line) = AskFor words line
 Reads words (Err (error.Usage e)) = HaveFault words (kind_of e)
+Reads words (Err (error.NoSilo e)) = NameNoSilo words e
 Reads words (Err error.OutOfMemory) = ⊤
 
 -- the points are as many as a silo may have, and the hints as many as a cache may keep
@@ -86,3 +112,9 @@ abbrev pub IsInRange : Line → Type 0
 IsInRange (Play options) = AreInRange options
 IsInRange (Threads options) = AreInRange options
 IsInRange Check = ⊤
+IsInRange (Silo silo options) = AreInRange options
+
+-- so they are where a line is read
+abbrev pub AreReadInRange : Result Line SiloError → Type 0
+AreReadInRange (Ok line) = IsInRange line
+AreReadInRange (Err error) = ⊤

@@ -16,9 +16,10 @@ IsRequest _ = ⊥
 -- the words asked for help or for the version, and the text is that
 abbrev pub IsAnswer : LineError → Type 0
 IsAnswer (error.Usage e) = IsRequest (kind_of e)
-IsAnswer error.OutOfMemory = ⊥
+IsAnswer other = ⊥
 
 -- the refusal is clap's error, unless that says that memory ran out
 abbrev pub Refuses : Error → LineError → Type 0
+Refuses e (error.NoSilo told) = ⊥
 Refuses e (error.Usage told) = (told ≡ e) × (kind_of e ≢ kind.OutOfMemory)
 Refuses e error.OutOfMemory = kind_of e ≡ kind.OutOfMemory

@@ -2,7 +2,7 @@ ghost use Rattle.std.specs.Prelude.{◌≡◌, IfOk, false};
 ghost use Rattle.clap.specs.Walk.{rule_of};
 ghost use Rattle.clap.specs.Simple.{app_of};
 ghost use Rattle.clap.specs.declared.builder.command.Command.TheViews.{out-Command};
-ghost use Rattle.command_line.specs.Command.{OfCommand, check_app, option_rule, player_app, players_app, points_rule, cache_rule, hashing_rule};
+ghost use Rattle.command_line.specs.Command.{OfCommand, address_rule, check_app, option_rule, options_app, player_app, players_app, points_rule, cache_rule, hashing_rule, silo_app};
 
 use clap::builder::ValueParser;
 use clap::{Arg, ArgAction, Command, value_parser};
@@ -16,13 +16,23 @@ const PLAY: &str = "Play a cluster's script, read from standard input";
 
 const THREADS: &str = "Play a cluster's script with a thread per silo, read from standard input";
 
+/// What help says of the command that is a silo's process.
+const SILO: &str = "Be one silo's process: lines of standard input are answered on standard output";
+
 static HASHINGS: [&str; 2] = ["sha256", "stated"];
 
 /// The whole command: a call of `subcommand` for each subcommand.
 pub(crate) fn grain_directory<'a>(alloc: Global) -> Result<Command<'a>, AllocError>
     ensures { IfOk result (λ c. OfCommand (λ command. app_of c ≡ command)) }
 {
-    with_players(alloc, HASHINGS.as_slice())?.subcommand(check(alloc))
+    with_options(alloc, HASHINGS.as_slice())?.subcommand(check(alloc))
+}
+
+// The command with those of its subcommands that have options.
+fn with_options<'a>(alloc: Global, hashings: &'a [&'a str]) -> Result<Command<'a>, AllocError>
+    ensures { IfOk result (λ c. app_of c ≡ options_app hashings.entry) }
+{
+    with_players(alloc, hashings)?.subcommand(silo(alloc, hashings)?)
 }
 
 // The command with those of its subcommands that play a script.
@@ -30,7 +40,7 @@ fn with_players<'a>(alloc: Global, hashings: &'a [&'a str]) -> Result<Command<'a
     ensures { IfOk result (λ c. app_of c ≡ players_app hashings.entry) }
 {
     Command::new(alloc, "grain-directory")
-        .about("A directory of grains on a cluster of silos, played from a script")
+        .about("A directory of grains on a cluster of silos, played from a script, or one silo of it")
         .version(VERSION)
         .bin_name("grain-directory")?
         .subcommand_required(true)
@@ -53,6 +63,29 @@ fn player<'a>(
         .arg(hashing(alloc, hashings))?
         .arg(points(alloc))?
         .arg(cache(alloc))
+}
+
+// `silo ADDR [--hashing HASHING] [--points N] [--cache N]`, which is a silo's process.
+fn silo<'a>(alloc: Global, hashings: &'a [&'a str]) -> Result<Command<'a>, AllocError>
+    ensures app { IfOk result (λ c. app_of c ≡ silo_app hashings.entry) }
+    ensures local { IfOk result (λ c. (out-Command c).has_globals ≡ false) }
+{
+    Command::new(alloc, "silo")
+        .about(SILO)
+        .arg(address(alloc))?
+        .arg(hashing(alloc, hashings))?
+        .arg(points(alloc))?
+        .arg(cache(alloc))
+}
+
+fn address<'a>(alloc: Global) -> Arg<'a>
+    ensures rule { rule_of result ≡ address_rule }
+    ensures local { result.global ≡ false }
+{
+    Arg::new(alloc, "ADDR")
+        .required(true)
+        .action(ArgAction::Set)
+        .help("The silo: a.b.c.d:port@generation")
 }
 
 // `check`.

@@ -3,6 +3,7 @@ ghost use Rattle.command_line.specs.Refusal.{IsAnswer};
 ghost use Rattle.command_line.specs.declared.error.LineError.TheVariants.{OutOfMemory};
 
 use clap::error::ErrorKind;
+use silo_address::SiloError;
 use std::alloc::AllocError;
 use thiserror::Error;
 
@@ -12,6 +13,9 @@ pub enum LineError {
     /// The words ask for help or for the version, or are not a line of the program; the text is for the user.
     #[error("{0}")]
     Usage(clap::Error),
+    /// What should name the silo whose process is asked for doesn't.
+    #[error("error: ADDR is no silo: {0}\n")]
+    NoSilo(SiloError),
     /// Memory ran out.
     #[error("out of memory")]
     OutOfMemory,
@@ -27,7 +31,7 @@ impl LineError {
                 error.kind(),
                 ErrorKind::DisplayHelp | ErrorKind::DisplayVersion
             ),
-            LineError::OutOfMemory => false,
+            LineError::NoSilo(_) | LineError::OutOfMemory => false,
         }
     }
 }

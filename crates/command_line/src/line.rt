@@ -2,7 +2,7 @@ ghost use Rattle.std.specs.Prelude.{◌≡◌, IfOk, map, option_and_then};
 ghost use Rattle.clap.specs.Matches.{found_of};
 ghost use Rattle.clap.specs.Walk.{rows_of};
 ghost use Rattle.clap.specs.Simple.{subcommand_rows_of};
-ghost use Rattle.command_line.specs.Line.{IsInRange, Reads, hashing_named, hashing_of, line_in, number_of, options_in};
+ghost use Rattle.command_line.specs.Line.{IsInRange, Reads, hashing_named, hashing_of, line_in, number_of, options_in, silo_in, silo_text_in};
 ghost use Rattle.command_line.specs.Refusal.{Refuses};
 
 use crate::LineError;
@@ -10,6 +10,7 @@ use crate::command::grain_directory;
 use clap::ArgMatches;
 use clap::error::ErrorKind;
 use hash_ring::Hashing;
+use silo_address::{SiloAddress, SiloError};
 use std::alloc::Global;
 use std::convert::AsStr;
 
@@ -22,12 +23,14 @@ pub enum Line {
     Threads(Options),
     /// Judge the dump that comes on standard input.
     Check,
+    /// Be the process of that silo, whose lines come on standard input.
+    Silo(SiloAddress, Options),
 }
 
-/// What the options of a command that plays a script choose for its cluster.
+/// What the options of a command choose for its cluster, or its silo.
 #[derive(Clone, Copy, PartialEq, Eq)]
 pub struct Options {
-    /// How the cluster hashes.
+    /// How points and grains are hashed.
     pub hashing: Hashing,
     /// How many points a silo has under `Hashing::Sha256`, from 1 to 128.
     pub points: usize,
@@ -37,7 +40,8 @@ pub struct Options {
 
 /// Reads a command line: its words as the system gives them, the program's name first.
 ///
-/// The error is what clap says of the words, be it a mistake, or the help or the version that they ask for, or that memory ran out.
+/// The error is what clap says of the words, be it a mistake, or the help or the version that they ask for; or why the address of a
+/// silo is none; or that memory ran out.
 pub fn read_line<S: AsStr>(alloc: Global, words: &[S]) -> Result<Line, LineError>
     ensures reads { Reads (map S.text words.entry.now) result }
     ensures in_range { IfOk result IsInRange }
@@ -45,7 +49,8 @@ pub fn read_line<S: AsStr>(alloc: Global, words: &[S]) -> Result<Line, LineError
     let command = grain_directory(alloc)?;
     match command.try_get_matches_from(words) {
         Ok(matches) => match line_in(&matches) {
-            Some(line) => Ok(line),
+            Some(Ok(line)) => Ok(line),
+            Some(Err(error)) => Err(LineError::NoSilo(error)),
             None => unreachable!(),
         },
         Err(error) => Err(refusal(error)),
@@ -62,16 +67,37 @@ fn refusal(error: clap::Error) -> LineError
     }
 }
 
-// The line that the matches ask for: a row for each subcommand.
-fn line_in(matches: &ArgMatches<'_>) -> Option<Line>
+// The line that the matches ask for, or why its silo is none: a row for each subcommand.
+fn line_in(matches: &ArgMatches<'_>) -> Option<Result<Line, SiloError>>
     ensures { result ≡ option_and_then line_in (subcommand_rows_of matches.now) }
 {
     let (name, settings) = matches.subcommand()?;
     match name {
-        "play" => Some(Line::Play(options_in(settings))),
-        "threads" => Some(Line::Threads(options_in(settings))),
-        "check" => Some(Line::Check),
+        "play" => Some(Ok(Line::Play(options_in(settings)))),
+        "threads" => Some(Ok(Line::Threads(options_in(settings)))),
+        "check" => Some(Ok(Line::Check)),
+        "silo" => Some(silo_in(settings)),
         _ => None,
+    }
+}
+
+// The process of the silo that the matches name.
+fn silo_in(settings: &ArgMatches<'_>) -> Result<Line, SiloError>
+    ensures { result ≡ silo_in (rows_of (found_of settings.now)) }
+{
+    match SiloAddress::parse(silo_text_in(settings).as_bytes()) {
+        Ok(silo) => Ok(Line::Silo(silo, options_in(settings))),
+        Err(error) => Err(error),
+    }
+}
+
+// What should name the silo. clap asks for it, so it is never left out.
+fn silo_text_in<'a>(settings: &ArgMatches<'a>) -> &'a str
+    ensures { result.now ≡ silo_text_in (rows_of (found_of settings.now)) }
+{
+    match settings.get_str("ADDR") {
+        Some(text) => text,
+        None => "",
     }
 }
 

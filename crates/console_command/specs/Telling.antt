@@ -12,8 +12,10 @@ use Rattle.threaded_play.specs.declared.ended.ThreadsEnded.{ThreadsEnded}
 use Rattle.threaded_play.specs.declared.ended.ThreadsEnded.TheVariants as threads
 use Rattle.console_check.specs.declared.checked.Checked.{Checked as Check}
 use Rattle.console_check.specs.declared.checked.Checked.TheVariants as checked
+use Rattle.process_loop.specs.declared.stopped.Stopped.{Stopped}
+use Rattle.process_loop.specs.declared.stopped.Stopped.TheVariants as stopped
 use Rattle.console_command.specs.declared.exit.Exit.{Exit}
-use Rattle.console_command.specs.declared.exit.Exit.TheVariants.{Played, Threaded, Checked, AnswerBroken, Refused, OutOfMemory}
+use Rattle.console_command.specs.declared.exit.Exit.TheVariants.{Played, Threaded, Checked, Silo, AnswerBroken, Refused, OutOfMemory}
 
 -- memory ran out
 abbrev pub out_of_memory : List ℕ
@@ -53,11 +55,20 @@ TellsCheck checked.TooLong text = text ≡ printed (codes "error: the dump has m
 TellsCheck checked.OutOfMemory text = text ≡ out_of_memory
 TellsCheck checked.Broken text = text ≡ failed_call
 
+-- what the end of a silo's process tells: nothing where its input ended, or the silo is dead
+abbrev pub TellsSilo : Stopped → (text : List ℕ) → Type 0
+TellsSilo stopped.AtEnd text = text ≡ []
+TellsSilo stopped.Dead text = text ≡ []
+TellsSilo stopped.TooManyReads text = text ≡ printed (codes "error: the input came by more than 18446744073709551615 reads")
+TellsSilo stopped.OutOfMemory text = text ≡ out_of_memory
+TellsSilo stopped.Broken text = text ≡ failed_call
+
 -- what the program's end tells: of a mistake some words, of an answer nothing, unless it could not be written
 abbrev pub Tells : Exit → (text : List ℕ) → Type 0
 Tells (Played ended) text = TellsEnd ended text
 Tells (Threaded ended) text = TellsThreads ended text
 Tells (Checked ending) text = TellsCheck ending text
+Tells (Silo stopping) text = TellsSilo stopping text
 Tells AnswerBroken text = text ≡ failed_call
 Tells Refused text = 0 < length text
 Tells OutOfMemory text = text ≡ out_of_memory

@@ -2,23 +2,28 @@
 
 ghost use Rattle.std.specs.Prelude.{◌≡◌, List, ℕ, Option, Err, map};
 ghost use Rattle.clap.specs.Walk.{Text};
-ghost use Rattle.command_line.specs.Line.{AreInRange, AskToBeTold, Reads};
+ghost use Rattle.command_line.specs.Line.{AreInRange, AskFor, AskToBeTold, IsInRange, Reads};
 ghost use Rattle.script_loop.specs.Endings as play;
+ghost use Rattle.silo_address.specs.Silo.{Silo};
 ghost use Rattle.threaded_play.specs.Endings.{IsSent};
 ghost use Rattle.console_command.specs.Exits.{WritesAnswer, exit_without_words};
-ghost use Rattle.console_command.specs.Running.{Does, Plays, chosen_settings};
+ghost use Rattle.process_loop.specs.Endings as process;
+ghost use Rattle.console_command.specs.Running.{Does, Plays, PlaysSilo, chosen_settings};
 ghost use Rattle.console_command.specs.Telling.{IsTold, told_without_words};
 ghost use Rattle.console_command.specs.Carrying.{Carries, CarriesByCalls, CarriesTold};
 
 use crate::Exit;
 use crate::telling::{
-    tell, tell_check, tell_end, tell_failed_call, tell_no_memory, tell_threads, words_or,
+    tell, tell_check, tell_end, tell_failed_call, tell_no_memory, tell_silo, tell_threads, words_or,
 };
 use command_line::{Line, LineError, Options, read_line};
 use console_check::check;
 use console_play::play_to_new_cluster;
+use console_silo::play_new_silo;
 use directory_rules::Settings;
+use process_loop::Stopped;
 use script_loop::{Ended, Sink, Source, send};
+use silo_address::SiloAddress;
 use std::alloc::Global;
 use std::convert::AsStr;
 use std::io::ErrorKind;
@@ -41,7 +46,7 @@ pub enum Carried {
 }
 
 /// Does what the words of a command line ask for, the program's name first: plays the script that comes from the source, judges the
-/// dump that does, or prints help or the version. What is wrong with the words, and what ends the script or the reading of the dump
+/// dump that does, is the process of the silo whose lines come from it, or prints help or the version. What is wrong with the words, and what ends the script or the reading of the dump
 /// too early, is told to the sink of errors. A script that is to be played with a thread per silo is left to the caller.
 pub fn carry_out<S: AsStr, R: Source, W: Sink, E: Sink>(
     alloc: Global,
@@ -57,18 +62,43 @@ pub fn carry_out<S: AsStr, R: Source, W: Sink, E: Sink>(
     ensures told { CarriesTold E.writes E.contents errors.old errors.new result }
 {
     match read_line(alloc, words) {
-        Ok(Line::Play(options)) => {
+        Ok(line) => carry_out_line(alloc, line, source, output, errors),
+        Err(error) => Carried::Ended(explain(alloc, &error, output, errors)),
+    }
+}
+
+// Does what an accepted line asks for.
+fn carry_out_line<R: Source, W: Sink, E: Sink>(
+    alloc: Global,
+    line: Line,
+    source: &mut R,
+    output: &mut W,
+    errors: &mut E,
+) -> Carried
+    requires { IsInRange line }
+    ensures does { (words : List Text) → AskFor words line → Carries words
+        (record { rest = R.remaining source.old; output = W.contents output.old })
+        (record { rest = R.remaining source.new; output = W.contents output.new }) result }
+    ensures calls { CarriesByCalls R.reads W.writes (source.old, output.old) (source.new, output.new) result }
+    ensures told { CarriesTold E.writes E.contents errors.old errors.new result }
+{
+    match line {
+        Line::Play(options) => {
             let ended = play(alloc, options, source, output);
             tell_end(alloc, ended, errors);
             Carried::Ended(Exit::Played(ended))
         }
-        Ok(Line::Threads(options)) => Carried::OnThreads(chosen_settings(options)),
-        Ok(Line::Check) => {
+        Line::Threads(options) => Carried::OnThreads(chosen_settings(options)),
+        Line::Check => {
             let checked = check(alloc, source, output);
             tell_check(checked, errors);
             Carried::Ended(Exit::Checked(checked))
         }
-        Err(error) => Carried::Ended(explain(alloc, &error, output, errors)),
+        Line::Silo(silo, options) => {
+            let stopped = play_silo(alloc, silo, options, source, output);
+            tell_silo(stopped, errors);
+            Carried::Ended(Exit::Silo(stopped))
+        }
     }
 }
 
@@ -100,6 +130,30 @@ fn play<R: Source, W: Sink>(
     } = options;
     match play_to_new_cluster(alloc, hashing, points, cache, source, output) {
         Some(ended) => ended,
+        None => unreachable!(),
+    }
+}
+
+fn play_silo<R: Source, W: Sink>(
+    alloc: Global,
+    silo: SiloAddress,
+    options: Options,
+    source: &mut R,
+    output: &mut W,
+) -> Stopped
+    requires { AreInRange options }
+    ensures plays { PlaysSilo silo options
+        (record { rest = R.remaining source.old; output = W.contents output.old })
+        (record { rest = R.remaining source.new; output = W.contents output.new }) result }
+    ensures calls { process.MakesCalls R.reads W.writes (source.old, output.old) (source.new, output.new) result }
+{
+    let Options {
+        hashing,
+        points,
+        cache,
+    } = options;
+    match play_new_silo(alloc, silo, hashing, points, cache, source, output) {
+        Some(stopped) => stopped,
         None => unreachable!(),
     }
 }

@@ -7,6 +7,7 @@ ghost use Rattle.console_command.specs.Telling.{IsTold, TellsFault, failed_call,
 use crate::Exit;
 use console_check::Checked;
 use itoa::Buffer;
+use process_loop::Stopped;
 use script_loop::{Ended, LineFault, Sink, send};
 use std::alloc::{AllocError, Global};
 use threaded_play::ThreadsEnded;
@@ -55,6 +56,21 @@ pub(crate) fn tell_check<E: Sink>(checked: Checked, errors: &mut E)
         Checked::TooLong => tell(errors, b"error: the dump has more than 268435456 bytes\n"),
         Checked::OutOfMemory => tell(errors, b"error: out of memory\n"),
         Checked::Broken => tell_failed_call(errors),
+    }
+}
+
+/// Tells what ended a silo's process too early; nothing where its input ended, or the silo is dead.
+pub(crate) fn tell_silo<E: Sink>(stopped: Stopped, errors: &mut E)
+    ensures { IsTold E.writes E.contents (Exit.Silo stopped) errors.old errors.new }
+{
+    match stopped {
+        Stopped::AtEnd | Stopped::Dead => {}
+        Stopped::TooManyReads => tell(
+            errors,
+            b"error: the input came by more than 18446744073709551615 reads\n",
+        ),
+        Stopped::OutOfMemory => tell(errors, b"error: out of memory\n"),
+        Stopped::Broken => tell_failed_call(errors),
     }
 }
 

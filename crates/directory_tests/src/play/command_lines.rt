@@ -77,6 +77,34 @@ For more information, try '--help'.
     }
 }
 
+// A silo's process, up to its death, and up to the end of its input; and an address that is none.
+#[test]
+fn courses_of_a_silo(rt: HostRuntime) {
+    let silo: [&str; 5] = ["g", "silo", "10.0.0.1:1000@1", "--hashing", "stated"];
+    let no_silo: [&str; 3] = ["g", "silo", "10.0.0.1"];
+    let lives = "joined 1 10.0.0.1:1000@1 0
+ping x
+nothing
+dead 2 10.0.0.1:1000@1
+ping y
+";
+    let died = "view 1 joined 10.0.0.1:1000@1
+pong x
+fault 921
+view 2 dead 10.0.0.1:1000@1
+dead
+";
+    let refused = "error: ADDR is no silo: a silo is written a.b.c.d:port@generation\n";
+    let table: [(&[&str], &[u8], Course<'static>); 3] = [
+        (&silo, lives.as_bytes(), (0, died, "")),
+        (&silo, b"ping x\r\nping y", (0, "pong x\nfault 931\n", "")),
+        (&no_silo, b"ping x\n", (4, "", refused)),
+    ];
+    for (words, input, course) in table {
+        check_course(&rt, rt.alloc(), (words, input), (1000, 1000), course);
+    }
+}
+
 // The places are the first four bytes of the SHA-256 of the silo's text with `#0`, `#1` and so on; with 30 points three of them
 // are those of `#2`, `#3` and `#29`.
 #[test]

@@ -8,3 +8,6 @@ returns-in-Err-clause-does g c =
 
 pub returns-in-Err-clause-calls : goal.returns-in-Err-clause-calls
 returns-in-Err-clause-calls g c = is_explained g.R.Source.reads g.W.Sink.writes c.args.source.now c.args.output.now c.explain.new.output c.explain.result c.explain.ensures.calls
+
+pub returns-in-Ok-clause-does : goal.returns-in-Ok-clause-does
+returns-in-Ok-clause-does g c = c.carry_out_line.ensures.does (map g.S.AsStr.text c.args.words.now) c.in-Ok.ensures.reads

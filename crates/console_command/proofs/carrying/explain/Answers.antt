@@ -8,7 +8,7 @@ returns-then-is_request-clause-does g c = λ words read rest. c.answer.ensures.d
 pub returns-clause-does : goal.returns-clause-does
 returns-clause-does g c = λ words read rest.
     let fault = mistaken c.args.error.now (search rules) c.in_default.not-OutOfMemory words read in
-    (fault.0, fault.1, fault.2, refl)
+    (fault, refl)
 
 pub returns-in-OutOfMemory-clause-does : goal.returns-in-OutOfMemory-clause-does
 returns-in-OutOfMemory-clause-does g c = λ words read rest. search rules
