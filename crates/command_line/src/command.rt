@@ -40,7 +40,9 @@ fn with_players<'a>(alloc: Global, hashings: &'a [&'a str]) -> Result<Command<'a
     ensures { IfOk result (λ c. app_of c ≡ players_app hashings.entry) }
 {
     Command::new(alloc, "grain-directory")
-        .about("A directory of grains on a cluster of silos, played from a script, or one silo of it")
+        .about(
+            "A directory of grains on a cluster of silos, played from a script, or one silo of it",
+        )
         .version(VERSION)
         .bin_name("grain-directory")?
         .subcommand_required(true)
