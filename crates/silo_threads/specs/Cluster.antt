@@ -5,14 +5,16 @@ use Rattle.directory_rules.specs.Settings.{Settings}
 use Rattle.directory_rules.specs.World.{current_view, first_world}
 use Rattle.published_rings.specs.Ends.{PublisherValue}
 
--- how many workers were ever started, each of which has a part of the share, and what was published
+-- how many workers there ever were, each of which has a part of the share, how many of them got a thread, and what was published
 pub record ClusterValue : Type 0 where
   pub workers : ℕ
+  pub threads : ℕ
   pub published : PublisherValue
 
 -- before the first event: nobody works, and the ring of the first view is published, with so many readers to be handed out
 abbrev pub first_cluster : Settings → ℕ → ClusterValue
 first_cluster settings readers = let world = first_world settings in record {
   workers = 0;
+  threads = 0;
   published = record { earlier = []; last = ring_of (current_view world) world.places; left = readers };
 }

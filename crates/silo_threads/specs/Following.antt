@@ -21,15 +21,19 @@ pub record HasPublished (before after : PublisherValue) : Type 0 where
   pub moment : Moment
   pub shown : Shows (current_view moment.world) moment.world.places before after
 
--- after a join there is one worker more, and a publication, but for what lacks; without a thread nothing is published
+-- one worker more, with a thread of its own
+abbrev pub with_thread : ClusterValue → ClusterValue
+with_thread before = record before { workers = before.workers + 1; threads = before.threads + 1 }
+
+-- after a join there is one worker more, with a thread, and a publication, but for what lacks; without a thread nothing is published
 abbrev pub HasJoined : ClusterValue → ClusterValue → Option Lack → Type 0
-HasJoined before after None = (after.workers ≡ before.workers + 1) × HasPublished before.published after.published
-HasJoined before after (Some Publication) = after ≡ record before { workers = before.workers + 1 }
-HasJoined before after (Some Thread) = after.published ≡ before.published
+HasJoined before after None = (record after { published = before.published } ≡ with_thread before) × HasPublished before.published after.published
+HasJoined before after (Some Publication) = after ≡ with_thread before
+HasJoined before after (Some Thread) = (after.threads ≡ before.threads) × (after.published ≡ before.published)
 
 -- after a leave or a death there is a publication, unless it lacks; no worker more or less
 abbrev pub HasChanged : ClusterValue → ClusterValue → Option Lack → Type 0
-HasChanged before after None = (after.workers ≡ before.workers) × HasPublished before.published after.published
+HasChanged before after None = (record after { published = before.published } ≡ before) × HasPublished before.published after.published
 HasChanged before after (Some Publication) = after ≡ before
 HasChanged before after (Some Thread) = ⊥
 

@@ -3,7 +3,7 @@ ghost use Rattle.directory_rules.specs.Happens.{least_deliverable};
 ghost use Rattle.silo_threads.specs.Cluster.{first_cluster};
 
 use crate::publishing::newest;
-use crate::starting::Worker;
+use crate::starting::Workers;
 use cluster_board::Board;
 use crossbeam_channel::{Receiver, Sender, bounded};
 use directory_rules::Settings;
@@ -27,22 +27,22 @@ pub const PARTS: u64 = 1024;
 pub struct Cluster<L: Ledger + Names, G: Gate + Drop> {
     pub(crate) alloc: Global,
     pub(crate) site: Arc<Site<L, G>>,
-    pub(crate) workers: Vec<Worker<L>>,
+    pub(crate) workers: Workers<L>,
     pub(crate) causes: Sender<Cause>,
     pub(crate) given_up: Receiver<Cause>,
     pub(crate) publisher: Publisher,
 }
 
 impl<L: Ledger + Names, G: Gate + Drop> Model for Cluster<L, G> {
-    ghost use Rattle.std.specs.Prelude.{◌≤◌, vec_len};
+    ghost use Rattle.std.specs.Prelude.{◌+◌, ◌≤◌, vec_len};
     ghost use Rattle.silo_threads.specs.Cluster.{ClusterValue};
     ghost use Rattle.silo_threads.specs.declared.cluster.TheConstants.{MOST_WORKERS};
 
     ghost Value = { ClusterValue };
 
-    ghost view = { λ c. record { workers = vec_len c.workers; published = c.publisher } };
+    ghost view = { λ c. record { workers = vec_len c.workers.threads + vec_len c.workers.idle; threads = vec_len c.workers.threads; published = c.publisher } };
 
-    ghost invariant = { λ c. vec_len c.workers ≤ MOST_WORKERS };
+    ghost invariant = { λ c. vec_len c.workers.threads + vec_len c.workers.idle ≤ MOST_WORKERS };
 }
 
 impl<L: Ledger + Names, G: Gate + Drop> Cluster<L, G> {
@@ -78,7 +78,7 @@ impl<L: Ledger + Names, G: Gate + Drop> Cluster<L, G> {
         let cluster = Cluster {
             alloc,
             site,
-            workers: Vec::new(alloc),
+            workers: Workers::new(alloc),
             causes,
             given_up,
             publisher,

@@ -1,9 +1,9 @@
 //! The end of a cluster: its threads are joined.
-ghost use Rattle.std.specs.Prelude.{◌≡◌, ◌+◌, IfOk, OnOk, vec_len};
+ghost use Rattle.std.specs.Prelude.{◌≡◌, ◌+◌, ◌++◌, IfOk, OnOk, vec_len};
 ghost use Rattle.silo_threads.specs.Tallied.{HasMore};
 
 use crate::cluster::PARTS;
-use crate::starting::{Worker, stop};
+use crate::starting::{Workers, stop};
 use crate::{Cluster, EndFault, Ended};
 use cluster_journal::Receipt;
 use silo_workers::{Gate, Site, Tally};
@@ -63,32 +63,46 @@ impl<L: Ledger + Names, G: Gate + Drop> Cluster<L, G> {
 // Joins all threads. What the workers had of the share, and their receipts, are put to these.
 fn take_in<L: Ledger, R: Threads>(
     rt: &R,
-    workers: Vec<Worker<L>>,
+    workers: Workers<L>,
     share: &mut Share<L>,
     receipts: &mut Vec<Receipt>,
 ) -> Result<(), AllocError>
-    ensures parts { share.new.parts ≡ share.old.parts + vec_len workers }
+    ensures parts { share.new.parts ≡ share.old.parts + (vec_len workers.threads + vec_len workers.idle) }
     ensures receipts { OnOk result (HasMore receipts.old.items receipts.new.items share.old.amount share.new.amount) }
 {
-    let mut workers = workers;
+    let Workers {
+        mut threads,
+        mut idle,
+    } = workers;
     let mut lost = false;
-    while let Some(worker) = workers.pop() {
-        let Tally {
-            share: theirs,
-            receipts: mut more,
-        } = tally_of(rt, worker);
-        share.merge(theirs);
-        if receipts.append(&mut more).is_err() {
+    while let Some(thread) = threads.pop() {
+        if put(thread.join(rt), share, receipts).is_err() {
+            lost = true;
+        }
+    }
+    while let Some(tally) = idle.pop() {
+        if put(tally, share, receipts).is_err() {
             lost = true;
         }
     }
     if lost { Err(AllocError) } else { Ok(()) }
 }
 
-// What a worker did, once its thread has ended.
-fn tally_of<L: Ledger, R: Threads>(rt: &R, worker: Worker<L>) -> Tally<L> {
-    match worker {
-        Worker::Running(thread) => thread.join(rt),
-        Worker::Ended(tally) => tally,
-    }
+// What one worker had of the share, and its receipts, are put to these.
+fn put<L: Ledger>(
+    tally: Tally<L>,
+    share: &mut Share<L>,
+    receipts: &mut Vec<Receipt>,
+) -> Result<(), AllocError>
+    ensures parts { share.new.parts ≡ share.old.parts + 1 }
+    ensures amount { share.new.amount ≡ share.old.amount + vec_len tally.receipts }
+    ensures receipts { OnOk result (receipts.new.items ≡ receipts.old.items ++ tally.receipts.items) }
+{
+    let Tally {
+        share: theirs,
+        receipts: mut more,
+    } = tally;
+    share.merge(theirs);
+    receipts.append(&mut more)?;
+    Ok(())
 }

@@ -74,7 +74,7 @@ impl<L: Ledger + Names + Send + 'static, G: Gate + Drop + Send + Sync + 'static>
         let Ok(desk) = self.desk_for(silo) else {
             return Err(EventRefusal::OutOfMemory);
         };
-        if self.workers.reserve(1).is_err() {
+        if self.workers.make_room().is_err() {
             return Err(EventRefusal::OutOfMemory);
         }
         let receipt = post(rt, &self.site, share, event)?;
@@ -133,7 +133,7 @@ impl<L: Ledger + Names + Send + 'static, G: Gate + Drop + Send + Sync + 'static>
     fn has_few(&self)
         ensures { self.now.workers ≤ MOST_WORKERS }
     {
-        let _workers = self.workers.len();
+        let _workers = self.workers.threads.len();
     }
 
     // What the worker of a silo takes with it.

@@ -4,11 +4,11 @@ use Rattle.silo_threads.specs.Tallied.{HasMore}
 use Rattle.silo_threads.proofs.ending.take_in.Given as goal
 
 -- the parts of the workers that are still to be joined are still to come; unless receipts were lost, those of the others are there
-abbrev pub invariant-loop-worker : goal.invariant-loop-worker
-invariant-loop-worker g l = record {
-  parts : l.share.parts + vec_len l.workers ≡ l.initial.share.parts + vec_len l.initial.workers;
+abbrev pub invariant-loop-thread : goal.invariant-loop-thread
+invariant-loop-thread g l = record {
+  parts : l.share.parts + vec_len l.threads ≡ l.initial.share.parts + vec_len l.initial.threads;
   receipts : l.lost ≡ false → HasMore l.initial.receipts.items l.receipts.items l.initial.share.amount l.share.amount;
 }
 
-abbrev pub decreases-loop-worker : goal.decreases-loop-worker
-decreases-loop-worker g l = goal.left-loop-worker g l
+abbrev pub decreases-loop-thread : goal.decreases-loop-thread
+decreases-loop-thread g l = goal.left-loop-thread g l
