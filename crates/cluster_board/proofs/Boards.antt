@@ -2,8 +2,8 @@
 use Rattle.std.proofs.Common.{◌≡◌, refl, sym, ap, subst, ◌∙◌, ℕ, ◌+◌, List, [], ◌∷◌, ◌++◌, length, length-append, Ok, arith}
 use Rattle.std.specs.Prelude.{None, Some}
 use Rattle.silo_address.specs.Silo.{Silo}
-use Rattle.cluster_events.specs.declared.Outcome.{Outcome}
-use Rattle.cluster_events.specs.OutcomeModel.{outcome_of}
+use Rattle.directory_rules.specs.declared.Outcome.{Outcome}
+use Rattle.directory_rules.specs.OutcomeModel.{outcome_of}
 use Rattle.std.proofs.lemmas.Option.{same_Some}
 use Rattle.directory_rules.specs.Event.{Event, Deliver}
 use Rattle.directory_rules.specs.Letter.{Letter}

@@ -1,7 +1,7 @@
 -- A journal, one event further.
 use Rattle.std.proofs.Common.{◌≡◌, ℕ, List, [], ◌∷◌, ◌++◌, Result, Ok, refl, sym, ◌∙◌, ap}
 use Rattle.std.proofs.lemmas.List.{map-append}
-use Rattle.cluster_events.specs.OutcomeModel.{outcome_of}
+use Rattle.directory_rules.specs.OutcomeModel.{outcome_of}
 use Rattle.directory_rules.specs.Event.{Event, Outcome}
 use Rattle.directory_rules.specs.Settings.{Settings}
 use Rattle.directory_rules.specs.World.{World, first_world}

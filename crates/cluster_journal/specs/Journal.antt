@@ -1,6 +1,6 @@
 -- A journal: the events that a cluster accepted, in order, each with what it told.
 use Rattle.std.specs.Prelude.{◌≡◌, ℕ, ◌-◌, ◌==◌, if◌then◌else◌, List, Option, None, Result, Ok, map, slice_get}
-use Rattle.cluster_events.specs.OutcomeModel.{outcome_of}
+use Rattle.directory_rules.specs.OutcomeModel.{outcome_of}
 use Rattle.directory_rules.specs.Event.{Event, Outcome}
 use Rattle.directory_rules.specs.Settings.{Settings}
 use Rattle.directory_rules.specs.World.{World}

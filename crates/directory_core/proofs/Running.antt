@@ -2,8 +2,8 @@
 use Rattle.std.proofs.Common.{◌≡◌, ◌⊎◌, inl, inr, Ok, Err, OnErr, ℕ, ◌+◌, ◌<◌, List, [], ◌∷◌, ◌++◌, length, get_or, take, map, Option, Result, refl, sym, ◌∙◌, ap, subst}
 use Rattle.std.specs.Prelude.{IfOk}
 use Rattle.std.proofs.lemmas.List.{take_more, map-append}
-use Rattle.cluster_events.specs.declared.Event.{Event}
-use Rattle.cluster_events.specs.EventModel.{event_of}
+use Rattle.directory_rules.specs.declared.Event.{Event}
+use Rattle.directory_rules.specs.EventModel.{event_of}
 use Rattle.directory_rules.specs.Event as rule
 use Rattle.directory_rules.specs.Event.{IsEvent}
 use Rattle.directory_rules.specs.Headline.{MovesPlainly}
@@ -11,7 +11,7 @@ use Rattle.directory_rules.specs.PlainMachine.{IsPlainStep, plain_of, plain_step
 use Rattle.directory_rules.specs.World.{World, Accepted}
 use Rattle.directory_rules.specs.Happens.{happens}
 use Rattle.directory_rules.specs.Run.{run, told_of, world_after}
-use Rattle.cluster_events.specs.declared.Outcome.{Outcome}
+use Rattle.directory_rules.specs.declared.Outcome.{Outcome}
 use Rattle.directory_node.specs.Follows.{Follows}
 use Rattle.directory_core.specs.Applying.{IsPlainlyTold, accepted_as}
 use Rattle.directory_core.specs.Moving.{AllMovePlainly, MovesBy}

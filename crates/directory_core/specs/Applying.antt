@@ -3,10 +3,10 @@ use Rattle.std.specs.Prelude.{◌≡◌, ℕ, IsOk, IsOkAnd, Result, Ok, Err}
 use Rattle.directory_rules.specs.Event as rule
 use Rattle.directory_rules.specs.World.{World, Accepted}
 use Rattle.directory_rules.specs.PlainMachine.{IsPlainStep, plain_of, plain_step_of}
-use Rattle.cluster_events.specs.declared.Event.{Event}
-use Rattle.cluster_events.specs.declared.Event.TheVariants.{Join, Leave, Kill, See, Wake, Close, Find, Forget, Deliver, Lose, Nudge, Offer}
-use Rattle.cluster_events.specs.declared.Outcome.{Outcome}
-use Rattle.cluster_events.specs.OutcomeModel.{happening_of, outcome_of}
+use Rattle.directory_rules.specs.declared.Event.{Event}
+use Rattle.directory_rules.specs.declared.Event.TheVariants.{Join, Leave, Kill, See, Wake, Close, Find, Forget, Deliver, Lose, Nudge, Offer}
+use Rattle.directory_rules.specs.declared.Outcome.{Outcome}
+use Rattle.directory_rules.specs.OutcomeModel.{happening_of, outcome_of}
 use Rattle.directory_node.specs.Lacking.{IsIdle}
 
 -- an event that tells this outcome and leaves that world

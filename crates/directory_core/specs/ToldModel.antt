@@ -2,8 +2,8 @@
 use Rattle.std.specs.Prelude.{ℕ, Result, Ok, Err}
 use Rattle.std.specs.Option.{unwrap_or}
 use Rattle.directory_rules.specs.Event as rule
-use Rattle.cluster_events.specs.declared.Outcome.{Outcome}
-use Rattle.cluster_events.specs.OutcomeModel.{outcome_of}
+use Rattle.directory_rules.specs.declared.Outcome.{Outcome}
+use Rattle.directory_rules.specs.OutcomeModel.{outcome_of}
 use Rattle.directory_core.specs.declared.refusal.EventRefusal.{EventRefusal}
 use Rattle.directory_core.specs.Numbers.{event_refusal_number}
 

@@ -8,7 +8,7 @@ ghost use Rattle.directory_core.specs.Delivering.{Passes};
 ghost use Rattle.directory_core.specs.Whole.{IsWorld, LeavesWorld};
 
 use crate::World;
-use cluster_events::{Happening, Outcome};
+use directory_rules::{Effect, Happening, LetterKind, Outcome};
 use directory_rules::{Effect, LetterKind};
 
 impl World {

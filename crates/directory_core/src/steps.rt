@@ -8,7 +8,7 @@ ghost use Rattle.directory_node.specs.Follows.{Follows};
 ghost use Rattle.directory_node.specs.InputModel.{input_of};
 ghost use Rattle.directory_node.specs.Numbers.{step_refusal_number};
 ghost use Rattle.directory_node.specs.Planning.{Fits, changed, step_by};
-ghost use Rattle.cluster_events.specs.OutcomeModel.{happening_of, span_of as code_span};
+ghost use Rattle.directory_rules.specs.OutcomeModel.{happening_of, span_of as code_span};
 ghost use Rattle.std.specs.Option.{option_map, option_or};
 ghost use Rattle.directory_core.specs.Applying.{IsNever, IsOkOfUse, IsOkOrFull, accepted_as};
 ghost use Rattle.directory_core.specs.Numbers.{IsNumberedUnlessMemory, event_refusal_number};
@@ -17,7 +17,7 @@ ghost use Rattle.directory_core.specs.Whole.{IsWorld, LeavesWorld};
 
 use crate::posting::{carry_out_at, receive_at};
 use crate::{EventRefusal, World};
-use cluster_events::{Happening, Outcome, Span};
+use directory_rules::{Happening, Outcome, Span};
 use directory_letters::Letter;
 use directory_node::{Change, Input, Plan, StepRefusal, is_idle};
 use silo_address::SiloAddress;

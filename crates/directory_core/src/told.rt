@@ -3,7 +3,7 @@ ghost use Rattle.directory_core.specs.Numbers.{event_refusal_number};
 ghost use Rattle.directory_core.specs.ToldModel.{told_as};
 
 use crate::EventRefusal;
-use cluster_events::Outcome;
+use directory_rules::Outcome;
 use std::marker::Model;
 
 /// What an event of a run told: its outcome, or why it was refused.

@@ -29,3 +29,6 @@ pub mod PlainMachine
 pub mod Headline
 pub mod Laws
 pub mod Worked
+pub mod EventModel
+pub mod OutcomeModel
+pub mod Copying

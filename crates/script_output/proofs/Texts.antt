@@ -10,8 +10,8 @@ use Rattle.ring_range.specs.Range.{Range}
 use Rattle.ring_range.specs.Text.{plus_sign, range_text}
 use Rattle.texts.specs.Words.{space}
 use Rattle.script_rules.specs.Lines.{span_text}
-use Rattle.cluster_events.specs.declared.outcome.Span.{Span}
-use Rattle.cluster_events.specs.OutcomeModel.{span_of}
+use Rattle.directory_rules.specs.declared.outcome.Span.{Span}
+use Rattle.directory_rules.specs.OutcomeModel.{span_of}
 use Rattle.script_output.specs.Spaced.{ip_text, spaced}
 use Rattle.script_output.proofs.Spacing.{behind_the_mark}
 

@@ -8,7 +8,7 @@ ghost use Rattle.std.specs.Option.{option_map};
 ghost use Rattle.silo_address.specs.SiloText.{silo_text};
 ghost use Rattle.directory_rules.specs.Event.{Joined, Saw, Did, Delivered};
 ghost use Rattle.script_rules.specs.Lines.{effect_words, entry_words, fault_line, happening_words, outcome_line, refusal_line, replaced_words, sent_words, subject_words};
-ghost use Rattle.cluster_events.specs.OutcomeModel.{happening_of, outcome_of, span_of};
+ghost use Rattle.directory_rules.specs.OutcomeModel.{happening_of, outcome_of, span_of};
 ghost use Rattle.script_output.specs.Effects.{second_words};
 ghost use Rattle.script_output.specs.Printed.{printed};
 ghost use Rattle.script_output.specs.Spaced.{spaced, BeginsWith};
@@ -18,7 +18,7 @@ use crate::tables::{effect_word, kind_word};
 use crate::words::{
     push_entry, push_grain, push_named, push_number, push_silo, push_span, push_word,
 };
-use cluster_events::{Happening, Outcome, Span};
+use directory_rules::{Effect, Happening, LetterKind, Outcome, Span};
 use directory_rules::{Effect, LetterKind};
 use silo_address::{Entry, SiloAddress};
 use std::alloc::AllocError;

@@ -9,11 +9,11 @@ ghost use Rattle.silo_address.specs.Grain.{grain_text};
 ghost use Rattle.silo_address.specs.SiloText.{silo_text};
 ghost use Rattle.ring_range.specs.Text.{range_text};
 ghost use Rattle.script_rules.specs.Lines.{entry_words, span_text};
-ghost use Rattle.cluster_events.specs.OutcomeModel.{span_of};
+ghost use Rattle.directory_rules.specs.OutcomeModel.{span_of};
 ghost use Rattle.script_output.specs.Spaced.{spaced, BeginsWith};
 
 use crate::marked::{push_marked, push_marked_number, push_marked_silo};
-use cluster_events::Span;
+use directory_rules::Span;
 use ring_range::RingRange;
 use silo_address::{ActivationId, Entry, GrainId, SiloAddress};
 use std::alloc::AllocError;

@@ -1,7 +1,7 @@
 use Rattle.std.proofs.Common.{ap, sym, ◌∙◌, ◌++◌}
 use Rattle.std.specs.Option.{option_map}
 use Rattle.script_rules.specs.Lines.{sent_words}
-use Rattle.cluster_events.specs.OutcomeModel.{span_of}
+use Rattle.directory_rules.specs.OutcomeModel.{span_of}
 use Rattle.script_output.specs.Spaced.{spaced}
 use Rattle.script_output.proofs.Fronts.{begins_with_the_first}
 use Rattle.script_output.proofs.Spacing.{then_spaced}

@@ -10,7 +10,7 @@ use Rattle.directory_rules.specs.Step.{Stepped}
 use Rattle.directory_rules.specs.World.{World}
 use Rattle.directory_rules.specs.Mail.{has_room_for, letter_of, span_of, with_delivered}
 use Rattle.directory_rules.specs.Happens.{deliver, node_of}
-use Rattle.cluster_events.specs.OutcomeModel.{span_of as code_span}
+use Rattle.directory_rules.specs.OutcomeModel.{span_of as code_span}
 use Rattle.directory_node.specs.Follows.{RefusesBy}
 use Rattle.letter_mail.specs.MailedModel.{letter_seen}
 use Rattle.letter_mail.specs.declared.MailedLetter.{MailedLetter}

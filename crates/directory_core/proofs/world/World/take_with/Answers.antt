@@ -8,7 +8,7 @@ use Rattle.directory_rules.specs.Letter.{Letter, kind_of}
 use Rattle.directory_rules.specs.Step.{Stepped}
 use Rattle.directory_rules.specs.World.{World}
 use Rattle.directory_rules.specs.Mail.{has_room_for, letter_of, span_of, with_delivered}
-use Rattle.cluster_events.specs.OutcomeModel.{span_of as code_span}
+use Rattle.directory_rules.specs.OutcomeModel.{span_of as code_span}
 use Rattle.directory_core.specs.Applying.{IsOkOfUse}
 use Rattle.directory_core.specs.Stepping.{after_step}
 use Rattle.directory_core.specs.Whole.{IsWorld}

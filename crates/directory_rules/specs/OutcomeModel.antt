@@ -1,10 +1,10 @@
 -- How an outcome of the code is an outcome of the rule.
 use Rattle.std.specs.Option.{option_map}
 use Rattle.directory_rules.specs.Event as rule
-use Rattle.cluster_events.specs.declared.outcome.Span.{Span}
-use Rattle.cluster_events.specs.declared.outcome.Outcome.{Outcome}
-use Rattle.cluster_events.specs.declared.outcome.Happening.{Happening}
-use Rattle.cluster_events.specs.declared.outcome.Happening.TheVariants.{Joined, Left, Died, Saw, Did, Delivered, Lost}
+use Rattle.directory_rules.specs.declared.outcome.Span.{Span}
+use Rattle.directory_rules.specs.declared.outcome.Outcome.{Outcome}
+use Rattle.directory_rules.specs.declared.outcome.Happening.{Happening}
+use Rattle.directory_rules.specs.declared.outcome.Happening.TheVariants.{Joined, Left, Died, Saw, Did, Delivered, Lost}
 
 -- the rule's happening
 abbrev pub happening_of : Happening → rule.Happening
