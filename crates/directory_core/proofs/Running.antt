@@ -26,7 +26,7 @@ run_more_told : (world : World) (events : List rule.Event) (event : rule.Event)
     → (run world (events ++ event ∷ [])).told ≡ (run world events).told ++ told_of (happens (run world events).world event) ∷ []
 unfolding run
 run_more_told world [] event = refl
-run_more_told world (e ∷ events) event = ap (λ (l : List (Result rule.Outcome ℕ)). told_of (happens world e) ∷ l) (run_more_told (world_after (happens world e) world) events event)
+run_more_told world (e ∷ events) event = ap (λ (l : List (Result Outcome ℕ)). told_of (happens world e) ∷ l) (run_more_told (world_after (happens world e) world) events event)
 
 -- the events so far, and the next one
 one_more : (events : List Event) (i : ℕ) (event : Event) → i < length events → event ≡ get_or events i event
@@ -44,12 +44,12 @@ further_world world now next events i event below is so_far after =
     ∙ sym (run_more_world world (map event_of (take i events)) (event_of event))
     ∙ ap (λ (l : List rule.Event). (run world l).world) (sym (one_more events i event below is))
 
-pub further_told : (world now : World) (events : List Event) (i : ℕ) (event : Event) (told : List (Result rule.Outcome ℕ)) (this : Result rule.Outcome ℕ) → i < length events → event ≡ get_or events i event
+pub further_told : (world now : World) (events : List Event) (i : ℕ) (event : Event) (told : List (Result Outcome ℕ)) (this : Result Outcome ℕ) → i < length events → event ≡ get_or events i event
     → now ≡ (run world (map event_of (take i events))).world → told ≡ (run world (map event_of (take i events))).told → this ≡ told_of (happens now (event_of event))
     → told ++ this ∷ [] ≡ (run world (map event_of (take (i + 1) events))).told
 further_told world now events i event told this below is so_far told_so_far this_is =
-    ap (λ (l : List (Result rule.Outcome ℕ)). l ++ this ∷ []) told_so_far
-    ∙ ap (λ (r : Result rule.Outcome ℕ). (run world (map event_of (take i events))).told ++ r ∷ []) (this_is ∙ ap (λ (w : World). told_of (happens w (event_of event))) so_far)
+    ap (λ (l : List (Result Outcome ℕ)). l ++ this ∷ []) told_so_far
+    ∙ ap (λ (r : Result Outcome ℕ). (run world (map event_of (take i events))).told ++ r ∷ []) (this_is ∙ ap (λ (w : World). told_of (happens w (event_of event))) so_far)
     ∙ sym (run_more_told world (map event_of (take i events)) (event_of event))
     ∙ ap (λ (l : List rule.Event). (run world l).told) (sym (one_more events i event below is))
 

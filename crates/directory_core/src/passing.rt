@@ -8,8 +8,7 @@ ghost use Rattle.directory_core.specs.Delivering.{Passes};
 ghost use Rattle.directory_core.specs.Whole.{IsWorld, LeavesWorld};
 
 use crate::World;
-use directory_rules::{Effect, Happening, LetterKind, Outcome};
-use directory_rules::{Effect, LetterKind};
+use directory_rules::{Effect, Effect, Happening, LetterKind, LetterKind, Outcome};
 
 impl World {
     // The letter of a number comes to its receiver, and nothing comes of it.

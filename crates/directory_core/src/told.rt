@@ -14,7 +14,7 @@ pub struct Told {
 
 impl Model for Told {
     ghost use Rattle.std.specs.Prelude.{ℕ, Result};
-    ghost use Rattle.directory_rules.specs.Event.{Outcome};
+    ghost use Rattle.directory_rules.specs.declared.outcome.Outcome.{Outcome};
 
     ghost Value = { Result Outcome ℕ };
 

@@ -30,5 +30,4 @@ pub mod Headline
 pub mod Laws
 pub mod Worked
 pub mod EventModel
-pub mod OutcomeModel
 pub mod Copying
