@@ -3,13 +3,13 @@
 #![tactic(auto)]
 
 mod apply;
-mod delivering;
+mod delivery;
 mod join;
-mod leaving;
+mod leave;
 mod nodes;
-mod passing;
+mod pass;
 mod planned;
-mod posting;
+mod post;
 mod refusal;
 mod run;
 mod sight;
@@ -17,7 +17,7 @@ mod steps;
 mod told;
 mod world;
 
-pub use delivering::Undelivered;
+pub use delivery::Undelivered;
 pub use directory_letters::{Body, Letter};
 pub use directory_node::Node;
 pub use directory_rules::{Effect, Event, Happening, LetterKind, Outcome, Policy, Settings, Span};

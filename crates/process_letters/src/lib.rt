@@ -5,13 +5,13 @@ mod entries;
 mod fault;
 mod head;
 mod kinds;
-mod reading;
+mod read;
 mod replies;
 mod requests;
 mod transfers;
 mod words;
-mod writing;
+mod write;
 
 pub use fault::{LetterError, LineFault};
-pub use reading::read_letter;
-pub use writing::write_letter;
+pub use read::read_letter;
+pub use write::write_letter;

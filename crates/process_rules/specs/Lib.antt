@@ -1,4 +1,4 @@
 pub mod LetterText
-pub mod LetterReading
+pub mod ReadLetter
 pub mod Told
-pub mod LineReading
+pub mod ReadLine

@@ -12,12 +12,12 @@ mod lines;
 mod names;
 mod places;
 mod questions;
-mod reading;
+mod read;
 mod silos;
 mod words;
 
 pub use command::Command;
 pub use error::{ReadError, ScriptFault};
 pub use lines::{first_line, without_return};
-pub use reading::read_command;
+pub use read::read_command;
 pub use words::{only_three_words, only_two_words, only_word, split_word};

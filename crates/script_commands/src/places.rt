@@ -3,7 +3,7 @@
 ghost use Rattle.std.specs.Prelude.{◌≡◌};
 ghost use Rattle.texts.specs.Words.{words_in};
 ghost use Rattle.script_rules.specs.Script as script;
-ghost use Rattle.script_commands.specs.Reading.{Reads, Fails};
+ghost use Rattle.script_commands.specs.ReadAs.{Reads, Fails};
 
 use crate::grammar::hash_word;
 use crate::words::split_word;

@@ -10,8 +10,8 @@ use crate::play::ranges::{
 use crate::play::recoveries::{KEPT_SKIP, RECOVERY, SKIP_THEN_LATE_LETTERS};
 use crate::play::requests::{LOST_LETTER, OLD_NUMBER, TWO_WAKES};
 use crate::play::rows::{ONE_SILO, Row};
-use directory_rules::{Event, Outcome, Settings};
 use directory_core::{EventRefusal, Told, World};
+use directory_rules::{Event, Outcome, Settings};
 use hash_ring::Hashing;
 use script_commands::{Command, first_line, read_command};
 use script_output::{write_outcome, write_refusal};
