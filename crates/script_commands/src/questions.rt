@@ -1,42 +1,13 @@
 //! Commands that ask, and change nothing.
 
-ghost use Rattle.std.specs.Map.{lookup};
-ghost use Rattle.std.specs.Prelude.{◌≡◌, bytes_eq, option_map};
+ghost use Rattle.std.specs.Prelude.{◌≡◌};
 ghost use Rattle.texts.specs.Words.{words_in};
 ghost use Rattle.script_rules.specs.Script as script;
 ghost use Rattle.script_commands.specs.CommandModel.{command_of};
-ghost use Rattle.script_commands.specs.Known.{question_commands};
-ghost use Rattle.script_commands.specs.Named.{grammar_of};
 ghost use Rattle.script_commands.specs.ReadAs.{told};
 
 use crate::grammar::{a_hash, a_silo_a_policy_and_a_grain, no_word};
-use crate::names::CommandName;
 use crate::{Command, ScriptFault};
-
-/// The question of that name.
-pub(crate) fn question_name(name: &[u8]) -> Option<CommandName>
-    ensures { option_map grammar_of result ≡ lookup (bytes_eq name.now) question_commands }
-{
-    if name == b"owner".as_slice() {
-        return Some(CommandName::Owner);
-    }
-    if name == b"place".as_slice() {
-        return Some(CommandName::Place);
-    }
-    if name == b"show".as_slice() {
-        return Some(CommandName::Show);
-    }
-    if name == b"mail".as_slice() {
-        return Some(CommandName::Mail);
-    }
-    if name == b"dump".as_slice() {
-        return Some(CommandName::Dump);
-    }
-    if name == b"check".as_slice() {
-        return Some(CommandName::Check);
-    }
-    None
-}
 
 pub(crate) fn owner(words: &[u8]) -> Result<Command, ScriptFault>
     ensures { told command_of result ≡ script.a_hash script.Owner (words_in words.now) }

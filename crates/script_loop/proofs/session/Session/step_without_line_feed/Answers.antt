@@ -9,7 +9,7 @@ returns-in-Ok g c = record {
   ends = refl;
   concludes = λ more may.
       let at = progress c.args.self.now in
-      let long = c.long_lines.ensures [] at.held more c.requires.none (omega (arith, length-drop c.args.self.now.start c.args.self.now.bytes.items, c.args.self.now.bytes.ok.0, c.len.ensures)) in
+      let long = c.long_lines.ensures at.held more c.requires.none (omega (arith, length-drop c.args.self.now.start c.args.self.now.bytes.items, c.args.self.now.bytes.ok.0, c.len.ensures)) in
       let told = long_told (g.P.LinePlayer.output c.args.player.now) at.line at.waiting c.write_fault.new.out.items long.0 long.1 _ _
       (g.met.P.LinePlayer.too_long c.args.player.now at.line long.0 long.1 (long_by_fault long.0 long.3)) long.2 c.number.ensures c.in-Ok.ensures.written in
       (told.1, (at.waiting, told.0));
