@@ -1,6 +1,6 @@
 -- What the rule answers, by what the silo's calls answered and what was written of that.
 use Rattle.std.proofs.Common.{◌≡◌, ℕ, Bool, true, false, List, [], ◌∷◌, ◌++◌, Option, Some, None, Result, Ok, Err, map, cond, refl, ap, sym, ◌∙◌, subst, append-nil}
-use Rattle.std.specs.Prelude.{IsOk, IsSomeAnd}
+use Rattle.std.specs.Prelude.{IsSomeAnd}
 use Rattle.texts.specs.Printed.{text_of_lines}
 use Rattle.texts.specs.Words.{sentence}
 use Rattle.membership_view.specs.declared.status.Status.{Status}
@@ -10,25 +10,21 @@ use Rattle.directory_rules.specs.declared.effect.Effect.{Effect}
 use Rattle.directory_rules.specs.Letter.{Letter}
 use Rattle.directory_rules.specs.Node.{Node}
 use Rattle.directory_rules.specs.Step.{Stepped}
-use Rattle.directory_rules.specs.Event.{Did, Saw}
-use Rattle.directory_rules.specs.Input.{Input}
-use Rattle.directory_node.specs.Follows.{Follows, RefusesBy}
+use Rattle.directory_node.specs.Follows.{RefusesBy}
 use Rattle.silo_rules.specs.declared.news.News.{News}
 use Rattle.silo_rules.specs.Membership.{Change, Membership}
 use Rattle.silo_rules.specs.SiloValue.{SiloValue, own_status}
-use Rattle.silo_rules.specs.Stepping.{does, receives, sees}
-use Rattle.silo_rules.specs.Telling.{Heard, told}
+use Rattle.silo_rules.specs.Stepping.{receives}
+use Rattle.silo_rules.specs.Telling.{Heard}
 use Rattle.directory_silo.specs.declared.answer.Answer.{Answer}
-use Rattle.directory_silo.specs.declared.refusal.SiloRefusal.{SiloRefusal}
 use Rattle.directory_silo.specs.AnswerModel.{heard_as, stepped_as}
-use Rattle.directory_silo.specs.Numbers.{silo_refusal_number}
-use Rattle.script_rules.specs.Lines.{happening_words, refusal_line}
+use Rattle.script_rules.specs.Lines.{refusal_line}
 use Rattle.script_output.specs.Printed.{printed}
 use Rattle.process_rules.specs.LetterText.{letter_line}
 use Rattle.process_output.specs.Happened.{news_words, received_words}
-use Rattle.process_output.specs.Answer.{Answered, after_news, done_so, heard, printing, received_so, seen_so, stepped, told_so, unless_dead}
+use Rattle.process_output.specs.Answer.{Answered, after_news, heard, printing, received_so, stepped, unless_dead}
 use Rattle.process_answers.specs.Answering.{IsAnswered}
-use Rattle.process_answers.specs.Ending.{EndsAsDead, is_ending, last_lines}
+use Rattle.process_answers.specs.Ending.{EndsAsDead, last_lines}
 use Rattle.process_answers.proofs.Written.{lines_behind_lines, one_line}
 
 -- ---- refusals

@@ -1,5 +1,5 @@
 -- `show` prints something.
-use Rattle.std.proofs.Common.{◌≡◌, ℕ, List, [], Result, Ok, Err}
+use Rattle.std.proofs.Common.{◌≡◌, [], Result, Ok, Err}
 use Rattle.std.specs.Result.{OnErr}
 use Rattle.silo_rules.specs.SiloValue.{SiloValue}
 use Rattle.process_rules.specs.LineReading.{Show}

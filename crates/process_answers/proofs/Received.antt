@@ -1,5 +1,5 @@
 -- A letter is answered by what it tells.
-use Rattle.std.proofs.Common.{◌≡◌, ℕ, Bool, true, false, List, ◌++◌, Option, Result, Ok, ap, ◌∙◌, subst, map}
+use Rattle.std.proofs.Common.{◌≡◌, ℕ, true, false, List, ◌++◌, Option, Result, Ok, ap, ◌∙◌, subst, map}
 use Rattle.std.specs.Prelude.{IsSomeAnd}
 use Rattle.texts.specs.Printed.{text_of_lines}
 use Rattle.texts.specs.Words.{sentence}

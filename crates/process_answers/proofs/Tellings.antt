@@ -1,5 +1,5 @@
 -- What a letter tells, by what the host had when it came.
-use Rattle.std.proofs.Common.{◌≡◌, ℕ, ◌<◌, Bool, true, false, List, [], ◌∷◌, ◌++◌, Option, Some, None, length, cond, refl, ap, sym, ◌∙◌, subst, append-nil, arith}
+use Rattle.std.proofs.Common.{◌≡◌, ℕ, ◌<◌, Bool, true, false, List, [], Option, Some, None, length, cond, refl, ap, subst, append-nil, arith}
 use Rattle.std.specs.Option.{option_map}
 use Rattle.silo_address.specs.Silo.{Silo}
 use Rattle.silo_address.specs.Grain.{Grain}
@@ -9,7 +9,7 @@ use Rattle.directory_rules.specs.declared.held.Held.{Held}
 use Rattle.directory_rules.specs.declared.letter_kind.LetterKind.{LetterKind}
 use Rattle.directory_rules.specs.Event.{Did}
 use Rattle.directory_rules.specs.Host.{Host, entry_of}
-use Rattle.directory_rules.specs.Letter.{Letter, Body, kind_of}
+use Rattle.directory_rules.specs.Letter.{Letter, kind_of}
 use Rattle.script_rules.specs.Lines.{happening_words}
 use Rattle.script_output.proofs.SomeWords.{happening_has_words}
 use Rattle.process_output.specs.Happened.{body_words, delivered_words, is_ignored, own_grain, own_words, received_words, sought_words}

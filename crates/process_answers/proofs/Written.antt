@@ -1,5 +1,5 @@
 -- Lines written behind what stood there.
-use Rattle.std.proofs.Common.{◌≡◌, ℕ, ◌+◌, ◌<◌, ◌≤◌, ◌++◌, List, [], ◌∷◌, Result, Ok, Err, length, get_or, take, map, ap, refl, sym, ◌∙◌, append_assoc, append-nil, take_all, subst}
+use Rattle.std.proofs.Common.{◌≡◌, ℕ, ◌+◌, ◌<◌, ◌≤◌, ◌++◌, List, [], ◌∷◌, Result, Ok, Err, length, get_or, take, map, ap, sym, ◌∙◌, append_assoc, append-nil, take_all, subst}
 use Rattle.std.specs.Result.{OnErr, OnOk}
 use Rattle.std.specs.Prelude.{flat_map}
 use Rattle.std.proofs.lemmas.List.{map-append, take_more}

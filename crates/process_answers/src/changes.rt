@@ -4,10 +4,8 @@
 
 ghost use Rattle.std.specs.Prelude.{◌≡◌, ◌++◌, IfOk, IsOk, OnErr, OnOk, [], ◌∷◌, codes};
 ghost use Rattle.std.specs.Fmt.{decimal};
-ghost use Rattle.texts.specs.Printed.{text_of_lines};
 ghost use Rattle.texts.specs.Words.{sentence};
 ghost use Rattle.directory_node.specs.Follows.{Follows};
-ghost use Rattle.silo_rules.specs.SiloValue.{own_status};
 ghost use Rattle.silo_rules.specs.Telling.{told};
 ghost use Rattle.directory_silo.specs.AnswerModel.{heard_as};
 ghost use Rattle.directory_silo.specs.Numbers.{silo_refusal_number};
