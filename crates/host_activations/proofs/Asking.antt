@@ -11,7 +11,7 @@ use Rattle.std.proofs.lemmas.Option.{same_Some}
 use Rattle.silo_address.specs.Grain.{Grain, grain_cmp}
 use Rattle.membership_view.proofs.Entries.{lookup-insert_entry}
 use Rattle.directory_rules.specs.declared.Held.{Held}
-use Rattle.held_activations.proofs.Grains.{at_itself, on_grain}
+use Rattle.host_activations.proofs.Grains.{at_itself, on_grain}
 use Rattle.host_activations.specs.declared.asked.Asked.{Asked}
 use Rattle.host_activations.specs.declared.asked.Asked.TheVariants.{Activation, Find}
 use Rattle.host_activations.specs.Numbers.{number_of}

@@ -2,7 +2,7 @@ pub mod Entries
 pub mod Numbers
 pub mod Asking
 pub mod Finds
-pub mod Kept
+pub mod HostKept
 pub mod Found
 pub mod Setting
 pub mod Fields
@@ -17,3 +17,16 @@ pub mod Ranks
 pub mod Renumbering
 pub mod AskedAgain
 pub mod Renewing
+pub mod Steps
+pub mod Grains
+pub mod Rows
+pub mod Unique
+pub mod Ordered
+pub mod Changes
+pub mod ByCount
+pub mod Indexed
+pub mod SameHeld
+pub mod Tables
+pub mod FirmCounts
+pub mod ByGrain
+pub mod Listed

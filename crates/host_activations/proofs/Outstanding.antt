@@ -20,7 +20,7 @@ use Rattle.directory_rules.specs.declared.Held.{Held}
 use Rattle.directory_rules.specs.declared.Phase.{Phase}
 use Rattle.directory_rules.specs.declared.Phase.TheVariants.{Asking, Firm, Closing}
 use Rattle.directory_rules.specs.Host.{Host, act_in, find_acts, held_acts, new_host, outstanding}
-use Rattle.held_activations.proofs.Grains.{on_grain}
+use Rattle.host_activations.proofs.Grains.{on_grain}
 use Rattle.host_activations.specs.declared.asked.Asked.{Asked}
 use Rattle.host_activations.specs.declared.asked.Asked.TheVariants.{Activation, Find}
 use Rattle.host_activations.specs.Numbers.{number_in}

@@ -18,7 +18,7 @@ use Rattle.directory_rules.specs.declared.Phase.TheVariants.{Asking, Firm, Closi
 use Rattle.host_activations.specs.declared.asked.Asked.{Asked}
 use Rattle.host_activations.specs.declared.asked.Asked.TheVariants.{Activation, Find}
 use Rattle.host_activations.specs.Numbers.{number_in, phase_under}
-use Rattle.held_activations.proofs.Grains.{at_itself, on_grain, same_test}
+use Rattle.host_activations.proofs.Grains.{at_itself, on_grain, same_test}
 use Rattle.host_activations.proofs.Numbers.{on_number, number_at_itself}
 use Rattle.host_activations.proofs.Ranks.{Ranks}
 

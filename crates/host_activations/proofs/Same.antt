@@ -12,7 +12,7 @@ use Rattle.silo_address.proofs.Same.{Decides-grain}
 use Rattle.membership_view.proofs.Found.{same_entries}
 use Rattle.directory_rules.specs.declared.Held.{Held}
 use Rattle.directory_rules.specs.Host.{Host}
-use Rattle.held_activations.specs.Activations.{ActivationsValue}
+use Rattle.host_activations.specs.Activations.{ActivationsValue}
 use Rattle.host_activations.specs.declared.asked.Asked.{Asked}
 use Rattle.host_activations.specs.declared.asked.Asked.TheVariants.{Activation, Find}
 use Rattle.host_activations.specs.contracts.asked.AskedPartialEq as asked_eq

@@ -11,7 +11,7 @@ mod telling;
 
 use crate::asked::Asked;
 use directory_rules::{Held, Settings};
-use held_activations::Activations;
+use crate::Activations;
 pub use renewal::Renewal;
 use silo_address::{GrainId, SiloAddress};
 use std::alloc::{AllocError, Global};

@@ -18,7 +18,7 @@ ghost use Rattle.process_answers.specs.Telling.{entry_if_any, received_telling, 
 use cluster_events::Happening;
 use directory_letters::Body;
 use directory_rules::{Effect, LetterKind, Reply};
-use held_activations::entry_on;
+use host_activations::{Host, entry_on};
 use host_activations::Host;
 use script_output::{
     kind_word, push_activation, push_effect, push_entry, push_grain, push_happening, push_word,

@@ -9,7 +9,7 @@ use super::Host;
 use super::replies::find_under;
 use crate::asked::{Asked, number_in};
 use directory_rules::Phase;
-use held_activations::Activations;
+use crate::Activations;
 use silo_address::GrainId;
 use std::collections::BTreeMap;
 

@@ -13,7 +13,7 @@ use super::Host;
 use super::telling::acts_in;
 use crate::asked::Asked;
 use directory_rules::{Act, Phase};
-use held_activations::Activations;
+use crate::Activations;
 use silo_address::GrainId;
 use std::alloc::{AllocError, Global};
 use std::collections::BTreeMap;

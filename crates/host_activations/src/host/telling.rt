@@ -7,7 +7,7 @@ use super::Host;
 use crate::asked::Asked;
 use directory_rules::{Act, Held, Phase};
 use hash_ring::Hashing;
-use held_activations::{Activations, entry_on};
+use crate::{Activations, entry_on};
 use ring_range::RingRange;
 use silo_address::{Entry, GrainId, SiloAddress};
 use std::alloc::{AllocError, Global};
