@@ -1,7 +1,8 @@
 -- What comes of work that is current: 908, then 909, else it is accepted.
 use Rattle.std.proofs.Common.{◌≡◌, refl, sym, ap, subst, ◌∙◌, ℕ, ◌<◌, ◌≤◌, List, [], ◌∷◌}
 use Rattle.std.specs.Prelude.{Bool, true, false, cond, not, IsOk, Option, Some, Result, Ok, Err}
-use Rattle.directory_rules.specs.Event.{Deliver, Delivered}
+use Rattle.directory_rules.specs.Event.{Deliver}
+use Rattle.directory_rules.specs.declared.outcome.Happening.TheVariants.{Delivered}
 use Rattle.directory_rules.specs.Letter.{Letter, kind_of}
 use Rattle.directory_rules.specs.Node.{Node}
 use Rattle.directory_rules.specs.Receive.{received}

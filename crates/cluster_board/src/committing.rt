@@ -10,7 +10,7 @@ ghost use Rattle.cluster_board.specs.Work.{IsCurrent};
 use crate::marking::forget;
 use crate::posting::{drafts, entered};
 use crate::{Board, CommitRefusal, Job, Prepared};
-use cluster_events::{Event, Outcome};
+use directory_rules::{Event, Outcome};
 use cluster_journal::Receipt;
 use directory_core::World;
 use directory_letters::Letter;

@@ -1,11 +1,11 @@
 //! The marks that a board keeps of its silos' nodes.
 ghost use Rattle.std.specs.Prelude.{◌≡◌, None, IfSome, IsTrue, true};
 ghost use Rattle.silo_address.specs.Silo.{Silo};
-ghost use Rattle.cluster_events.specs.EventModel.{event_of};
+ghost use Rattle.directory_rules.specs.EventModel.{event_of};
 ghost use Rattle.cluster_board.specs.Changing.{IsReceiver, MayChange};
 ghost use Rattle.cluster_board.specs.Marked.{AreLeft, AreMore, marked_at};
 
-use cluster_events::Event;
+use directory_rules::Event;
 use directory_core::World;
 use shared_node::SharedNode;
 use silo_address::SiloAddress;

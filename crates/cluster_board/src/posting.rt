@@ -1,5 +1,5 @@
 ghost use Rattle.std.specs.Prelude.{◌≡◌, ◌∷◌, [], ◌++◌, ◌+◌, ◌<◌, IfErr, IfOk, OnErr, OnOk, length, vec_capacity, vec_len};
-ghost use Rattle.cluster_events.specs.EventModel.{event_of};
+ghost use Rattle.directory_rules.specs.EventModel.{event_of};
 ghost use Rattle.directory_rules.specs.Happens.{happens};
 ghost use Rattle.directory_node.specs.Follows.{Follows};
 ghost use Rattle.directory_core.specs.Applying.{accepted_as};
@@ -7,7 +7,7 @@ ghost use Rattle.directory_core.specs.Numbers.{IsNumberedUnlessMemory, event_ref
 
 use crate::Board;
 use crate::marking::forget_by;
-use cluster_events::{Event, Outcome};
+use directory_rules::{Event, Outcome};
 use cluster_journal::{Draft, Entry, Receipt};
 use directory_core::EventRefusal;
 use std::alloc::{AllocError, Global};

@@ -4,7 +4,7 @@
 
 ghost use Rattle.std.specs.Prelude.{◌≡◌, [], ◌∷◌, IfOk, OnOk, OnErr};
 ghost use Rattle.script_rules.specs.Output.{events_in_turn, performed, delivered_all};
-ghost use Rattle.cluster_events.specs.EventModel.{event_of};
+ghost use Rattle.directory_rules.specs.EventModel.{event_of};
 ghost use Rattle.script_commands.specs.CommandModel.{command_of};
 ghost use Rattle.script_output.specs.Spaced.{BeginsWith};
 ghost use Rattle.console_play.specs.Performing.{Performs, TakesTurn, delivery_turn, event_turn, in_session};
@@ -14,7 +14,7 @@ use crate::letters::tell_mail;
 use crate::placing::tell_place;
 use crate::showing::{show, tell_owner};
 use crate::syncing::sync;
-use cluster_events::Event;
+use directory_rules::Event;
 use directory_core::World;
 use script_commands::Command;
 use script_output::{write_outcome, write_refusal};

@@ -9,7 +9,7 @@ ghost use Rattle.script_output.specs.Spaced.{BeginsWith};
 ghost use Rattle.console_play.specs.Performing.{Performs, TakeTurns, in_session, sights};
 
 use crate::performing::take_turn;
-use cluster_events::Event;
+use directory_rules::Event;
 use directory_core::World;
 use shared_node::SharedNode;
 use silo_address::SiloAddress;

@@ -3,7 +3,7 @@
 ghost use Rattle.std.specs.Prelude.{◌≡◌, ◌+◌};
 ghost use Rattle.silo_threads.specs.declared.cluster.TheConstants.{PARTS};
 
-use cluster_events::Event;
+use directory_rules::Event;
 use cluster_journal::Receipt;
 use script_commands::Command;
 use silo_threads::Cluster;

@@ -19,6 +19,7 @@ use Rattle.directory_rules.specs.Settings.{Settings}
 use Rattle.directory_rules.specs.Letter.{Letter}
 use Rattle.directory_rules.specs.Node.{new_node}
 use Rattle.directory_rules.specs.Event as event
+use Rattle.directory_rules.specs.declared.outcome.Happening.TheVariants as happening
 use Rattle.directory_rules.specs.Event.{Event, IsEvent}
 use Rattle.directory_rules.specs.Step.{Stepped, silently}
 use Rattle.directory_rules.specs.Input.{Input, Wakes, Closes, Finds, Forgets, Nudges, Offers, Receives, step}
@@ -66,7 +67,7 @@ module _ (d : Deployment) (accepted : ℕ) (mail : List (ℕ × Posted)) (has : 
   -- ---- what a process's own application asks for
   done_so : (e : Event) → IsEvent e → (silo : Silo) (s : SiloValue) (r : Result Stepped ℕ) → rule.attempted w e ≡ rule.done_by r w silo → Fits (took r d silo s) → Moves d (took r d silo s) accepted mail
   done_so e named silo s (Err number) is fits = none
-  done_so e named silo s (Ok stepped) is fits = steps d accepted mail mail e silo s (event.Did silo stepped.effect) stepped named room fits has is
+  done_so e named silo s (Ok stepped) is fits = steps d accepted mail mail e silo s (happening.Did silo stepped.effect) stepped named room fits has is
 
   -- a silo that takes a step isn't barred from it
   unbarred : (silo : Silo) (s : SiloValue) (r : Result Stepped ℕ) (o : Option Status) → own_status s ≡ o → (is_some (own_status s) ≡ true → Fits (took r d silo s) → Moves d (took r d silo s) accepted mail)
@@ -94,7 +95,7 @@ module _ (d : Deployment) (accepted : ℕ) (mail : List (ℕ × Posted)) (has : 
       (subst (λ t. is_some (status_at m.views m.views.version t) ≡ true) its.address known)
       (subst (λ t. is_seeable m t version ≡ true) its.address seeable) in
       let sight = sym (same_sight s.node m d.membership version to.0 still.0) ∙ is in
-      steps d accepted mail mail (event.See silo version) silo s (event.Saw silo version stepped.effect) stepped named room fits has
+      steps d accepted mail mail (event.See silo version) silo s (happening.Saw silo version stepped.effect) stepped named room fits has
       (ap (λ o. rule.sees_at o w silo version) (has_process silo s there)
       ∙ ap (λ b. cond (not b) (Err 903) (cond (not (rule.is_seeable w silo version)) (Err 904) (rule.seen_by (step s.node (rule.sight_of w version)) w silo version))) newer
       ∙ ap (λ b. cond (not b) (Err 904) (rule.seen_by (step s.node (rule.sight_of w version)) w silo version)) still.1

@@ -5,7 +5,10 @@ use Rattle.std.proofs.lemmas.Bool.Decides.{nat_tests}
 use Rattle.std.specs.Option.{option_or}
 use Rattle.std.proofs.lemmas.Bool.{le-ltb, lt-ltb}
 use Rattle.silo_address.specs.Silo.{Silo}
-use Rattle.directory_rules.specs.Event.{Event, Happening, Delivered, Did, Saw, Span}
+use Rattle.directory_rules.specs.Event.{Event}
+use Rattle.directory_rules.specs.declared.outcome.Happening.{Happening}
+use Rattle.directory_rules.specs.declared.outcome.Happening.TheVariants.{Delivered, Did, Saw}
+use Rattle.directory_rules.specs.declared.outcome.Span.{Span}
 use Rattle.directory_rules.specs.Letter.{Letter, kind_of}
 use Rattle.directory_rules.specs.Node.{Node}
 use Rattle.directory_rules.specs.Step.{Stepped}

@@ -11,7 +11,7 @@ use Rattle.silo_address.specs.Silo.{Silo, silo_cmp}
 use Rattle.silo_address.proofs.Order.{silo_cmp_total}
 use Rattle.directory_rules.specs.declared.effect.Effect.{Effect}
 use Rattle.directory_rules.specs.declared.letter_kind.LetterKind.{LetterKind}
-use Rattle.directory_rules.specs.Event.{Delivered, Did}
+use Rattle.directory_rules.specs.declared.outcome.Happening.TheVariants.{Delivered, Did}
 use Rattle.directory_rules.specs.Happens.{counted, deliver, does, node_of, tells}
 use Rattle.directory_rules.specs.Input.{Input, step}
 use Rattle.directory_rules.specs.Letter.{Letter, kind_of}

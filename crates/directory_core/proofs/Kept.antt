@@ -14,7 +14,7 @@ use Rattle.hash_ring.specs.Places.{PlacesValue, after_add, has_points, is_added,
 use Rattle.directory_rules.specs.Laws.{ArePeopled, is_live}
 use Rattle.directory_rules.specs.Letter.{Letter}
 use Rattle.directory_rules.specs.Node.{Node, new_node}
-use Rattle.directory_rules.specs.Event.{Died}
+use Rattle.directory_rules.specs.declared.outcome.Happening.TheVariants.{Died}
 use Rattle.directory_rules.specs.World.{World, Accepted}
 use Rattle.directory_rules.specs.Mail.{with_delivered, with_lost}
 use Rattle.directory_rules.specs.Happens.{after_joining, counted, died}

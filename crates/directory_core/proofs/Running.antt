@@ -2,8 +2,8 @@
 use Rattle.std.proofs.Common.{◌≡◌, ◌⊎◌, inl, inr, Ok, Err, OnErr, ℕ, ◌+◌, ◌<◌, List, [], ◌∷◌, ◌++◌, length, get_or, take, map, Option, Result, refl, sym, ◌∙◌, ap, subst}
 use Rattle.std.specs.Prelude.{IfOk}
 use Rattle.std.proofs.lemmas.List.{take_more, map-append}
-use Rattle.cluster_events.specs.declared.Event.{Event}
-use Rattle.cluster_events.specs.EventModel.{event_of}
+use Rattle.directory_rules.specs.declared.Event.{Event}
+use Rattle.directory_rules.specs.EventModel.{event_of}
 use Rattle.directory_rules.specs.Event as rule
 use Rattle.directory_rules.specs.Event.{IsEvent}
 use Rattle.directory_rules.specs.Headline.{MovesPlainly}
@@ -11,7 +11,7 @@ use Rattle.directory_rules.specs.PlainMachine.{IsPlainStep, plain_of, plain_step
 use Rattle.directory_rules.specs.World.{World, Accepted}
 use Rattle.directory_rules.specs.Happens.{happens}
 use Rattle.directory_rules.specs.Run.{run, told_of, world_after}
-use Rattle.cluster_events.specs.declared.Outcome.{Outcome}
+use Rattle.directory_rules.specs.declared.Outcome.{Outcome}
 use Rattle.directory_node.specs.Follows.{Follows}
 use Rattle.directory_core.specs.Applying.{IsPlainlyTold, accepted_as}
 use Rattle.directory_core.specs.Moving.{AllMovePlainly, MovesBy}
@@ -26,7 +26,7 @@ run_more_told : (world : World) (events : List rule.Event) (event : rule.Event)
     → (run world (events ++ event ∷ [])).told ≡ (run world events).told ++ told_of (happens (run world events).world event) ∷ []
 unfolding run
 run_more_told world [] event = refl
-run_more_told world (e ∷ events) event = ap (λ (l : List (Result rule.Outcome ℕ)). told_of (happens world e) ∷ l) (run_more_told (world_after (happens world e) world) events event)
+run_more_told world (e ∷ events) event = ap (λ (l : List (Result Outcome ℕ)). told_of (happens world e) ∷ l) (run_more_told (world_after (happens world e) world) events event)
 
 -- the events so far, and the next one
 one_more : (events : List Event) (i : ℕ) (event : Event) → i < length events → event ≡ get_or events i event
@@ -44,12 +44,12 @@ further_world world now next events i event below is so_far after =
     ∙ sym (run_more_world world (map event_of (take i events)) (event_of event))
     ∙ ap (λ (l : List rule.Event). (run world l).world) (sym (one_more events i event below is))
 
-pub further_told : (world now : World) (events : List Event) (i : ℕ) (event : Event) (told : List (Result rule.Outcome ℕ)) (this : Result rule.Outcome ℕ) → i < length events → event ≡ get_or events i event
+pub further_told : (world now : World) (events : List Event) (i : ℕ) (event : Event) (told : List (Result Outcome ℕ)) (this : Result Outcome ℕ) → i < length events → event ≡ get_or events i event
     → now ≡ (run world (map event_of (take i events))).world → told ≡ (run world (map event_of (take i events))).told → this ≡ told_of (happens now (event_of event))
     → told ++ this ∷ [] ≡ (run world (map event_of (take (i + 1) events))).told
 further_told world now events i event told this below is so_far told_so_far this_is =
-    ap (λ (l : List (Result rule.Outcome ℕ)). l ++ this ∷ []) told_so_far
-    ∙ ap (λ (r : Result rule.Outcome ℕ). (run world (map event_of (take i events))).told ++ r ∷ []) (this_is ∙ ap (λ (w : World). told_of (happens w (event_of event))) so_far)
+    ap (λ (l : List (Result Outcome ℕ)). l ++ this ∷ []) told_so_far
+    ∙ ap (λ (r : Result Outcome ℕ). (run world (map event_of (take i events))).told ++ r ∷ []) (this_is ∙ ap (λ (w : World). told_of (happens w (event_of event))) so_far)
     ∙ sym (run_more_told world (map event_of (take i events)) (event_of event))
     ∙ ap (λ (l : List rule.Event). (run world l).told) (sym (one_more events i event below is))
 

@@ -3,19 +3,19 @@ use Rattle.std.specs.Prelude.{◌≡◌, ℕ, false, IsOk, IsOkAnd, IsSomeAnd, R
 use Rattle.silo_address.specs.Silo.{Silo}
 use Rattle.silo_address.specs.Grain.{Grain}
 use Rattle.directory_rules.specs.declared.effect.Effect.TheVariants.{Forgot}
-use Rattle.directory_rules.specs.Event as rule
 use Rattle.directory_rules.specs.World.{World, Accepted}
 use Rattle.directory_rules.specs.Happens.{node_of}
 use Rattle.directory_rules.specs.PlainMachine.{IsPlainStep, plain_of, plain_step_of}
-use Rattle.cluster_events.specs.declared.Event.{Event}
-use Rattle.cluster_events.specs.declared.Event.TheVariants.{Join, Leave, Kill, See, Wake, Close, Find, Forget, Deliver, Lose, Nudge, Offer}
-use Rattle.cluster_events.specs.declared.Outcome.{Outcome}
-use Rattle.cluster_events.specs.OutcomeModel.{happening_of, outcome_of}
+use Rattle.directory_rules.specs.declared.Event.{Event}
+use Rattle.directory_rules.specs.declared.Event.TheVariants.{Join, Leave, Kill, See, Wake, Close, Find, Forget, Deliver, Lose, Nudge, Offer}
+use Rattle.directory_rules.specs.declared.Happening.{Happening}
+use Rattle.directory_rules.specs.declared.Happening.TheVariants.{Delivered}
+use Rattle.directory_rules.specs.declared.Outcome.{Outcome}
 use Rattle.directory_node.specs.Lacking.{IsIdle, is_quiet}
 
 -- an event that tells this outcome and leaves that world
 abbrev pub accepted_as : World → Outcome → Accepted
-accepted_as after outcome = record { outcome = outcome_of outcome; world = after }
+accepted_as after outcome = record { outcome = outcome; world = after }
 
 -- accepted, or refused by 909 alone
 abbrev pub IsOkOrFull : Result Accepted ℕ → Type 0
@@ -23,8 +23,8 @@ IsOkOrFull (Ok accepted) = Unit {0}
 IsOkOrFull (Err number) = number ≡ 909
 
 -- something came of what happened: not of a letter that is ignored, nor of one by which its receiver only learns what it doesn't note
-abbrev pub IsOfUse : rule.Happening → Type 0
-IsOfUse (rule.Delivered number kind effect) = ¬ (IsIdle kind effect)
+abbrev pub IsOfUse : Happening → Type 0
+IsOfUse (Delivered number kind effect) = ¬ (IsIdle kind effect)
 IsOfUse happening = Unit {0}
 
 -- accepted, and something came of it
@@ -62,4 +62,4 @@ excused world (Offer silo grain to) happened = IsOk happened
 
 -- seen from outside, the event that told this outcome is the step of the plain machine which it tells
 abbrev pub IsPlainlyTold : World → Outcome → World → Type 0
-IsPlainlyTold before outcome after = IsPlainStep (plain_of before) (plain_step_of (happening_of outcome.happening)) (plain_of after)
+IsPlainlyTold before outcome after = IsPlainStep (plain_of before) (plain_step_of outcome.happening) (plain_of after)

@@ -2,7 +2,7 @@
 use Rattle.std.specs.Prelude.{◌+◌}
 use Rattle.silo_address.specs.Silo.{Silo}
 use Rattle.membership_view.specs.Changes.{with_leave}
-use Rattle.directory_rules.specs.Event.{Left}
+use Rattle.directory_rules.specs.declared.outcome.Happening.TheVariants.{Left}
 use Rattle.directory_rules.specs.World.{World, Accepted}
 use Rattle.directory_rules.specs.Happens.{tells}
 

@@ -1,5 +1,5 @@
 ghost use Rattle.std.specs.Prelude.{◌≡◌, ◌<◌, IfErr, IfOk, OnErr};
-ghost use Rattle.cluster_events.specs.EventModel.{event_of};
+ghost use Rattle.directory_rules.specs.EventModel.{event_of};
 ghost use Rattle.directory_rules.specs.Happens.{attempted, happens};
 ghost use Rattle.directory_rules.specs.Headline.{Headline};
 ghost use Rattle.dump_headline.specs.Told.{IsRightlyTold};
@@ -9,7 +9,7 @@ ghost use Rattle.directory_core.specs.Numbers.{IsNumberedUnlessMemory, event_ref
 ghost use Rattle.directory_core.specs.Whole.{LeavesWorld};
 
 use crate::{EventRefusal, World};
-use cluster_events::{Event, Outcome};
+use directory_rules::{Event, Outcome};
 use directory_node::Input;
 
 impl World {

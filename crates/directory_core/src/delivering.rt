@@ -16,7 +16,7 @@ ghost use Rattle.directory_core.specs.Whole.{IsWorld, LeavesWorld};
 
 use crate::posting::receive_with_at;
 use crate::{EventRefusal, World};
-use cluster_events::{Happening, Outcome};
+use directory_rules::{Happening, Outcome};
 use directory_letters::Letter;
 use directory_node::{Stepped, is_idle};
 use silo_address::SiloAddress;

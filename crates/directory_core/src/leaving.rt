@@ -11,7 +11,7 @@ ghost use Rattle.directory_core.specs.Whole.{IsWorld, LeavesWorld};
 
 use crate::nodes::remove_node;
 use crate::{EventRefusal, World};
-use cluster_events::{Happening, Outcome};
+use directory_rules::{Happening, Outcome};
 use membership_view::{Status, Views, ViewsError};
 use silo_address::SiloAddress;
 

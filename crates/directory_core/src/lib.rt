@@ -19,7 +19,7 @@ mod steps;
 mod told;
 mod world;
 
-pub use cluster_events::{Event, Happening, Outcome, Span};
+pub use directory_rules::{Event, Happening, Outcome, Span};
 pub use delivering::Undelivered;
 pub use directory_letters::{Body, Letter};
 pub use directory_node::Node;

@@ -1,6 +1,6 @@
 //! What nothing comes of: a letter that is fresh no more, and a step of a silo's own that leaves its node as it is. No memory is needed.
 ghost use Rattle.std.specs.Prelude.{◌≡◌, ◌<◌, IsSome, Ok, Some};
-ghost use Rattle.directory_rules.specs.Event.{Did};
+ghost use Rattle.directory_rules.specs.declared.outcome.Happening.TheVariants.{Did};
 ghost use Rattle.directory_rules.specs.Happens.{counted, deliver, tells};
 ghost use Rattle.directory_rules.specs.Letter.{Letter as LetterValue};
 ghost use Rattle.directory_rules.specs.Mail.{letter_of, with_delivered};
@@ -9,7 +9,7 @@ ghost use Rattle.directory_core.specs.Delivering.{Passes};
 ghost use Rattle.directory_core.specs.Whole.{IsWorld, LeavesWorld};
 
 use crate::World;
-use cluster_events::{Happening, Outcome};
+use directory_rules::{Effect, Happening, LetterKind, Outcome};
 use directory_rules::{Effect, LetterKind};
 use silo_address::SiloAddress;
 

@@ -1,5 +1,5 @@
 ghost use Rattle.std.specs.Prelude.{◌≡◌, ◌⊎◌, ◌++◌, ◌∷◌, [], ℕ, IfOk, OnErr, OnOk, map, take};
-ghost use Rattle.cluster_events.specs.EventModel.{event_of};
+ghost use Rattle.directory_rules.specs.EventModel.{event_of};
 ghost use Rattle.directory_rules.specs.Happens.{happens};
 ghost use Rattle.directory_core.specs.Applying.{excused};
 ghost use Rattle.directory_rules.specs.Headline.{Headline};
@@ -8,7 +8,7 @@ ghost use Rattle.dump_headline.specs.Told.{IsRightlyTold};
 ghost use Rattle.directory_core.specs.Moving.{AllMovePlainly, MovesBy};
 
 use crate::{Told, World};
-use cluster_events::Event;
+use directory_rules::Event;
 use std::alloc::{AllocError, Global};
 
 impl World {

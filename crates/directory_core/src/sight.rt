@@ -12,7 +12,7 @@ ghost use Rattle.directory_core.specs.Sharing.{ComesNext, IsShared};
 ghost use Rattle.directory_core.specs.Whole.{LeavesWorld};
 
 use crate::{EventRefusal, World};
-use cluster_events::{Happening, Outcome};
+use directory_rules::{Happening, Outcome};
 use directory_node::{Node, Plan, StepRefusal, Transition};
 use membership_view::View;
 use silo_address::SiloAddress;

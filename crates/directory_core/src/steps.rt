@@ -8,8 +8,7 @@ ghost use Rattle.directory_node.specs.Follows.{Follows};
 ghost use Rattle.directory_node.specs.InputModel.{input_of};
 ghost use Rattle.directory_node.specs.Numbers.{step_refusal_number};
 ghost use Rattle.directory_node.specs.Planning.{Fits, changed, step_by};
-ghost use Rattle.cluster_events.specs.OutcomeModel.{happening_of, span_of as code_span};
-ghost use Rattle.std.specs.Option.{option_map, option_or};
+ghost use Rattle.std.specs.Option.{option_or};
 ghost use Rattle.directory_core.specs.Applying.{HasForgotten, IsAwaited, IsNever, IsOkOfUse, accepted_as};
 ghost use Rattle.directory_core.specs.Numbers.{IsNumberedUnlessMemory, event_refusal_number};
 ghost use Rattle.directory_core.specs.Stepping.{IsOwn, after_step, letters_number};
@@ -17,10 +16,9 @@ ghost use Rattle.directory_core.specs.Whole.{IsWorld, LeavesWorld};
 
 use crate::posting::{carry_out_at, receive_at};
 use crate::{EventRefusal, World};
-use cluster_events::{Happening, Outcome, Span};
+use directory_rules::{Effect, Happening, Outcome, Span};
 use directory_letters::Letter;
 use directory_node::{Change, Input, Plan, StepRefusal, is_idle};
-use directory_rules::Effect;
 use silo_address::{GrainId, SiloAddress};
 use std::alloc::{AllocError, Global};
 
@@ -125,8 +123,8 @@ impl World {
         requires room { self.old.accepted < self.old.settings.events }
         requires there { IsSome (node_of self.old silo.now) }
         requires fits { (node : NodeValue) → node_of self.old silo.now ≡ Some node → Fits plan.change node }
-        requires leaves { (node : NodeValue) → node_of self.old silo.now ≡ Some node → LeavesWorld (taken self.old silo.now (happening_of happening) (step_by node plan)) }
-        ensures told { (node : NodeValue) → node_of self.old silo.now ≡ Some node → Follows (accepted_as self.new) event_refusal_number IsOk (taken self.old silo.now (happening_of happening) (step_by node plan)) result }
+        requires leaves { (node : NodeValue) → node_of self.old silo.now ≡ Some node → LeavesWorld (taken self.old silo.now happening (step_by node plan)) }
+        ensures told { (node : NodeValue) → node_of self.old silo.now ≡ Some node → Follows (accepted_as self.new) event_refusal_number IsOk (taken self.old silo.now happening (step_by node plan)) result }
         ensures numbered { IfErr result IsNumberedUnlessMemory }
         ensures unchanged { OnErr result (self.new ≡ self.old) }
     {
@@ -199,7 +197,7 @@ impl World {
     // The first and the last number of letters that are sent now.
     pub(crate) fn span_of(&self, letters: &[Letter]) -> Option<Span>
         requires { has_room_for self.now letters.now ≡ true }
-        ensures { option_map code_span result ≡ span_of self.now letters.now }
+        ensures { result ≡ span_of self.now letters.now }
     {
         self.settings.counts_fit();
         match letters {

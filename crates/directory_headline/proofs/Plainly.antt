@@ -15,7 +15,8 @@ use Rattle.hash_ring.specs.Places.{PlacesValue}
 use Rattle.directory_rules.specs.Node.{Node}
 use Rattle.directory_rules.specs.Step.{Stepped}
 use Rattle.directory_rules.specs.Input.{Input, Receives, step}
-use Rattle.directory_rules.specs.Event.{Event, IsEvent, Lost}
+use Rattle.directory_rules.specs.Event.{Event, IsEvent}
+use Rattle.directory_rules.specs.declared.outcome.Happening.TheVariants.{Lost}
 use Rattle.directory_rules.specs.World.{World, Accepted}
 use Rattle.directory_rules.specs.Mail.{with_delivered, with_lost}
 use Rattle.directory_rules.specs.Happens.{node_of, happens, counted, tells, after_joining, died}

@@ -29,3 +29,5 @@ pub mod PlainMachine
 pub mod Headline
 pub mod Laws
 pub mod Worked
+pub mod EventModel
+pub mod Copying

@@ -7,7 +7,7 @@ use Rattle.silo_address.specs.declared.Entry.{Entry}
 use Rattle.directory_rules.specs.declared.effect.Effect.{Effect}
 use Rattle.directory_rules.specs.declared.held.Held.{Held}
 use Rattle.directory_rules.specs.declared.letter_kind.LetterKind.{LetterKind}
-use Rattle.directory_rules.specs.Event.{Did}
+use Rattle.directory_rules.specs.declared.outcome.Happening.TheVariants.{Did}
 use Rattle.directory_rules.specs.Host.{Host, entry_of}
 use Rattle.directory_rules.specs.Letter.{Letter, kind_of}
 use Rattle.script_rules.specs.Lines.{happening_words}

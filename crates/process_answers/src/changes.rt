@@ -9,7 +9,6 @@ ghost use Rattle.directory_node.specs.Follows.{Follows};
 ghost use Rattle.silo_rules.specs.Telling.{told};
 ghost use Rattle.directory_silo.specs.AnswerModel.{heard_as};
 ghost use Rattle.directory_silo.specs.Numbers.{silo_refusal_number};
-ghost use Rattle.cluster_events.specs.OutcomeModel.{happening_of};
 ghost use Rattle.script_rules.specs.Lines.{happening_words};
 ghost use Rattle.script_output.specs.Printed.{printed};
 ghost use Rattle.script_output.specs.Spaced.{BeginsWith};
@@ -20,7 +19,7 @@ ghost use Rattle.process_answers.specs.ChangeModel.{change_of};
 ghost use Rattle.process_answers.specs.Ending.{EndsAsDead};
 
 use crate::lines::{write_happening, write_refused};
-use cluster_events::Happening;
+use directory_rules::Happening;
 use directory_silo::{News, Silo, SiloRefusal};
 use membership_view::Status;
 use script_output::{end_line, push_named};
@@ -109,7 +108,7 @@ fn write_known(out: &mut Vec<u8>, version: u64) -> Result<(), AllocError>
 
 // What happened where the change was made.
 fn made(version: u64, change: &Change<'_>, replaced: Option<SiloAddress>) -> Happening
-    ensures { happening_words (happening_of result) ≡ made_words version (change_of change.now) replaced }
+    ensures { happening_words result ≡ made_words version (change_of change.now) replaced }
 {
     match change {
         Change::Join { silo, .. } => Happening::Joined {

@@ -5,14 +5,13 @@
 ghost use Rattle.std.specs.Prelude.{◌≡◌, [], ◌∷◌, ◌++◌, IsSomeAnd, OnOk, codes, map};
 ghost use Rattle.texts.specs.Printed.{text_of_lines};
 ghost use Rattle.texts.specs.Words.{sentence};
-ghost use Rattle.cluster_events.specs.OutcomeModel.{happening_of};
 ghost use Rattle.script_rules.specs.Lines.{happening_words, refusal_line};
 ghost use Rattle.script_output.specs.Printed.{printed};
 ghost use Rattle.script_output.specs.Spaced.{spaced, BeginsWith};
 ghost use Rattle.process_rules.specs.LetterText.{letter_line};
 ghost use Rattle.directory_silo.specs.Numbers.{silo_refusal_number};
 
-use cluster_events::{Happening, Outcome};
+use directory_rules::{Happening, Outcome};
 use directory_letters::Letter;
 use directory_silo::SiloRefusal;
 use process_letters::write_letter;
@@ -22,7 +21,7 @@ use std::alloc::AllocError;
 /// The line of what happened, with no numbers of letters.
 #[tactic(auto, using(crate::proofs::Written::line_by_line), unfolding(script_rules::specs::Lines::outcome_line))]
 pub(crate) fn write_happening(out: &mut Vec<u8>, happening: Happening) -> Result<(), AllocError>
-    ensures written { OnOk result (out.new.items ≡ out.old.items ++ printed (sentence (happening_words (happening_of happening)))) }
+    ensures written { OnOk result (out.new.items ≡ out.old.items ++ printed (sentence (happening_words happening))) }
     ensures kept { BeginsWith out.old.items out.new.items }
 {
     write_outcome(
@@ -40,7 +39,7 @@ pub(crate) fn write_happened(
     happening: Happening,
     letters: &[Letter],
 ) -> Result<(), AllocError>
-    ensures written { OnOk result (out.new.items ≡ out.old.items ++ text_of_lines (sentence (happening_words (happening_of happening)) ∷ map letter_line letters.now)) }
+    ensures written { OnOk result (out.new.items ≡ out.old.items ++ text_of_lines (sentence (happening_words happening) ∷ map letter_line letters.now)) }
     ensures kept { BeginsWith out.old.items out.new.items }
 {
     write_happening(out, happening)?;

@@ -13,7 +13,7 @@ ghost use Rattle.process_answers.specs.Answering.{IsAnswered};
 ghost use Rattle.process_answers.specs.StepModel.{input_of};
 
 use crate::lines::{write_happened, write_refused};
-use cluster_events::Happening;
+use directory_rules::Happening;
 use directory_silo::{Answer, Silo, SiloRefusal};
 use silo_address::{GrainId, SiloAddress};
 use std::alloc::AllocError;

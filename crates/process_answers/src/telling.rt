@@ -7,7 +7,7 @@ ghost use Rattle.std.specs.Option.{option_map};
 ghost use Rattle.silo_address.specs.Silo.{Silo};
 ghost use Rattle.silo_address.specs.ActivationText.{activation_text};
 ghost use Rattle.directory_rules.specs.declared.effect.Effect.{Effect};
-ghost use Rattle.directory_rules.specs.Event.{Did};
+ghost use Rattle.directory_rules.specs.declared.outcome.Happening.TheVariants.{Did};
 ghost use Rattle.directory_rules.specs.Host.{asking_under, closing_under, entry_of};
 ghost use Rattle.directory_letters.specs.LetterModel.{body_of};
 ghost use Rattle.script_rules.specs.Lines.{effect_words, entry_words, happening_words, kind_word};
@@ -15,9 +15,8 @@ ghost use Rattle.script_output.specs.Spaced.{spaced, BeginsWith};
 ghost use Rattle.process_output.specs.Happened.{body_words, counted_words, is_ignored, sought_words};
 ghost use Rattle.process_answers.specs.Telling.{entry_if_any, received_telling, telling_words};
 
-use cluster_events::Happening;
+use directory_rules::{Effect, Happening, LetterKind, Reply};
 use directory_letters::Body;
-use directory_rules::{Effect, LetterKind, Reply};
 use host_activations::{Host, entry_on};
 use host_activations::Host;
 use script_output::{

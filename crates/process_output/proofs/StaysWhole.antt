@@ -6,7 +6,7 @@ use Rattle.membership_view.specs.declared.status.Status.{Status}
 use Rattle.membership_view.specs.declared.status.Status.TheVariants as status
 use Rattle.directory_rules.specs.declared.effect.Effect.{Effect}
 use Rattle.texts.specs.Words.{sentence}
-use Rattle.directory_rules.specs.Event.{Saw, Did}
+use Rattle.directory_rules.specs.declared.outcome.Happening.TheVariants.{Saw, Did}
 use Rattle.script_rules.specs.Lines.{happening_words}
 use Rattle.directory_rules.specs.Input.{Input, Wakes, Closes, Finds, Forgets, Nudges, Offers}
 use Rattle.directory_rules.specs.Letter.{Letter}

@@ -1,4 +1,4 @@
-use cluster_events::Event;
+use directory_rules::{Event, Policy};
 use directory_rules::Policy;
 use silo_address::{GrainId, SiloAddress};
 

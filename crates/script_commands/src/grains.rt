@@ -13,7 +13,7 @@ ghost use Rattle.script_commands.specs.Reading.{told};
 use crate::grammar::{a_silo_a_grain_and_a_silo, a_silo_and_grain};
 use crate::names::CommandName;
 use crate::{Command, ScriptFault};
-use cluster_events::Event;
+use directory_rules::Event;
 
 /// The command of that name about a grain.
 pub(crate) fn grain_name(name: &[u8]) -> Option<CommandName>

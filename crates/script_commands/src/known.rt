@@ -18,7 +18,7 @@ use crate::names::CommandName;
 use crate::questions::{check, dump, mail, owner, place, question_name, show};
 use crate::silos::{kill, leave, nudge, see, silo_name, sync};
 use crate::{Command, ReadError, ScriptFault};
-use cluster_events::Event;
+use directory_rules::Event;
 use std::alloc::Global;
 
 /// The command of that name, with the words behind it.

@@ -13,7 +13,7 @@ ghost use Rattle.script_commands.specs.Reading.{told};
 use crate::grammar::{a_letter, no_word};
 use crate::names::CommandName;
 use crate::{Command, ScriptFault};
-use cluster_events::Event;
+use directory_rules::Event;
 
 /// The command of that name about letters.
 pub(crate) fn letter_name(name: &[u8]) -> Option<CommandName>

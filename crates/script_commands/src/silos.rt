@@ -13,7 +13,7 @@ ghost use Rattle.script_commands.specs.Reading.{told};
 use crate::grammar::{a_silo, a_silo_and_version, no_word};
 use crate::names::CommandName;
 use crate::{Command, ScriptFault};
-use cluster_events::Event;
+use directory_rules::Event;
 
 /// The command of that name about silos.
 pub(crate) fn silo_name(name: &[u8]) -> Option<CommandName>

@@ -10,8 +10,7 @@ use Rattle.ring_range.specs.Range.{Range}
 use Rattle.ring_range.specs.Text.{plus_sign, range_text}
 use Rattle.texts.specs.Words.{space}
 use Rattle.script_rules.specs.Lines.{span_text}
-use Rattle.cluster_events.specs.declared.outcome.Span.{Span}
-use Rattle.cluster_events.specs.OutcomeModel.{span_of}
+use Rattle.directory_rules.specs.declared.outcome.Span.{Span}
 use Rattle.script_output.specs.Spaced.{ip_text, spaced}
 use Rattle.script_output.proofs.Spacing.{behind_the_mark}
 
@@ -42,7 +41,7 @@ activation_written before silo after activation first second =
 -- a span: its first number, two dots, its last number
 pub span_written : (before first dots after : List ℕ) (span : Span)
     → first ≡ before ++ (decimal span.first ++ dot ∷ []) → dots ≡ first ++ dot ∷ [] → after ≡ dots ++ (decimal span.last ++ space ∷ [])
-    → after ≡ before ++ spaced (span_text (span_of span) ∷ [])
+    → after ≡ before ++ spaced (span_text span ∷ [])
 unfolding spaced
 span_written before first dots after span one two three =
     behind_the_mark before first after (decimal span.first) (dot ∷ (decimal span.last ++ space ∷ [])) dot one

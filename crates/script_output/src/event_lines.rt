@@ -4,11 +4,9 @@
 
 ghost use Rattle.std.specs.Prelude.{◌≡◌, [], ◌∷◌, ◌++◌, OnOk, OnErr, codes};
 ghost use Rattle.std.specs.Fmt.{decimal};
-ghost use Rattle.std.specs.Option.{option_map};
 ghost use Rattle.silo_address.specs.SiloText.{silo_text};
-ghost use Rattle.directory_rules.specs.Event.{Joined, Saw, Did, Delivered};
+ghost use Rattle.directory_rules.specs.declared.outcome.Happening.TheVariants.{Joined, Saw, Did, Delivered};
 ghost use Rattle.script_rules.specs.Lines.{effect_words, entry_words, fault_line, happening_words, outcome_line, refusal_line, replaced_words, sent_words, subject_words};
-ghost use Rattle.cluster_events.specs.OutcomeModel.{happening_of, outcome_of, span_of};
 ghost use Rattle.script_output.specs.Effects.{second_words};
 ghost use Rattle.script_output.specs.Printed.{printed};
 ghost use Rattle.script_output.specs.Spaced.{spaced, BeginsWith};
@@ -18,7 +16,7 @@ use crate::tables::{effect_word, kind_word};
 use crate::words::{
     push_entry, push_grain, push_named, push_number, push_silo, push_span, push_word,
 };
-use cluster_events::{Happening, Outcome, Span};
+use directory_rules::{Effect, Happening, LetterKind, Outcome, Span};
 use directory_rules::{Effect, LetterKind};
 use silo_address::{Entry, SiloAddress};
 use std::alloc::AllocError;
@@ -26,7 +24,7 @@ use std::alloc::AllocError;
 /// Writes the line of an accepted event (`docs/RULES.md#what-a-script-prints`). Fails only when memory runs out.
 #[tactic(auto, using(crate::proofs::SomeWords::happening_has_words), unfolding(script_rules::specs::Lines::outcome_line))]
 pub fn write_outcome(out: &mut Vec<u8>, outcome: &Outcome) -> Result<(), AllocError>
-    ensures written { OnOk result (out.new.items ≡ out.old.items ++ printed (outcome_line (outcome_of outcome.now))) }
+    ensures written { OnOk result (out.new.items ≡ out.old.items ++ printed (outcome_line outcome.now)) }
     ensures unchanged { OnErr result (out.new.items ≡ out.old.items) }
 {
     let start = out.len();
@@ -66,7 +64,7 @@ fn push_fault(out: &mut Vec<u8>, line: u64, fault: u16) -> Result<(), AllocError
 
 /// What happened, and the letters that it sent.
 fn push_outcome(out: &mut Vec<u8>, outcome: &Outcome) -> Result<(), AllocError>
-    ensures written { OnOk result (out.new.items ≡ out.old.items ++ spaced (happening_words (happening_of outcome.now.happening) ++ sent_words (option_map span_of outcome.now.sent))) }
+    ensures written { OnOk result (out.new.items ≡ out.old.items ++ spaced (happening_words outcome.now.happening ++ sent_words outcome.now.sent)) }
     ensures kept { BeginsWith out.old.items out.new.items }
 {
     push_happening(out, &outcome.happening)?;
@@ -76,7 +74,7 @@ fn push_outcome(out: &mut Vec<u8>, outcome: &Outcome) -> Result<(), AllocError>
 
 /// The letters sent, if there are any.
 fn push_sent(out: &mut Vec<u8>, sent: Option<Span>) -> Result<(), AllocError>
-    ensures written { OnOk result (out.new.items ≡ out.old.items ++ spaced (sent_words (option_map span_of sent))) }
+    ensures written { OnOk result (out.new.items ≡ out.old.items ++ spaced (sent_words sent)) }
     ensures kept { BeginsWith out.old.items out.new.items }
 {
     let Some(span) = sent else {
@@ -89,7 +87,7 @@ fn push_sent(out: &mut Vec<u8>, sent: Option<Span>) -> Result<(), AllocError>
 
 /// What happened, in words (`docs/RULES.md#what-a-script-prints`). Fails only when memory runs out.
 pub fn push_happening(out: &mut Vec<u8>, happening: &Happening) -> Result<(), AllocError>
-    ensures written { OnOk result (out.new.items ≡ out.old.items ++ spaced (happening_words (happening_of happening.now))) }
+    ensures written { OnOk result (out.new.items ≡ out.old.items ++ spaced (happening_words happening.now)) }
     ensures kept { BeginsWith out.old.items out.new.items }
 {
     match happening {

@@ -9,11 +9,10 @@ ghost use Rattle.silo_address.specs.Grain.{grain_text};
 ghost use Rattle.silo_address.specs.SiloText.{silo_text};
 ghost use Rattle.ring_range.specs.Text.{range_text};
 ghost use Rattle.script_rules.specs.Lines.{entry_words, span_text};
-ghost use Rattle.cluster_events.specs.OutcomeModel.{span_of};
 ghost use Rattle.script_output.specs.Spaced.{spaced, BeginsWith};
 
 use crate::marked::{push_marked, push_marked_number, push_marked_silo};
-use cluster_events::Span;
+use directory_rules::Span;
 use ring_range::RingRange;
 use silo_address::{ActivationId, Entry, GrainId, SiloAddress};
 use std::alloc::AllocError;
@@ -87,7 +86,7 @@ pub fn push_entry(out: &mut Vec<u8>, entry: &Entry) -> Result<(), AllocError>
 /// The first and the last number, two dots between them.
 #[tactic(auto, using(crate::proofs::Writing::part_by_part))]
 pub(crate) fn push_span(out: &mut Vec<u8>, span: &Span) -> Result<(), AllocError>
-    ensures written { OnOk result (out.new.items ≡ out.old.items ++ spaced (span_text (span_of span.now) ∷ [])) }
+    ensures written { OnOk result (out.new.items ≡ out.old.items ++ spaced (span_text span.now ∷ [])) }
     ensures kept { BeginsWith out.old.items out.new.items }
 {
     push_marked_number(out, span.first, b'.')?;

@@ -1,5 +1,5 @@
 ghost use Rattle.std.specs.Prelude.{◌≡◌, ◌+◌, ◌<◌, ◌≤◌, IfErr, IfOk, None, OnErr, OnOk};
-ghost use Rattle.cluster_events.specs.EventModel.{event_of};
+ghost use Rattle.directory_rules.specs.EventModel.{event_of};
 ghost use Rattle.silo_threads.specs.Following.{HasChanged, HasFollowed, HasJoined};
 ghost use Rattle.silo_threads.specs.Receiving.{IsReceiptOf, IsRefusalOf};
 
@@ -7,7 +7,7 @@ use crate::cluster::{MOST_WORKERS, PARTS};
 use crate::starting::{Desk, start};
 use crate::{Cluster, Lack};
 use cluster_board::Board;
-use cluster_events::Event;
+use directory_rules::Event;
 use cluster_journal::Receipt;
 use directory_core::EventRefusal;
 use silo_address::SiloAddress;

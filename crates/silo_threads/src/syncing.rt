@@ -1,6 +1,6 @@
 //! What silos haven't seen yet.
 use crate::Cluster;
-use cluster_events::Event;
+use directory_rules::Event;
 use directory_core::World;
 use shared_node::SharedNode;
 use silo_address::SiloAddress;

@@ -4,7 +4,7 @@ use crate::cluster::{Cluster, sum_of_world};
 use crate::fault::Fault;
 use crate::stopwatch::now;
 use crate::threads::stage::{Stage, report};
-use cluster_events::Event;
+use directory_rules::Event;
 use std::rt::Clock;
 
 /// Plays the stage, and measures its look-ups, settled after so many, one portion after another.

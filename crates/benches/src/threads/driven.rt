@@ -6,7 +6,7 @@ use crate::cluster::sum_of_world;
 use crate::fault::Fault;
 use crate::stopwatch::now;
 use crate::threads::stage::{FINDS, Stage, report};
-use cluster_events::Event;
+use directory_rules::Event;
 use cluster_journal::Receipt;
 use shared_node::SharedNode;
 use silo_address::SiloAddress;

@@ -1,7 +1,5 @@
 use Rattle.std.proofs.Common.{ap, sym, ◌∙◌, ◌++◌}
-use Rattle.std.specs.Option.{option_map}
 use Rattle.script_rules.specs.Lines.{sent_words}
-use Rattle.cluster_events.specs.OutcomeModel.{span_of}
 use Rattle.script_output.specs.Spaced.{spaced}
 use Rattle.script_output.proofs.Fronts.{begins_with_the_first}
 use Rattle.script_output.proofs.Spacing.{then_spaced}
@@ -14,7 +12,7 @@ pub returns-clause-written : goal.returns-clause-written
 returns-clause-written c =
     then_spaced _ _ _ _ _ c.in_ok-push_word.ensures.written
     c.in_ok-push_span.ensures.written
-    ∙ ap (λ span. c.args.out.now.items ++ spaced (sent_words (option_map span_of span))) (sym c.in-Some.is)
+    ∙ ap (λ span. c.args.out.now.items ++ spaced (sent_words span)) (sym c.in-Some.is)
 
 pub returns-clause-kept : goal.returns-clause-kept
 returns-clause-kept c = begins_with_the_first _ _ _ c.push_word.ensures.kept c.push_span.ensures.kept

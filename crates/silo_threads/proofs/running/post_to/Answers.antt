@@ -1,4 +1,4 @@
-use Rattle.cluster_events.specs.EventModel.{event_of}
+use Rattle.directory_rules.specs.EventModel.{event_of}
 use Rattle.silo_workers.specs.Moments.{Moment}
 use Rattle.silo_threads.proofs.Receiving.{received, refused}
 use Rattle.silo_threads.proofs.running.post_to.Goals as goal

@@ -1,4 +1,4 @@
-use Rattle.cluster_events.specs.EventModel.{event_of}
+use Rattle.directory_rules.specs.EventModel.{event_of}
 use Rattle.directory_core.specs.Applying.{excused}
 use Rattle.directory_core.specs.Numbers.{event_refusal_number}
 use Rattle.directory_core.proofs.Made.{further, plain_of_all}

@@ -1,6 +1,6 @@
 use Rattle.std.proofs.Common.{List, map, refl, ◌∙◌, ap, subst, take_all}
-use Rattle.cluster_events.specs.declared.Event.{Event}
-use Rattle.cluster_events.specs.EventModel.{event_of}
+use Rattle.directory_rules.specs.declared.Event.{Event}
+use Rattle.directory_rules.specs.EventModel.{event_of}
 use Rattle.directory_rules.specs.Happens.{happens}
 use Rattle.directory_rules.specs.Run.{run, told_of}
 use Rattle.directory_core.specs.Moving.{AllMovePlainly}

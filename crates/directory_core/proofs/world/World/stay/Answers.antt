@@ -1,5 +1,5 @@
 use Rattle.std.proofs.Common.{ap, sym, subst}
-use Rattle.directory_rules.specs.Event.{Did}
+use Rattle.directory_rules.specs.declared.outcome.Happening.TheVariants.{Did}
 use Rattle.directory_rules.specs.Happens.{counted, tells}
 use Rattle.directory_rules.specs.World.{World}
 use Rattle.directory_core.specs.Whole.{IsWorld}

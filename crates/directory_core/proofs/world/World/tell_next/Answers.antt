@@ -1,4 +1,4 @@
-use Rattle.cluster_events.specs.EventModel.{event_of}
+use Rattle.directory_rules.specs.EventModel.{event_of}
 use Rattle.directory_core.proofs.Running.{moves_by}
 use Rattle.directory_core.proofs.world.World.tell_next.Goals as goal
 

@@ -1,6 +1,6 @@
 ghost use Rattle.std.specs.Prelude.{◌≡◌, ◌↔◌, IsTrue};
 
-use directory_rules::{Effect, LetterKind};
+use crate::{Effect, LetterKind};
 use silo_address::SiloAddress;
 
 /// What happened at an accepted event.

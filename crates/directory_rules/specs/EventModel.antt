@@ -1,7 +1,7 @@
 -- How an event of the code is an event of the rule.
 use Rattle.directory_rules.specs.Event as rule
-use Rattle.cluster_events.specs.declared.event.Event.{Event}
-use Rattle.cluster_events.specs.declared.event.Event.TheVariants.{Join, Leave, Kill, See, Wake, Close, Find, Forget, Deliver, Lose, Nudge, Offer}
+use Rattle.directory_rules.specs.declared.event.Event.{Event}
+use Rattle.directory_rules.specs.declared.event.Event.TheVariants.{Join, Leave, Kill, See, Wake, Close, Find, Forget, Deliver, Lose, Nudge, Offer}
 
 -- the rule's event
 abbrev pub event_of : Event → rule.Event
