@@ -13,7 +13,7 @@ use Rattle.directory_rules.specs.Happens.{happens, node_of}
 use Rattle.cluster_journal.specs.Entry.{EntryValue}
 use Rattle.cluster_journal.specs.Journal.{IsJournaled}
 use Rattle.cluster_journal.proofs.Journal.{goes_on}
-use Rattle.cluster_board.specs.Changing.{MayChange}
+use Rattle.cluster_board.specs.Changed.{MayChange}
 use Rattle.cluster_board.specs.Marked.{AreLeft, AreMarks, AreMore, marked_at}
 use Rattle.cluster_board.specs.Whole.{IsBoard}
 use Rattle.cluster_board.specs.Work.{IsCurrent, Work}

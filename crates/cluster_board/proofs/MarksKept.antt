@@ -11,9 +11,9 @@ use Rattle.directory_rules.specs.declared.outcome.Outcome.{Outcome}
 use Rattle.directory_rules.specs.Node.{Node}
 use Rattle.directory_rules.specs.World.{World}
 use Rattle.directory_rules.specs.Happens.{happens, node_of}
-use Rattle.cluster_board.specs.Changing.{MayChange}
+use Rattle.cluster_board.specs.Changed.{MayChange}
 use Rattle.cluster_board.specs.Marked.{AreLeft, AreMarks, AreMore, marked_at}
-use Rattle.cluster_board.proofs.Staying.{Stays, happened}
+use Rattle.cluster_board.proofs.Unchanged.{Stays, happened}
 
 if_some : {X : Type 0} (o : Option X) (P : X → Type 0) → ((x : X) → o ≡ Some x → P x) → IfSome o P
 if_some None P so = tt

@@ -1,6 +1,6 @@
 ghost use Rattle.std.specs.Prelude.{◌≡◌, MatchResult, OnErr, length};
 ghost use Rattle.directory_rules.specs.Receive.{received};
-ghost use Rattle.directory_node.specs.Lacking.{Counts};
+ghost use Rattle.directory_node.specs.Memory.{Counts};
 ghost use Rattle.directory_node.specs.Planning.{answer_count};
 
 use directory_letters::Letter;

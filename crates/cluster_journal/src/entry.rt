@@ -1,5 +1,5 @@
 ghost use Rattle.std.specs.Prelude.{◌≡◌, ◌↔◌, IfOk, IsTrue, OnErr};
-ghost use Rattle.directory_rules.specs.Copying.{NeedsMemory};
+ghost use Rattle.directory_rules.specs.EventCopies.{NeedsMemory};
 ghost use Rattle.directory_rules.specs.EventModel.{event_of};
 
 use crate::short::Delivery;

@@ -17,7 +17,7 @@ use Rattle.clap.specs.declared.builder.value_parser.ValueParser.TheVariants as p
 use Rattle.clap.specs.declared.error.kind.ErrorKind.TheVariants as kind
 use Rattle.command_line.specs.Command.{NameList, address_rule, app, cache_rule, check_app, hashing_rule, player_app, points_rule, silo_app}
 use Rattle.silo_address.specs.Silo.{Silo}
-use Rattle.silo_address.specs.SiloReading.{read_silo}
+use Rattle.silo_address.specs.ReadSilo.{read_silo}
 use Rattle.silo_address.specs.declared.silo.SiloError.{SiloError}
 use Rattle.command_line.specs.Line.{AreInRange, AreReadInRange, line_in, line_of, number_or_zero, options_in, process_of, silo_text_in}
 use Rattle.command_line.specs.declared.line.Options.{Options}

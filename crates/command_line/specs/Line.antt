@@ -15,7 +15,7 @@ use Rattle.hash_ring.specs.declared.hashing.Hashing.{Hashing}
 use Rattle.hash_ring.specs.declared.hashing.Hashing.TheVariants.{Sha256, Stated}
 use Rattle.command_line.specs.declared.line.Line.{Line}
 use Rattle.silo_address.specs.Silo.{Silo as SiloValue}
-use Rattle.silo_address.specs.SiloReading.{read_silo}
+use Rattle.silo_address.specs.ReadSilo.{read_silo}
 use Rattle.silo_address.specs.declared.silo.SiloError.{SiloError}
 use Rattle.command_line.specs.declared.line.Line.TheVariants.{Play, Threads, Check, Silo}
 use Rattle.command_line.specs.declared.line.Options.{Options}

@@ -5,9 +5,9 @@ use Rattle.std.proofs.KnownBytes.{Consumes-all, Consumes-kept, Consumes-nil, Con
 use Rattle.std.specs.Io.KnownBytes.{Consumes, IsAtEnd, Keeps}
 use Rattle.script_loop.specs.Calls.{ReadsInTurn, no_read, read_some, read_nothing, read_failed}
 use Rattle.script_loop.specs.Endings.{most_at_once, most_read}
-use Rattle.console_check.specs.Reading.{HasRead, IsRead, IsUnread, were_well}
-use Rattle.console_check.specs.declared.reading.Unread.{Unread}
-use Rattle.console_check.specs.declared.reading.Unread.TheVariants.{TooLong, OutOfMemory, Broken}
+use Rattle.console_check.specs.Source.{HasRead, IsRead, IsUnread, were_well}
+use Rattle.console_check.specs.declared.source.Unread.{Unread}
+use Rattle.console_check.specs.declared.source.Unread.TheVariants.{TooLong, OutOfMemory, Broken}
 
 -- nothing yet
 pub nothing_read : (known : Option (List ℕ)) (bytes : List ℕ) → bytes ≡ [] → Consumes known known bytes

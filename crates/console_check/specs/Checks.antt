@@ -6,7 +6,7 @@ use Rattle.dump_rules.specs.Judged.{judged_text}
 use Rattle.script_output.specs.Spaced.{BeginsWith}
 use Rattle.script_loop.specs.Calls.{ReadsInTurn, WritesText}
 use Rattle.script_loop.specs.Endings.{most_read}
-use Rattle.console_check.specs.Reading.{HasRead}
+use Rattle.console_check.specs.Source.{HasRead}
 use Rattle.console_check.specs.declared.checked.Checked.{Checked}
 use Rattle.console_check.specs.declared.checked.Checked.TheVariants.{Right, Faulty, TooLong, OutOfMemory, Broken}
 

@@ -1,3 +1,3 @@
 pub mod Checks
-pub mod Judging
-pub mod Reading
+pub mod Verdicts
+pub mod Source

@@ -2,9 +2,9 @@
 #![tactic(auto)]
 
 mod checked;
-mod checking;
-mod judging;
-mod reading;
+mod check;
+mod verdict;
+mod source;
 
 pub use checked::Checked;
-pub use checking::check;
+pub use check::check;

@@ -7,7 +7,7 @@ use Rattle.command_line.specs.Refusal.{IsAnswer}
 use Rattle.command_line.specs.declared.error.LineError.{LineError}
 use Rattle.command_line.specs.declared.error.LineError.TheVariants as errors
 use Rattle.console_command.specs.Exits.{MakesCalls, WritesAnswer}
-use Rattle.console_command.specs.Running.{AreMistaken, by_fault, by_name}
+use Rattle.console_command.specs.Program.{AreMistaken, by_fault, by_name}
 use Rattle.console_command.specs.declared.exit.Exit.{Exit}
 use Rattle.console_command.specs.declared.exit.Exit.TheVariants.{Played, Threaded, Checked, Silo}
 

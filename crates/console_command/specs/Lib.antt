@@ -1,4 +1,4 @@
 pub mod Exits
-pub mod Running
-pub mod Telling
-pub mod Carrying
+pub mod Program
+pub mod Errors
+pub mod Outcome

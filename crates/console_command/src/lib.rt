@@ -2,9 +2,9 @@
 //! `docs/RULES.md#the-program`.
 #![tactic(auto)]
 
-mod carrying;
+mod program;
 mod exit;
-mod telling;
+mod errors;
 
-pub use carrying::{Carried, carry_out, carry_out_nothing, end_threads};
+pub use program::{Carried, carry_out, carry_out_nothing, end_threads};
 pub use exit::Exit;

@@ -26,7 +26,7 @@ use Rattle.directory_rules.specs.declared.policy.Policy.{Policy}
 use Rattle.directory_rules.specs.declared.policy.Policy.TheVariants.{PreferLocal, HashBased, LeastHeld}
 use Rattle.directory_rules.proofs.Cases.{on_bool}
 use Rattle.script_rules.specs.Show.{chosen_place, held_counts}
-use Rattle.console_play.specs.Telling.{CountsAll, CountsAsked}
+use Rattle.console_play.specs.Reports.{CountsAll, CountsAsked}
 
 -- ---- one silo counted more
 put_here : (counts : List (Silo × ℕ)) (silo : Silo) (n : ℕ) → lookup (is_at (silo_cmp silo)) (insert_entry silo_cmp counts silo n) ≡ Some n

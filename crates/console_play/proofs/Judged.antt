@@ -9,7 +9,7 @@ use Rattle.rebuild_checker.specs.Faults.{Answers, IsLineOf}
 use Rattle.rebuild_checker.specs.declared.check_fault.CheckFault.{CheckFault}
 use Rattle.rebuild_checker.proofs.AnswerLines.{answer_line}
 use Rattle.script_rules.specs.Output.{checked}
-use Rattle.console_play.specs.Performing.{Performs, in_session}
+use Rattle.console_play.specs.Commands.{Performs, in_session}
 
 -- all is right, and the line of the answer says so
 pub verdict_told : (world : World) (dump : DumpValue) (answer : Result Unit CheckFault) (line start text : List ℕ) → IsRightlyTold world → dump ≡ dump_of world

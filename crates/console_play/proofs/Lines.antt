@@ -6,7 +6,7 @@ use Rattle.directory_rules.specs.World.{World}
 use Rattle.script_output.specs.Printed.{printed}
 use Rattle.script_output.proofs.Fronts.{begins_with_the_first}
 use Rattle.script_output.specs.Spaced.{BeginsWith}
-use Rattle.console_play.specs.Performing.{Performs, in_session}
+use Rattle.console_play.specs.Commands.{Performs, in_session}
 
 -- nothing more is printed
 pub nothing_printed : (world : World) (text : List ℕ) → Performs (printing [] (in_session world)) text world text

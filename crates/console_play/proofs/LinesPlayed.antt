@@ -10,8 +10,8 @@ use Rattle.script_commands.specs.Numbers.{script_fault_number}
 use Rattle.script_output.specs.Printed.{printed}
 use Rattle.script_loop.specs.declared.ended.LineFault.{LineFault}
 use Rattle.script_loop.specs.Lines.{PlaysLine, behind, told_fault}
-use Rattle.console_play.specs.Performing.{Performs, in_session}
-use Rattle.console_play.specs.Playing.{lines_played}
+use Rattle.console_play.specs.Commands.{Performs, in_session}
+use Rattle.console_play.specs.Play.{lines_played}
 
 -- a line that says nothing
 pub passed_over : (world : World) (number : ℕ) (line text : List ℕ) (told : Option LineFault) → told ≡ None → read_line known_commands line ≡ Ok None

@@ -19,8 +19,8 @@ use Rattle.directory_core.proofs.Made.{holds}
 use Rattle.script_rules.specs.Output.{printing}
 use Rattle.script_rules.specs.Show.{letter_line, mail_lines}
 use Rattle.texts.specs.Printed.{text_of_lines}
-use Rattle.console_play.specs.Performing.{Performs, in_session}
-use Rattle.console_play.specs.Telling.{lines_of_letter}
+use Rattle.console_play.specs.Commands.{Performs, in_session}
+use Rattle.console_play.specs.Reports.{lines_of_letter}
 
 -- the lines of one number
 abbrev lines_at : List (ℕ × Posted) → ℕ → List (List ℕ)

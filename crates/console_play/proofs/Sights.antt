@@ -12,8 +12,8 @@ use Rattle.directory_rules.specs.World.{World}
 use Rattle.membership_view.specs.Views.{joining_version}
 use Rattle.script_rules.specs.Output.{events_in_turn, unseen_versions}
 use Rattle.script_output.specs.Spaced.{BeginsWith}
-use Rattle.console_play.specs.Performing.{Performs, TakesTurn, TakeTurns, event_turn, in_session, sights}
-use Rattle.console_play.specs.declared.syncing.Unseen.{Unseen}
+use Rattle.console_play.specs.Commands.{Performs, TakesTurn, TakeTurns, event_turn, in_session, sights}
+use Rattle.console_play.specs.declared.sync.Unseen.{Unseen}
 use Rattle.script_output.proofs.Fronts.{begins_with_the_first}
 use Rattle.console_play.proofs.Lines.{begins, nothing_printed}
 

@@ -3,7 +3,7 @@ use Rattle.std.proofs.Common.{◌≡◌, ℕ, suc, ◌+◌, ◌-◌, ◌<◌, Bo
 use Rattle.directory_rules.specs.World.{World}
 use Rattle.script_rules.specs.Output.{Session, Performed, printing, delivered_all, delivered_within}
 use Rattle.script_output.specs.Spaced.{BeginsWith}
-use Rattle.console_play.specs.Performing.{Performs, TakesTurn, delivery_turn, in_session}
+use Rattle.console_play.specs.Commands.{Performs, TakesTurn, delivery_turn, in_session}
 use Rattle.script_output.proofs.Fronts.{begins_with_the_first}
 use Rattle.console_play.proofs.Lines.{nothing_printed, begins}
 

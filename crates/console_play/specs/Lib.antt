@@ -1,3 +1,3 @@
-pub mod Performing
-pub mod Playing
-pub mod Telling
+pub mod Commands
+pub mod Play
+pub mod Reports

@@ -1,10 +1,10 @@
 //! A cluster that lines are played to.
 
-ghost use Rattle.console_play.specs.Playing.{lines_played, nothing_is_played, long_lines_are_faults};
+ghost use Rattle.console_play.specs.Play.{lines_played, nothing_is_played, long_lines_are_faults};
 ghost use Rattle.std.specs.Prelude.{◌≡◌, IfOk, OnErr};
 ghost use Rattle.script_loop.specs.Lines.{PlaysLine};
 
-use crate::performing::perform;
+use crate::commands::perform;
 use directory_core::World;
 use script_commands::{ReadError, read_command};
 use script_loop::{LineFault, LinePlayer};

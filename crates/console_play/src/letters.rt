@@ -8,8 +8,8 @@ ghost use Rattle.script_rules.specs.Output.{printing};
 ghost use Rattle.script_rules.specs.Show.{mail_lines};
 ghost use Rattle.texts.specs.Printed.{text_of_lines};
 ghost use Rattle.script_output.specs.Spaced.{BeginsWith};
-ghost use Rattle.console_play.specs.Performing.{Performs, in_session};
-ghost use Rattle.console_play.specs.Telling.{lines_of_letter};
+ghost use Rattle.console_play.specs.Commands.{Performs, in_session};
+ghost use Rattle.console_play.specs.Reports.{lines_of_letter};
 
 use directory_core::World;
 use script_output::{laws, write_letter};

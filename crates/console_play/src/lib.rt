@@ -2,14 +2,14 @@
 #![tactic(auto)]
 
 mod cluster;
-mod dumping;
+mod dump;
 mod letters;
-mod performing;
-mod placing;
-mod playing;
-mod showing;
-mod syncing;
+mod commands;
+mod place;
+mod play;
+mod show;
+mod sync;
 
-pub use dumping::tell_verdict;
-pub use playing::{play, play_to_new_cluster};
-pub use showing::show;
+pub use dump::tell_verdict;
+pub use play::{play, play_to_new_cluster};
+pub use show::show;

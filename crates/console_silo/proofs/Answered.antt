@@ -6,7 +6,7 @@ use Rattle.texts.specs.Printed.{text_of_lines}
 use Rattle.texts.specs.Words.{carriage_return}
 use Rattle.hash_ring.specs.declared.hashing.Hashing.{Hashing}
 use Rattle.silo_rules.specs.SiloValue.{SiloValue}
-use Rattle.process_rules.specs.LineReading.{Asked, read_silo_line}
+use Rattle.process_rules.specs.ReadLine.{Asked, read_silo_line}
 use Rattle.process_output.specs.Answer.{answered}
 use Rattle.process_output.specs.Output.{answered_to, fault_line, said}
 use Rattle.process_loop.specs.Answering.{AnswersLine}

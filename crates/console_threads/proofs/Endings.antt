@@ -12,18 +12,18 @@ use Rattle.script_output.specs.Spaced.{BeginsWith}
 use Rattle.script_loop.specs.Calls.{ReadsInTurn}
 use Rattle.script_loop.specs.Endings as play
 use Rattle.script_loop.specs.Lines.{no_output}
-use Rattle.script_loop.specs.Sending.{Sends}
+use Rattle.script_loop.specs.Sent.{Sends}
 use Rattle.script_loop.specs.declared.ended.Ended.{Ended}
 use Rattle.script_loop.specs.declared.ended.Ended.TheVariants as ended
 use Rattle.script_loop.specs.declared.ended.LineFault.{LineFault}
 use Rattle.threaded_play.specs.Endings.{Ends, MakesCalls}
 use Rattle.threaded_play.proofs.Nothing.{kept}
 use Rattle.threaded_play.specs.Faults.{faults_alone, line_told}
-use Rattle.threaded_play.specs.Printing.{IsPrinted}
+use Rattle.threaded_play.specs.Printed.{IsPrinted}
 use Rattle.threaded_play.specs.declared.ended.ThreadsEnded.{ThreadsEnded}
 use Rattle.threaded_play.specs.declared.ended.ThreadsEnded.TheVariants.{Played, ReceiptDiffers, Lacking}
 use Rattle.console_threads.specs.Held.{is_read_well}
-use Rattle.console_threads.specs.Telling.{EndsBy, IsUnclosed, IsWritten, LinesEnd, Tells, WritesOnce, sent_ending}
+use Rattle.console_threads.specs.Endings.{EndsBy, IsUnclosed, IsWritten, LinesEnd, Tells, WritesOnce, sent_ending}
 
 -- ---- What the lines print by themselves.
 

@@ -19,10 +19,10 @@ use Rattle.directory_rules.specs.Happens.{attempted, deliver, delivers, delivers
 use Rattle.directory_rules.specs.Receive.{received}
 use Rattle.directory_rules.specs.declared.Effect.{Effect}
 use Rattle.directory_node.specs.Follows.{RefusesBy}
-use Rattle.directory_node.specs.Lacking.{Counts, MayLackMemory}
+use Rattle.directory_node.specs.Memory.{Counts, MayLackMemory}
 use Rattle.directory_node.specs.Planning.{Sends}
-use Rattle.directory_core.specs.Applying.{IsOkOfUse}
-use Rattle.directory_core.specs.Stepping.{IsOwn, after_step, letters_number}
+use Rattle.directory_core.specs.Applied.{IsOkOfUse}
+use Rattle.directory_core.specs.Steps.{IsOwn, after_step, letters_number}
 use Rattle.directory_core.specs.Whole.{IsWorld, LeavesWorld}
 
 pub full : (world : World) (event : Event) → world.settings.events ≤ world.accepted → happens world event ≡ Err 908

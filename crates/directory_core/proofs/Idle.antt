@@ -21,10 +21,10 @@ use Rattle.directory_rules.specs.Receive.{received}
 use Rattle.directory_rules.specs.Step.{silently}
 use Rattle.directory_rules.specs.World.{World}
 use Rattle.letter_mail.specs.Mail.{MailValue, with_stale}
-use Rattle.directory_node.specs.Lacking.{IsIdle}
+use Rattle.directory_node.specs.Memory.{IsIdle}
 use Rattle.directory_node.proofs.Ignored.{idle_is}
-use Rattle.directory_core.specs.Delivering.{Passes}
-use Rattle.directory_core.specs.Stepping.{after_step}
+use Rattle.directory_core.specs.Delivery.{Passes}
+use Rattle.directory_core.specs.Steps.{after_step}
 use Rattle.directory_core.specs.Whole.{IsWorld, LeavesWorld}
 use Rattle.directory_core.proofs.Entries.{put_there}
 use Rattle.directory_core.proofs.Happenings.{delivered_told, does_so, taken_told}

@@ -10,7 +10,7 @@ use Rattle.directory_rules.specs.Input.{Forgets, Nudges, step}
 use Rattle.directory_rules.specs.Node.{Node}
 use Rattle.directory_rules.specs.Step.{Stepped, forget, forget_hint, having_nudged, silently}
 use Rattle.directory_node.specs.Follows.{RefusesBy}
-use Rattle.directory_node.specs.Lacking.{is_quiet}
+use Rattle.directory_node.specs.Memory.{is_quiet}
 use Rattle.directory_node.proofs.Quiet.{quiet_nudge}
 
 nothing_by : (hint : Option ActivationId) (node : Node) (grain g : Grain) → (forget_hint hint node grain).effect ≡ NothingCached g → forget_hint hint node grain ≡ silently node (NothingCached g)

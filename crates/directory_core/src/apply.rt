@@ -4,7 +4,7 @@ ghost use Rattle.directory_rules.specs.Happens.{attempted, happens};
 ghost use Rattle.directory_rules.specs.Headline.{Headline};
 ghost use Rattle.dump_headline.specs.Told.{IsRightlyTold};
 ghost use Rattle.directory_node.specs.Follows.{Follows};
-ghost use Rattle.directory_core.specs.Applying.{IsPlainlyTold, accepted_as, excused};
+ghost use Rattle.directory_core.specs.Applied.{IsPlainlyTold, accepted_as, excused};
 ghost use Rattle.directory_core.specs.Numbers.{IsNumberedUnlessMemory, event_refusal_number};
 ghost use Rattle.directory_core.specs.Whole.{LeavesWorld};
 

@@ -7,8 +7,8 @@ ghost use Rattle.directory_rules.specs.Happens.{join};
 ghost use Rattle.directory_rules.specs.Laws.{ArePeopled};
 ghost use Rattle.directory_rules.specs.Node.{new_node};
 ghost use Rattle.directory_node.specs.Follows.{Follows};
-ghost use Rattle.directory_core.specs.Applying.{accepted_as};
-ghost use Rattle.directory_core.specs.Joining.{nodes_without, with_admitted};
+ghost use Rattle.directory_core.specs.Applied.{accepted_as};
+ghost use Rattle.directory_core.specs.Join.{nodes_without, with_admitted};
 ghost use Rattle.directory_core.specs.Numbers.{IsNumberedUnlessMemory, event_refusal_number};
 ghost use Rattle.directory_core.specs.Whole.{IsWorld, LeavesWorld};
 

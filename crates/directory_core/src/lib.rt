@@ -3,14 +3,14 @@
 #![tactic(auto)]
 
 mod apply;
-mod delivering;
+mod delivery;
 mod dumping;
 mod join;
-mod leaving;
+mod leave;
 mod nodes;
-mod passing;
+mod pass;
 mod planned;
-mod posting;
+mod post;
 mod refusal;
 mod rows;
 mod run;
@@ -20,7 +20,7 @@ mod told;
 mod world;
 
 pub use directory_rules::{Event, Happening, Outcome, Span};
-pub use delivering::Undelivered;
+pub use delivery::Undelivered;
 pub use directory_letters::{Body, Letter};
 pub use directory_node::Node;
 pub use directory_rules::{Effect, LetterKind, Policy, Settings};

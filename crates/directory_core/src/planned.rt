@@ -5,8 +5,8 @@ ghost use Rattle.directory_rules.specs.Happens.{deliver, happens};
 ghost use Rattle.directory_rules.specs.Headline.{Headline};
 ghost use Rattle.dump_headline.specs.Told.{IsRightlyTold};
 ghost use Rattle.directory_node.specs.Follows.{Follows};
-ghost use Rattle.directory_core.specs.Applying.{IsOkOfUse, IsPlainlyTold, accepted_as};
-ghost use Rattle.directory_core.specs.Delivering.{IsPlanWith, plan_back, undelivered_plan_number};
+ghost use Rattle.directory_core.specs.Applied.{IsOkOfUse, IsPlainlyTold, accepted_as};
+ghost use Rattle.directory_core.specs.Delivery.{IsPlanWith, plan_back, undelivered_plan_number};
 ghost use Rattle.directory_core.specs.Numbers.{IsNumberedUnlessMemory};
 ghost use Rattle.directory_core.specs.Whole.{LeavesWorld};
 

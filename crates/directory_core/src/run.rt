@@ -1,11 +1,11 @@
 ghost use Rattle.std.specs.Prelude.{◌≡◌, ◌⊎◌, ◌++◌, ◌∷◌, [], ℕ, IfOk, OnErr, OnOk, map, take};
 ghost use Rattle.directory_rules.specs.EventModel.{event_of};
 ghost use Rattle.directory_rules.specs.Happens.{happens};
-ghost use Rattle.directory_core.specs.Applying.{excused};
+ghost use Rattle.directory_core.specs.Applied.{excused};
 ghost use Rattle.directory_rules.specs.Headline.{Headline};
 ghost use Rattle.directory_rules.specs.Run.{run, told_of, world_after};
 ghost use Rattle.dump_headline.specs.Told.{IsRightlyTold};
-ghost use Rattle.directory_core.specs.Moving.{AllMovePlainly, MovesBy};
+ghost use Rattle.directory_core.specs.PlainSteps.{AllMovePlainly, MovesBy};
 
 use crate::{Told, World};
 use directory_rules::Event;

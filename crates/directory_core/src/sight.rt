@@ -6,9 +6,9 @@ ghost use Rattle.directory_rules.specs.Input.{step};
 ghost use Rattle.directory_node.specs.Follows.{Follows};
 ghost use Rattle.directory_node.specs.Planning.{Fits, step_by};
 ghost use Rattle.directory_node.specs.Transition.{IsOfSight};
-ghost use Rattle.directory_core.specs.Applying.{IsOkOrFull, accepted_as};
+ghost use Rattle.directory_core.specs.Applied.{IsOkOrFull, accepted_as};
 ghost use Rattle.directory_core.specs.Numbers.{IsNumberedUnlessMemory, event_refusal_number};
-ghost use Rattle.directory_core.specs.Sharing.{ComesNext, IsShared};
+ghost use Rattle.directory_core.specs.Transitions.{ComesNext, IsShared};
 ghost use Rattle.directory_core.specs.Whole.{LeavesWorld};
 
 use crate::{EventRefusal, World};

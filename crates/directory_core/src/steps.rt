@@ -9,12 +9,12 @@ ghost use Rattle.directory_node.specs.InputModel.{input_of};
 ghost use Rattle.directory_node.specs.Numbers.{step_refusal_number};
 ghost use Rattle.directory_node.specs.Planning.{Fits, changed, step_by};
 ghost use Rattle.std.specs.Option.{option_or};
-ghost use Rattle.directory_core.specs.Applying.{HasForgotten, IsAwaited, IsNever, IsOkOfUse, accepted_as};
+ghost use Rattle.directory_core.specs.Applied.{HasForgotten, IsAwaited, IsNever, IsOkOfUse, accepted_as};
 ghost use Rattle.directory_core.specs.Numbers.{IsNumberedUnlessMemory, event_refusal_number};
-ghost use Rattle.directory_core.specs.Stepping.{IsOwn, after_step, letters_number};
+ghost use Rattle.directory_core.specs.Steps.{IsOwn, after_step, letters_number};
 ghost use Rattle.directory_core.specs.Whole.{IsWorld, LeavesWorld};
 
-use crate::posting::{carry_out_at, receive_at};
+use crate::post::{carry_out_at, receive_at};
 use crate::{EventRefusal, World};
 use directory_rules::{Effect, Happening, Outcome, Span};
 use directory_letters::Letter;

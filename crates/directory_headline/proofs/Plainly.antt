@@ -10,7 +10,7 @@ use Rattle.membership_view.specs.Views.{ViewsValue, view_at}
 use Rattle.membership_view.specs.Changes as change
 use Rattle.membership_view.specs.Laws.{Accepts}
 use Rattle.membership_view.specs.Step.{Joins}
-use Rattle.membership_view.proofs.Stepping.{changes_are_steps}
+use Rattle.membership_view.proofs.Changes.{changes_are_steps}
 use Rattle.hash_ring.specs.Places.{PlacesValue}
 use Rattle.directory_rules.specs.Node.{Node}
 use Rattle.directory_rules.specs.Step.{Stepped}

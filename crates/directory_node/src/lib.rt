@@ -2,17 +2,17 @@
 //! `docs/RULES.md#the-world`.
 #![tactic(auto)]
 
-mod carrying;
-mod closing;
-mod gathering;
+mod change;
+mod close;
+mod transfer_changes;
 mod idle;
 mod node;
 mod own_steps;
 mod recoveries;
 mod replies;
 mod requests;
-mod seeing;
-mod sending;
+mod sight_change;
+mod sends;
 mod sight;
 mod step;
 mod transfers;

@@ -6,7 +6,7 @@ ghost use Rattle.directory_rules.specs.declared.Effect.TheVariants.{Cached};
 ghost use Rattle.hash_ring.specs.Ring.{is_active_in};
 ghost use Rattle.node_plans.specs.Follows.{Follows};
 ghost use Rattle.node_plans.specs.Numbers.{step_refusal_number};
-ghost use Rattle.node_plans.specs.Planning.{Fits, Sends, step_by};
+ghost use Rattle.node_plans.specs.Plans.{Fits, Sends, step_by};
 
 use crate::{Change, Node, Plan, StepRefusal};
 use directory_rules::{Act, Effect};

@@ -2,7 +2,7 @@ ghost use Rattle.std.specs.Prelude.{◌≡◌, ◌&&◌, ◌==◌, IfOk, OnErr, 
 ghost use Rattle.silo_address.specs.Silo.{silo_eq};
 ghost use Rattle.directory_rules.specs.Answer.{answered};
 ghost use Rattle.directory_rules.specs.Receive.{requested};
-ghost use Rattle.node_plans.specs.Planning.{Fits, changed, step_by};
+ghost use Rattle.node_plans.specs.Plans.{Fits, changed, step_by};
 
 use crate::{Change, Node, Plan};
 use directory_letters::{Body, Letter};

@@ -8,8 +8,8 @@ ghost use Rattle.node_plans.specs.Placed.{IsPlaced};
 ghost use Rattle.node_plans.specs.InputModel.{input_of};
 ghost use Rattle.node_plans.specs.Follows.{Follows};
 ghost use Rattle.node_plans.specs.Numbers.{step_refusal_number};
-ghost use Rattle.node_plans.specs.Planning.{Fits, answer_count, changed, step_by};
-ghost use Rattle.directory_node.specs.Lacking.{Counts, MayLackMemory};
+ghost use Rattle.node_plans.specs.Plans.{Fits, answer_count, changed, step_by};
+ghost use Rattle.directory_node.specs.Memory.{Counts, MayLackMemory};
 ghost use Rattle.directory_node.specs.SteppedModel.{stepped_of};
 
 use crate::{Change, Input, Node, Plan, StepRefusal};

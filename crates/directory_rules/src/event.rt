@@ -1,7 +1,7 @@
 ghost use Rattle.std.specs.Prelude.{◌≡◌, ◌<◌, ◌↔◌, All, IfOk, IsTrue, OnErr};
 ghost use Rattle.directory_rules.specs.Event.{IsEvent};
 ghost use Rattle.ring_range.specs.Range.{circle};
-ghost use Rattle.directory_rules.specs.Copying.{NeedsMemory};
+ghost use Rattle.directory_rules.specs.EventCopies.{NeedsMemory};
 ghost use Rattle.directory_rules.specs.EventModel.{event_of};
 
 use silo_address::{GrainId, SiloAddress};

@@ -3,6 +3,6 @@
 
 mod tokens;
 mod words;
-mod writing;
+mod dump;
 
-pub use writing::{write_dump, write_node};
+pub use dump::{write_dump, write_node};

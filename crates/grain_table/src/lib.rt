@@ -3,8 +3,8 @@
 
 mod hashed_grain;
 mod hashed_map;
-mod living;
+mod alive;
 mod table;
 
-pub use living::is_dead_in;
+pub use alive::is_dead_in;
 pub use table::Table;

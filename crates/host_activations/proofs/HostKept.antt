@@ -16,7 +16,7 @@ use Rattle.host_activations.specs.Asked.{asked_under}
 use Rattle.host_activations.specs.IsHost.{AreHeld}
 use Rattle.host_activations.proofs.Numbers.{GivesNumber, on_number}
 use Rattle.host_activations.proofs.Entries.{sorted-remove_entry}
-use Rattle.host_activations.proofs.Asking.{AreBelow, asked_put, asked_taken, nothing, asks, finds, rests, stays, found}
+use Rattle.host_activations.proofs.Agreement.{AreBelow, asked_put, asked_taken, nothing, asks, finds, rests, stays, found}
 
 below_more : (next : ℕ) (out : List (ℕ × Asked)) (asked : Asked) → AreBelow next out → AreBelow (next + 1) (insert_entry nat_cmp out next asked)
 below_more next out asked below n it is =

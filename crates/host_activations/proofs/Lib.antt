@@ -1,6 +1,6 @@
 pub mod Entries
 pub mod Numbers
-pub mod Asking
+pub mod Agreement
 pub mod Finds
 pub mod HostKept
 pub mod Found
@@ -10,13 +10,13 @@ pub mod Beginnings
 pub mod Endings
 pub mod Replies
 pub mod PutAll
-pub mod Outstanding
+pub mod OutstandingActs
 pub mod Counted
 pub mod Same
 pub mod Ranks
-pub mod Renumbering
+pub mod NewNumbers
 pub mod AskedAgain
-pub mod Renewing
+pub mod Renewals
 pub mod Steps
 pub mod Grains
 pub mod Rows

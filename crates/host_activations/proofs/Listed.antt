@@ -25,7 +25,7 @@ use Rattle.ring_range.specs.Range.{Range, IsRange, circle, holds}
 use Rattle.hash_ring.specs.declared.Hashing.{Hashing}
 use Rattle.hash_ring.specs.Hash.{hash_grain}
 use Rattle.hash_ring.proofs.Members.{In, In-from_filter}
-use Rattle.hash_ring.proofs.Rising.{Rising, Rising-append, Rising-filter, Rising-from_sorted}
+use Rattle.hash_ring.proofs.StrictOrder.{Rising, Rising-append, Rising-filter, Rising-from_sorted}
 use Rattle.directory_rules.specs.declared.Held.{Held}
 use Rattle.directory_rules.specs.Host.{is_firm}
 use Rattle.host_activations.specs.Begun.{AreApart}

@@ -24,8 +24,8 @@ use Rattle.letter_mail.specs.Slots.{AreKept, is_fresh, lost_slot, posted_from, p
 use Rattle.letter_mail.specs.Mail.{MailValue, has_fresh, letter_in, with_lost, with_posted, with_stale, without_last}
 use Rattle.letter_mail.specs.MailModel.{mail_in}
 use Rattle.letter_mail.specs.Queues.{fresh_at, is_fresh_in}
-use Rattle.letter_mail.specs.Keeping.{Grows}
-use Rattle.letter_mail.proofs.Growing.{posted_again}
+use Rattle.letter_mail.specs.KeptLetters.{Grows}
+use Rattle.letter_mail.proofs.GrainNumbers.{posted_again}
 
 -- ---- where a number stands
 here : (n m : ℕ) → n ≡ m → is_at (nat_cmp n) m ≡ true

@@ -13,7 +13,7 @@ use Rattle.directory_rules.specs.Membership.{is_dead_in}
 use Rattle.lru.specs.LruCache.{last_entry, promoted}
 use Rattle.lru.proofs.Pairs.{cut_end, last_of_push}
 use Rattle.lookup_cache.specs.Hints.{living_hints, turned}
-use Rattle.lookup_cache.proofs.Turning.{promoted_last}
+use Rattle.lookup_cache.proofs.LastPair.{promoted_last}
 
 abbrev pub Hint : Type 0
 Hint = Grain × ActivationId

@@ -1,6 +1,6 @@
 use crate::samples::{A, B, C, join_at, no_silos, range, ring_now, silo};
 use hash_ring::Ring;
-use range_moves::{Arc, Move, arcs, laws, moves};
+use range_moves::{RingArc, Move, arcs, laws, moves};
 use silo_address::SiloAddress;
 use std::alloc::Global;
 use std::process::Abort;
@@ -34,8 +34,8 @@ struct Row<'a> {
     moves: &'a [Told<'a>],
 }
 
-fn told_arc(rt: &impl Abort, told: &Told<'_>) -> Arc {
-    Arc {
+fn told_arc(rt: &impl Abort, told: &Told<'_>) -> RingArc {
+    RingArc {
         range: range(rt, told.0),
         from: owner(rt, told.1),
         to: owner(rt, told.2),
@@ -51,7 +51,7 @@ fn told_move(rt: &impl Abort, told: &Told<'_>) -> Move {
 }
 
 // Whether these are the arcs.
-fn are_arcs(rt: &impl Abort, found: &[Arc], wanted: &[Told<'_>]) -> bool {
+fn are_arcs(rt: &impl Abort, found: &[RingArc], wanted: &[Told<'_>]) -> bool {
     for (arc, told) in found.iter().zip(wanted) {
         if !arc.same(&told_arc(rt, told)) {
             return false;

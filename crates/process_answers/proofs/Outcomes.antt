@@ -14,8 +14,8 @@ use Rattle.directory_node.specs.Follows.{RefusesBy}
 use Rattle.silo_rules.specs.declared.news.News.{News}
 use Rattle.silo_rules.specs.Membership.{Change, Membership}
 use Rattle.silo_rules.specs.SiloValue.{SiloValue, own_status}
-use Rattle.silo_rules.specs.Stepping.{receives}
-use Rattle.silo_rules.specs.Telling.{Heard}
+use Rattle.silo_rules.specs.Steps.{receives}
+use Rattle.silo_rules.specs.Told.{Heard}
 use Rattle.directory_silo.specs.declared.answer.Answer.{Answer}
 use Rattle.directory_silo.specs.AnswerModel.{heard_as, stepped_as}
 use Rattle.script_rules.specs.Lines.{refusal_line}

@@ -2,7 +2,7 @@
 use Rattle.std.proofs.Common.{◌≡◌, [], Result, Ok, Err}
 use Rattle.std.specs.Result.{OnErr}
 use Rattle.silo_rules.specs.SiloValue.{SiloValue}
-use Rattle.process_rules.specs.LineReading.{Show}
+use Rattle.process_rules.specs.ReadLine.{Show}
 use Rattle.process_output.specs.Show.{show_lines}
 use Rattle.process_output.specs.Answer.{answered}
 

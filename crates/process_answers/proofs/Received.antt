@@ -11,7 +11,7 @@ use Rattle.directory_rules.specs.Letter.{Letter, Body, kind_of}
 use Rattle.directory_rules.specs.Step.{Stepped}
 use Rattle.directory_node.specs.Follows.{RefusesBy}
 use Rattle.silo_rules.specs.SiloValue.{SiloValue}
-use Rattle.silo_rules.specs.Stepping.{receives}
+use Rattle.silo_rules.specs.Steps.{receives}
 use Rattle.directory_silo.specs.declared.answer.Answer.{Answer}
 use Rattle.directory_silo.specs.AnswerModel.{stepped_as}
 use Rattle.script_rules.specs.Lines.{refusal_line}

@@ -6,7 +6,7 @@ ghost use Rattle.std.specs.Prelude.{◌≡◌, ◌++◌, IfOk, IsOk, OnErr, OnOk
 ghost use Rattle.std.specs.Fmt.{decimal};
 ghost use Rattle.texts.specs.Words.{sentence};
 ghost use Rattle.directory_node.specs.Follows.{Follows};
-ghost use Rattle.silo_rules.specs.Telling.{told};
+ghost use Rattle.silo_rules.specs.Told.{told};
 ghost use Rattle.directory_silo.specs.AnswerModel.{heard_as};
 ghost use Rattle.directory_silo.specs.Numbers.{silo_refusal_number};
 ghost use Rattle.script_rules.specs.Lines.{happening_words};

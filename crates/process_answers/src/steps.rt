@@ -4,7 +4,7 @@
 
 ghost use Rattle.std.specs.Prelude.{◌≡◌, IfOk, IsOk, OnErr};
 ghost use Rattle.directory_node.specs.Follows.{Follows};
-ghost use Rattle.silo_rules.specs.Stepping.{does};
+ghost use Rattle.silo_rules.specs.Steps.{does};
 ghost use Rattle.directory_silo.specs.AnswerModel.{stepped_as};
 ghost use Rattle.directory_silo.specs.Numbers.{silo_refusal_number};
 ghost use Rattle.script_output.specs.Spaced.{BeginsWith};

@@ -29,7 +29,7 @@ use Rattle.silo_rules.specs.SiloValue.{SiloValue, own_status}
 use Rattle.script_rules.specs.Lines.{happening_words, effect_words, refusal_line}
 use Rattle.script_rules.specs.Show.{held_line, phase_word, seen_words}
 use Rattle.process_rules.specs.LetterText.{letter_line}
-use Rattle.process_rules.specs.LineReading.{Receive, read_silo_line}
+use Rattle.process_rules.specs.ReadLine.{Receive, read_silo_line}
 use Rattle.process_output.specs.Happened.{news_words, counted_words, body_words, delivered_words, is_ignored, received_words}
 use Rattle.process_output.specs.Show.{own_word, state_words, piece_line, show_lines, dump_line}
 use Rattle.process_output.specs.Answer.{printing, unless_dead}

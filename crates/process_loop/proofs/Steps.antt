@@ -4,7 +4,7 @@ use Rattle.std.proofs.lemmas.List.{length-drop}
 use Rattle.memchr.specs.Find.{IsFirstByte, is_byte}
 use Rattle.texts.specs.Words.{line_feed}
 use Rattle.silo_rules.specs.SiloValue.{SiloValue}
-use Rattle.process_rules.specs.LineReading.{unended_fault}
+use Rattle.process_rules.specs.ReadLine.{unended_fault}
 use Rattle.process_output.specs.Output.{after_last}
 use Rattle.process_loop.specs.Answering.{AnswersLine}
 use Rattle.process_loop.specs.Progress.{HasAnswered, HasEnded, HasNoEnd, NeedsMore, Progress, line_taken, rest_taken}

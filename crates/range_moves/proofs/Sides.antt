@@ -12,7 +12,7 @@ use Rattle.hash_ring.specs.declared.Point.{Point}
 use Rattle.hash_ring.specs.Point.{IsOnCircle, point_cmp, back}
 use Rattle.hash_ring.specs.Owner.{nearness_cmp, owner_of}
 use Rattle.hash_ring.proofs.Members.{In, In-right, In-either, All-of}
-use Rattle.hash_ring.proofs.Rising.{Rising}
+use Rattle.hash_ring.proofs.StrictOrder.{Rising}
 use Rattle.hash_ring.proofs.Nearness.{nearness_total, nat_upto}
 use Rattle.hash_ring.proofs.Ownership.{IsOwner-from_nearest, owner_from}
 use Rattle.range_moves.specs.Arcs.{owner_silo}

@@ -8,5 +8,5 @@ mod compare;
 pub mod laws;
 mod walk;
 
-pub use arc::{Arc, Move};
+pub use arc::{RingArc, Move};
 pub use compare::{arcs, moves};

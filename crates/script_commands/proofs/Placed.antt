@@ -5,7 +5,7 @@ use Rattle.std.proofs.lemmas.List.{append-nil}
 use Rattle.script_rules.specs.Script.{hash_word, places_in, ◌>>=◌}
 use Rattle.script_commands.specs.declared.error.ReadError.{ReadError}
 use Rattle.script_commands.specs.declared.error.ReadError.TheVariants.{Fault, OutOfMemory}
-use Rattle.script_commands.specs.Reading.{Fails, HasPlaces}
+use Rattle.script_commands.specs.ReadAs.{Fails, HasPlaces}
 
 -- what is read with these places in front
 abbrev pub onto : List ℕ → Result (List ℕ) ℕ → Result (List ℕ) ℕ

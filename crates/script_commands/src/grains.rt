@@ -8,7 +8,7 @@ ghost use Rattle.script_rules.specs.Script as script;
 ghost use Rattle.script_commands.specs.CommandModel.{command_of};
 ghost use Rattle.script_commands.specs.Known.{grain_commands};
 ghost use Rattle.script_commands.specs.Named.{grammar_of};
-ghost use Rattle.script_commands.specs.Reading.{told};
+ghost use Rattle.script_commands.specs.ReadAs.{told};
 
 use crate::grammar::{a_silo_a_grain_and_a_silo, a_silo_and_grain};
 use crate::names::CommandName;

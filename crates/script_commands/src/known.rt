@@ -9,7 +9,7 @@ ghost use Rattle.script_rules.specs.Script as script;
 ghost use Rattle.script_commands.specs.CommandModel.{command_of};
 ghost use Rattle.script_commands.specs.Known.{known_commands, other_commands};
 ghost use Rattle.script_commands.specs.Named.{grammar_of};
-ghost use Rattle.script_commands.specs.Reading.{IsJoin, Reads, told};
+ghost use Rattle.script_commands.specs.ReadAs.{IsJoin, Reads, told};
 
 use crate::grains::{close, find, forget, grain_name, offer, wake};
 use crate::grammar::a_silo_and_places;

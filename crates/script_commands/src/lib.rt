@@ -12,7 +12,7 @@ mod lines;
 mod names;
 mod places;
 mod questions;
-mod reading;
+mod read;
 mod silos;
 mod words;
 
@@ -20,5 +20,5 @@ pub use command::Command;
 pub use error::{ReadError, ScriptFault};
 pub use lines::{first_line, without_return};
 pub use places::places_in;
-pub use reading::{is_remark, is_text, read_command};
+pub use read::{is_remark, is_text, read_command};
 pub use words::{only_three_words, only_two_words, only_word, split_word};

@@ -7,7 +7,7 @@ ghost use Rattle.script_rules.specs.Script as script;
 ghost use Rattle.script_commands.specs.CommandModel.{command_of};
 ghost use Rattle.script_commands.specs.Known.{question_commands};
 ghost use Rattle.script_commands.specs.Named.{grammar_of};
-ghost use Rattle.script_commands.specs.Reading.{told};
+ghost use Rattle.script_commands.specs.ReadAs.{told};
 
 use crate::grammar::{a_hash, a_silo_a_policy_and_a_grain, no_word};
 use crate::names::CommandName;

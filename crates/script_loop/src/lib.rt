@@ -4,8 +4,8 @@
 
 mod ended;
 mod line_player;
-mod playing;
-mod sending;
+mod play;
+mod send;
 mod session;
 mod sink;
 mod source;
@@ -15,7 +15,7 @@ mod turn;
 
 pub use ended::{Ended, LineFault};
 pub use line_player::LinePlayer;
-pub use playing::play;
-pub use sending::send;
+pub use play::play;
+pub use send::send;
 pub use sink::Sink;
 pub use source::Source;

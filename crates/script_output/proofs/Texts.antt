@@ -12,7 +12,7 @@ use Rattle.texts.specs.Words.{space}
 use Rattle.script_rules.specs.Lines.{span_text}
 use Rattle.directory_rules.specs.declared.outcome.Span.{Span}
 use Rattle.script_output.specs.Spaced.{ip_text, spaced}
-use Rattle.script_output.proofs.Spacing.{behind_the_mark}
+use Rattle.script_output.proofs.SpacedWords.{behind_the_mark}
 
 -- the parts of a silo's text, with a mark behind them
 pub silo_parts : (silo : Silo) (mark : ℕ)

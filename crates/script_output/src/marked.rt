@@ -1,6 +1,6 @@
 //! Texts, each with a mark behind it.
 
-#![tactic(auto, using(crate::proofs::Writing::part_by_part))]
+#![tactic(auto, using(crate::proofs::Pieces::part_by_part))]
 
 ghost use Rattle.std.specs.Prelude.{◌≡◌, [], ◌∷◌, ◌++◌, OnOk};
 ghost use Rattle.std.specs.Fmt.{decimal};

@@ -1,6 +1,6 @@
 //! Words of a line on its way: each is written with a space behind it.
 
-#![tactic(auto, using(crate::proofs::Writing::word_by_word))]
+#![tactic(auto, using(crate::proofs::Pieces::word_by_word))]
 
 ghost use Rattle.std.specs.Prelude.{◌≡◌, [], ◌∷◌, ◌++◌, OnOk};
 ghost use Rattle.std.specs.Fmt.{decimal};
@@ -55,7 +55,7 @@ pub fn push_silo(out: &mut Vec<u8>, silo: &SiloAddress) -> Result<(), AllocError
 }
 
 /// An activation.
-#[tactic(auto, using(crate::proofs::Writing::part_by_part))]
+#[tactic(auto, using(crate::proofs::Pieces::part_by_part))]
 pub fn push_activation(out: &mut Vec<u8>, activation: &ActivationId) -> Result<(), AllocError>
     ensures written { OnOk result (out.new.items ≡ out.old.items ++ spaced (activation_text activation.now ∷ [])) }
     ensures kept { BeginsWith out.old.items out.new.items }
@@ -84,7 +84,7 @@ pub fn push_entry(out: &mut Vec<u8>, entry: &Entry) -> Result<(), AllocError>
 }
 
 /// The first and the last number, two dots between them.
-#[tactic(auto, using(crate::proofs::Writing::part_by_part))]
+#[tactic(auto, using(crate::proofs::Pieces::part_by_part))]
 pub(crate) fn push_span(out: &mut Vec<u8>, span: &Span) -> Result<(), AllocError>
     ensures written { OnOk result (out.new.items ≡ out.old.items ++ spaced (span_text span.now ∷ [])) }
     ensures kept { BeginsWith out.old.items out.new.items }
@@ -96,7 +96,7 @@ pub(crate) fn push_span(out: &mut Vec<u8>, span: &Span) -> Result<(), AllocError
 }
 
 /// A range: its start, a plus, its size.
-#[tactic(auto, using(crate::proofs::Writing::part_by_part))]
+#[tactic(auto, using(crate::proofs::Pieces::part_by_part))]
 pub fn push_range(out: &mut Vec<u8>, range: &RingRange) -> Result<(), AllocError>
     ensures written { OnOk result (out.new.items ≡ out.old.items ++ spaced (range_text range.now ∷ [])) }
     ensures kept { BeginsWith out.old.items out.new.items }

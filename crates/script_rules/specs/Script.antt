@@ -9,9 +9,9 @@ use Rattle.silo_address.specs.declared.SiloError.{SiloError}
 use Rattle.silo_address.specs.declared.GrainError.{GrainError}
 use Rattle.silo_address.specs.Numbers.{silo_error_number, grain_error_number}
 use Rattle.silo_address.specs.Silo.{Silo}
-use Rattle.silo_address.specs.SiloReading.{read_silo}
+use Rattle.silo_address.specs.ReadSilo.{read_silo}
 use Rattle.silo_address.specs.Grain.{Grain}
-use Rattle.silo_address.specs.GrainReading.{read_grain}
+use Rattle.silo_address.specs.ReadGrain.{read_grain}
 use Rattle.directory_rules.specs.declared.policy.Policy.{Policy}
 use Rattle.directory_rules.specs.declared.policy.Policy.TheVariants.{PreferLocal, HashBased, LeastHeld}
 use Rattle.directory_rules.specs.Event.{Event}

@@ -5,7 +5,7 @@ use Rattle.directory_rules.specs.Event.{Event}
 use Rattle.directory_rules.specs.Happens.{happens}
 use Rattle.directory_rules.specs.Settings.{Settings}
 use Rattle.directory_rules.specs.World.{World}
-use Rattle.directory_core.specs.Applying.{accepted_as}
+use Rattle.directory_core.specs.Applied.{accepted_as}
 use Rattle.cluster_journal.specs.Entry.{EntryValue}
 use Rattle.cluster_journal.specs.Journal.{IsJournaled}
 use Rattle.cluster_journal.specs.declared.entry.Receipt.{Receipt}

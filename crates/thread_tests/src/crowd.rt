@@ -4,7 +4,7 @@ ghost use Rattle.silo_threads.specs.declared.cluster.TheConstants.{PARTS};
 
 use crate::driver::{Driver, grain, join, silo};
 use crate::replay::tells;
-use crate::watching::Watchers;
+use crate::readers::Watchers;
 use directory_rules::Event;
 use shared_node::SharedNode;
 use silo_address::{GrainId, SiloAddress};

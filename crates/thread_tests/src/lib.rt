@@ -13,4 +13,4 @@ mod replay;
 #[cfg(test)]
 mod scripts;
 #[cfg(test)]
-mod watching;
+mod readers;

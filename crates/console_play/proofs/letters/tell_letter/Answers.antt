@@ -1,7 +1,7 @@
 use Rattle.std.proofs.Common.{◌++◌, Option, ap, refl, sym, ◌∙◌, append-nil}
 use Rattle.directory_rules.specs.Letter.{Letter}
 use Rattle.texts.specs.Printed.{text_of_lines}
-use Rattle.console_play.specs.Telling.{lines_of_letter}
+use Rattle.console_play.specs.Reports.{lines_of_letter}
 use Rattle.console_play.proofs.Lines.{begins_with_itself}
 use Rattle.console_play.proofs.Results.{begins_anyhow}
 use Rattle.console_play.proofs.letters.tell_letter.Goals as goal

@@ -1,7 +1,7 @@
 use Rattle.std.proofs.Common.{◌+◌, ◌-◌, arith, refl}
 use Rattle.std.specs.List.{range_with_len}
 use Rattle.directory_rules.specs.Mail.{letter_of}
-use Rattle.console_play.specs.Telling.{lines_of_letter}
+use Rattle.console_play.specs.Reports.{lines_of_letter}
 use Rattle.script_output.proofs.Fronts.{begins_with_the_first}
 use Rattle.console_play.proofs.Lines.{begins_with_itself}
 use Rattle.console_play.proofs.Results.{not_ok}

@@ -3,7 +3,7 @@ use Rattle.silo_address.specs.Silo.{silo_eq}
 use Rattle.directory_rules.specs.Letter.{kind_of}
 use Rattle.directory_rules.specs.Node.{Node}
 use Rattle.directory_letters.specs.LetterModel.{body_of}
-use Rattle.directory_silo.specs.Heeding.{IsHeeded}
+use Rattle.directory_silo.specs.Heeded.{IsHeeded}
 use Rattle.directory_silo.specs.Numbers.{silo_refusal_number}
 use Rattle.process_answers.proofs.Received.{letter_refused, letter_taken}
 use Rattle.process_answers.proofs.letters.answer_letter.Goals as goal

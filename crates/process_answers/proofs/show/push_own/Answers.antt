@@ -7,7 +7,7 @@ use Rattle.directory_rules.specs.Node.{Node}
 use Rattle.script_output.specs.Spaced.{spaced}
 use Rattle.process_output.specs.Show.{own_word}
 use Rattle.script_output.proofs.Fronts.{begins_with_the_first}
-use Rattle.script_output.proofs.Spacing.{then_spaced}
+use Rattle.script_output.proofs.SpacedWords.{then_spaced}
 use Rattle.process_answers.proofs.show.push_own.Goals as goal
 
 pub returns-in_err-push_silo-clause-kept : goal.returns-in_err-push_silo-clause-kept

@@ -2,7 +2,7 @@ use Rattle.std.proofs.Common.{◌∙◌, ◌++◌, ◌∷◌, []}
 use Rattle.std.specs.Fmt.{decimal}
 use Rattle.silo_address.specs.Marks.{colon, dot}
 use Rattle.script_output.proofs.Fronts.{begins_with_the_first}
-use Rattle.script_output.proofs.Spacing.{behind_the_mark}
+use Rattle.script_output.proofs.SpacedWords.{behind_the_mark}
 use Rattle.script_output.proofs.marked.push_ip.Goals as goal
 
 pub returns-in_err-push_marked_number-2-clause-kept : goal.returns-in_err-push_marked_number-2-clause-kept

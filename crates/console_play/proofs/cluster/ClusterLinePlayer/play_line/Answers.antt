@@ -5,7 +5,7 @@ use Rattle.script_commands.specs.declared.error.ScriptFault.{ScriptFault}
 use Rattle.script_loop.specs.Lines.{PlaysLine}
 use Rattle.script_output.specs.Printed.{printed}
 use Rattle.script_rules.specs.Lines.{fault_line}
-use Rattle.console_play.specs.Playing.{lines_played}
+use Rattle.console_play.specs.Play.{lines_played}
 use Rattle.console_play.proofs.LinesPlayed.{command_played, fault_told, passed_over}
 use Rattle.console_play.proofs.cluster.ClusterLinePlayer.play_line.Goals as goal
 

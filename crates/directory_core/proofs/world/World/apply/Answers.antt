@@ -1,8 +1,8 @@
 use Rattle.directory_rules.specs.EventModel.{event_of}
-use Rattle.directory_core.specs.Applying.{excused}
+use Rattle.directory_core.specs.Applied.{excused}
 use Rattle.directory_core.specs.Numbers.{event_refusal_number}
 use Rattle.directory_core.proofs.Made.{further, plain_of_all}
-use Rattle.directory_core.proofs.Running.{moves_by, told_plainly}
+use Rattle.directory_core.proofs.Runs.{moves_by, told_plainly}
 use Rattle.directory_core.proofs.world.World.apply.Goals as goal
 
 pub follow-told-requires : goal.follow-told-requires

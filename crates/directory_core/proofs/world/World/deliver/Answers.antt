@@ -14,8 +14,8 @@ use Rattle.directory_node.specs.Follows.{RefusesBy}
 use Rattle.letter_mail.specs.MailedModel.{letter_seen}
 use Rattle.letter_mail.specs.declared.MailedLetter.{MailedLetter}
 use Rattle.directory_node.specs.Planning.{changed}
-use Rattle.directory_core.specs.Applying.{IsOkOfUse}
-use Rattle.directory_core.specs.Stepping.{after_step}
+use Rattle.directory_core.specs.Applied.{IsOkOfUse}
+use Rattle.directory_core.specs.Steps.{after_step}
 use Rattle.directory_core.specs.Whole.{IsWorld}
 use Rattle.directory_core.proofs.Happenings.{delivered_told, delivery_refused, leaves_delivered}
 use Rattle.directory_core.proofs.Idle.{of_use}

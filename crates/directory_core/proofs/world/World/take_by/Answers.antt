@@ -10,8 +10,8 @@ use Rattle.directory_rules.specs.World.{World}
 use Rattle.directory_rules.specs.Mail.{has_room_for, letter_of, span_of, with_delivered}
 use Rattle.directory_rules.specs.Happens.{node_of}
 use Rattle.directory_node.specs.Planning.{Fits, changed}
-use Rattle.directory_core.specs.Applying.{IsOkOfUse}
-use Rattle.directory_core.specs.Stepping.{after_step}
+use Rattle.directory_core.specs.Applied.{IsOkOfUse}
+use Rattle.directory_core.specs.Steps.{after_step}
 use Rattle.directory_core.specs.Whole.{IsWorld}
 use Rattle.directory_core.proofs.Happenings.{delivered_told, leaves_delivered}
 use Rattle.directory_core.proofs.Idle.{of_use}

@@ -1,5 +1,0 @@
-use Rattle.std.proofs.Common.{rules}
-use Rattle.console_command.proofs.carrying.play_silo.Goals as goal
-
-pub returns-clause-plays : goal.returns-clause-plays
-returns-clause-plays g c = record { writes = search rules; stops = search rules }
