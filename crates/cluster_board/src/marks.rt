@@ -5,8 +5,8 @@ ghost use Rattle.directory_rules.specs.EventModel.{event_of};
 ghost use Rattle.cluster_board.specs.Changed.{IsReceiver, MayChange};
 ghost use Rattle.cluster_board.specs.Marked.{AreLeft, AreMore, marked_at};
 
-use directory_rules::Event;
 use directory_core::World;
+use directory_rules::Event;
 use shared_node::SharedNode;
 use silo_address::SiloAddress;
 use std::collections::BTreeMap;

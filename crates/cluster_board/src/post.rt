@@ -7,9 +7,9 @@ ghost use Rattle.directory_core.specs.Numbers.{IsNumberedUnlessMemory, event_ref
 
 use crate::Board;
 use crate::marks::forget_by;
-use directory_rules::{Event, Outcome};
 use cluster_journal::{Draft, Entry, Receipt};
 use directory_core::EventRefusal;
+use directory_rules::{Event, Outcome};
 use std::alloc::{AllocError, Global};
 use std::sync::ledger::{Ledger, Share};
 use value_marks::Names;

@@ -1,7 +1,7 @@
 //! The limits of a directory, each met: what comes next is refused, and changes nothing.
-use directory_rules::{Event, Settings};
 use directory_core::{EventRefusal, World};
 use directory_node::StepRefusal;
+use directory_rules::{Event, Settings};
 use hash_ring::{Hashing, RingError};
 use membership_view::ViewsError;
 use silo_address::{GrainId, SiloAddress};

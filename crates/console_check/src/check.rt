@@ -4,8 +4,8 @@ ghost use Rattle.dump_rules.specs.Judged.{judged_text};
 ghost use Rattle.console_check.specs.Checks.{Checks, MakesCalls, Tells, WritesSaid};
 
 use crate::Checked;
-use crate::verdict::judge;
 use crate::source::{Unread, read_all};
+use crate::verdict::judge;
 use script_loop::{Sink, Source, send};
 use std::alloc::Global;
 

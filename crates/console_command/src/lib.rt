@@ -2,9 +2,9 @@
 //! `docs/RULES.md#the-program`.
 #![tactic(auto)]
 
-mod program;
-mod exit;
 mod errors;
+mod exit;
+mod program;
 
-pub use program::{Carried, carry_out, carry_out_nothing, end_threads};
 pub use exit::Exit;
+pub use program::{Carried, carry_out, carry_out_nothing, end_threads};

@@ -2,9 +2,9 @@
 #![tactic(auto)]
 
 mod cluster;
+mod commands;
 mod dump;
 mod letters;
-mod commands;
 mod place;
 mod play;
 mod show;

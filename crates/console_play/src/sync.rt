@@ -9,8 +9,8 @@ ghost use Rattle.script_output.specs.Spaced.{BeginsWith};
 ghost use Rattle.console_play.specs.Commands.{Performs, TakeTurns, in_session, sights};
 
 use crate::commands::take_turn;
-use directory_rules::Event;
 use directory_core::World;
+use directory_rules::Event;
 use shared_node::SharedNode;
 use silo_address::SiloAddress;
 use std::alloc::{AllocError, Global};

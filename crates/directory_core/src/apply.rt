@@ -9,8 +9,8 @@ ghost use Rattle.directory_core.specs.Numbers.{IsNumberedUnlessMemory, event_ref
 ghost use Rattle.directory_core.specs.Whole.{LeavesWorld};
 
 use crate::{EventRefusal, World};
-use directory_rules::{Event, Outcome};
 use directory_node::Input;
+use directory_rules::{Event, Outcome};
 
 impl World {
     /// An event happens. It is accepted, with what it tells, or refused by a refusal with its number, and then nothing changes

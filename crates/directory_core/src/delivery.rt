@@ -16,9 +16,9 @@ ghost use Rattle.directory_core.specs.Whole.{IsWorld, LeavesWorld};
 
 use crate::post::receive_with_at;
 use crate::{EventRefusal, World};
-use directory_rules::{Happening, Outcome};
 use directory_letters::Letter;
 use directory_node::{Stepped, is_idle};
+use directory_rules::{Happening, Outcome};
 use silo_address::SiloAddress;
 use std::alloc::{AllocError, Global};
 

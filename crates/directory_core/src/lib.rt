@@ -19,11 +19,10 @@ mod steps;
 mod told;
 mod world;
 
-pub use directory_rules::{Event, Happening, Outcome, Span};
 pub use delivery::Undelivered;
 pub use directory_letters::{Body, Letter};
 pub use directory_node::Node;
-pub use directory_rules::{Effect, LetterKind, Policy, Settings};
+pub use directory_rules::{Effect, Event, Happening, LetterKind, Outcome, Policy, Settings, Span};
 pub use dump_lists::Dump;
 pub use hash_ring::Hashing;
 pub use membership_view::{Status, Views};

@@ -11,8 +11,8 @@ ghost use Rattle.directory_core.specs.Numbers.{IsNumberedUnlessMemory};
 ghost use Rattle.directory_core.specs.Whole.{LeavesWorld};
 
 use crate::{EventRefusal, World};
-use directory_rules::{Happening, Outcome};
 use directory_node::{Plan, is_idle};
+use directory_rules::{Happening, Outcome};
 
 /// A plan that couldn't be carried out: why, and the plan itself, which may be tried again. Where memory runs out it is used up.
 #[derive(Drop)]

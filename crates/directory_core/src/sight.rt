@@ -12,8 +12,8 @@ ghost use Rattle.directory_core.specs.Transitions.{ComesNext, IsShared};
 ghost use Rattle.directory_core.specs.Whole.{LeavesWorld};
 
 use crate::{EventRefusal, World};
-use directory_rules::{Happening, Outcome};
 use directory_node::{Node, Plan, StepRefusal, Transition};
+use directory_rules::{Happening, Outcome};
 use membership_view::View;
 use silo_address::SiloAddress;
 use std::alloc::AllocError;

@@ -16,9 +16,9 @@ ghost use Rattle.directory_core.specs.Whole.{IsWorld, LeavesWorld};
 
 use crate::post::{carry_out_at, receive_at};
 use crate::{EventRefusal, World};
-use directory_rules::{Effect, Happening, Outcome, Span};
 use directory_letters::Letter;
 use directory_node::{Change, Input, Plan, StepRefusal, is_idle};
+use directory_rules::{Effect, Happening, Outcome, Span};
 use silo_address::{GrainId, SiloAddress};
 use std::alloc::{AllocError, Global};
 

@@ -4,17 +4,17 @@
 
 mod change;
 mod close;
-mod transfer_changes;
 mod idle;
 mod node;
 mod own_steps;
 mod recoveries;
 mod replies;
 mod requests;
-mod sight_change;
 mod sends;
 mod sight;
+mod sight_change;
 mod step;
+mod transfer_changes;
 mod transfers;
 
 pub use idle::is_idle;

@@ -6,6 +6,7 @@ mod by_silo;
 mod count;
 mod entries;
 mod holdings;
+mod kept_pieces;
 mod listed;
 mod own_arcs;
 mod piece;
@@ -15,7 +16,6 @@ mod seen;
 mod served;
 mod settled;
 mod sight;
-mod kept_pieces;
 
 pub use by_silo::ArcsBySilo;
 pub use holdings::Holding;

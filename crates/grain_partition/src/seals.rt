@@ -4,9 +4,9 @@ ghost use Rattle.directory_rules.specs.Sight.{is_handed_over, sealed, was_settle
 ghost use Rattle.grain_partition.specs.Holdings.{ArePieces};
 
 use crate::Piece;
+use crate::kept_pieces::are_tidy;
 use crate::listed::listed;
 use crate::settled::are_settled;
-use crate::kept_pieces::are_tidy;
 use hash_ring::Hashing;
 use membership_view::View;
 use range_moves::RingArc;
@@ -42,7 +42,11 @@ pub(crate) fn sealed(
 
 // For whom the arc is sealed: for its owner in the view, where that is another silo, this one was its owner before, and all
 // of it was settled.
-fn next_owner(pieces: &BTreeMap<u32, Piece>, silo: &SiloAddress, arc: &RingArc) -> Option<SiloAddress>
+fn next_owner(
+    pieces: &BTreeMap<u32, Piece>,
+    silo: &SiloAddress,
+    arc: &RingArc,
+) -> Option<SiloAddress>
     requires { ArePieces pieces.now.entries }
     ensures exact { result ≡ (if is_handed_over silo.now pieces.now.entries arc.now then arc.now.to else None) }
     ensures settled { IsSome result → was_settled pieces.now.entries arc.now.range ≡ true }

@@ -10,8 +10,8 @@ ghost use Rattle.grain_partition.specs.Kept.{piece_made, pieces_made};
 
 use crate::Piece;
 use crate::entries::kept_entries;
-use crate::settled::are_settled;
 use crate::kept_pieces::{are_tidy, put_all_back, stays};
+use crate::settled::are_settled;
 use directory_rules::PieceState;
 use grain_table::{Table, is_dead_in};
 use hash_ring::Hashing;

@@ -7,9 +7,9 @@ mod kept;
 mod mail;
 mod mailed;
 mod passed;
-mod slot_changes;
 mod queue;
 mod queues;
+mod slot_changes;
 mod slots;
 
 pub use mail::Mail;

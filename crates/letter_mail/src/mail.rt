@@ -6,9 +6,9 @@ ghost use Rattle.letter_mail.specs.MailedModel.{letter_seen};
 
 use crate::MailedLetter;
 use crate::passed::{deliver_in, lose_in};
-use crate::slot_changes::{put_all, take_last};
 use crate::queue::Queue;
 use crate::queues::first_at;
+use crate::slot_changes::{put_all, take_last};
 use crate::slots::{Slot, index_of, is_fresh_at};
 use directory_letters::Letter;
 use grain_names::GrainMap;

@@ -15,8 +15,8 @@ mod plan;
 mod recoveries;
 mod refusal;
 mod rings;
-mod sights;
 mod senders;
+mod sights;
 mod states;
 mod transition;
 
@@ -32,7 +32,7 @@ pub use plan::{Change, Plan, Sight, list_of};
 pub use recoveries::{same_recoveries, take_report};
 pub use refusal::StepRefusal;
 pub use rings::{advanced, ring_of};
-pub use sights::see_in_holding;
 pub use senders::Sender;
+pub use sights::see_in_holding;
 pub use states::{is_firm, is_recovering};
 pub use transition::Transition;

@@ -1,6 +1,6 @@
 use crate::samples::{A, B, C, join_at, no_silos, range, ring_now, silo};
 use hash_ring::Ring;
-use range_moves::{RingArc, Move, arcs, laws, moves};
+use range_moves::{Move, RingArc, arcs, laws, moves};
 use silo_address::SiloAddress;
 use std::alloc::Global;
 use std::process::Abort;

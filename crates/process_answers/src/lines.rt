@@ -11,8 +11,8 @@ ghost use Rattle.script_output.specs.Spaced.{spaced, BeginsWith};
 ghost use Rattle.process_rules.specs.LetterText.{letter_line};
 ghost use Rattle.directory_silo.specs.Numbers.{silo_refusal_number};
 
-use directory_rules::{Happening, Outcome};
 use directory_letters::Letter;
+use directory_rules::{Happening, Outcome};
 use directory_silo::SiloRefusal;
 use process_letters::write_letter;
 use script_output::{end_line, push_word, write_outcome, write_refusal};

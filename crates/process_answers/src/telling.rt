@@ -15,10 +15,9 @@ ghost use Rattle.script_output.specs.Spaced.{spaced, BeginsWith};
 ghost use Rattle.process_output.specs.Happened.{body_words, counted_words, is_ignored, sought_words};
 ghost use Rattle.process_answers.specs.Telling.{entry_if_any, received_telling, telling_words};
 
-use directory_rules::{Effect, Happening, LetterKind, Reply};
 use directory_letters::Body;
-use host_activations::{Host, entry_on};
-use host_activations::Host;
+use directory_rules::{Effect, Happening, LetterKind, Reply};
+use host_activations::{Host, Host, entry_on};
 use script_output::{
     kind_word, push_activation, push_effect, push_entry, push_grain, push_happening, push_word,
 };

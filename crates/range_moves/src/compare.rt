@@ -4,7 +4,7 @@ ghost use Rattle.range_moves.specs.Arcs.{arcs_of, AreArcs};
 ghost use Rattle.range_moves.specs.Moves.{moves_of, AreMoves};
 
 use crate::walk::{Side, next_place};
-use crate::{RingArc, Move};
+use crate::{Move, RingArc};
 use hash_ring::Ring;
 use ring_range::RingRange;
 use std::alloc::{AllocError, Global};

@@ -3,6 +3,7 @@
 //! `docs/RULES.md#the-dump-and-the-verdict`.
 #![tactic(auto)]
 
+mod alive;
 mod check_fault;
 mod cover;
 mod current;
@@ -12,7 +13,6 @@ mod firm;
 mod first_fault;
 mod index;
 mod least;
-mod alive;
 mod nodes;
 mod owners;
 mod ranges;

@@ -2,8 +2,8 @@
 #![tactic(auto)]
 
 mod cluster;
-mod ended;
 mod end;
+mod ended;
 mod fault;
 mod publication;
 mod run;

@@ -1,7 +1,7 @@
 //! What silos haven't seen yet.
 use crate::Cluster;
-use directory_rules::Event;
 use directory_core::World;
+use directory_rules::Event;
 use shared_node::SharedNode;
 use silo_address::SiloAddress;
 use silo_workers::Gate;

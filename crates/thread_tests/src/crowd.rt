@@ -3,8 +3,8 @@ ghost use Rattle.std.specs.Prelude.{◌≡◌, ◌<◌, ◌≤◌};
 ghost use Rattle.silo_threads.specs.declared.cluster.TheConstants.{PARTS};
 
 use crate::driver::{Driver, grain, join, silo};
-use crate::replay::tells;
 use crate::readers::Watchers;
+use crate::replay::tells;
 use directory_rules::Event;
 use shared_node::SharedNode;
 use silo_address::{GrainId, SiloAddress};

@@ -3,8 +3,8 @@ ghost use Rattle.std.specs.Prelude.{◌≡◌, ◌+◌, ◌<◌, ◌≤◌};
 ghost use Rattle.silo_threads.specs.declared.cluster.TheConstants.{PARTS};
 
 use cluster_board::Board;
-use directory_rules::{Event, Settings};
 use cluster_journal::Receipt;
+use directory_rules::{Event, Settings};
 use hash_ring::Hashing;
 use shared_node::SharedNode;
 use silo_address::{GrainId, SiloAddress};

@@ -3,8 +3,8 @@
 use crate::board::rounds::{FILLED, Keeper, Played};
 use crate::cluster::sum_of_world;
 use crate::fault::Fault;
-use directory_rules::{Event, Settings};
 use directory_core::World;
+use directory_rules::{Event, Settings};
 
 #[derive(Drop)]
 struct Plain {

@@ -19,8 +19,8 @@ use crate::play::rows::{ONE_SILO, Row};
 use crate::play::syncs::{
     LEAVE, NEWER_GENERATION, ONE_PLACE_SHARED, ONE_PLACE_SHARED_RANGE, TWO_ASKS,
 };
-use directory_rules::{Event, Outcome, Settings};
 use directory_core::{EventRefusal, Told, World};
+use directory_rules::{Event, Outcome, Settings};
 use hash_ring::Hashing;
 use rebuild_checker::write_dump;
 use script_commands::{Command, first_line, read_command};

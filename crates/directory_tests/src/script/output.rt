@@ -1,6 +1,8 @@
 //! The lines that a script prints.
-use directory_rules::{Effect, Happening, Held, LetterKind, Outcome, Phase, Span, Why};
-use directory_rules::{Effect, Held, LetterKind, Phase, Why};
+use directory_rules::{
+    Effect, Effect, Happening, Held, Held, LetterKind, LetterKind, Outcome, Phase, Phase, Span,
+    Why, Why,
+};
 use hash_ring::Point;
 use membership_view::Status;
 use ring_range::RingRange;
