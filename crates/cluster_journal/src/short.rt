@@ -4,9 +4,7 @@ ghost use Rattle.directory_rules.specs.Event.{Deliver as DeliverSeen};
 ghost use Rattle.directory_rules.specs.EventModel.{event_of};
 ghost use Rattle.cluster_journal.specs.Short.{IsLong, NamesGrain, delivered, effect_by, entry_by};
 
-use directory_rules::{
-    Effect, Effect, Event, Happening, LetterKind, LetterKind, Outcome, Span, Why, Why,
-};
+use directory_rules::{Effect, Event, Happening, LetterKind, Outcome, Span, Why};
 
 // An effect that names no grain, and so needs little room.
 #[derive(Clone, Copy)]

@@ -2,10 +2,10 @@
 use Rattle.std.proofs.Common.{◌≢◌, ℕ, List, Option, Err, refl}
 use Rattle.clap.specs.Walk.{Text}
 use Rattle.clap.specs.Values.{kind_of}
-use Rattle.command_line.specs.Line.{AskToBeTold, Reads}
-use Rattle.command_line.specs.Refusal.{IsAnswer}
-use Rattle.command_line.specs.declared.error.LineError.{LineError}
-use Rattle.command_line.specs.declared.error.LineError.TheVariants as errors
+use Rattle.console_command.specs.CommandLine.{AskToBeTold, Reads}
+use Rattle.console_command.specs.LineRefusal.{IsAnswer}
+use Rattle.console_command.specs.declared.line_error.LineError.{LineError}
+use Rattle.console_command.specs.declared.line_error.LineError.TheVariants as errors
 use Rattle.console_command.specs.Exits.{MakesCalls, WritesAnswer}
 use Rattle.console_command.specs.Program.{AreMistaken, by_fault, by_name}
 use Rattle.console_command.specs.declared.exit.Exit.{Exit}

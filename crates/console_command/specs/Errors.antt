@@ -10,8 +10,8 @@ use Rattle.script_loop.specs.declared.ended.LineFault.{LineFault}
 use Rattle.threaded_play.specs.Endings.{IsSent}
 use Rattle.threaded_play.specs.declared.ended.ThreadsEnded.{ThreadsEnded}
 use Rattle.threaded_play.specs.declared.ended.ThreadsEnded.TheVariants as threads
-use Rattle.console_check.specs.declared.checked.Checked.{Checked as Check}
-use Rattle.console_check.specs.declared.checked.Checked.TheVariants as checked
+use Rattle.console_command.specs.declared.checked.Checked.{Checked as Check}
+use Rattle.console_command.specs.declared.checked.Checked.TheVariants as checked
 use Rattle.process_loop.specs.declared.stopped.Stopped.{Stopped}
 use Rattle.process_loop.specs.declared.stopped.Stopped.TheVariants as stopped
 use Rattle.console_command.specs.declared.exit.Exit.{Exit}

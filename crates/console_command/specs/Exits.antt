@@ -5,7 +5,7 @@ use Rattle.std.specs.declared.io.ErrorKind.TheVariants as kind
 use Rattle.script_loop.specs.Calls.{WritesText}
 use Rattle.script_loop.specs.Endings as play
 use Rattle.threaded_play.specs.Endings as threads
-use Rattle.console_check.specs.Checks as check
+use Rattle.console_command.specs.Checks as check
 use Rattle.process_loop.specs.Endings as process
 use Rattle.console_command.specs.declared.exit.Exit.{Exit}
 use Rattle.console_command.specs.declared.exit.Exit.TheVariants.{Played, Threaded, Checked, Silo, Answered, AnswerBroken, Refused, OutOfMemory}

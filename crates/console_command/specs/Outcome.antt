@@ -1,9 +1,9 @@
 -- What became of a command line.
 use Rattle.std.specs.Prelude.{◌≡◌, ℕ, List, Option}
 use Rattle.clap.specs.Walk.{Text}
-use Rattle.command_line.specs.Line.{AskFor}
-use Rattle.command_line.specs.declared.line.Line.TheVariants.{Threads}
-use Rattle.command_line.specs.declared.line.Options.{Options}
+use Rattle.console_command.specs.CommandLine.{AskFor}
+use Rattle.console_command.specs.declared.command_line.Line.TheVariants.{Threads}
+use Rattle.console_command.specs.declared.command_line.Options.{Options}
 use Rattle.console_command.specs.Exits.{MakesCalls}
 use Rattle.console_command.specs.Program.{Does, Streams, chosen_settings}
 use Rattle.console_command.specs.Errors.{IsTold}

@@ -13,15 +13,15 @@ use Rattle.silo_rules.specs.SiloValue.{first_silo}
 use Rattle.process_output.specs.Output.{silo_output}
 use Rattle.process_loop.specs.Endings.{Stops}
 use Rattle.process_loop.specs.declared.stopped.Stopped.{Stopped}
-use Rattle.console_silo.specs.Playing.{WritesOutput, process_settings}
-use Rattle.console_play.specs.Play.{lines_played}
-use Rattle.console_check.specs.Checks.{Checks}
-use Rattle.console_check.specs.declared.checked.Checked.{Checked}
+use Rattle.console_command.specs.SiloPlay.{WritesOutput, process_settings}
+use Rattle.console_command.specs.Play.{lines_played}
+use Rattle.console_command.specs.Checks.{Checks}
+use Rattle.console_command.specs.declared.checked.Checked.{Checked}
 use Rattle.silo_address.specs.declared.silo.SiloError.{SiloError}
-use Rattle.command_line.specs.Line.{AskFor, AskToBeTold, HaveFault, NameNoSilo}
-use Rattle.command_line.specs.Refusal.{IsRequest}
-use Rattle.command_line.specs.declared.line.Line.TheVariants.{Play, Check, Silo}
-use Rattle.command_line.specs.declared.line.Options.{Options}
+use Rattle.console_command.specs.CommandLine.{AskFor, AskToBeTold, HaveFault, NameNoSilo}
+use Rattle.console_command.specs.LineRefusal.{IsRequest}
+use Rattle.console_command.specs.declared.command_line.Line.TheVariants.{Play, Check, Silo}
+use Rattle.console_command.specs.declared.command_line.Options.{Options}
 use Rattle.console_command.specs.declared.exit.Exit.{Exit}
 use Rattle.console_command.specs.declared.exit.Exit.TheVariants.{Played, Threaded, Checked as CheckedDump, Silo as SiloStopped, Answered, AnswerBroken, Refused, OutOfMemory}
 

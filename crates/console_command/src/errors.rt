@@ -4,8 +4,7 @@ ghost use Rattle.std.specs.Prelude.{◌≡◌, ◌≤◌, ◌<◌, ◌+◌, ◌+
 ghost use Rattle.threaded_play.specs.Endings.{IsSent};
 ghost use Rattle.console_command.specs.Errors.{IsTold, TellsFault, failed_call, fault_text};
 
-use crate::Exit;
-use console_check::Checked;
+use crate::{Checked, Exit};
 use itoa::Buffer;
 use process_loop::Stopped;
 use script_loop::{Ended, LineFault, Sink, send};

@@ -1,7 +1,7 @@
 ghost use Rattle.std.specs.Prelude.{◌≡◌};
 ghost use Rattle.console_command.specs.Exits.{status_of};
 
-use console_check::Checked;
+use crate::Checked;
 use process_loop::Stopped;
 use script_loop::Ended;
 use threaded_play::ThreadsEnded;

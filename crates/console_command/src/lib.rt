@@ -2,9 +2,34 @@
 //! `docs/RULES.md#the-program`.
 #![tactic(auto)]
 
+mod check;
+mod checked;
+mod clap_command;
+mod cluster;
+mod command_line;
+mod commands;
+mod dump;
 mod errors;
 mod exit;
+mod letters;
+mod line_error;
+mod place;
+mod play;
 mod program;
+mod show;
+mod silo_play;
+mod silo_player;
+mod source;
+mod sync;
+mod verdict;
 
+pub use check::check;
+pub use checked::Checked;
+pub use command_line::{Line, Options, read_line};
+pub use dump::tell_verdict;
 pub use exit::Exit;
+pub use line_error::LineError;
+pub use play::{play, play_to_new_cluster};
 pub use program::{Carried, carry_out, carry_out_nothing, end_threads};
+pub use show::show;
+pub use silo_play::play_new_silo;

@@ -2,7 +2,7 @@
 
 ghost use Rattle.std.specs.Prelude.{◌≡◌, List, ℕ, Option, Err, map};
 ghost use Rattle.clap.specs.Walk.{Text};
-ghost use Rattle.command_line.specs.Line.{AreInRange, AskFor, AskToBeTold, IsInRange, Reads};
+ghost use Rattle.console_command.specs.CommandLine.{AreInRange, AskFor, AskToBeTold, IsInRange, Reads};
 ghost use Rattle.script_loop.specs.Endings as play;
 ghost use Rattle.silo_address.specs.Silo.{Silo};
 ghost use Rattle.threaded_play.specs.Endings.{IsSent};
@@ -12,14 +12,10 @@ ghost use Rattle.console_command.specs.Program.{Does, Plays, PlaysSilo, chosen_s
 ghost use Rattle.console_command.specs.Errors.{IsTold, told_without_words};
 ghost use Rattle.console_command.specs.Outcome.{Carries, CarriesByCalls, CarriesTold};
 
-use crate::Exit;
 use crate::errors::{
     tell, tell_check, tell_end, tell_failed_call, tell_no_memory, tell_silo, tell_threads, words_or,
 };
-use command_line::{Line, LineError, Options, read_line};
-use console_check::check;
-use console_play::play_to_new_cluster;
-use console_silo::play_new_silo;
+use crate::{Exit, Line, LineError, Options, check, play_new_silo, play_to_new_cluster, read_line};
 use directory_rules::Settings;
 use process_loop::Stopped;
 use script_loop::{Ended, Sink, Source, send};

@@ -5,7 +5,7 @@ ghost use Rattle.console_threads.specs.Endings.{EndsBy, IsWritten, Tells, Writes
 
 use crate::lines::Lines;
 use cluster_board::Board;
-use console_play::{show, tell_verdict};
+use console_command::{show, tell_verdict};
 use script_loop::{Ended, Sink, send};
 use std::alloc::{AllocError, Global};
 use std::sync::ledger::Ledger;

@@ -14,7 +14,7 @@ ghost use Rattle.directory_core.specs.Whole.{IsWorld, LeavesWorld};
 
 use crate::nodes::{put_new_node, remove_node};
 use crate::{EventRefusal, World};
-use directory_rules::{Happening, Outcome, Settings, Settings};
+use directory_rules::{Happening, Outcome, Settings};
 use hash_ring::{Places, RingError};
 use membership_view::{Joined, Views};
 use shared_node::SharedNode;

@@ -9,7 +9,7 @@ ghost use Rattle.directory_core.specs.Delivery.{Passes};
 ghost use Rattle.directory_core.specs.Whole.{IsWorld, LeavesWorld};
 
 use crate::World;
-use directory_rules::{Effect, Effect, Happening, LetterKind, LetterKind, Outcome};
+use directory_rules::{Effect, Happening, LetterKind, Outcome};
 use silo_address::SiloAddress;
 
 impl World {

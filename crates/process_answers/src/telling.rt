@@ -17,7 +17,7 @@ ghost use Rattle.process_answers.specs.Telling.{entry_if_any, received_telling, 
 
 use directory_letters::Body;
 use directory_rules::{Effect, Happening, LetterKind, Reply};
-use host_activations::{Host, Host, entry_on};
+use host_activations::{Host, entry_on};
 use script_output::{
     kind_word, push_activation, push_effect, push_entry, push_grain, push_happening, push_word,
 };

@@ -1,4 +1,4 @@
-use directory_rules::{Event, Policy, Policy};
+use directory_rules::{Event, Policy};
 use silo_address::{GrainId, SiloAddress};
 
 /// What a line of a script asks for (`docs/RULES.md#scripts`).

@@ -16,7 +16,7 @@ use crate::tables::{effect_word, kind_word};
 use crate::words::{
     push_entry, push_grain, push_named, push_number, push_silo, push_span, push_word,
 };
-use directory_rules::{Effect, Effect, Happening, LetterKind, LetterKind, Outcome, Span};
+use directory_rules::{Effect, Happening, LetterKind, Outcome, Span};
 use silo_address::{Entry, SiloAddress};
 use std::alloc::AllocError;
 

@@ -3,7 +3,7 @@
 use crate::cluster::EVENLY;
 use crate::fault::Fault;
 use crate::naming::{Order, STRIDE, places, silo};
-use directory_rules::{Event, Settings, Settings};
+use directory_rules::{Event, Settings};
 use hash_ring::Hashing;
 use silo_address::SiloAddress;
 use std::alloc::Global;

@@ -1,5 +1,5 @@
 use clap::error::ErrorKind;
-use command_line::{Line, LineError, Options, read_line};
+use console_command::{Line, LineError, Options, read_line};
 use hash_ring::Hashing;
 use silo_address::SiloAddress;
 use std::alloc::Global;

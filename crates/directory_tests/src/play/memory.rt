@@ -5,7 +5,7 @@ use crate::play::read_dumps::{
     CODED, CUT, HASHED, MORE_MEMBERS, ONE, OTHER_ORDER, QUOTED, TWO, UNMADE_VERSION,
 };
 use crate::play::rows::Row;
-use console_play::play_to_new_cluster;
+use console_command::play_to_new_cluster;
 use hash_ring::Hashing;
 use rebuild_checker::{Dump, ReadError, read_dump, write_dump};
 use script_loop::Ended;

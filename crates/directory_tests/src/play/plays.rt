@@ -1,6 +1,6 @@
 //! Plays of whole scripts from one slice to one buffer.
 
-use console_play::play_to_new_cluster;
+use console_command::play_to_new_cluster;
 use hash_ring::Hashing;
 use script_loop::Ended;
 use std::alloc::Global;

@@ -2,7 +2,7 @@
 //! one written.
 
 use crate::fakes::{SparseReader, SparseWriter};
-use console_play::play_to_new_cluster;
+use console_command::play_to_new_cluster;
 use hash_ring::Hashing;
 use script_loop::Ended;
 use std::alloc::Global;

@@ -1,8 +1,5 @@
 //! The lines that a script prints.
-use directory_rules::{
-    Effect, Effect, Happening, Held, Held, LetterKind, LetterKind, Outcome, Phase, Phase, Span,
-    Why, Why,
-};
+use directory_rules::{Effect, Happening, Held, LetterKind, Outcome, Phase, Span, Why};
 use hash_ring::Point;
 use membership_view::Status;
 use ring_range::RingRange;

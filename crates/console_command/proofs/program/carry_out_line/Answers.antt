@@ -1,5 +1,5 @@
 use Rattle.std.proofs.Common.{refl, subst}
-use Rattle.command_line.specs.Line.{AskFor}
+use Rattle.console_command.specs.CommandLine.{AskFor}
 use Rattle.console_command.proofs.program.carry_out_line.Goals as goal
 
 pub returns-in-Play-clause-does : goal.returns-in-Play-clause-does
