@@ -58,7 +58,7 @@ impl Node {
             Change::Gathers(page) => self.gather(&page),
             Change::GathersAnew(range) => self.gather_anew(range),
             Change::Installs { range, entries } => {
-                self.settle(range, entries);
+                self.settle_piece(range, entries);
                 Ok(())
             }
             Change::Recovers(recovery) => self.recover(recovery),

@@ -103,7 +103,7 @@ impl Node {
         let Some(recovery) = self.recoveries.get(&report.range().start()) else {
             unreachable!()
         };
-        let progress = match recovery.judge(report) {
+        let progress = match recovery.progress_with(report) {
             Ok(progress) => progress,
             Err(_) => return Ok(Plan::idle(alloc, Effect::Ignored)),
         };

@@ -46,7 +46,7 @@ impl Node {
     }
 
     // The piece has its entries, and nothing is gathered or recovered for it any more.
-    pub(crate) fn settle(&mut self, range: RingRange, entries: Table)
+    pub(crate) fn settle_piece(&mut self, range: RingRange, entries: Table)
         requires there { HasPiece range self.old.holding.pieces }
         ensures { self.new ≡ with_settled self.old range entries.entries }
     {

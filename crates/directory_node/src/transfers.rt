@@ -104,7 +104,7 @@ impl Node {
         if !self.is_page_awaited(letter, page, gathering.entries()) {
             return Ok(Plan::idle(alloc, Effect::Ignored));
         }
-        match gathering.judge(page) {
+        match gathering.progress_with(page) {
             Ok(Progress::More) => self.plan_more(alloc, letter, page),
             Ok(Progress::Complete) => self.plan_install(alloc, letter, page, gathering),
             Err(GatheringError::WrongDigest) => {

@@ -14,7 +14,7 @@ use std::alloc::{AllocError, Global};
 use std::collections::BTreeMap;
 
 /// The page that is wanted, behind those gathered for its range; the version is that of a gathering that begins by it. It asks that
-/// after the page more are wanted, as `Gathering::judge` tells. Fails only when memory runs out, and then changes nothing.
+/// after the page more are wanted, as `Gathering::progress_with` tells. Fails only when memory runs out, and then changes nothing.
 pub fn gather_among(
     alloc: Global,
     gatherings: &mut BTreeMap<u32, Gathering>,

@@ -91,7 +91,7 @@ impl Gathering {
 
     /// What would come of the page. Refuses by 703 one of another version or range, then by 702 one that isn't the next one of
     /// the snapshot whose pages were taken, then by 701 the last one if the digest isn't that of all entries.
-    pub fn judge(&self, page: &Page) -> Result<Progress, GatheringError>
+    pub fn progress_with(&self, page: &Page) -> Result<Progress, GatheringError>
         ensures judged { IfOk result (λ progress. progress_of (gathered self.now page.now) ≡ Ok progress) }
         ensures refused { IfErr result (IsRefused (progress_of (gathered self.now page.now))) }
     {

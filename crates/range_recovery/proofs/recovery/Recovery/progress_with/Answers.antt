@@ -4,7 +4,7 @@ use Rattle.silo_address.specs.Silo.{silo_cmp}
 use Rattle.directory_rules.specs.Recovery.{Recovery}
 use Rattle.range_recovery.specs.Silos.{has_reported}
 use Rattle.range_recovery.proofs.Reports.{progress-awaited, silos_in}
-use Rattle.range_recovery.proofs.recovery.Recovery.judge.Goals as goal
+use Rattle.range_recovery.proofs.recovery.Recovery.progress_with.Goals as goal
 
 pub returns-in-Some-false-clause-judged : goal.returns-in-Some-false-clause-judged
 returns-in-Some-false-clause-judged c =

@@ -11,7 +11,7 @@ use Rattle.directory_rules.specs.declared.PieceState.TheVariants.{Settled}
 use Rattle.node_plans.specs.Node.{HaveRecoveries}
 use Rattle.node_plans.proofs.Kept.{settled_removes}
 use Rattle.node_plans.proofs.Values.{all_but_one}
-use Rattle.directory_node.proofs.node.Node.settle.Goals as goal
+use Rattle.directory_node.proofs.node.Node.settle_piece.Goals as goal
 
 -- a settled piece needs no recovery
 pub invariant_of-self : goal.invariant_of-self
