@@ -1,6 +1,6 @@
 -- What a board keeps, after an event that was refused and one that was accepted.
-use Rattle.std.proofs.Common.{◌≡◌, refl, sym, ap, subst, ◌∙◌, ℕ, ◌+◌, List, [], ◌∷◌, ◌++◌, length, length-append, Ok, arith}
-use Rattle.std.specs.Prelude.{None, Some}
+use Rattle.std.proofs.Common.{◌≡◌, sym, ap, subst, ◌∙◌, ℕ, ◌+◌, List, [], ◌∷◌, ◌++◌, length-append, Ok}
+use Rattle.std.specs.Prelude.{None}
 use Rattle.silo_address.specs.Silo.{Silo}
 use Rattle.directory_rules.specs.declared.Outcome.{Outcome}
 use Rattle.std.proofs.lemmas.Option.{same_Some}
@@ -9,12 +9,11 @@ use Rattle.directory_rules.specs.Letter.{Letter}
 use Rattle.directory_rules.specs.Node.{Node}
 use Rattle.directory_rules.specs.Settings.{Settings}
 use Rattle.directory_rules.specs.World.{World}
-use Rattle.directory_rules.specs.Happens.{happens, node_of}
+use Rattle.directory_rules.specs.Happens.{happens}
 use Rattle.cluster_journal.specs.Entry.{EntryValue}
-use Rattle.cluster_journal.specs.Journal.{IsJournaled}
 use Rattle.cluster_journal.proofs.Journal.{goes_on}
 use Rattle.cluster_board.specs.Changed.{MayChange}
-use Rattle.cluster_board.specs.Marked.{AreLeft, AreMarks, AreMore, marked_at}
+use Rattle.cluster_board.specs.Marked.{AreLeft, marked_at}
 use Rattle.cluster_board.specs.Whole.{IsBoard}
 use Rattle.cluster_board.specs.Work.{IsCurrent, Work}
 use Rattle.cluster_board.proofs.MarksKept.{after_event, fewer, more}
@@ -26,12 +25,6 @@ with_fewer settings world same journal still total before marks is world_is jour
     subst (λ (w : World). IsBoard settings w still total marks) (sym world_is)
     (subst (λ (j : List EntryValue). IsBoard settings world j total marks) (sym journal_is)
     (record { journaled = is.journaled; counted = is.counted; marked = fewer world before marks is.marked left }))
-
--- a node was marked
-pub with_more : (settings : Settings) (world : World) (journal : List EntryValue) (total : ℕ) (silo : Silo) (node : Node) (before marks : List (Silo × Node))
-    → IsBoard settings world journal total before → node_of world silo ≡ Some node → AreMore silo node before marks → IsBoard settings world journal total marks
-with_more settings world journal total silo node before marks is live adds =
-    record { journaled = is.journaled; counted = is.counted; marked = more world silo node before marks is.marked live adds }
 
 -- an event was accepted, and entered
 pub entered : (settings : Settings) (world after : World) (journal room new : List EntryValue) (total counted : ℕ) (before marks : List (Silo × Node)) (event : Event) (outcome : Outcome) (entry : EntryValue)

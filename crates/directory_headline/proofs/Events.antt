@@ -43,9 +43,6 @@ accepted_step world silo happening stepped = record {
   world = with_step world silo stepped;
 }
 
-abbrev pub joined_world : World → Silo → ViewsValue → PlacesValue → World
-joined_world world silo next added = rule.counted (rule.after_joining world silo (change.occupant silo world.views.rows) next added)
-
 -- what is to be shown of every way
 pub record EventWays (world : World) (P : Accepted → Type 0) : Type 0 where
   pub joins :

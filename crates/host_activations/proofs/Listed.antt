@@ -63,15 +63,6 @@ stands_between first end key =
     past true = from_first end key.hash (nat_cmp 0 key.count) (not_gt 0 key.count (omega arith))
     past false = refl
 
--- and the bounds are in order
-pub runs_forward : (first end : ℕ) → first ≤ end → is_gt (hashed_count_cmp (first_at first) (first_at end)) ≡ false
-runs_forward first end le = by (nat_cmp first end) (not_gt first end le)
-  where
-    by : (o : Ordering) → is_gt o ≡ false → is_gt (ordering_then o (nat_cmp 0 0)) ≡ false
-    by Less not_after = refl
-    by Equal not_after = refl
-    by Greater not_after = not_after
-
 same_passed : {X : Type 0} (p q : X → Bool) (xs : List X) → ((x : X) → p x ≡ q x) → filter p xs ≡ filter q xs
 same_passed p q [] same = refl
 same_passed p q (x ∷ xs) same = λ i. cond (same x i) (x ∷ same_passed p q xs same i) (same_passed p q xs same i)

@@ -1,6 +1,6 @@
 -- Grains get numbers and keep them: what was kept before is the same letter after.
-use Rattle.std.proofs.Common.{◌≡◌, ℕ, zero, suc, ◌+◌, ◌-◌, ◌<◌, ◌≤◌, List, [], ◌∷◌, ◌++◌, length, get_or, set, take, Option, Some, None, refl, sym, ◌∙◌, ap, subst, arith}
-use Rattle.std.specs.Prelude.{IfSome, MatchOption, ◌^◌, slice_get}
+use Rattle.std.proofs.Common.{◌≡◌, ℕ, zero, suc, ◌+◌, ◌-◌, ◌<◌, ◌≤◌, List, [], ◌∷◌, ◌++◌, length, get_or, set, take, Option, Some, None, refl, sym, ◌∙◌, ap, arith}
+use Rattle.std.specs.Prelude.{slice_get}
 use Rattle.std.specs.List.{cons_option}
 use Rattle.std.specs.Map.{keys_of}
 use Rattle.std.specs.Option.{option_map}
@@ -27,9 +27,6 @@ use Rattle.letter_mail.specs.MailModel.{mail_in}
 -- ---- lists that grow
 pub grows_not : {A : Type 0} (before after : List A) → after ≡ before → Grows before after
 grows_not before after same = ([], same ∙ sym (append-nil before))
-
-pub grows_by : {A : Type 0} (before more : List A) → Grows before (before ++ more)
-grows_by before more = (more, refl)
 
 pub grows_on : {A : Type 0} (before between after : List A) → Grows before between → Grows between after → Grows before after
 grows_on {A} before between after first second =
@@ -166,11 +163,6 @@ next_at (g ∷ grains) grain = next_at grains grain
 pub put_at : {V : Type 0} (es new : List (Grain × V)) (grain : Grain) (value : V) (number : ℕ) → number ≡ length es → new ≡ es ++ (grain, value) ∷ [] → slice_get (keys_of new) number ≡ Some grain
 put_at es new grain value number last put =
     (λ i. slice_get (keys_put es new grain value put i) ((last ∙ sym (length-map es (λ e. e.0))) i)) ∙ next_at (keys_of es) grain
-
--- what holds of a number holds of it where it is small
-pub small_has : (P : ℕ → Type 0) (small : Option ℕ) (number : ℕ) → MatchOption small (2 ^ 32 ≤ number) (λ few. few ≡ number) → P number → IfSome small P
-small_has P None number is has = tt
-small_has P (Some few) number is has = subst (λ n. P n) (sym is) has
 
 -- ---- a letter behind the slots
 pub some_slot : (slots : List Slot) → 0 < length slots → Slot

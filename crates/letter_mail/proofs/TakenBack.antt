@@ -55,9 +55,6 @@ pub undone : (mail now after : MailValue) (letters : List Letter) (count : ℕ) 
 undone mail now after letters count are count_is now_is is =
     is ∙ ap (λ n. without_last now n) count_is ∙ ap (λ (m : MailValue). without_last m (length letters)) now_is ∙ taken_back mail letters are
 
-pub may_take_back : (mail now : MailValue) (letters : List Letter) (count : ℕ) → count ≡ length letters → now ≡ with_posted mail letters → count ≤ now.sent
-may_take_back mail now letters count count_is now_is = let sent_is = ap (λ (m : MailValue). m.sent) now_is in omega (arith, count_is, sent_is)
-
 -- ---- the letter that is received
 found_at : {X : Type 0} (test : ℕ → Bool) (es more : List (ℕ × X)) → IsSome (lookup test es) → lookup test (es ++ more) ≡ lookup test es
 found_at test [] more there = absurd (cc (there))

@@ -1,5 +1,5 @@
 -- What a letter tells, by what the host had when it came.
-use Rattle.std.proofs.Common.{◌≡◌, ℕ, ◌<◌, Bool, true, false, List, [], Option, Some, None, length, cond, refl, ap, subst, append-nil, arith}
+use Rattle.std.proofs.Common.{◌≡◌, ℕ, ◌<◌, Bool, true, false, List, [], Option, Some, None, length, cond, ap, subst, append-nil, arith}
 use Rattle.std.specs.Option.{option_map}
 use Rattle.silo_address.specs.Silo.{Silo}
 use Rattle.silo_address.specs.Grain.{Grain}
@@ -12,19 +12,10 @@ use Rattle.directory_rules.specs.Host.{Host, entry_of}
 use Rattle.directory_rules.specs.Letter.{Letter, kind_of}
 use Rattle.script_rules.specs.Lines.{happening_words}
 use Rattle.script_output.proofs.SomeWords.{happening_has_words}
-use Rattle.process_output.specs.Happened.{body_words, delivered_words, is_ignored, own_grain, own_words, received_words, sought_words}
+use Rattle.process_output.specs.Happened.{body_words, delivered_words, is_ignored, received_words}
 use Rattle.process_answers.specs.declared.telling.Telling.{Telling}
 use Rattle.process_answers.specs.declared.telling.Telling.TheVariants.{Firm, Taken, Ended, Found, Nothing, Offered, Delivered}
-use Rattle.process_answers.specs.Telling.{entry_if_any, received_telling, telling_words, that_it_came}
-
--- the activation that waited, and its grain
-pub own_entry : (host : Host) (waited : Option (Grain × Held)) → entry_if_any (option_map (λ e. entry_of host e.0 e.1) waited) ≡ own_words host waited
-own_entry host None = refl
-own_entry host (Some e) = refl
-
-pub own_sought : (waited : Option (Grain × Held)) → sought_words (option_map (λ e. e.0) waited) ≡ own_grain waited
-own_sought None = refl
-own_sought (Some e) = refl
+use Rattle.process_answers.specs.Telling.{received_telling, telling_words, that_it_came}
 
 -- the grain of the activation that waited
 pub grain_of_entry : (host : Host) (waited : Option (Grain × Held)) (entry : Entry) → Some entry ≡ option_map (λ e. entry_of host e.0 e.1) waited → Some entry.grain ≡ option_map (λ e. e.0) waited

@@ -1,5 +1,5 @@
 -- The walk from one place to the next, and its end.
-use Rattle.std.proofs.Common.{◌≡◌, ℕ, ◌+◌, ◌-◌, ◌<◌, ◌≤◌, ◌==◌, min, Bool, true, false, cond, List, [], ◌∷◌, ◌++◌, map, length, All, Contains, Option, Some, None, refl, sym, ◌∙◌, ap, subst, inl, inr, ⊎_elim, arith, append_assoc}
+use Rattle.std.proofs.Common.{◌≡◌, ℕ, ◌+◌, ◌-◌, ◌<◌, ◌≤◌, ◌==◌, min, Bool, true, false, cond, List, [], ◌∷◌, ◌++◌, map, length, All, Contains, Option, Some, None, sym, ◌∙◌, ap, subst, inl, inr, ⊎_elim, arith, append_assoc}
 use Rattle.std.proofs.lemmas.Bool.Decides.{Decides-eqb}
 use Rattle.std.proofs.lemmas.List.Elements.{All-contains}
 use Rattle.std.proofs.lemmas.Option.{same_Some}
@@ -170,10 +170,3 @@ module _ (old new : List Point) (rings : AreRings old new) (first start : ℕ) (
 
   pub underway_end : nearer_place (place_ahead old_ahead) (place_ahead new_ahead) ≡ None → arcs ++ arc_at (range_at start (circle - (start - first))) from to ∷ [] ≡ arcs_of old new
   underway_end e = let none = none_ahead old_ahead new_ahead e in end_by way.steps none.0 none.1 way.rising way.each way.whole
-
--- where neither ring has a point there is no arc
-pub no_arcs : (old new : List Point) → nearer_place (place_ahead old) (place_ahead new) ≡ None → [] ≡ arcs_of old new
-no_arcs [] [] e = refl
-no_arcs [] (b ∷ new) e = cc
-no_arcs (a ∷ old) [] e = cc
-no_arcs (a ∷ old) (b ∷ new) e = cc

@@ -43,10 +43,6 @@ pub rising_rest : (xs ys : List Point) → Rising point_cmp (xs ++ ys) → Risin
 rising_rest [] ys rising = rising
 rising_rest (x ∷ xs) ys rising = rising_rest xs ys rising.1
 
--- ---- the first of the points at a place owns it
-none_back : (place : ℕ) → back place place ≡ 0
-none_back place = grind (arith, nat_tests)
-
 near_ahead : (at place : ℕ) → at ≤ place → place < circle → nat_cmp (back at at) (back at place) ≡ nat_cmp at place
 near_ahead at place le lt = grind (arith, nat_tests)
 

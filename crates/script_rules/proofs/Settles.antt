@@ -45,10 +45,6 @@ fresh_sent : (world : World) (letters : List Letter) → fresh_count (world.mail
 fresh_sent world letters =
     sum_by-append (λ (e : ℕ × Posted). cond e.1.fresh 1 0) world.mail (numbered world letters) ∙ ap (λ n. fresh_count world.mail + n) (fresh_numbered (world.sent + 1) letters)
 
--- ---- A delivered letter is fresh no more.
-abbrev fresh_one : Posted → ℕ
-fresh_one posted = cond posted.fresh 1 0
-
 fresh_delivered : (number : ℕ) (mail : Mail) (posted stale : Posted) → lookup (is_at (nat_cmp number)) mail ≡ Some posted → posted.fresh ≡ true → stale.fresh ≡ false
     → fresh_count (set_value (is_at (nat_cmp number)) mail stale) + 1 ≡ fresh_count mail
 fresh_delivered number [] posted stale found fresh gone = absurd (let no : None ≡ Some posted = found in cc)
