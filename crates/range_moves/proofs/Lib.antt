@@ -4,7 +4,7 @@ pub mod OnePlace
 pub mod Lowest
 pub mod Cuts
 pub mod Between
-pub mod Moves
+pub mod MovesOfArcs
 pub mod Sides
 pub mod Nearest
 pub mod Underway
