@@ -34,13 +34,13 @@ pub(crate) fn perform(
     ensures unwritten { OnErr result (out.new.items ≡ out.old.items) }
 {
     let start = out.len();
-    let done = carry_out(alloc, world, command, out);
+    let done = play_command(alloc, world, command, out);
     taken_back_at_error(out, start, done)
 }
 
 // One function a command.
 #[tactic(auto, unfolding(script_rules::specs::Output::performed))]
-fn carry_out(
+fn play_command(
     alloc: Global,
     world: &mut World,
     command: &Command,

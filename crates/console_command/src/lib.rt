@@ -2,7 +2,6 @@
 //! `docs/RULES.md#the-program`.
 #![tactic(auto)]
 
-mod check;
 mod checked;
 mod clap_command;
 mod cluster;
@@ -11,6 +10,7 @@ mod commands;
 mod dump;
 mod errors;
 mod exit;
+mod judge;
 mod letters;
 mod line_error;
 mod place;
@@ -23,13 +23,13 @@ mod source;
 mod sync;
 mod verdict;
 
-pub use check::check;
 pub use checked::Checked;
 pub use command_line::{Line, Options, read_line};
 pub use dump::tell_verdict;
 pub use exit::Exit;
+pub use judge::judge;
 pub use line_error::LineError;
 pub use play::{play, play_to_new_cluster};
-pub use program::{Carried, carry_out, carry_out_nothing, end_threads};
+pub use program::{Run, end_threads, run_without_words, run_words};
 pub use show::show;
 pub use silo_play::play_new_silo;

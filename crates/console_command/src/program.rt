@@ -15,7 +15,7 @@ ghost use Rattle.console_command.specs.Outcome.{Carries, CarriesByCalls, Carries
 use crate::errors::{
     tell, tell_check, tell_end, tell_failed_call, tell_no_memory, tell_silo, tell_threads, words_or,
 };
-use crate::{Exit, Line, LineError, Options, check, play_new_silo, play_to_new_cluster, read_line};
+use crate::{Exit, Line, LineError, Options, judge, play_new_silo, play_to_new_cluster, read_line};
 use directory_rules::Settings;
 use process_loop::Stopped;
 use script_loop::{Ended, Sink, Source, send};
@@ -33,7 +33,7 @@ const MISTAKE: &str = "error: the command line is a mistake\n";
 
 /// What became of a command line.
 #[derive(Clone, Copy, PartialEq, Eq)]
-pub enum Carried {
+pub enum Run {
     /// It was carried out, and so the program ends.
     Ended(Exit),
     /// The script is to be played with a thread per silo, to a new cluster of these settings. Nothing is read and nothing written yet;
@@ -44,13 +44,13 @@ pub enum Carried {
 /// Does what the words of a command line ask for, the program's name first: plays the script that comes from the source, judges the
 /// dump that does, is the process of the silo whose lines come from it, or prints help or the version. What is wrong with the words, and what ends the script or the reading of the dump
 /// too early, is told to the sink of errors. A script that is to be played with a thread per silo is left to the caller.
-pub fn carry_out<S: AsStr, R: Source, W: Sink, E: Sink>(
+pub fn run_words<S: AsStr, R: Source, W: Sink, E: Sink>(
     alloc: Global,
     words: &[S],
     source: &mut R,
     output: &mut W,
     errors: &mut E,
-) -> Carried
+) -> Run
     ensures does { Carries (map S.text words.now)
         (record { rest = R.remaining source.old; output = W.contents output.old })
         (record { rest = R.remaining source.new; output = W.contents output.new }) result }
@@ -58,19 +58,19 @@ pub fn carry_out<S: AsStr, R: Source, W: Sink, E: Sink>(
     ensures told { CarriesTold E.writes E.contents errors.old errors.new result }
 {
     match read_line(alloc, words) {
-        Ok(line) => carry_out_line(alloc, line, source, output, errors),
-        Err(error) => Carried::Ended(explain(alloc, &error, output, errors)),
+        Ok(line) => run_line(alloc, line, source, output, errors),
+        Err(error) => Run::Ended(explain(alloc, &error, output, errors)),
     }
 }
 
 // Does what an accepted line asks for.
-fn carry_out_line<R: Source, W: Sink, E: Sink>(
+fn run_line<R: Source, W: Sink, E: Sink>(
     alloc: Global,
     line: Line,
     source: &mut R,
     output: &mut W,
     errors: &mut E,
-) -> Carried
+) -> Run
     requires { IsInRange line }
     ensures does { (words : List Text) → AskFor words line → Carries words
         (record { rest = R.remaining source.old; output = W.contents output.old })
@@ -82,18 +82,18 @@ fn carry_out_line<R: Source, W: Sink, E: Sink>(
         Line::Play(options) => {
             let ended = play(alloc, options, source, output);
             tell_end(alloc, ended, errors);
-            Carried::Ended(Exit::Played(ended))
+            Run::Ended(Exit::Played(ended))
         }
-        Line::Threads(options) => Carried::OnThreads(chosen_settings(options)),
+        Line::Threads(options) => Run::OnThreads(chosen_settings(options)),
         Line::Check => {
-            let checked = check(alloc, source, output);
+            let checked = judge(alloc, source, output);
             tell_check(checked, errors);
-            Carried::Ended(Exit::Checked(checked))
+            Run::Ended(Exit::Checked(checked))
         }
         Line::Silo(silo, options) => {
             let stopped = play_silo(alloc, silo, options, source, output);
             tell_silo(stopped, errors);
-            Carried::Ended(Exit::Silo(stopped))
+            Run::Ended(Exit::Silo(stopped))
         }
     }
 }
@@ -209,7 +209,7 @@ fn answer<W: Sink, E: Sink>(text: &str, output: &mut W, errors: &mut E) -> Exit
 }
 
 /// Tells that the words of the command line can't be had: memory ran out, or one of them isn't text.
-pub fn carry_out_nothing<E: Sink>(kind: ErrorKind, errors: &mut E) -> Exit
+pub fn run_without_words<E: Sink>(kind: ErrorKind, errors: &mut E) -> Exit
     ensures exit { result ≡ exit_without_words kind }
     ensures told { IsSent E.writes E.contents (told_without_words kind) errors.old errors.new }
 {

@@ -11,7 +11,7 @@ use rebuild_checker::{Dump, ReadError, check, read_dump, verdict_text};
 use std::alloc::{AllocError, Global};
 
 /// What is said of the bytes, and how the check ends once it is written: all is right, or not.
-pub(crate) fn judge(alloc: Global, bytes: &[u8]) -> Result<(String, Checked), AllocError>
+pub(crate) fn verdict_on(alloc: Global, bytes: &[u8]) -> Result<(String, Checked), AllocError>
     ensures { IfOk result (λ judged. IsSaid (judged_text bytes.now) (string_bytes judged.0) judged.1) }
 {
     match read_dump(alloc, bytes) {

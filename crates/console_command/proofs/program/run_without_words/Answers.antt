@@ -1,5 +1,5 @@
 use Rattle.console_command.proofs.Told.{refused_without, told_so}
-use Rattle.console_command.proofs.program.carry_out_nothing.Goals as goal
+use Rattle.console_command.proofs.program.run_without_words.Goals as goal
 
 pub returns : goal.returns
 returns g c = record {

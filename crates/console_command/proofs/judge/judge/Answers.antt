@@ -1,6 +1,6 @@
 use Rattle.dump_rules.specs.Judged.{judged_text}
 use Rattle.console_command.proofs.Said.{is_said}
-use Rattle.console_command.proofs.check.check.Goals as goal
+use Rattle.console_command.proofs.judge.judge.Goals as goal
 
 pub returns-in-Ok-clause-calls : goal.returns-in-Ok-clause-calls
 returns-in-Ok-clause-calls g c =

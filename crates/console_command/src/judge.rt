@@ -5,14 +5,14 @@ ghost use Rattle.console_command.specs.Checks.{Checks, MakesCalls, Tells, Writes
 
 use crate::Checked;
 use crate::source::{Unread, read_all};
-use crate::verdict::judge;
+use crate::verdict::verdict_on;
 use script_loop::{Sink, Source, send};
 use std::alloc::Global;
 
 /// Reads a dump to its end, judges it, and writes what is said of it: one line. A dump may have 268435456 bytes; the read that goes
 /// on behind them ends the check. No read or write is tried again, and a write that takes nothing is a failure
 /// (`docs/RULES.md#the-dump-and-the-verdict`).
-pub fn check<R: Source, W: Sink>(alloc: Global, reader: &mut R, writer: &mut W) -> Checked
+pub fn judge<R: Source, W: Sink>(alloc: Global, reader: &mut R, writer: &mut W) -> Checked
     ensures checks { IfSome (R.remaining reader.old) (λ bytes. Checks bytes (R.remaining reader.new) (W.contents writer.old) (W.contents writer.new) result) }
     ensures calls { MakesCalls R.reads W.writes (reader.old, writer.old) (reader.new, writer.new) result }
 {
@@ -29,7 +29,7 @@ fn tell<W: Sink>(alloc: Global, bytes: &[u8], writer: &mut W) -> Checked
     ensures tells { Tells bytes.now (W.contents writer.old) (W.contents writer.new) result }
     ensures calls { WritesSaid W.writes (judged_text bytes.now).text writer.old writer.new result }
 {
-    let Ok((text, checked)) = judge(alloc, bytes) else {
+    let Ok((text, checked)) = verdict_on(alloc, bytes) else {
         return Checked::OutOfMemory;
     };
     if send(writer, text.as_bytes()) {
