@@ -1,6 +1,6 @@
 //! Measures what is proved, by calls without text: `benches ring` the ring, `benches parts` the parts of a node, `benches routes`
-//! published rings, `benches board` deliveries by a board, `benches threads` a cluster with a thread for each silo, and
-//! `benches SCENARIO` a cluster; `benches` alone plays each scenario of a cluster on a small scale and measures nothing.
+//! published rings, `benches board` deliveries by a board, and `benches SCENARIO` a cluster; `benches` alone plays each scenario of
+//! a cluster on a small scale and measures nothing.
 //!
 //! Each line is a name, how many calls or events were measured, the nanoseconds that they took in all, and a sum of what they
 //! answered or left, by which this program and the plain ones beside it (`plain`) are seen to have done the same work.
@@ -16,24 +16,19 @@ mod parts;
 mod ring;
 mod routes;
 mod stopwatch;
-mod threads;
 mod world;
 
 use fault::Fault;
 use std::env;
 
 /// How the program is called.
-const USAGE: &str = "usage: benches [ring|parts|routes|board|threads|SCENARIO]";
+const USAGE: &str = "usage: benches [ring|parts|routes|board|SCENARIO]";
 
 fn main(rt: HostRuntime) -> Result<(), Fault> {
     match env::args(&rt)?.nth(1) {
         None => world::play_all(&rt),
-        Some(word) => match word.as_str() {
-            "routes" => routes::measure(&rt),
-            "threads" => threads::measure(&rt),
-            word @ ("alone" | "driven") => threads::fill(&rt, word),
-            word => measure(&rt, word),
-        },
+        Some(word) if word.as_str() == "routes" => routes::measure(&rt),
+        Some(word) => measure(&rt, word.as_str()),
     }
 }
 

@@ -1,4 +1,4 @@
-use Rattle.benches.proofs.threads.driven.play.Given as goal
+use Rattle.thread_benches.proofs.threads.driven.play.Given as goal
 
 -- the cluster is of the blank ledger and of the blocks that it is given
 abbrev pub ghosts-play_by-L-Ledger : goal.ghosts-play_by-L-Ledger
