@@ -10,7 +10,7 @@ use Rattle.directory_rules.specs.Step.{Stepped}
 use Rattle.directory_rules.specs.World.{World, Accepted}
 use Rattle.directory_rules.specs.Mail.{has_room_for, letter_of, with_delivered}
 use Rattle.directory_rules.specs.Happens.{delivers, delivers_to, happens, taken}
-use Rattle.directory_node.specs.Planning.{step_by}
+use Rattle.directory_node.specs.Plans.{step_by}
 use Rattle.directory_node.specs.declared.Plan.{Plan}
 use Rattle.directory_core.proofs.Happenings.{full, has_room}
 use Rattle.cluster_board.specs.Commits.{Declines, IsTaken}

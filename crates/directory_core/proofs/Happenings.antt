@@ -20,7 +20,7 @@ use Rattle.directory_rules.specs.Receive.{received}
 use Rattle.directory_rules.specs.declared.Effect.{Effect}
 use Rattle.directory_node.specs.Follows.{RefusesBy}
 use Rattle.directory_node.specs.Memory.{Counts, MayLackMemory}
-use Rattle.directory_node.specs.Planning.{Sends}
+use Rattle.directory_node.specs.Plans.{Sends}
 use Rattle.directory_core.specs.Applied.{IsOkOfUse}
 use Rattle.directory_core.specs.Steps.{IsOwn, after_step, letters_number}
 use Rattle.directory_core.specs.Whole.{IsWorld, LeavesWorld}

@@ -11,7 +11,7 @@ use Rattle.directory_rules.specs.World.{World}
 use Rattle.directory_rules.specs.Mail.{letter_of}
 use Rattle.directory_rules.specs.Happens.{node_of}
 use Rattle.directory_node.specs.Memory.{IsIdle}
-use Rattle.directory_node.specs.Planning.{Fits, step_by}
+use Rattle.directory_node.specs.Plans.{Fits, step_by}
 use Rattle.directory_node.specs.declared.Plan.{Plan}
 use Rattle.directory_core.specs.declared.delivery.Undelivered.{Undelivered}
 use Rattle.directory_core.specs.declared.planned.UndeliveredPlan.{UndeliveredPlan}

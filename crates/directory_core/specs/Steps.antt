@@ -10,7 +10,7 @@ use Rattle.directory_rules.specs.Mail.{with_sent}
 use Rattle.directory_rules.specs.Happens.{with_node, counted}
 use Rattle.directory_node.specs.Placed.{IsPlaced}
 use Rattle.directory_node.specs.Memory.{MayLackMemory}
-use Rattle.directory_node.specs.Planning.{Sends}
+use Rattle.directory_node.specs.Plans.{Sends}
 
 -- the world after an event in which the silo's node became this one and these letters were sent
 abbrev pub after_step : World → Silo → Node → List Letter → World

@@ -5,7 +5,7 @@ ghost use Rattle.std.specs.BTreeMap.{is_at, insert_entry};
 ghost use Rattle.silo_address.specs.Silo.{silo_cmp};
 ghost use Rattle.directory_rules.specs.Letter.{Letter as LetterValue};
 ghost use Rattle.directory_rules.specs.Node.{Node as NodeValue};
-ghost use Rattle.directory_node.specs.Planning.{Fits, changed};
+ghost use Rattle.directory_node.specs.Plans.{Fits, changed};
 ghost use Rattle.letter_mail.specs.Mail.{letter_in, with_posted, with_stale};
 
 use directory_letters::Letter;

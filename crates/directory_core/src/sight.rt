@@ -4,7 +4,7 @@ ghost use Rattle.directory_facts.specs.Seen.{SeesItsVersion};
 ghost use Rattle.directory_rules.specs.Happens.{is_seeable, sees, sight_of};
 ghost use Rattle.directory_rules.specs.Input.{step};
 ghost use Rattle.directory_node.specs.Follows.{Follows};
-ghost use Rattle.directory_node.specs.Planning.{Fits, step_by};
+ghost use Rattle.directory_node.specs.Plans.{Fits, step_by};
 ghost use Rattle.directory_node.specs.Transition.{IsOfSight};
 ghost use Rattle.directory_core.specs.Applied.{IsOkOrFull, accepted_as};
 ghost use Rattle.directory_core.specs.Numbers.{IsNumberedUnlessMemory, event_refusal_number};

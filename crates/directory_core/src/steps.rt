@@ -7,7 +7,7 @@ ghost use Rattle.directory_rules.specs.Node.{Node as NodeValue};
 ghost use Rattle.directory_node.specs.Follows.{Follows};
 ghost use Rattle.directory_node.specs.InputModel.{input_of};
 ghost use Rattle.directory_node.specs.Numbers.{step_refusal_number};
-ghost use Rattle.directory_node.specs.Planning.{Fits, changed, step_by};
+ghost use Rattle.directory_node.specs.Plans.{Fits, changed, step_by};
 ghost use Rattle.std.specs.Option.{option_or};
 ghost use Rattle.directory_core.specs.Applied.{HasForgotten, IsAwaited, IsNever, IsOkOfUse, accepted_as};
 ghost use Rattle.directory_core.specs.Numbers.{IsNumberedUnlessMemory, event_refusal_number};

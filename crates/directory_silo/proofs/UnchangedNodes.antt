@@ -9,7 +9,7 @@ use Rattle.directory_rules.specs.Receive.{received}
 use Rattle.directory_rules.specs.Step.{Stepped, having_nudged, nudge}
 use Rattle.directory_node.specs.Follows.{Follows, RefusesBy}
 use Rattle.directory_node.specs.Memory.{IsIdle, is_quiet}
-use Rattle.directory_node.specs.Planning.{changed, step_by}
+use Rattle.directory_node.specs.Plans.{changed, step_by}
 use Rattle.directory_node.specs.declared.Plan.{Plan}
 use Rattle.directory_node.proofs.Ignored.{idle_is}
 use Rattle.directory_node.proofs.Quiet.{quiet_nudge}

@@ -5,7 +5,7 @@ ghost use Rattle.directory_rules.specs.Letter.{kind_of};
 ghost use Rattle.directory_rules.specs.Step.{Stepped};
 ghost use Rattle.directory_node.specs.Follows.{Follows, RefusesBy};
 ghost use Rattle.directory_node.specs.InputModel.{input_of};
-ghost use Rattle.directory_node.specs.Planning.{Fits, changed, step_by};
+ghost use Rattle.directory_node.specs.Plans.{Fits, changed, step_by};
 ghost use Rattle.directory_silo.specs.AnswerModel.{stepped_as};
 ghost use Rattle.directory_silo.specs.Numbers.{silo_refusal_number};
 ghost use Rattle.silo_rules.specs.Steps.{barred, does, unless_barred};

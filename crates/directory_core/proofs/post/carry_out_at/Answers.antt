@@ -2,7 +2,7 @@ use Rattle.std.proofs.Common.{◌∙◌}
 use Rattle.silo_address.specs.Silo.{silo_cmp}
 use Rattle.silo_address.proofs.Order.{silo_cmp_total}
 use Rattle.directory_rules.specs.Node.{Node}
-use Rattle.directory_node.specs.Planning.{changed}
+use Rattle.directory_node.specs.Plans.{changed}
 use Rattle.directory_core.proofs.Entries.{put_at}
 use Rattle.directory_core.proofs.post.carry_out_at.Goals as goal
 

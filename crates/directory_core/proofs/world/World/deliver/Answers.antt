@@ -13,7 +13,7 @@ use Rattle.directory_rules.specs.Happens.{deliver, node_of}
 use Rattle.directory_node.specs.Follows.{RefusesBy}
 use Rattle.letter_mail.specs.MailedModel.{letter_seen}
 use Rattle.letter_mail.specs.declared.MailedLetter.{MailedLetter}
-use Rattle.directory_node.specs.Planning.{changed}
+use Rattle.directory_node.specs.Plans.{changed}
 use Rattle.directory_core.specs.Applied.{IsOkOfUse}
 use Rattle.directory_core.specs.Steps.{after_step}
 use Rattle.directory_core.specs.Whole.{IsWorld}

@@ -3,7 +3,7 @@ use Rattle.std.specs.Prelude.{Ok}
 use Rattle.directory_rules.specs.Input.{Forgets}
 use Rattle.directory_rules.specs.World.{Accepted}
 use Rattle.directory_node.specs.Numbers.{step_refusal_number}
-use Rattle.directory_node.specs.Planning.{step_by}
+use Rattle.directory_node.specs.Plans.{step_by}
 use Rattle.directory_core.proofs.Unchanged.{never_refused, nothing_so}
 use Rattle.directory_core.proofs.Idle.{stayed_leaves, stayed_told}
 use Rattle.directory_core.proofs.Made.{peopled}

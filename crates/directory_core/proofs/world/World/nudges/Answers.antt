@@ -4,7 +4,7 @@ use Rattle.directory_rules.specs.declared.effect.Effect.TheVariants.{Nudged}
 use Rattle.directory_rules.specs.Input.{Nudges}
 use Rattle.directory_rules.specs.World.{Accepted}
 use Rattle.directory_node.specs.Memory.{is_quiet}
-use Rattle.directory_node.specs.Planning.{step_by}
+use Rattle.directory_node.specs.Plans.{step_by}
 use Rattle.directory_core.proofs.Unchanged.{quiet_so}
 use Rattle.directory_core.proofs.Idle.{stayed_leaves, stayed_told}
 use Rattle.directory_core.proofs.Made.{peopled}

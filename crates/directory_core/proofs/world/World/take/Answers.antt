@@ -1,7 +1,7 @@
 use Rattle.std.proofs.Common.{◌≡◌, true, List, sym, ◌∙◌, ap, arith}
 use Rattle.directory_rules.specs.Letter.{Letter}
 use Rattle.directory_rules.specs.Mail.{has_room_for}
-use Rattle.directory_node.specs.Planning.{step_by}
+use Rattle.directory_node.specs.Plans.{step_by}
 use Rattle.directory_core.proofs.Happenings.{leaves_taken}
 use Rattle.directory_core.proofs.world.World.take.Goals as goal
 

@@ -6,7 +6,7 @@ use Rattle.directory_rules.specs.Letter.{kind_of}
 use Rattle.directory_rules.specs.Receive.{received}
 use Rattle.directory_rules.specs.Step.{Stepped}
 use Rattle.directory_node.specs.Memory.{IsIdle}
-use Rattle.directory_node.specs.Planning.{changed, step_by}
+use Rattle.directory_node.specs.Plans.{changed, step_by}
 use Rattle.directory_silo.specs.SiloModel.{silo_of}
 use Rattle.silo_rules.specs.SiloValue.{SiloValue}
 use Rattle.silo_rules.specs.Steps.{unless_barred}
