@@ -16,7 +16,7 @@ use Rattle.cluster_board.specs.Changed.{MayChange}
 use Rattle.cluster_board.specs.Marked.{AreLeft, marked_at}
 use Rattle.cluster_board.specs.Whole.{IsBoard}
 use Rattle.cluster_board.specs.Work.{IsCurrent, Work}
-use Rattle.cluster_board.proofs.MarksKept.{after_event, fewer, more}
+use Rattle.cluster_board.proofs.MarksKept.{after_event, fewer}
 
 -- nothing happened, and some marks are gone
 pub with_fewer : (settings : Settings) (world same : World) (journal still : List EntryValue) (total : ℕ) (before marks : List (Silo × Node))

@@ -1,14 +1,12 @@
 -- What comes of work that is current: 908, then 909, else it is accepted.
 use Rattle.std.proofs.Common.{◌≡◌, refl, sym, ap, subst, ◌∙◌, ℕ, ◌<◌, ◌≤◌, List, [], ◌∷◌}
-use Rattle.std.specs.Prelude.{Bool, true, false, cond, not, IsOk, Option, Some, Result, Ok, Err}
+use Rattle.std.specs.Prelude.{Bool, true, false, cond, not, IsOk, Result, Ok, Err}
 use Rattle.directory_rules.specs.Event.{Deliver}
 use Rattle.directory_rules.specs.declared.outcome.Happening.TheVariants.{Delivered}
 use Rattle.directory_rules.specs.Letter.{Letter, kind_of}
-use Rattle.directory_rules.specs.Node.{Node}
-use Rattle.directory_rules.specs.Receive.{received}
 use Rattle.directory_rules.specs.Step.{Stepped}
 use Rattle.directory_rules.specs.World.{World, Accepted}
-use Rattle.directory_rules.specs.Mail.{has_room_for, letter_of, with_delivered}
+use Rattle.directory_rules.specs.Mail.{has_room_for, with_delivered}
 use Rattle.directory_rules.specs.Happens.{delivers, delivers_to, happens, taken}
 use Rattle.directory_node.specs.Plans.{step_by}
 use Rattle.directory_node.specs.declared.Plan.{Plan}

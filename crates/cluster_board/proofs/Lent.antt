@@ -1,6 +1,6 @@
 -- What is lent is the silo's node with the least fresh letter to it.
-use Rattle.std.proofs.Common.{◌≡◌, refl, sym, ap, ◌∙◌, ℕ}
-use Rattle.std.specs.Prelude.{IsSome, Option, Some, is_some}
+use Rattle.std.proofs.Common.{◌≡◌, sym, ap, ◌∙◌, ℕ}
+use Rattle.std.specs.Prelude.{IsSome, Some, is_some}
 use Rattle.std.proofs.lemmas.Option.{same_Some}
 use Rattle.silo_address.specs.Silo.{Silo}
 use Rattle.directory_rules.specs.Laws.{RiseBetween}

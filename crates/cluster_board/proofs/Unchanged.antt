@@ -1,5 +1,5 @@
 -- An event leaves every node as it is but those that it may change.
-use Rattle.std.proofs.Common.{◌≡◌, refl, sym, ap, ◌∙◌, ℕ}
+use Rattle.std.proofs.Common.{◌≡◌, refl, ap, ◌∙◌, ℕ}
 use Rattle.std.specs.Prelude.{Bool, true, false, cond, not, is_some, Option, Some, None, Result, Ok, Err, IfOk}
 use Rattle.std.specs.Ordering.{is_eq}
 use Rattle.std.specs.declared.cmp.Ordering.{Ordering}

@@ -1,5 +1,5 @@
 -- Lines answered by a silo.
-use Rattle.std.proofs.Common.{◌≡◌, ◌++◌, ℕ, Bool, false, List, [], ◌∷◌, Option, None, Some, Result, Ok, Err, ap, refl, sym, ◌∙◌, append-nil}
+use Rattle.std.proofs.Common.{◌≡◌, ◌++◌, ℕ, Bool, false, List, [], ◌∷◌, Option, None, Some, Result, Ok, Err, ap, sym, ◌∙◌, append-nil}
 use Rattle.std.specs.Prelude.{IfOk, OnOk}
 use Rattle.std.specs.Io.BufRead.{strip_last}
 use Rattle.texts.specs.Printed.{text_of_lines}

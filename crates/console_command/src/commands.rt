@@ -12,7 +12,7 @@ ghost use Rattle.console_command.specs.Commands.{Performs, TakesTurn, delivery_t
 use crate::dump::{tell_dump, tell_verdict};
 use crate::letters::tell_mail;
 use crate::place::tell_place;
-use crate::show::{show, tell_owner};
+use crate::shown::{show, tell_owner};
 use crate::sync::sync;
 use directory_core::World;
 use directory_rules::Event;

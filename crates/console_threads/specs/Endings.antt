@@ -13,7 +13,7 @@ use Rattle.threaded_play.specs.Endings.{Ends, WritesSome}
 use Rattle.threaded_play.specs.Faults.{faults_alone}
 use Rattle.threaded_play.specs.Printed.{TellsWorld}
 use Rattle.threaded_play.specs.declared.ended.ThreadsEnded.{ThreadsEnded}
-use Rattle.threaded_play.specs.declared.ended.ThreadsEnded.TheVariants.{Played, ReceiptDiffers, Lacking}
+use Rattle.threaded_play.specs.declared.ended.ThreadsEnded.TheVariants.{Played}
 use Rattle.console_threads.specs.Held.{is_read_well}
 
 -- the cluster wasn't closed
