@@ -67,6 +67,11 @@ bury() {
   living=("${rest[@]}")
 }
 
+# Processes that go on when the run ends early may not end by themselves.
+kill_all() {
+  if ((${#process[@]} > 0)); then kill "${process[@]}" 2>/dev/null; fi
+}
+
 # Ends all processes, and leaves nothing behind.
 stop_all() {
   local silo failed=0
