@@ -9,7 +9,7 @@ use Rattle.directory_rules.specs.PlainMachine.{IsPlainStep, plain_of, plain_step
 use Rattle.directory_rules.specs.declared.Event.{Event}
 use Rattle.directory_rules.specs.declared.Event.TheVariants.{Join, Leave, Kill, See, Wake, Close, Find, Forget, Deliver, Lose, Nudge, Offer}
 use Rattle.directory_rules.specs.declared.Happening.{Happening}
-use Rattle.directory_rules.specs.declared.Happening.TheVariants.{Delivered}
+use Rattle.directory_rules.specs.declared.Happening.TheVariants.{Delivered, Did}
 use Rattle.directory_rules.specs.declared.Outcome.{Outcome}
 use Rattle.directory_node.specs.Memory.{IsIdle, is_quiet}
 
@@ -33,7 +33,7 @@ IsOkOfUse happened = IsOkAnd happened (λ accepted. IsOfUse accepted.outcome.hap
 
 -- accepted, and the silo's cache had the grain's entry, which is forgotten
 abbrev pub HasForgotten : Silo → Grain → Result Accepted ℕ → Type 0
-HasForgotten silo grain happened = IsOkAnd happened (λ accepted. accepted.outcome.happening ≡ rule.Did silo (Forgot grain))
+HasForgotten silo grain happened = IsOkAnd happened (λ accepted. accepted.outcome.happening ≡ Did silo (Forgot grain))
 
 -- accepted or refused by 909, and the silo waits for something: a request is outstanding, or a piece isn't settled
 abbrev pub IsAwaited : World → Silo → Result Accepted ℕ → Type 0
