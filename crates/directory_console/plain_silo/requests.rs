@@ -134,23 +134,17 @@ impl Process {
             return self.delivered(if is_outstanding { "retry noted" } else { "retry ignored" });
         }
         let is_of_seen = version == u64::from(self.seen);
-        let ignored = match body {
-            Body::Registered { number } => (!(is_of_seen && self.confirm(number))).then_some("registered ignored"),
-            Body::Taken { number, entry: (grain, by) } => {
-                let counts = is_of_seen && self.yield_to(number, grain, by);
-                (!counts).then_some("taken ignored")
-            }
-            Body::Removed { number } => (!(is_of_seen && self.end(number))).then_some("removed ignored"),
-            Body::Absent { number } => (!(is_of_seen && self.end(number))).then_some("absent ignored"),
-            Body::Found { number, entry: (grain, by) } => {
-                let counts = is_of_seen && self.found(number, grain, by);
-                (!counts).then_some("found ignored")
-            }
-            Body::Nothing { number } => (!(is_of_seen && self.found_nothing(number))).then_some("nothing ignored"),
-            _ => None,
+        let (kind, counts) = match body {
+            Body::Registered { number } => ("registered", is_of_seen && self.confirm(number)),
+            Body::Taken { number, entry: (grain, by) } => ("taken", is_of_seen && self.yield_to(number, grain, by)),
+            Body::Removed { number } => ("removed", is_of_seen && self.end(number)),
+            Body::Absent { number } => ("absent", is_of_seen && self.end(number)),
+            Body::Found { number, entry: (grain, by) } => ("found", is_of_seen && self.found(number, grain, by)),
+            Body::Nothing { number } => ("nothing", is_of_seen && self.found_nothing(number)),
+            _ => return,
         };
-        if let Some(ignored) = ignored {
-            self.delivered(ignored);
+        if !counts {
+            self.out.word("delivered ").word(kind).word(" ignored\n");
         }
     }
 

@@ -108,8 +108,7 @@ impl Process {
     /// is that of all entries, and else the gathering begins anew.
     fn paged(&mut self, from: Address, version: u64, page: &Page) -> Paged {
         let settings = self.settings;
-        let hashes: Vec<u32> = page.entries.iter().map(|(grain, _)| settings.hash(grain)).collect();
-        let lie_there = hashes.iter().all(|hash| page.range.holds(*hash));
+        let lie_there = page.entries.iter().all(|(grain, _)| page.range.holds(settings.hash(grain)));
         let Some(piece) = self.awaiting(from, version, page.range) else { return Paged::Ignored };
         let State::Awaiting { gathered, .. } = &mut piece.state else { return Paged::Ignored };
         if !lie_there || !gathered.goes_on_by(page) || !gathered.is_in_turn(page) {
