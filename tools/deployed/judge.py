@@ -8,6 +8,7 @@ from collections import Counter
 from pathlib import Path
 
 from deployed.changes import whole_dump
+from deployed.works import FOR_EVER
 
 TOP = Path(__file__).resolve().parent.parent.parent
 MOST_NUDGES = 15
@@ -46,8 +47,7 @@ class Judge:
             if pair not in self.told:
                 self.told.add(pair)
                 self.team.counts["found", "two works of one grain overlap"] += 1
-                self.team.fault(f"{first.grain} works as {first.activation} and as {second.activation}, for "
-                                f"{(min(first.end, second.end) - second.start) * 1000:.1f} ms")
+                self.team.fault(f"{first.grain} works as {first.activation} and as {second.activation}, {time_of(first, second)}")
 
     async def settle(self):
         """All see the last view and are nudged until nobody has anything to send; whether that comes."""
@@ -112,14 +112,14 @@ class Judge:
         await self.be_still()
         for silo, grain in asked:
             found = self.team.application.found.get((silo, grain), "no answer")
-            self.expect(found, self.team.works.activation_of(grain), f"what {silo} finds of {grain}")
+            self.expect(found, self.team.works.activation_of(grain), "what a look-up finds", f"{grain} on {silo}, ")
         self.team.counts["quiet ends", "look-ups"] += LOOK_UPS
 
-    def expect(self, found, wanted, words):
+    def expect(self, found, wanted, words, where=""):
         """Something is as it should be, or is a fault."""
         if found != wanted:
-            self.team.counts["found", words.split(" of user/")[0].split(" 127.")[0]] += 1
-            self.team.fault(f"{words}: {difference(found, wanted)}")
+            self.team.counts["found", words] += 1
+            self.team.fault(f"{words}: {where}{difference(found, wanted)}")
 
     async def check(self, dump):
         """What the program says of a dump."""
@@ -134,3 +134,9 @@ def difference(found, wanted):
         more, less = [one for one in found if one not in wanted], [one for one in wanted if one not in found]
         return f"{len(more)} more {more[:3]}, {len(less)} fewer {less[:3]}"
     return f"{found}, and not {wanted}"
+
+
+def time_of(first, second):
+    """How long two works overlap, in words."""
+    end = min(first.end, second.end)
+    return "to the end" if end == FOR_EVER else f"for {(end - second.start) * 1000:.1f} ms"

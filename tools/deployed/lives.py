@@ -49,7 +49,7 @@ class Life:
         """One trouble."""
         kinds, chances = zip(*ACTS)
         kind = self.random.choices(kinds, chances)[0]
-        if self.team.is_unfenced and kind == "frozen and fenced":
+        if self.team.is_unfenced and kind != "left":
             kind = "frozen, declared dead, and let go on"
         if self.team.plant.name == "goes-on" and kind.startswith("killed"):
             kind = "declared dead, and not told"
@@ -93,7 +93,7 @@ class Life:
         self.silo.freeze()
         await self.pause(0, 1)
         await self.declare_dead()
-        await self.pause(4, 8)
+        await self.pause(6, 10)
         self.silo.thaw()
         await self.pause(2, 3)
         await self.silo.kill()

@@ -40,6 +40,7 @@ class Team:
         self.deciding = asyncio.Lock()
         self.is_calm = False
         self.answers = {}
+        self.begun = monotonic()
 
     async def open(self, spawn):
         """Starts all that goes on by itself, once there is the broker; `spawn` starts a task."""
@@ -154,8 +155,8 @@ class Team:
             self.fault(f"the process of {silo.name} ended by itself, with status {silo.process.returncode}")
 
     def fault(self, words):
-        """Keeps a fault that was found."""
-        self.faults.append(f"{monotonic():.3f} {words}")
+        """Keeps a fault that was found, with the second of the run."""
+        self.faults.append(f"{monotonic() - self.begun:.0f} s: {words}")
 
     async def be_quiet(self):
         """Ends the troubles for a while: nobody is frozen, all letters and changes come."""
