@@ -35,6 +35,11 @@ class Application:
             kinds, chances = zip(*COMMANDS)
             self.ask(silo, self.random.choices(kinds, chances)[0])
 
+    def rush(self):
+        """Wakes most of the crowd."""
+        for grain in self.random.sample(self.crowd, CROWDED * 3 // 4):
+            self.random.choice(list(self.silos.values())).write(f"wake {grain}")
+
     def ask(self, silo, kind):
         """Asks a silo for something of this kind."""
         if kind == "nudge":

@@ -37,6 +37,8 @@ class Judge:
                 dump = json.dumps(whole_dump(self.team.changes, nodes, "stated", 4), separators=(",", ":"))
                 self.expect(await self.check(dump), "check ok", "what `check` says of the dump")
             await self.look_up()
+            self.team.application.rush()
+            await self.be_still()
             self.team.counts["quiet ends", "settled and judged"] += 1
         self.tell_overlaps()
 

@@ -2,6 +2,7 @@
 
 import asyncio
 
+from deployed.application import HOME
 from deployed.broker import put
 from deployed.silo import Silo
 
@@ -38,12 +39,17 @@ class Life:
         await self.team.start(silo)
         for line in self.team.changes.lines:
             put(silo.way, line)
-        places = sorted(self.random.sample(range(PLACES), self.random.randint(1, 4)))
         async with self.team.deciding:
-            self.team.decide("joined", silo.name, *[place * (2**32 // PLACES) for place in places])
+            self.team.decide("joined", silo.name, *self.places())
         silo.joined = self.team.changes.version()
         self.silo = silo
         self.team.counts["processes", "started"] += 1
+
+    def places(self):
+        """Some places on the circle; every fourth silo gets the range where most of the crowd is."""
+        places = {HOME} if self.random.random() < 0.25 else set()
+        places.update(place * (2**32 // PLACES) for place in self.random.sample(range(PLACES), self.random.randint(1, 3)))
+        return sorted(places)
 
     async def suffer(self):
         """One trouble."""
