@@ -78,6 +78,6 @@ def address_of(silo):
 def whole_dump(changes, nodes, hashing, points):
     """The dump of a deployment: what was decided, and the node of each silo that isn't dead, as its process dumped it."""
     living = {row.silo for row in changes.living()}
-    rows = [{"dead": row.dead, "joined": row.joined, "left": row.left, "places": row.places, "silo": row.silo} for row in changes.in_order()]
+    rows = [vars(row) for row in changes.in_order()]
     nodes = sorted((node for node in nodes if node["silo"] in living), key=lambda node: address_of(node["silo"]))
     return {"current": changes.version(), "hashing": hashing, "nodes": nodes, "points": points, "rows": rows}

@@ -92,13 +92,16 @@ class Judge:
 
     def compare(self, nodes):
         """Compares what is firm, what is entered and what works."""
-        self.expect([piece["range"] for node in nodes for piece in node["pieces"] if piece["state"] != "settled"], [], "ranges not settled")
+        pieces = [piece for node in nodes for piece in node["pieces"]]
+        self.expect([piece["range"] for piece in pieces if piece["state"] != "settled"], [], "ranges not settled")
         held = [(one["grain"], one["activation"], one["phase"]) for node in nodes for one in node["held"]]
         self.expect([one for one in held if one[2] != "firm"], [], "what is asking or closing")
         firm = sorted(one[:2] for one in held if one[2] == "firm")
-        self.expect([grain for grain, count in Counter(grain for grain, _ in firm).items() if count > 1], [], "grains that are firm twice")
-        self.expect(sorted((work.grain, work.activation) for work in self.team.works.going.values()), firm, "what works, beside what is firm")
-        entries = sorted(tuple(entry) for node in nodes for piece in node["pieces"] for entry in piece["entries"])
+        twice = [grain for grain, count in Counter(grain for grain, _ in firm).items() if count > 1]
+        self.expect(twice, [], "grains that are firm twice")
+        works = sorted((work.grain, work.activation) for work in self.team.works.going.values())
+        self.expect(works, firm, "what works, beside what is firm")
+        entries = sorted(tuple(entry) for piece in pieces for entry in piece["entries"])
         self.expect(entries, firm, "what is entered, beside what is firm")
         self.team.counts["quiet ends", "firm activations, in all"] += len(firm)
 

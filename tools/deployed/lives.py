@@ -46,8 +46,8 @@ class Life:
         self.team.counts["processes", "started"] += 1
 
     def places(self):
-        """Some places on the circle; every fourth silo gets the range where most of the crowd is."""
-        places = {HOME} if self.random.random() < 0.25 else set()
+        """Some places on the circle; half of the silos get one just before the range where most of the crowd is."""
+        places = {HOME - self.random.randrange(2**26)} if self.random.random() < 0.5 else set()
         places.update(place * (2**32 // PLACES) for place in self.random.sample(range(PLACES), self.random.randint(1, 3)))
         return sorted(places)
 

@@ -5,6 +5,7 @@ from collections import deque
 from dataclasses import dataclass
 
 from deployed.broker import put
+from deployed.changes import endpoint_of
 
 
 @dataclass(frozen=True)
@@ -66,7 +67,7 @@ class Relay:
         line = self.random.choice(self.past)
         receiver = line.split(maxsplit=3)[2]
         for silo in self.silos.values():
-            if silo.name.rpartition("@")[0] == receiver.rpartition("@")[0]:
+            if endpoint_of(silo.name) == endpoint_of(receiver):
                 self.counts["letters", "again, long after" if silo.name == receiver else "to a later generation"] += 1
                 silo.write(line)
 

@@ -11,7 +11,7 @@ CHANGES = ("joined", "leaving", "dead")
 
 
 class Silo:
-    """A silo's process with its feed, and the lines that it has still to answer. Whoever listens is told of letters, answers and its end."""
+    """A silo's process with its feed, and the lines that it has still to answer. A listener is told of letters, answers and its end."""
 
     def __init__(self, name, listener):
         self.name = name

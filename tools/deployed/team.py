@@ -6,7 +6,7 @@ from time import monotonic
 
 from deployed.application import Application
 from deployed.broker import MEMBERSHIP, Broker, put
-from deployed.changes import Changes
+from deployed.changes import Changes, address_of, endpoint_of
 from deployed.lives import Life
 from deployed.relay import CALM, WEATHERS, Relay
 from deployed.silo import CHANGES
@@ -114,7 +114,8 @@ class Team:
     def is_death_of(self, silo, line):
         """Whether a silo becomes dead by a change."""
         kind, _, name, *_ = line.split()
-        return kind == "dead" and name == silo.name or kind == "joined" and name != silo.name and name.split("@")[0] == silo.name.split("@")[0]
+        is_later = endpoint_of(name) == endpoint_of(silo.name) and address_of(name) > address_of(silo.name)
+        return kind == "joined" and is_later or kind == "dead" and name == silo.name
 
     def answered(self, silo, asked, line):
         """A process answered a line."""
