@@ -36,7 +36,7 @@ class Plant:
     def invent(self):
         """Invents a letter from time to time, in the name of a silo that has an activation at work."""
         going = list(self.works.going.items())
-        if self.name != "invents" or not going or self.random.random() > 0.02:
+        if self.name != "invents" or not going or self.random.random() > 0.1:
             return
         (name, grain), work = self.random.choice(going)
         if name in self.relay.silos:
