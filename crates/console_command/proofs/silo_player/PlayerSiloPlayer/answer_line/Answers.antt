@@ -27,4 +27,4 @@ returns-in_ok-write_fault-in-Err-Fault-clause-answered c =
     let same = c.hashing-hashing.ensures ∙ (ap (λ (i : Settings). i.hashing) c.settings.ensures ∙ ap (λ (n : Node). n.settings.hashing) c.node.ensures) in
     fault_told s c.args.line.now c.args.out.now.items c.write_fault.new.out.items (line_fault_number c.in-Err-Fault.fault) c.number.result
     (said_so s c.args.line.now c.without_return.result.now c.hashing-hashing.result _ same c.without_return.ensures (rw c.in-Err-Fault.field-0-is at c.in-Err-Fault.ensures.reads))
-    c.number.ensures c.in_ok-write_fault.ensures.written
+    (rw c.in-Err-Fault.field-0-is at c.number.ensures) c.in_ok-write_fault-in-Err-Fault.ensures.written
