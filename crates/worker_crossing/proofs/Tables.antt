@@ -10,7 +10,7 @@ use Rattle.std.specs.contracts.boxed.BoxedSlice as key
 use Rattle.sha2.specs.contracts.Sha256 as hasher
 use Rattle.sha2.specs.contracts.block256.Core256 as digest
 use Rattle.silo_address.specs.contracts.entry.Entry as entry
-use Rattle.range_moves.specs.contracts.arc.Arc as arc
+use Rattle.range_moves.specs.contracts.arc.RingArc as arc
 use Rattle.directory_rules.specs.contracts.piece_state.PieceState as state
 use Rattle.grain_table.specs.contracts.hashed_map.HashedMap as hashed_map
 use Rattle.grain_table.specs.contracts.hashed_map.HashedMap.TheInside as hashed_map_inside
