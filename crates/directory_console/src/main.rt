@@ -2,7 +2,7 @@
 //! `docs/RULES.md#the-program`.
 #![tactic(auto)]
 
-use console_command::{Run, run_words, run_without_words, end_threads};
+use console_command::{Run, end_threads, run_without_words, run_words};
 use console_threads::{MARK_BLOCKS, play_on_threads};
 use silo_threads::PARTS;
 use std::marker::Brand;

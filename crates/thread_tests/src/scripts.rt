@@ -2,7 +2,7 @@
 
 ghost use Rattle.std.specs.Prelude.{Some};
 
-use console_command::{Run, run_words, end_threads};
+use console_command::{Run, end_threads, run_words};
 use console_threads::{MARK_BLOCKS, play_on_threads};
 use silo_threads::PARTS;
 use std::alloc::Global;

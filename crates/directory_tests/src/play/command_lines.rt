@@ -1,7 +1,7 @@
 //! Command lines carried out, from their words to the exit.
 
 use crate::fakes::{BrokenReader, NarrowWriter};
-use console_command::{Run, Exit, run_words, run_without_words, end_threads};
+use console_command::{Exit, Run, end_threads, run_without_words, run_words};
 use directory_rules::Settings;
 use hash_ring::Hashing;
 use script_loop::Ended;
