@@ -5,13 +5,12 @@ use Rattle.directory_rules.specs.World.{World}
 use Rattle.script_rules.specs.Output.{played}
 use Rattle.script_rules.specs.Script.{longest_line, read_line}
 use Rattle.texts.specs.Printed.{Output}
-use Rattle.script_commands.specs.Known.{known_commands}
 use Rattle.script_loop.specs.Lines.{faulty_output, no_output}
 use Rattle.console_command.specs.Commands.{in_session}
 
--- the output of lines of known commands, the first of which has this number, from a world on
+-- the output of lines, the first of which has this number, from a world on
 abbrev pub lines_played : World → (number : ℕ) → (lines : List (List ℕ)) → Output
-lines_played world number lines = played known_commands number (in_session world) lines
+lines_played world number lines = played number (in_session world) lines
 
 -- no line prints nothing
 pub nothing_is_played : (world : World) (number : ℕ) → lines_played world number [] ≡ no_output

@@ -5,7 +5,6 @@ use Rattle.directory_rules.specs.World.{World}
 use Rattle.cluster_journal.specs.Entry.{EntryValue}
 use Rattle.script_rules.specs.Script.{Command, lines_of, read_line}
 use Rattle.texts.specs.Printed.{Output}
-use Rattle.script_commands.specs.Known.{known_commands}
 use Rattle.script_output.specs.Spaced.{BeginsWith}
 use Rattle.script_loop.specs.Endings as play
 use Rattle.script_loop.specs.Lines.{no_output}
@@ -25,7 +24,7 @@ use Rattle.console_threads.specs.Endings.{EndsBy, IsWritten, LinesEnd, Tells, se
 silent : (number : ℕ) (lines : List (List ℕ)) (text : List ℕ) → faults_alone number lines ≡ record { text = text; status = 0 } → faults_alone number lines ≡ no_output
 unfolding faults_alone
 silent number [] text is = refl
-silent number (line ∷ lines) text is = go (read_line known_commands line) (silent (number + 1) lines text) is
+silent number (line ∷ lines) text is = go (read_line line) (silent (number + 1) lines text) is
   where
     go : (read : Result (Option Command) ℕ) → (faults_alone (number + 1) lines ≡ record { text = text; status = 0 } → faults_alone (number + 1) lines ≡ no_output)
         → line_told read number (faults_alone (number + 1) lines) ≡ record { text = text; status = 0 } → line_told read number (faults_alone (number + 1) lines) ≡ no_output

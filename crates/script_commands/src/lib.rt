@@ -3,17 +3,12 @@
 
 mod command;
 mod error;
-mod grains;
 mod grammar;
-mod known;
 pub mod laws;
-mod letters;
 mod lines;
-mod names;
 mod places;
-mod questions;
 mod read;
-mod silos;
+mod verbs;
 mod words;
 
 pub use command::Command;

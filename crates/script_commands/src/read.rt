@@ -2,10 +2,9 @@ ghost use Rattle.std.specs.List.{list_all};
 ghost use Rattle.std.specs.Prelude.{◌≡◌, IsErrOf, option_map};
 ghost use Rattle.script_rules.specs.Script as script;
 ghost use Rattle.script_commands.specs.CommandModel.{command_of};
-ghost use Rattle.script_commands.specs.Known.{known_commands};
 ghost use Rattle.script_commands.specs.ReadAs.{IsJoin, Reads};
 
-use crate::known::command_named;
+use crate::verbs::command_named;
 use crate::words::split_word;
 use crate::{Command, ReadError, ScriptFault};
 use std::alloc::Global;
@@ -17,8 +16,8 @@ const LONGEST_LINE: usize = 8192;
 /// of a join alone, and that it runs out is told only where the line has no fault. (`docs/RULES.md#scripts`)
 #[tactic(auto, unfolding(script_rules::specs::Script::read_line))]
 pub fn read_command(alloc: Global, line: &[u8]) -> Result<Option<Command>, ReadError>
-    ensures reads { Reads (option_map command_of) result (script.read_line known_commands line.now) }
-    ensures memory { IsErrOf result ReadError.OutOfMemory → IsJoin (script.read_line known_commands line.now) }
+    ensures reads { Reads (option_map command_of) result (script.read_line line.now) }
+    ensures memory { IsErrOf result ReadError.OutOfMemory → IsJoin (script.read_line line.now) }
 {
     if line.len() > LONGEST_LINE {
         return Err(ReadError::Fault(ScriptFault::LineTooLong));
