@@ -44,7 +44,7 @@ impl World {
         ensures numbered { IfErr result IsNumberedUnlessMemory }
         ensures unchanged { OnErr result (self.new ≡ self.old) }
     {
-        if self.accepted() >= self.settings().events() {
+        if self.accepted >= self.settings.events() {
             return Err(EventRefusal::JournalFull);
         }
         self.attempt(event)

@@ -58,23 +58,6 @@ pub(crate) fn carry_out_at(
     let Some(node) = nodes.get_mut(silo) else {
         unreachable!()
     };
-    carry_out_and_post(node, mail, letters, change)?;
-    Ok(())
-}
-
-// The node makes the change, and the letters are sent.
-fn carry_out_and_post(
-    node: &mut SharedNode,
-    mail: &mut Mail,
-    letters: Vec<Letter>,
-    change: Change,
-) -> Result<(), AllocError>
-    requires fits { Fits change node.old }
-    ensures made { OnOk result (node.new ≡ changed change node.old) }
-    ensures posted { OnOk result (mail.new ≡ with_posted mail.old letters.items) }
-    ensures unchanged { OnErr result (mail.new ≡ mail.old) }
-    ensures node_unchanged { OnErr result (node.new ≡ node.old) }
-{
     let count = letters.len();
     mail.numbered();
     mail.post(letters)?;

@@ -20,7 +20,7 @@ use directory_letters::Letter;
 use directory_node::{Change, Input, Plan, StepRefusal, is_idle};
 use directory_rules::{Effect, Happening, Outcome, Span};
 use silo_address::{GrainId, SiloAddress};
-use std::alloc::{AllocError, Global};
+use std::alloc::AllocError;
 
 // Steps of silos in the world: a step is planned, which changes nothing yet, then its letters are sent and it is carried out.
 impl World {
@@ -161,11 +161,6 @@ impl World {
         }
     }
 
-    // Where memory comes from.
-    fn allocator(&self) -> Global {
-        self.alloc
-    }
-
     // Why a silo without a node takes no step.
     pub(crate) fn absent(&self, silo: &SiloAddress) -> EventRefusal
         ensures number { event_refusal_number result ≡ Some (absent_number self.now silo.now) }
@@ -218,6 +213,7 @@ impl World {
         ensures numbered { IfErr result IsNumberedUnlessMemory }
         ensures unchanged { OnErr result (self.new ≡ self.old) }
     {
+        let alloc = self.alloc;
         let found = self.letter(number);
         let Some(mailed) = &found else {
             return Err(EventRefusal::NoSuchLetter);
@@ -228,7 +224,7 @@ impl World {
         let Some(node) = self.node(&to) else {
             return Err(EventRefusal::DeadSilo);
         };
-        let Ok(plan) = node.plan_letter(self.allocator(), letter) else {
+        let Ok(plan) = node.plan_letter(alloc, letter) else {
             return Err(self.refused_sending(node.answer_count(letter)));
         };
         drop(found);

@@ -126,7 +126,7 @@ impl World {
     pub fn node(&self, silo: &SiloAddress) -> Option<&Node>
         ensures { option_copied result ≡ node_of self.now silo.now }
     {
-        let shared = self.shared_node(silo)?;
+        let shared = self.nodes.get(silo)?;
         Some(shared.node())
     }
 

@@ -1,14 +1,14 @@
 ghost use Rattle.std.specs.Prelude.{◌≡◌, OnErr, OnOk};
 ghost use Rattle.directory_rules.specs.Answer.{answered};
 ghost use Rattle.directory_rules.specs.Cache.{learnt};
-ghost use Rattle.directory_rules.specs.Host.{asking_under, closing_under, held_of, without_find};
-ghost use Rattle.directory_rules.specs.Reply.{confirmed_by, yielded_by};
-ghost use Rattle.node_plans.specs.Plans.{Fits, MayClose, changed, with_closing_of, without};
+ghost use Rattle.directory_rules.specs.Host.{asking_under, closing_under, without_find};
+ghost use Rattle.directory_rules.specs.Reply.{yielded_by};
+ghost use Rattle.node_plans.specs.Plans.{Fits, changed, without};
 
 use crate::{Change, Node};
 use directory_rules::Request;
 use node_plans::{forget, learn, use_hint};
-use silo_address::{Entry, GrainId};
+use silo_address::Entry;
 use std::alloc::AllocError;
 
 impl Node {
@@ -26,11 +26,11 @@ impl Node {
                 Ok(())
             }
             Change::Starts { grain, previous } => self.host.start(grain, previous),
-            Change::Closes(grain) => self.close(&grain),
+            Change::Closes(grain) => self.host.begin_to_close(&grain),
             Change::Asks(grain) => self.host.ask(grain),
             Change::Serves(request) => self.serve(&request),
             Change::Confirms(number) => {
-                self.confirm(number);
+                self.host.confirm(number);
                 Ok(())
             }
             Change::Yields { number, entry } => self.yield_to_other(number, entry),
@@ -39,7 +39,7 @@ impl Node {
                 Ok(())
             }
             Change::EndsFind(number) => {
-                self.end_find(number);
+                self.host.end_find(number);
                 Ok(())
             }
             Change::Learns { number, entry } => self.learn(number, entry),
@@ -66,15 +66,6 @@ impl Node {
         }
     }
 
-    // The grain's firm activation asks to be taken out.
-    fn close(&mut self, grain: &GrainId) -> Result<(), AllocError>
-        requires may { MayClose self.old grain.now }
-        ensures made { OnOk result (self.new ≡ with_closing_of (held_of self.old.host grain.now) self.old grain.now) }
-        ensures unchanged { OnErr result (self.new ≡ self.old) }
-    {
-        self.host.begin_to_close(grain)
-    }
-
     // A request is served.
     fn serve(&mut self, request: &Request) -> Result<(), AllocError>
         ensures made { OnOk result (self.new ≡ record self.old { holding = (answered self.old.holding request.now).holding }) }
@@ -82,13 +73,6 @@ impl Node {
     {
         self.holding.serve(request)?;
         Ok(())
-    }
-
-    // The asking activation is firm.
-    fn confirm(&mut self, number: u64)
-        ensures { self.new ≡ (confirmed_by (asking_under self.old.host number) self.old).node }
-    {
-        self.host.confirm(number);
     }
 
     // The asking activation goes, and the entry that has its grain is learnt.
@@ -110,13 +94,6 @@ impl Node {
         if let Some((grain, _)) = self.host.closing_under(number) {
             self.host.end(&grain);
         }
-    }
-
-    // The find ends.
-    fn end_find(&mut self, number: u64)
-        ensures { self.new ≡ record self.old { host = without_find self.old.host number } }
-    {
-        self.host.end_find(number);
     }
 
     // The find ends, and what it found is learnt.

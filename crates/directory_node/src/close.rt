@@ -123,7 +123,7 @@ impl Node {
         ensures { result ≡ takes_offer self.now letter.now entry.now }
     {
         letter.version() <= self.view.version()
-            && self.is_active()
+            && self.sees_active(&self.host.silo())
             && self.host.held(&entry.grain).is_none()
             && !self.host.is_full_of_activations(&self.settings)
             && self.host.has_numbers(&self.settings, 1)

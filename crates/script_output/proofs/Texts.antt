@@ -1,7 +1,7 @@
 -- Texts written part by part.
-use Rattle.std.proofs.Common.{◌≡◌, ℕ, List, [], ◌∷◌, ◌++◌, ◌∙◌, ap, sym, refl, append_assoc, codes}
+use Rattle.std.proofs.Common.{◌≡◌, ℕ, List, [], ◌∷◌, ◌++◌, ◌∙◌, ap, sym, refl, append_assoc, codes, slice_index}
 use Rattle.std.specs.Fmt.{decimal}
-use Rattle.silo_address.specs.Marks.{at_sign, dot, exclamation_mark}
+use Rattle.silo_address.specs.Marks.{at_sign, colon, dot, exclamation_mark}
 use Rattle.silo_address.specs.Silo.{Silo}
 use Rattle.silo_address.specs.SiloText.{silo_text}
 use Rattle.silo_address.specs.ActivationText.{activation_text}
@@ -11,8 +11,13 @@ use Rattle.ring_range.specs.Text.{plus_sign, range_text}
 use Rattle.texts.specs.Words.{space}
 use Rattle.script_rules.specs.Lines.{span_text}
 use Rattle.directory_rules.specs.declared.outcome.Span.{Span}
-use Rattle.script_output.specs.Spaced.{ip_text, spaced}
+use Rattle.script_output.specs.Spaced.{spaced}
 use Rattle.script_output.proofs.SpacedWords.{behind_the_mark}
+
+-- how a silo's text begins: the four bytes of its IP address, and a colon
+abbrev ip_text : List ℕ → List ℕ
+ip_text ip =
+    decimal (slice_index ip 0) ++ dot ∷ (decimal (slice_index ip 1) ++ dot ∷ (decimal (slice_index ip 2) ++ dot ∷ (decimal (slice_index ip 3) ++ colon ∷ [])))
 
 -- the parts of a silo's text, with a mark behind them
 pub silo_parts : (silo : Silo) (mark : ℕ)

@@ -5,9 +5,7 @@
 ghost use Rattle.std.specs.Prelude.{◌≡◌, [], ◌∷◌, ◌++◌, OnOk, OnErr, codes};
 ghost use Rattle.std.specs.Fmt.{decimal};
 ghost use Rattle.silo_address.specs.SiloText.{silo_text};
-ghost use Rattle.directory_rules.specs.declared.outcome.Happening.TheVariants.{Joined, Saw, Did, Delivered};
 ghost use Rattle.script_rules.specs.Lines.{effect_words, entry_words, fault_line, happening_words, outcome_line, refusal_line, replaced_words, sent_words, subject_words};
-ghost use Rattle.script_output.specs.Effects.{second_words};
 ghost use Rattle.script_output.specs.Printed.{printed};
 ghost use Rattle.script_output.specs.Spaced.{spaced, BeginsWith};
 
@@ -16,7 +14,7 @@ use crate::tables::{effect_word, kind_word};
 use crate::words::{
     push_entry, push_grain, push_named, push_number, push_silo, push_span, push_word,
 };
-use directory_rules::{Effect, Happening, LetterKind, Outcome, Span};
+use directory_rules::{Effect, Happening, Outcome};
 use silo_address::{Entry, SiloAddress};
 use std::alloc::AllocError;
 
@@ -67,16 +65,7 @@ fn push_outcome(out: &mut Vec<u8>, outcome: &Outcome) -> Result<(), AllocError>
     ensures kept { BeginsWith out.old.items out.new.items }
 {
     push_happening(out, &outcome.happening)?;
-    push_sent(out, outcome.sent)?;
-    Ok(())
-}
-
-/// The letters sent, if there are any.
-fn push_sent(out: &mut Vec<u8>, sent: Option<Span>) -> Result<(), AllocError>
-    ensures written { OnOk result (out.new.items ≡ out.old.items ++ spaced (sent_words sent)) }
-    ensures kept { BeginsWith out.old.items out.new.items }
-{
-    let Some(span) = sent else {
+    let Some(span) = outcome.sent else {
         return Ok(());
     };
     push_word(out, b"sent")?;
@@ -94,36 +83,36 @@ pub fn push_happening(out: &mut Vec<u8>, happening: &Happening) -> Result<(), Al
             version,
             silo,
             replaced,
-        } => push_joined(out, *version, silo, *replaced),
+        } => {
+            push_change(out, *version, b"joined", silo)?;
+            push_replaced(out, *replaced)
+        }
         Happening::Left { version, silo } => push_change(out, *version, b"leaving", silo),
         Happening::Died { version, silo } => push_change(out, *version, b"dead", silo),
         Happening::Saw {
             silo,
             version,
             effect,
-        } => push_saw(out, silo, *version, effect),
-        Happening::Did { silo, effect } => push_did(out, silo, effect),
+        } => {
+            push_silo(out, silo)?;
+            push_named(out, b"sees", *version)?;
+            push_effect(out, effect)
+        }
+        Happening::Did { silo, effect } => {
+            push_effect(out, effect)?;
+            push_subject(out, silo, effect)
+        }
         Happening::Delivered {
             number,
             kind,
             effect,
-        } => push_delivered(out, *number, *kind, effect),
+        } => {
+            push_named(out, b"delivered", *number)?;
+            push_word(out, kind_word(*kind))?;
+            push_effect(out, effect)
+        }
         Happening::Lost { number } => push_named(out, b"lost", *number),
     }
-}
-
-fn push_joined(
-    out: &mut Vec<u8>,
-    version: u64,
-    silo: &SiloAddress,
-    replaced: Option<SiloAddress>,
-) -> Result<(), AllocError>
-    ensures written { OnOk result (out.new.items ≡ out.old.items ++ spaced (happening_words (Joined version silo.now replaced))) }
-    ensures kept { BeginsWith out.old.items out.new.items }
-{
-    push_change(out, version, b"joined", silo)?;
-    push_replaced(out, replaced)?;
-    Ok(())
 }
 
 /// The version that a change made, the change in a word, and whose it is.
@@ -155,60 +144,12 @@ fn push_replaced(out: &mut Vec<u8>, replaced: Option<SiloAddress>) -> Result<(),
     Ok(())
 }
 
-fn push_saw(
-    out: &mut Vec<u8>,
-    silo: &SiloAddress,
-    version: u64,
-    effect: &Effect,
-) -> Result<(), AllocError>
-    ensures written { OnOk result (out.new.items ≡ out.old.items ++ spaced (happening_words (Saw silo.now version effect.now))) }
-    ensures kept { BeginsWith out.old.items out.new.items }
-{
-    push_silo(out, silo)?;
-    push_named(out, b"sees", version)?;
-    push_effect(out, effect)?;
-    Ok(())
-}
-
-fn push_did(out: &mut Vec<u8>, silo: &SiloAddress, effect: &Effect) -> Result<(), AllocError>
-    ensures written { OnOk result (out.new.items ≡ out.old.items ++ spaced (happening_words (Did silo.now effect.now))) }
-    ensures kept { BeginsWith out.old.items out.new.items }
-{
-    push_effect(out, effect)?;
-    push_subject(out, silo, effect)?;
-    Ok(())
-}
-
-fn push_delivered(
-    out: &mut Vec<u8>,
-    number: u64,
-    kind: LetterKind,
-    effect: &Effect,
-) -> Result<(), AllocError>
-    ensures written { OnOk result (out.new.items ≡ out.old.items ++ spaced (happening_words (Delivered number kind effect.now))) }
-    ensures kept { BeginsWith out.old.items out.new.items }
-{
-    push_named(out, b"delivered", number)?;
-    push_word(out, kind_word(kind))?;
-    push_effect(out, effect)?;
-    Ok(())
-}
-
 /// The words for an effect (`docs/RULES.md#what-a-script-prints`). Fails only when memory runs out.
 pub fn push_effect(out: &mut Vec<u8>, effect: &Effect) -> Result<(), AllocError>
     ensures written { OnOk result (out.new.items ≡ out.old.items ++ spaced (effect_words effect.now)) }
     ensures kept { BeginsWith out.old.items out.new.items }
 {
     push_word(out, effect_word(effect))?;
-    push_second(out, effect)?;
-    Ok(())
-}
-
-/// The second word for an effect, if there is one.
-fn push_second(out: &mut Vec<u8>, effect: &Effect) -> Result<(), AllocError>
-    ensures written { OnOk result (out.new.items ≡ out.old.items ++ spaced (second_words effect.now)) }
-    ensures kept { BeginsWith out.old.items out.new.items }
-{
     match effect {
         Effect::NothingCached(_) => push_word(out, b"cached"),
         Effect::Retry(why) => push_number(out, u64::from(why.number())),
