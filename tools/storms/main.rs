@@ -33,6 +33,7 @@ mod turn;
 #[path = "../../crates/directory_console/plain"]
 mod cluster {
     pub mod judging;
+    pub mod output;
     #[allow(dead_code)]
     pub mod text;
     #[allow(dead_code, unused_imports)]
@@ -49,7 +50,7 @@ mod sha256;
 #[path = "../../crates/rebuild_checker/plain/verdict.rs"]
 mod verdict;
 
-use cluster::{judging, text, world};
+use cluster::{judging, output, world};
 use random::Random;
 use seeded::Course;
 use std::io::{self, Write};

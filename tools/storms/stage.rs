@@ -7,8 +7,8 @@ use crate::grains::Grain;
 use crate::judge::{Judge, Touched};
 use crate::judging::judged;
 use crate::letters::Letters;
+use crate::output::Output;
 use crate::tally::Tally;
-use crate::text::Output;
 use crate::turn::Turn;
 use crate::world::{Happening, Outcome, Settings, World};
 

@@ -4,9 +4,8 @@ ghost use Rattle.hash_ring.specs.Ring.{IsRingBy};
 use crate::fault::Fault;
 use crate::naming::{places, silo};
 use crate::stopwatch::Stopwatch;
-use cluster_events::Event;
 use directory_core::World;
-use directory_rules::Settings;
+use directory_rules::{Event, Settings};
 use grain_partition::Holding;
 use hash_ring::{Hashing, Ring};
 use membership_view::View;
@@ -14,7 +13,7 @@ use silo_address::{GrainId, SiloAddress};
 use std::alloc::Global;
 
 /// From the place of a point to that of the next one, where they lie all over the circle, evenly.
-const EVENLY: u32 = 1_779_033_703;
+pub(crate) const EVENLY: u32 = 1_779_033_703;
 
 /// What a silo does with a grain.
 #[derive(Clone, Copy)]
@@ -97,13 +96,13 @@ impl Cluster {
         self.silos.push(silo)?;
         self.points = self.points.wrapping_add(points);
         let places = places(self.alloc, points, first, step)?;
-        self.happens(Event::Join { silo, places })
+        self.happens(&Event::Join { silo, places })
     }
 
     /// The youngest silo dies.
     pub(crate) fn kill(&mut self) -> Result<(), Fault> {
         let silo = self.silos.pop().ok_or(Fault::Missing)?;
-        self.happens(Event::Kill { silo })
+        self.happens(&Event::Kill { silo })
     }
 
     /// All silos see the current version, the oldest one first, and all letters are delivered.
@@ -111,7 +110,7 @@ impl Cluster {
         let version = self.world.current();
         for turn in 0..self.silos.len() as u64 {
             let silo = self.in_turn(turn)?;
-            self.happens(Event::See { silo, version })?;
+            self.happens(&Event::See { silo, version })?;
         }
         self.settle()
     }
@@ -120,18 +119,18 @@ impl Cluster {
     pub(crate) fn does(&mut self, deed: Deed, turn: u64, grain: GrainId) -> Result<(), Fault> {
         let silo = self.in_turn(turn)?;
         match deed {
-            Deed::Wake => self.happens(Event::Wake { silo, grain }),
-            Deed::Close => self.happens(Event::Close { silo, grain }),
-            Deed::Find => self.happens(Event::Find { silo, grain }),
+            Deed::Wake => self.happens(&Event::Wake { silo, grain }),
+            Deed::Close => self.happens(&Event::Close { silo, grain }),
+            Deed::Find => self.happens(&Event::Find { silo, grain }),
             Deed::Renew => self.renew(silo, grain),
         }
     }
 
     // An activation ends and another one begins.
     fn renew(&mut self, silo: SiloAddress, grain: GrainId) -> Result<(), Fault> {
-        self.happens(Event::Close { silo, grain })?;
+        self.happens(&Event::Close { silo, grain })?;
         self.settle()?;
-        self.happens(Event::Wake { silo, grain })
+        self.happens(&Event::Wake { silo, grain })
     }
 
     /// The letters that were never delivered are delivered, the least first, until there is none.
@@ -140,14 +139,14 @@ impl Cluster {
             let Some(number) = self.world.least_deliverable() else {
                 break;
             };
-            self.happens(Event::Deliver { number })?;
+            self.happens(&Event::Deliver { number })?;
         }
         Ok(())
     }
 
-    // An event happens, which has to be accepted.
-    fn happens(&mut self, event: Event) -> Result<(), Fault> {
-        match self.world.apply(&event) {
+    /// An event happens, which has to be accepted.
+    pub(crate) fn happens(&mut self, event: &Event) -> Result<(), Fault> {
+        match self.world.apply(event) {
             Ok(_) => {
                 self.stopwatch.count(1, 0);
                 Ok(())

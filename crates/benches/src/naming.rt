@@ -49,10 +49,14 @@ impl Order {
     ) -> Result<Vec<GrainId>, Fault> {
         let mut grains = Vec::new(alloc);
         for step in 0..turns {
-            let number = self.number(first.wrapping_add(step));
-            grains.push(grain(alloc, number)?)?;
+            grains.push(self.grain(alloc, first.wrapping_add(step))?)?;
         }
         Ok(grains)
+    }
+
+    /// The grain of a turn.
+    pub(crate) fn grain(&self, alloc: Global, turn: u64) -> Result<GrainId, Fault> {
+        grain(alloc, self.number(turn))
     }
 
     fn number(&self, turn: u64) -> u64 {

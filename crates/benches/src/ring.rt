@@ -6,7 +6,7 @@ use crate::fault::Fault;
 use crate::stopwatch::{Stopwatch, now};
 use hash_ring::{Ring, hash_text};
 use membership_view::View;
-use range_moves::{Arc, arcs};
+use range_moves::{RingArc, arcs};
 use std::alloc::Global;
 
 /// How many silos there are at most, and how many points each of them has.
@@ -194,7 +194,7 @@ fn place_of(ring: &Ring) -> u64 {
 }
 
 // How many hashes change hands, and where the arcs begin.
-fn sum_of_arcs(arcs: &[Arc]) -> u64 {
+fn sum_of_arcs(arcs: &[RingArc]) -> u64 {
     let mut sum = 0u64;
     for arc in arcs {
         sum = sum.wrapping_add(u64::from(arc.range.start()));

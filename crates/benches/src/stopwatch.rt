@@ -1,4 +1,5 @@
 use crate::fault::Fault;
+use std::rt::Clock;
 use std::time::Instant;
 
 /// How many calls were measured, what they took, and a sum of their answers.
@@ -20,7 +21,7 @@ impl Stopwatch {
     }
 
     /// Notes what was spent since a moment.
-    pub(crate) fn note(&mut self, rt: &HostRuntime, since: Instant) -> Result<(), Fault> {
+    pub(crate) fn note(&mut self, rt: &impl Clock, since: Instant) -> Result<(), Fault> {
         let nanoseconds = since.elapsed(rt)?.as_nanos();
         self.spent = self.spent.wrapping_add(nanoseconds);
         Ok(())
@@ -46,7 +47,7 @@ impl Stopwatch {
 }
 
 /// The moment at which something begins.
-pub(crate) fn now(rt: &HostRuntime) -> Result<Instant, Fault> {
+pub(crate) fn now(rt: &impl Clock) -> Result<Instant, Fault> {
     Ok(Instant::now(rt)?)
 }
 

@@ -1,6 +1,6 @@
 //! Events in few words, and those that come first: two silos, each of which has half of the circle.
 
-use cluster_events::Event;
+use directory_rules::Event;
 use silo_address::{GrainId, SiloAddress};
 use std::alloc::Global;
 use std::process::Abort;

@@ -1,24 +1,22 @@
 -- What a board keeps, after an event that was refused and one that was accepted.
-use Rattle.std.proofs.Common.{◌≡◌, refl, sym, ap, subst, ◌∙◌, ℕ, ◌+◌, List, [], ◌∷◌, ◌++◌, length, length-append, Ok, arith}
-use Rattle.std.specs.Prelude.{None, Some}
+use Rattle.std.proofs.Common.{◌≡◌, sym, ap, subst, ◌∙◌, ℕ, ◌+◌, List, [], ◌∷◌, ◌++◌, length-append, Ok}
+use Rattle.std.specs.Prelude.{None}
 use Rattle.silo_address.specs.Silo.{Silo}
-use Rattle.cluster_events.specs.declared.Outcome.{Outcome}
-use Rattle.cluster_events.specs.OutcomeModel.{outcome_of}
+use Rattle.directory_rules.specs.declared.Outcome.{Outcome}
 use Rattle.std.proofs.lemmas.Option.{same_Some}
 use Rattle.directory_rules.specs.Event.{Event, Deliver}
 use Rattle.directory_rules.specs.Letter.{Letter}
 use Rattle.directory_rules.specs.Node.{Node}
 use Rattle.directory_rules.specs.Settings.{Settings}
 use Rattle.directory_rules.specs.World.{World}
-use Rattle.directory_rules.specs.Happens.{happens, node_of}
+use Rattle.directory_rules.specs.Happens.{happens}
 use Rattle.cluster_journal.specs.Entry.{EntryValue}
-use Rattle.cluster_journal.specs.Journal.{IsJournaled}
 use Rattle.cluster_journal.proofs.Journal.{goes_on}
-use Rattle.cluster_board.specs.Changing.{MayChange}
-use Rattle.cluster_board.specs.Marked.{AreLeft, AreMarks, AreMore, marked_at}
+use Rattle.cluster_board.specs.Changed.{MayChange}
+use Rattle.cluster_board.specs.Marked.{AreLeft, marked_at}
 use Rattle.cluster_board.specs.Whole.{IsBoard}
 use Rattle.cluster_board.specs.Work.{IsCurrent, Work}
-use Rattle.cluster_board.proofs.MarksKept.{after_event, fewer, more}
+use Rattle.cluster_board.proofs.MarksKept.{after_event, fewer}
 
 -- nothing happened, and some marks are gone
 pub with_fewer : (settings : Settings) (world same : World) (journal still : List EntryValue) (total : ℕ) (before marks : List (Silo × Node))
@@ -28,27 +26,21 @@ with_fewer settings world same journal still total before marks is world_is jour
     (subst (λ (j : List EntryValue). IsBoard settings world j total marks) (sym journal_is)
     (record { journaled = is.journaled; counted = is.counted; marked = fewer world before marks is.marked left }))
 
--- a node was marked
-pub with_more : (settings : Settings) (world : World) (journal : List EntryValue) (total : ℕ) (silo : Silo) (node : Node) (before marks : List (Silo × Node))
-    → IsBoard settings world journal total before → node_of world silo ≡ Some node → AreMore silo node before marks → IsBoard settings world journal total marks
-with_more settings world journal total silo node before marks is live adds =
-    record { journaled = is.journaled; counted = is.counted; marked = more world silo node before marks is.marked live adds }
-
 -- an event was accepted, and entered
 pub entered : (settings : Settings) (world after : World) (journal room new : List EntryValue) (total counted : ℕ) (before marks : List (Silo × Node)) (event : Event) (outcome : Outcome) (entry : EntryValue)
     → IsBoard settings world journal total before → room ≡ journal → new ≡ room ++ entry ∷ [] → counted ≡ total + 1 → entry.event ≡ event → entry.outcome ≡ outcome
     → AreLeft before marks → ((silo : Silo) → MayChange world event silo → marked_at marks silo ≡ None)
-    → happens world event ≡ Ok (record { outcome = outcome_of outcome; world = after })
+    → happens world event ≡ Ok (record { outcome = outcome; world = after })
     → IsBoard settings after new counted marks
 entered settings world after journal room new total counted before marks event outcome entry is room_is new_is counted_is event_is outcome_is left gone happened =
     let new_so : new ≡ journal ++ entry ∷ [] = new_is ∙ ap (λ (j : List EntryValue). j ++ entry ∷ []) room_is in
-    let its : happens world entry.event ≡ Ok (record { outcome = outcome_of entry.outcome; world = after }) =
-    ap (λ (e : Event). happens world e) event_is ∙ happened ∙ ap (λ (o : Outcome). Ok (record { outcome = outcome_of o; world = after })) (sym outcome_is) in
+    let its : happens world entry.event ≡ Ok (record { outcome = entry.outcome; world = after }) =
+    ap (λ (e : Event). happens world e) event_is ∙ happened ∙ ap (λ (o : Outcome). Ok (record { outcome = o; world = after })) (sym outcome_is) in
     subst (λ (j : List EntryValue). IsBoard settings after j counted marks) (sym new_so)
     (record {
       journaled = goes_on settings journal world after entry is.journaled its;
       counted = counted_is ∙ ap (λ n. n + 1) is.counted ∙ sym (length-append journal (entry ∷ []));
-      marked = after_event world after event (outcome_of outcome) before marks is.marked left gone happened;
+      marked = after_event world after event outcome before marks is.marked left gone happened;
     })
 
 -- the receiver of the letter of current work has no mark any more
@@ -63,7 +55,7 @@ receiver_gone world work to marks current to_is gone silo may =
 pub delivered : (settings : Settings) (world after : World) (journal room new : List EntryValue) (total counted : ℕ) (before marks : List (Silo × Node)) (work : Work) (to : Silo) (outcome : Outcome) (entry : EntryValue)
     → IsBoard settings world journal total before → room ≡ journal → new ≡ room ++ entry ∷ [] → counted ≡ total + 1 → entry.event ≡ Deliver work.number → entry.outcome ≡ outcome
     → AreLeft before marks → IsCurrent world work → to ≡ work.letter.to → marked_at marks to ≡ None
-    → happens world (Deliver work.number) ≡ Ok (record { outcome = outcome_of outcome; world = after })
+    → happens world (Deliver work.number) ≡ Ok (record { outcome = outcome; world = after })
     → IsBoard settings after new counted marks
 delivered settings world after journal room new total counted before marks work to outcome entry is room_is new_is counted_is event_is outcome_is left current to_is gone happened =
     entered settings world after journal room new total counted before marks (Deliver work.number) outcome entry is room_is new_is counted_is event_is outcome_is left

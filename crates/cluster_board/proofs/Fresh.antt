@@ -1,5 +1,5 @@
 -- The least fresh letter to a silo is in the mail, under its number, and is to that silo.
-use Rattle.std.proofs.Common.{arith, ◌≡◌, refl, sym, ap, subst, ◌∙◌, ℕ, List, [], ◌∷◌, ◌<◌}
+use Rattle.std.proofs.Common.{arith, ◌≡◌, refl, ap, subst, ◌∙◌, ℕ, List, [], ◌∷◌, ◌<◌}
 use Rattle.std.specs.Prelude.{◌&&◌, Bool, true, false, cond, find, Option, Some, None, option_map, unwrap_or}
 use Rattle.std.specs.Ordering.{nat_cmp}
 use Rattle.std.specs.Map.{lookup}

@@ -1,6 +1,6 @@
 -- What is lent is the silo's node with the least fresh letter to it.
-use Rattle.std.proofs.Common.{◌≡◌, refl, sym, ap, ◌∙◌, ℕ}
-use Rattle.std.specs.Prelude.{IsSome, Option, Some, is_some}
+use Rattle.std.proofs.Common.{◌≡◌, sym, ap, ◌∙◌, ℕ}
+use Rattle.std.specs.Prelude.{IsSome, Some, is_some}
 use Rattle.std.proofs.lemmas.Option.{same_Some}
 use Rattle.silo_address.specs.Silo.{Silo}
 use Rattle.directory_rules.specs.Laws.{RiseBetween}
@@ -11,10 +11,10 @@ use Rattle.directory_rules.specs.Mail.{letter_of}
 use Rattle.directory_rules.specs.Happens.{node_of}
 use Rattle.directory_rules.proofs.Mails.{mail_after}
 use Rattle.letter_mail.specs.Mail.{least_fresh_to}
-use Rattle.directory_core.specs.Mailing.{mail_of}
+use Rattle.directory_core.specs.WorldMail.{mail_of}
 use Rattle.directory_core.specs.Whole.{IsWorld}
 use Rattle.directory_core.proofs.Made.{holds}
-use Rattle.cluster_board.specs.Lending.{IsWorkOf}
+use Rattle.cluster_board.specs.Due.{IsWorkOf}
 use Rattle.cluster_board.proofs.Fresh.{IsMailedTo, mailed_to}
 
 rising : (world : World) → IsWorld world → RiseBetween 0 world.sent world.mail

@@ -1,6 +1,6 @@
-pub mod Staying
+pub mod Unchanged
 pub mod MarksKept
 pub mod Fresh
-pub mod Deciding
+pub mod Decision
 pub mod Boards
 pub mod Lent

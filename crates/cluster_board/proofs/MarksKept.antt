@@ -1,18 +1,19 @@
 -- Marks stay of the nodes that silos have.
-use Rattle.std.proofs.Common.{◌≡◌, refl, sym, ap, subst, ◌∙◌, ℕ, List, inl, inr, Bor}
+use Rattle.std.proofs.Common.{◌≡◌, refl, sym, ap, subst, ◌∙◌, List, inl, inr, Bor}
 use Rattle.std.specs.Prelude.{◌⊎◌, Bool, true, false, cond, IfSome, OnErr, OnOk, Option, Some, None, Result, Ok, Err}
 use Rattle.std.specs.Option.{option_copied}
 use Rattle.std.specs.BTreeMap.{is_at}
 use Rattle.silo_address.specs.Silo.{Silo, silo_cmp}
 use Rattle.silo_address.proofs.Order.{silo_cmp_exact}
 use Rattle.membership_view.proofs.Entries.{Equal-from}
-use Rattle.directory_rules.specs.Event.{Event, Outcome}
+use Rattle.directory_rules.specs.Event.{Event}
+use Rattle.directory_rules.specs.declared.outcome.Outcome.{Outcome}
 use Rattle.directory_rules.specs.Node.{Node}
 use Rattle.directory_rules.specs.World.{World}
 use Rattle.directory_rules.specs.Happens.{happens, node_of}
-use Rattle.cluster_board.specs.Changing.{MayChange}
+use Rattle.cluster_board.specs.Changed.{MayChange}
 use Rattle.cluster_board.specs.Marked.{AreLeft, AreMarks, AreMore, marked_at}
-use Rattle.cluster_board.proofs.Staying.{Stays, happened}
+use Rattle.cluster_board.proofs.Unchanged.{Stays, happened}
 
 if_some : {X : Type 0} (o : Option X) (P : X → Type 0) → ((x : X) → o ≡ Some x → P x) → IfSome o P
 if_some None P so = tt
@@ -56,11 +57,6 @@ kept_of silo its other o n is = if_some n (λ node. (o ≡ Some node) ⊎ ((othe
 pub found_mark : (world : World) (marks : List (Silo × Node)) (silo : Silo) (found : Option (Bor Node)) → AreMarks world marks → option_copied found ≡ marked_at marks silo → IfSome found (λ mark. node_of world silo ≡ Some mark.now)
 found_mark world marks silo None are is = tt
 found_mark world marks silo (Some mark) are is = at_some (marked_at marks silo) (λ node. node_of world silo ≡ Some node) mark.now (are silo) (sym is)
-
--- and so of the node that the silo is known to have
-pub known_mark : (world : World) (marks : List (Silo × Node)) (silo : Silo) (node : Node) → AreMarks world marks → node_of world silo ≡ Some node → IfSome (marked_at marks silo) (λ known. known ≡ node)
-known_mark world marks silo node are live = if_some (marked_at marks silo) (λ known. known ≡ node)
-    (λ known there. let one : Some known ≡ Some node = sym (at_some (marked_at marks silo) (λ its. node_of world silo ≡ Some its) known (are silo) there) ∙ live in cc (one))
 
 -- ---- the marks of a board
 -- fewer marks of the same world

@@ -1,8 +1,8 @@
 pub mod Board
 pub mod Work
-pub mod Changing
+pub mod Changed
 pub mod Marked
 pub mod Whole
-pub mod Lending
+pub mod Due
 pub mod Planned
-pub mod Committing
+pub mod Commits

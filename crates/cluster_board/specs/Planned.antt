@@ -1,7 +1,7 @@
 -- Work that is prepared.
 use Rattle.std.specs.Prelude.{◌≡◌}
 use Rattle.directory_rules.specs.Receive.{received}
-use Rattle.directory_node.specs.Planning.{Fits, step_by}
+use Rattle.directory_node.specs.Plans.{Fits, step_by}
 use Rattle.directory_node.specs.declared.Plan.{Plan}
 use Rattle.cluster_board.specs.Work.{Work}
 

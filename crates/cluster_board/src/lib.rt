@@ -3,14 +3,14 @@
 #![tactic(auto)]
 
 mod board;
-mod committing;
-mod lending;
-mod marking;
-mod posting;
+mod commit;
+mod lend;
+mod marks;
+mod post;
 mod refusal;
 mod work;
 
 pub use board::Board;
-pub use committing::Uncommitted;
+pub use commit::Uncommitted;
 pub use refusal::CommitRefusal;
 pub use work::{Job, Prepared};

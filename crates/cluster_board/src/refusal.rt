@@ -1,5 +1,5 @@
 ghost use Rattle.std.specs.Prelude.{◌≡◌};
-ghost use Rattle.cluster_board.specs.Committing.{commit_refusal_number};
+ghost use Rattle.cluster_board.specs.Commits.{commit_refusal_number};
 
 use thiserror::Error;
 

@@ -1,7 +1,7 @@
 ghost use Rattle.std.specs.Prelude.{◌≡◌, MatchResult, OnErr, length};
 ghost use Rattle.directory_rules.specs.Receive.{received};
-ghost use Rattle.directory_node.specs.Lacking.{Counts};
-ghost use Rattle.directory_node.specs.Planning.{answer_count};
+ghost use Rattle.directory_node.specs.Memory.{Counts};
+ghost use Rattle.directory_node.specs.Plans.{answer_count};
 
 use directory_letters::Letter;
 use directory_node::Plan;

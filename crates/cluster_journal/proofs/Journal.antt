@@ -1,8 +1,8 @@
 -- A journal, one event further.
 use Rattle.std.proofs.Common.{◌≡◌, ℕ, List, [], ◌∷◌, ◌++◌, Result, Ok, refl, sym, ◌∙◌, ap}
 use Rattle.std.proofs.lemmas.List.{map-append}
-use Rattle.cluster_events.specs.OutcomeModel.{outcome_of}
-use Rattle.directory_rules.specs.Event.{Event, Outcome}
+use Rattle.directory_rules.specs.Event.{Event}
+use Rattle.directory_rules.specs.declared.outcome.Outcome.{Outcome}
 use Rattle.directory_rules.specs.Settings.{Settings}
 use Rattle.directory_rules.specs.World.{World, first_world}
 use Rattle.directory_rules.specs.Happens.{happens}
@@ -27,11 +27,11 @@ run-append world (first ∷ events) event = ap (λ (ran : Ran). telling (told_by
 -- with the entry of an event that the world accepts
 pub goes_on : (settings : Settings) (journal : List EntryValue) (world after : World) (entry : EntryValue)
     → IsJournaled settings journal world
-    → happens world entry.event ≡ Ok (record { outcome = outcome_of entry.outcome; world = after })
+    → happens world entry.event ≡ Ok (record { outcome = entry.outcome; world = after })
     → IsJournaled settings (journal ++ entry ∷ []) after
 goes_on settings journal world after entry so_far happened =
     ap (λ (es : List Event). run (first_world settings) es) (map-append (λ (e : EntryValue). e.event) journal (entry ∷ []))
     ∙ run-append (first_world settings) (events_of journal) entry.event
     ∙ ap (λ (ran : Ran). with_one ran entry.event) so_far
     ∙ ap (λ h. record { told = told_of journal ++ told_by h ∷ []; world = world_after h world }) happened
-    ∙ ap (λ (told : List (Result Outcome ℕ)). record { told = told; world = after }) (sym (map-append (λ (e : EntryValue). Ok (outcome_of e.outcome)) journal (entry ∷ [])))
+    ∙ ap (λ (told : List (Result Outcome ℕ)). record { told = told; world = after }) (sym (map-append (λ (e : EntryValue). Ok e.outcome) journal (entry ∷ [])))

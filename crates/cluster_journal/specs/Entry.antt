@@ -1,5 +1,5 @@
 -- Entries of a journal.
-use Rattle.cluster_events.specs.declared.Outcome.{Outcome}
+use Rattle.directory_rules.specs.declared.Outcome.{Outcome}
 use Rattle.directory_rules.specs.Event.{Event}
 
 -- an accepted event, and what it told

@@ -1,6 +1,6 @@
 -- How what the code keeps of an event is an entry of the journal.
 use Rattle.directory_rules.specs.Event.{Event}
-use Rattle.cluster_events.specs.EventModel.{event_of}
+use Rattle.directory_rules.specs.EventModel.{event_of}
 use Rattle.cluster_journal.specs.Entry.{EntryValue}
 use Rattle.cluster_journal.specs.Short.{entry_by}
 use Rattle.cluster_journal.specs.declared.entry.Form.{Form}

@@ -1,7 +1,7 @@
 -- A journal: the events that a cluster accepted, in order, each with what it told.
 use Rattle.std.specs.Prelude.{◌≡◌, ℕ, ◌-◌, ◌==◌, if◌then◌else◌, List, Option, None, Result, Ok, map, slice_get}
-use Rattle.cluster_events.specs.OutcomeModel.{outcome_of}
-use Rattle.directory_rules.specs.Event.{Event, Outcome}
+use Rattle.directory_rules.specs.Event.{Event}
+use Rattle.directory_rules.specs.declared.outcome.Outcome.{Outcome}
 use Rattle.directory_rules.specs.Settings.{Settings}
 use Rattle.directory_rules.specs.World.{World}
 use Rattle.directory_rules.specs.Run.{run_from_start}
@@ -13,7 +13,7 @@ events_of journal = map (λ (entry : EntryValue). entry.event) journal
 
 -- what they told
 abbrev pub told_of : List EntryValue → List (Result Outcome ℕ)
-told_of journal = map (λ (entry : EntryValue). Ok (outcome_of entry.outcome)) journal
+told_of journal = map (λ (entry : EntryValue). Ok entry.outcome) journal
 
 -- run from the first world, the events are all accepted, tell just these outcomes, and leave this world
 abbrev pub IsJournaled : Settings → List EntryValue → World → Type 0

@@ -2,4 +2,4 @@ pub mod Entry
 pub mod Short
 pub mod EntryModel
 pub mod Journal
-pub mod Agreeing
+pub mod Agreement

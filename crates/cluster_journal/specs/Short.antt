@@ -2,9 +2,9 @@
 use Rattle.directory_rules.specs.declared.effect.Effect.{Effect}
 use Rattle.directory_rules.specs.declared.effect.Effect.TheVariants as effects
 use Rattle.directory_rules.specs.Event.{Event, Deliver}
-use Rattle.cluster_events.specs.declared.outcome.Outcome.{Outcome}
-use Rattle.cluster_events.specs.declared.outcome.Happening.{Happening}
-use Rattle.cluster_events.specs.declared.outcome.Happening.TheVariants.{Delivered}
+use Rattle.directory_rules.specs.declared.outcome.Outcome.{Outcome}
+use Rattle.directory_rules.specs.declared.outcome.Happening.{Happening}
+use Rattle.directory_rules.specs.declared.outcome.Happening.TheVariants.{Delivered}
 use Rattle.cluster_journal.specs.Entry.{EntryValue}
 use Rattle.cluster_journal.specs.declared.short.Delivery.{Delivery}
 use Rattle.cluster_journal.specs.declared.short.ShortEffect.{ShortEffect}

@@ -1,9 +1,9 @@
 ghost use Rattle.std.specs.Prelude.{◌≡◌, ◌↔◌, IfOk, IsTrue, OnErr};
-ghost use Rattle.cluster_events.specs.Copying.{NeedsMemory};
-ghost use Rattle.cluster_events.specs.EventModel.{event_of};
+ghost use Rattle.directory_rules.specs.EventCopies.{NeedsMemory};
+ghost use Rattle.directory_rules.specs.EventModel.{event_of};
 
 use crate::short::Delivery;
-use cluster_events::{Event, Happening, Outcome};
+use directory_rules::{Event, Happening, Outcome};
 use std::alloc::{AllocError, Global};
 use std::marker::Model;
 use std::mem::size_of;
@@ -96,7 +96,7 @@ impl Model for Draft {
 
     ghost Value = { Event };
 
-    ghost use Rattle.cluster_events.specs.EventModel.{event_of};
+    ghost use Rattle.directory_rules.specs.EventModel.{event_of};
 
     ghost view = { λ d. event_of d.whole.value.event };
 }

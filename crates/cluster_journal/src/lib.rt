@@ -2,9 +2,9 @@
 //! them (`docs/RULES.md#the-board`).
 #![tactic(auto)]
 
-mod comparing;
+mod agreement;
 mod entry;
 mod short;
 
-pub use comparing::agree;
+pub use agreement::agree;
 pub use entry::{Draft, Entry, Receipt};

@@ -1,11 +1,10 @@
 //! Deliveries kept short. Most events of a cluster are deliveries, and a journal keeps every event.
 ghost use Rattle.std.specs.Prelude.{◌≡◌, ◌↔◌, IsTrue, MatchOption, true};
 ghost use Rattle.directory_rules.specs.Event.{Deliver as DeliverSeen};
-ghost use Rattle.cluster_events.specs.EventModel.{event_of};
+ghost use Rattle.directory_rules.specs.EventModel.{event_of};
 ghost use Rattle.cluster_journal.specs.Short.{IsLong, NamesGrain, delivered, effect_by, entry_by};
 
-use cluster_events::{Event, Happening, Outcome, Span};
-use directory_rules::{Effect, LetterKind, Why};
+use directory_rules::{Effect, Event, Happening, LetterKind, Outcome, Span, Why};
 
 // An effect that names no grain, and so needs little room.
 #[derive(Clone, Copy)]

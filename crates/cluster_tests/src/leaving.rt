@@ -1,9 +1,8 @@
 //! A silo that comes to a cluster of one, and goes; a letter between the two that is lost.
 use crate::limits::{accept, boxed, refuses};
 use crate::worlds::{has_one_point, see, sees, silo};
-use cluster_events::Event;
 use directory_core::{EventRefusal, World};
-use directory_rules::Settings;
+use directory_rules::{Event, Settings};
 use hash_ring::Hashing;
 use membership_view::ViewsError;
 use silo_address::SiloAddress;

@@ -1,8 +1,7 @@
 //! The limits of a directory, each met: what comes next is refused, and changes nothing.
-use cluster_events::Event;
 use directory_core::{EventRefusal, World};
 use directory_node::StepRefusal;
-use directory_rules::Settings;
+use directory_rules::{Event, Settings};
 use hash_ring::{Hashing, RingError};
 use membership_view::ViewsError;
 use silo_address::{GrainId, SiloAddress};
@@ -70,11 +69,19 @@ pub(crate) fn accept(rt: &impl Abort, world: &mut World, event: Event) {
     assert!(rt; world.apply(&event).is_ok());
 }
 
-// A silo has joined, and sees it: its query is the first letter, and its range recovers.
-fn joined(rt: &impl Abort, alloc: Global) -> Box<World> {
+// The one silo, which has joined with these places.
+fn alone(rt: &impl Abort, alloc: Global, places: &[u32]) -> Box<World> {
     let mut world = empty(rt, alloc);
     let silo = silo(rt, alloc, 0);
-    accept(rt, &mut world, join(rt, alloc, 0, 1));
+    let places = Vec::from_slice(alloc, places).expect(rt, "memory");
+    accept(rt, &mut world, Event::Join { silo, places });
+    world
+}
+
+// A silo has joined with these places, and sees it: for each range a query is sent, and it recovers.
+fn joined(rt: &impl Abort, alloc: Global, places: &[u32]) -> Box<World> {
+    let mut world = alone(rt, alloc, places);
+    let silo = silo(rt, alloc, 0);
     accept(rt, &mut world, Event::See { silo, version: 1 });
     world
 }
@@ -110,41 +117,41 @@ pub(crate) fn refuse(
     assert!(rt; refuses(world, &event, refusal, number));
 }
 
-// The event is accepted until so many have been.
+// The event is accepted until so many have been, the join among them, and refused the millionth time.
 fn accept_all(rt: &impl Abort, world: &mut World, event: Event) {
-    happens_often(rt, world, &event, EVENTS - 2);
+    happens_often(rt, world, &event, EVENTS - 1);
     assert!(rt; world.accepted() == EVENTS);
     refuse(rt, world, event, EventRefusal::JournalFull, 908);
 }
 
+// A silo that has seen nothing is nudged a million times.
 #[test]
 fn as_many_events_as_ever_may_be(rt: HostRuntime) {
-    let mut world = joined(&rt, rt.alloc());
+    let mut world = alone(&rt, rt.alloc(), &[0]);
     let silo = silo(&rt, rt.alloc(), 0);
-    let grain = grain(&rt, rt.alloc(), 0);
-    accept_all(&rt, &mut world, Event::Forget { silo, grain });
+    accept_all(&rt, &mut world, Event::Nudge { silo });
     let lose = Event::Lose { number: 2 };
     refuse(&rt, &mut world, lose, EventRefusal::JournalFull, 908);
 }
 
-// A nudge sends the query and the registration again, two letters; the first two are those themselves.
+// A nudge sends the queries of both ranges again; the first two letters are those themselves. The 500,000th nudge is refused.
 fn send_all(rt: &impl Abort, world: &mut World, nudge: Event) {
     happens_often(rt, world, &nudge, LETTERS / 2 - 1);
     assert!(rt; world.sent() == LETTERS);
     refuse(rt, world, nudge, EventRefusal::MailFull, 909);
 }
 
+// A silo with two points is nudged half a million times.
 #[test]
 fn as_many_letters_as_ever_may_be(rt: HostRuntime) {
-    let mut world = joined(&rt, rt.alloc());
-    accept(&rt, &mut world, wake(&rt, rt.alloc(), 0));
+    let mut world = joined(&rt, rt.alloc(), &[0, 2_147_483_648]);
     let silo = silo(&rt, rt.alloc(), 0);
     send_all(&rt, &mut world, Event::Nudge { silo });
 }
 
 #[test]
 fn as_many_activations_as_a_silo_holds(rt: HostRuntime) {
-    let mut world = joined(&rt, rt.alloc());
+    let mut world = joined(&rt, rt.alloc(), &[0]);
     for number in 0..ACTIVATIONS {
         accept(&rt, &mut world, wake(&rt, rt.alloc(), number));
     }
@@ -160,7 +167,7 @@ fn as_many_activations_as_a_silo_holds(rt: HostRuntime) {
 
 #[test]
 fn as_many_finds_as_a_silo_waits_for(rt: HostRuntime) {
-    let mut world = joined(&rt, rt.alloc());
+    let mut world = joined(&rt, rt.alloc(), &[0]);
     for number in 0..FINDS {
         accept(&rt, &mut world, find(&rt, rt.alloc(), number));
     }

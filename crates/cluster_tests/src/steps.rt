@@ -3,7 +3,7 @@
 ghost use Rattle.std.specs.Prelude.{◌≤◌};
 ghost use Rattle.directory_node.specs.InputModel.{input_of};
 ghost use Rattle.directory_node.specs.Placed.{IsPlaced};
-ghost use Rattle.directory_node.specs.Planning.{Fits};
+ghost use Rattle.directory_node.specs.Plans.{Fits};
 
 use crate::nodes::check_placed;
 use directory_letters::Letter;

@@ -1,7 +1,6 @@
 use crate::limits::{accept, boxed, refuse};
-use cluster_events::{Event, Happening, Outcome, Span};
 use directory_core::{EventRefusal, Told, World};
-use directory_rules::{Effect, LetterKind, Settings};
+use directory_rules::{Effect, Event, Happening, LetterKind, Outcome, Settings, Span};
 use hash_ring::Hashing;
 use silo_address::{ActivationId, Entry, GrainId, SiloAddress};
 use std::alloc::Global;

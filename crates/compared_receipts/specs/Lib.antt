@@ -1,1 +1,1 @@
-pub mod Closing
+pub mod Comparison

@@ -1,5 +1,5 @@
 ghost use Rattle.std.specs.Prelude.{◌≡◌};
-ghost use Rattle.compared_receipts.specs.Closing.{close_refusal_number};
+ghost use Rattle.compared_receipts.specs.Comparison.{close_refusal_number};
 
 use std::alloc::AllocError;
 use thiserror::Error;

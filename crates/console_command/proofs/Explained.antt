@@ -2,24 +2,26 @@
 use Rattle.std.proofs.Common.{◌≢◌, ℕ, List, Option, Err, refl}
 use Rattle.clap.specs.Walk.{Text}
 use Rattle.clap.specs.Values.{kind_of}
-use Rattle.clap.specs.declared.error.kind.ErrorKind.{ErrorKind}
-use Rattle.command_line.specs.Line.{AskToBeTold, HaveFault, Reads}
-use Rattle.command_line.specs.Refusal.{IsAnswer, IsRequest}
-use Rattle.command_line.specs.declared.error.LineError.{LineError}
-use Rattle.command_line.specs.declared.error.LineError.TheVariants as errors
+use Rattle.console_command.specs.CommandLine.{AskToBeTold, Reads}
+use Rattle.console_command.specs.LineRefusal.{IsAnswer}
+use Rattle.console_command.specs.declared.line_error.LineError.{LineError}
+use Rattle.console_command.specs.declared.line_error.LineError.TheVariants as errors
 use Rattle.console_command.specs.Exits.{MakesCalls, WritesAnswer}
+use Rattle.console_command.specs.Program.{AreMistaken, by_fault, by_name}
 use Rattle.console_command.specs.declared.exit.Exit.{Exit}
-use Rattle.console_command.specs.declared.exit.Exit.TheVariants.{Played, Threaded, Checked}
+use Rattle.console_command.specs.declared.exit.Exit.TheVariants.{Played, Threaded, Checked, Silo}
 
 -- they ask for help or for the version
 pub asked : (error : LineError) → IsAnswer error → (words : List Text) → Reads words (Err error) → AskToBeTold words
 asked (errors.Usage e) is words read = (kind_of e, is, read)
+asked (errors.NoSilo e) is words read = absurd is
 asked errors.OutOfMemory is words read = absurd is
 
 -- they are a mistake
 pub mistaken : (error : LineError) → ¬ (IsAnswer error) → error ≢ errors.OutOfMemory → (words : List Text) → Reads words (Err error)
-    → (kind : ErrorKind) × HaveFault words kind × (¬ (IsRequest kind))
-mistaken (errors.Usage e) not there words read = (kind_of e, read, not)
+    → AreMistaken words
+mistaken (errors.Usage e) not there words read = by_fault (kind_of e) read not
+mistaken (errors.NoSilo e) not there words read = by_name e read
 mistaken errors.OutOfMemory not there words read = absurd (there refl)
 
 -- what is answered, or refused, is all that is called
@@ -28,4 +30,5 @@ pub is_explained : {R W : Type 0} (reads : R → Option (List ℕ) → R → Typ
 is_explained reads writes source old new (Played ended) written = absurd written
 is_explained reads writes source old new (Threaded ended) written = absurd written
 is_explained reads writes source old new (Checked checked) written = absurd written
+is_explained reads writes source old new (Silo stopped) written = absurd written
 is_explained reads writes source old new other written = (refl, written)

@@ -11,7 +11,7 @@ use Rattle.console_command.specs.declared.exit.Exit.{Exit}
 use Rattle.console_command.specs.declared.exit.Exit.TheVariants.{Played, Refused}
 use Rattle.console_command.specs.Exits.{exit_without_words}
 use Rattle.threaded_play.specs.Endings.{IsSent}
-use Rattle.console_command.specs.Telling.{IsTold, Tells, TellsEnd, TellsFault, fault_text, told_without_words}
+use Rattle.console_command.specs.Errors.{IsTold, Tells, TellsEnd, TellsFault, fault_text, told_without_words}
 
 -- where there is nothing to tell, nothing is written
 pub nothing_told : {E : Type 0} (writes : E → List ℕ → Option ℕ → E → Type 0) (contents : E → Option (List ℕ)) (exit : Exit) (errors : E) → Tells exit [] → IsTold writes contents exit errors errors

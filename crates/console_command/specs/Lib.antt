@@ -1,4 +1,14 @@
 pub mod Exits
-pub mod Running
-pub mod Telling
-pub mod Carrying
+pub mod Program
+pub mod Errors
+pub mod Outcome
+pub mod Checks
+pub mod Verdicts
+pub mod Source
+pub mod Commands
+pub mod Play
+pub mod Reports
+pub mod SiloPlay
+pub mod ClapCommand
+pub mod CommandLine
+pub mod LineRefusal

@@ -1,7 +1,8 @@
 ghost use Rattle.std.specs.Prelude.{◌≡◌};
 ghost use Rattle.console_command.specs.Exits.{status_of};
 
-use console_check::Checked;
+use crate::Checked;
+use process_loop::Stopped;
 use script_loop::Ended;
 use threaded_play::ThreadsEnded;
 
@@ -14,6 +15,8 @@ pub enum Exit {
     Threaded(ThreadsEnded),
     /// The dump was judged, or what ended it before.
     Checked(Checked),
+    /// The silo's process came to its end, or to what ended it before.
+    Silo(Stopped),
     /// The words asked for help or for the version, which is written.
     Answered,
     /// The words asked for help or for the version, and a write of it failed.
@@ -33,6 +36,7 @@ impl Exit {
             Exit::Played(ended) => ended.status(),
             Exit::Threaded(ended) => ended.status(),
             Exit::Checked(checked) => checked.status(),
+            Exit::Silo(stopped) => stopped.status(),
             Exit::Answered => 0,
             Exit::OutOfMemory => 3,
             Exit::Refused => 4,

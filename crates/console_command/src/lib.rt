@@ -2,9 +2,34 @@
 //! `docs/RULES.md#the-program`.
 #![tactic(auto)]
 
-mod carrying;
+mod checked;
+mod clap_command;
+mod cluster;
+mod cluster_play;
+mod command_line;
+mod commands;
+mod dump;
+mod errors;
 mod exit;
-mod telling;
+mod judgement;
+mod letters;
+mod line_error;
+mod place;
+mod program;
+mod shown;
+mod silo_play;
+mod silo_player;
+mod source;
+mod sync;
+mod verdict;
 
-pub use carrying::{Carried, carry_out, carry_out_nothing, end_threads};
+pub use checked::Checked;
+pub use cluster_play::{play, play_to_new_cluster};
+pub use command_line::{Line, Options, read_line};
+pub use dump::tell_verdict;
 pub use exit::Exit;
+pub use judgement::judge;
+pub use line_error::LineError;
+pub use program::{Run, end_threads, run_without_words, run_words};
+pub use shown::show;
+pub use silo_play::play_new_silo;

@@ -1,29 +1,22 @@
 -- How a script ends that was played on threads.
-use Rattle.std.proofs.Common.{◌≡◌, ◌∙◌, ◌+◌, ◌++◌, ℕ, Bool, true, false, List, [], ◌∷◌, Option, Some, None, Result, Ok, Err, ap, sym, subst, refl, append-nil, inl, inr, arith}
-use Rattle.std.specs.Prelude.{IfSome}
+use Rattle.std.proofs.Common.{◌≡◌, ◌∙◌, ◌+◌, ℕ, Bool, true, false, List, [], ◌∷◌, Option, None, Result, Ok, Err, ap, sym, subst, refl, append-nil, inl, inr, arith}
 use Rattle.std.specs.Io.KnownBytes.{Appends}
-use Rattle.directory_rules.specs.Settings.{Settings}
 use Rattle.directory_rules.specs.World.{World}
 use Rattle.cluster_journal.specs.Entry.{EntryValue}
 use Rattle.script_rules.specs.Script.{Command, lines_of, read_line}
 use Rattle.texts.specs.Printed.{Output}
-use Rattle.script_commands.specs.Known.{known_commands}
 use Rattle.script_output.specs.Spaced.{BeginsWith}
-use Rattle.script_loop.specs.Calls.{ReadsInTurn}
 use Rattle.script_loop.specs.Endings as play
 use Rattle.script_loop.specs.Lines.{no_output}
-use Rattle.script_loop.specs.Sending.{Sends}
+use Rattle.script_loop.specs.Sent.{Sends}
 use Rattle.script_loop.specs.declared.ended.Ended.{Ended}
 use Rattle.script_loop.specs.declared.ended.Ended.TheVariants as ended
 use Rattle.script_loop.specs.declared.ended.LineFault.{LineFault}
-use Rattle.threaded_play.specs.Endings.{Ends, MakesCalls}
-use Rattle.threaded_play.proofs.Nothing.{kept}
+use Rattle.threaded_play.specs.Endings.{Ends}
 use Rattle.threaded_play.specs.Faults.{faults_alone, line_told}
-use Rattle.threaded_play.specs.Printing.{IsPrinted}
 use Rattle.threaded_play.specs.declared.ended.ThreadsEnded.{ThreadsEnded}
-use Rattle.threaded_play.specs.declared.ended.ThreadsEnded.TheVariants.{Played, ReceiptDiffers, Lacking}
-use Rattle.console_threads.specs.Held.{is_read_well}
-use Rattle.console_threads.specs.Telling.{EndsBy, IsUnclosed, IsWritten, LinesEnd, Tells, WritesOnce, sent_ending}
+use Rattle.threaded_play.specs.declared.ended.ThreadsEnded.TheVariants.{Played}
+use Rattle.console_threads.specs.Endings.{EndsBy, IsWritten, LinesEnd, Tells, sent_ending}
 
 -- ---- What the lines print by themselves.
 
@@ -31,7 +24,7 @@ use Rattle.console_threads.specs.Telling.{EndsBy, IsUnclosed, IsWritten, LinesEn
 silent : (number : ℕ) (lines : List (List ℕ)) (text : List ℕ) → faults_alone number lines ≡ record { text = text; status = 0 } → faults_alone number lines ≡ no_output
 unfolding faults_alone
 silent number [] text is = refl
-silent number (line ∷ lines) text is = go (read_line known_commands line) (silent (number + 1) lines text) is
+silent number (line ∷ lines) text is = go (read_line line) (silent (number + 1) lines text) is
   where
     go : (read : Result (Option Command) ℕ) → (faults_alone (number + 1) lines ≡ record { text = text; status = 0 } → faults_alone (number + 1) lines ≡ no_output)
         → line_told read number (faults_alone (number + 1) lines) ≡ record { text = text; status = 0 } → line_told read number (faults_alone (number + 1) lines) ≡ no_output
@@ -99,32 +92,4 @@ module _ {W : Type 0} (writes : W → List ℕ → Option ℕ → W → Type 0) 
 
 -- ---- The calls.
 
--- the reads, and these writes, are all that is called
-pub calls_made : {R W : Type 0} (reads : R → Option (List ℕ) → R → Type 0) (writes : W → List ℕ → Option ℕ → W → Type 0) (source rest : R) (old new : W) (end : Ended) (result : ThreadsEnded)
-    → ReadsInTurn reads source rest (is_read_well end) → WritesOnce writes old new end result → MakesCalls reads writes (source, old) (rest, new) result
-calls_made reads writes source rest old new end (Played ended.Played) read once = (subst (ReadsInTurn reads source rest) once.0 read, once.1)
-calls_made reads writes source rest old new end (Played (ended.Faulted fault)) read once = (subst (ReadsInTurn reads source rest) once.0 read, once.1)
-calls_made reads writes source rest old new end (Played ended.TooLong) read once = (subst (ReadsInTurn reads source rest) once.0 read, once.1)
-calls_made reads writes source rest old new end (Played ended.OutOfMemory) read once = (subst (ReadsInTurn reads source rest) once.0 read, once.1)
-calls_made reads writes source rest old new end (Played ended.Broken) read (inl once) = inl (subst (ReadsInTurn reads source rest) once.0 read, once.1)
-calls_made reads writes source rest old new end (Played ended.Broken) read (inr once) = inr (subst (ReadsInTurn reads source rest) once.0 read, once.1)
-calls_made reads writes source rest old new end ReceiptDiffers read once = ((is_read_well end, read), once)
-calls_made reads writes source rest old new end Lacking read once = ((is_read_well end, read), once)
-
 -- ---- Where the cluster wasn't closed.
-
-pub unclosed_ends : (settings : Settings) (script : List ℕ) (rest known : Option (List ℕ)) (result : ThreadsEnded) → IsUnclosed result → Ends settings script rest known known result
-unclosed_ends settings script rest known (Played end) is = absurd is
-unclosed_ends settings script rest known ReceiptDiffers is = kept known
-unclosed_ends settings script rest known Lacking is = kept known
-
-pub unclosed_calls : {R W : Type 0} (reads : R → Option (List ℕ) → R → Type 0) (writes : W → List ℕ → Option ℕ → W → Type 0) (source rest : R) (same : W) (result : ThreadsEnded) → IsUnclosed result
-    → (well : Bool) × ReadsInTurn reads source rest well → MakesCalls reads writes (source, same) (rest, same) result
-unclosed_calls reads writes source rest same (Played end) is read = absurd is
-unclosed_calls reads writes source rest same ReceiptDiffers is read = (read, refl)
-unclosed_calls reads writes source rest same Lacking is read = (read, refl)
-
--- a fact of what is known gives another
-pub some_then : (known : Option (List ℕ)) (P Q : List ℕ → Type 0) → ((script : List ℕ) → P script → Q script) → IfSome known P → IfSome known Q
-some_then None P Q then there = tt
-some_then (Some script) P Q then there = then script there

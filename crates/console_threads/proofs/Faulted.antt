@@ -3,7 +3,6 @@ use Rattle.std.proofs.Common.{◌≡◌, ℕ, ◌+◌, ◌++◌, List, [], ◌�
 use Rattle.script_rules.specs.Script.{Command, read_line}
 use Rattle.script_rules.specs.Lines.{fault_line}
 use Rattle.texts.specs.Printed.{Output, text_of_lines}
-use Rattle.script_commands.specs.Known.{known_commands}
 use Rattle.script_commands.specs.Numbers.{script_fault_number}
 use Rattle.script_output.specs.Printed.{printed}
 use Rattle.script_loop.specs.declared.ended.LineFault.{LineFault}
@@ -11,7 +10,7 @@ use Rattle.script_loop.specs.Lines.{PlaysLine, behind, told_fault}
 use Rattle.threaded_play.specs.Faults.{faults_alone, line_told}
 
 -- a line without a fault, whatever it does
-pub passed_over : (number : ℕ) (line text : List ℕ) (command : Option Command) (told : Option LineFault) → told ≡ None → read_line known_commands line ≡ Ok command
+pub passed_over : (number : ℕ) (line text : List ℕ) (command : Option Command) (told : Option LineFault) → told ≡ None → read_line line ≡ Ok command
     → PlaysLine faults_alone faults_alone number line text text told
 unfolding faults_alone
 passed_over number line text command (Some fault) none is = absurd (cc)
@@ -19,7 +18,7 @@ passed_over number line text command None none is =
     λ lines. ap (λ r. behind text (line_told r number (faults_alone (number + 1) lines))) (sym is)
 
 -- a fault
-pub fault_told : (number : ℕ) (line before after : List ℕ) (fault : LineFault) → fault.line ≡ number → read_line known_commands line ≡ Err (script_fault_number fault.fault)
+pub fault_told : (number : ℕ) (line before after : List ℕ) (fault : LineFault) → fault.line ≡ number → read_line line ≡ Err (script_fault_number fault.fault)
     → after ≡ before ++ printed (fault_line number (script_fault_number fault.fault)) → PlaysLine faults_alone faults_alone number line before after (Some fault)
 unfolding faults_alone
 fault_told number line before after fault its_line is written =

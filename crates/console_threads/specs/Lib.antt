@@ -1,2 +1,2 @@
 pub mod Held
-pub mod Telling
+pub mod Endings

@@ -3,8 +3,8 @@
 ghost use Rattle.std.specs.Prelude.{◌≡◌, ◌+◌};
 ghost use Rattle.silo_threads.specs.declared.cluster.TheConstants.{PARTS};
 
-use cluster_events::Event;
 use cluster_journal::Receipt;
+use directory_rules::Event;
 use script_commands::Command;
 use silo_threads::Cluster;
 use silo_workers::Gate;

@@ -1,12 +1,12 @@
 //! Plays scripts to clusters with a thread per silo. The rules are in `docs/RULES.md#threads`.
 #![tactic(auto)]
 
-mod closing;
+mod close;
 mod driver;
 mod held;
 mod lines;
-mod playing;
-mod printing;
+mod play;
+mod print;
 mod script;
 
-pub use playing::{MARK_BLOCKS, play_on_threads};
+pub use play::{MARK_BLOCKS, play_on_threads};

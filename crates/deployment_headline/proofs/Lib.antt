@@ -1,11 +1,11 @@
 pub mod Lists
 pub mod Memberships
 pub mod Worlds
-pub mod Moving
+pub mod StepEvents
 pub mod Sound
 pub mod Limits
 pub mod Roomy
-pub mod Looking
-pub mod Running
+pub mod Unlimited
+pub mod Runs
 pub mod Called
 pub mod Worked

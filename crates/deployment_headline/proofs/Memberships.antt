@@ -10,7 +10,7 @@ use Rattle.silo_address.specs.Silo.{Silo, silo_cmp}
 use Rattle.membership_view.specs.declared.row.Row.{Row}
 use Rattle.membership_view.specs.View.{ViewValue}
 use Rattle.membership_view.specs.Views.{ViewsValue, view_at, row_of, status_at, rows_in, joining_version}
-use Rattle.membership_view.proofs.Staying.{versions_rise, views_stay, joined_from}
+use Rattle.membership_view.proofs.Unchanged.{versions_rise, views_stay, joined_from}
 use Rattle.hash_ring.specs.Places.{PlacesValue}
 use Rattle.hash_ring.specs.Ring.{RingValue, ring_of}
 use Rattle.range_moves.specs.Arcs.{arcs_of}
@@ -22,7 +22,7 @@ use Rattle.directory_rules.specs.Node.{Node}
 use Rattle.directory_rules.specs.Step.{Stepped, see, having_seen, new_gatherings, new_recoveries}
 use Rattle.directory_rules.proofs.Cases.{on_bool}
 use Rattle.silo_rules.specs.Membership.{Change, Membership, changed}
-use Rattle.silo_rules.specs.Stepping.{is_seeable}
+use Rattle.silo_rules.specs.Steps.{is_seeable}
 use Rattle.silo_rules.proofs.Lawful.{row_known}
 use Rattle.silo_rules.proofs.Whole.{Are, made, accepts}
 

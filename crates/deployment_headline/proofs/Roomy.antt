@@ -14,9 +14,9 @@ use Rattle.directory_rules.specs.Step.{Stepped, silently}
 use Rattle.directory_rules.specs.Input.{Input, Wakes, Closes, Finds, Forgets, Nudges, Offers, Receives, step}
 use Rattle.silo_rules.specs.Membership.{Change, Join, Leave, Die, Membership, joined, changed, replaced_by}
 use Rattle.silo_rules.specs.SiloValue.{SiloValue, first_silo}
-use Rattle.silo_rules.specs.Stepping.{barred, unless_barred, is_seeable, sight_of, sees, does, receives}
-use Rattle.silo_rules.specs.Stepping as alone
-use Rattle.silo_rules.specs.Telling.{Heard, heard_by, told_again, told}
+use Rattle.silo_rules.specs.Steps.{barred, unless_barred, is_seeable, sight_of, sees, does, receives}
+use Rattle.silo_rules.specs.Steps as alone
+use Rattle.silo_rules.specs.Told.{Heard, heard_by, told_again, told}
 use Rattle.deployment_headline.specs.Deployment.{Deployment, first_deployment, process_of}
 use Rattle.deployment_headline.specs.Steps.{Step, Decide, Tell, See, Wake, Close, Find, Forget, Nudge, Offer, Receive, without, processes_after, decided, heard, took, tells, tells_at, does_at, comes, sees_at, delivers, receives_at, after, after_all, deployed}
 use Rattle.deployment_headline.specs.Limits.{with_room, process_with_room, deployment_with_room}

@@ -22,15 +22,15 @@ use Rattle.silo_rules.specs.declared.news.News.TheVariants.{Known}
 use Rattle.silo_rules.specs.Known.{is_known}
 use Rattle.silo_rules.specs.Membership.{Change, Join, Leave, Die, Membership, first_membership, changed, replaced_by}
 use Rattle.silo_rules.specs.SiloValue.{SiloValue, first_silo}
-use Rattle.silo_rules.specs.Stepping.{barred, unless_barred, is_seeable, sight_of, seen, sees, does, receives}
-use Rattle.silo_rules.specs.Telling.{Heard, heard_by, told}
+use Rattle.silo_rules.specs.Steps.{barred, unless_barred, is_seeable, sight_of, seen, sees, does, receives}
+use Rattle.silo_rules.specs.Told.{Heard, heard_by, told}
 use Rattle.silo_rules.proofs.Own.{StaysOwn, stays_own}
 use Rattle.silo_rules.proofs.Whole.{Are, made}
 use Rattle.deployment_headline.specs.Deployment.{Deployment, first_deployment, process_of}
 use Rattle.deployment_headline.specs.Steps.{Step, Decide, Tell, See, Wake, Close, Find, Forget, Nudge, Offer, Receive, without, processes_after, decided, heard, took, tells, tells_at, does_at, sees_at, delivers, receives_at, after}
 use Rattle.deployment_headline.proofs.Lists.{rest_begins}
 use Rattle.deployment_headline.proofs.Memberships.{Leads, leads_on, one_higher}
-use Rattle.deployment_headline.proofs.Moving.{IsTold, IsProcess, IsProcessIn}
+use Rattle.deployment_headline.proofs.StepEvents.{IsTold, IsProcess, IsProcessIn}
 
 pub record Sound (d : Deployment) : Type 0 where
   pub first : Are d.settings (first_membership d.settings)

@@ -8,8 +8,8 @@ use Rattle.directory_rules.specs.Letter.{Letter}
 use Rattle.directory_rules.specs.Step.{Stepped}
 use Rattle.silo_rules.specs.Membership.{Change, Join, Membership, changed}
 use Rattle.silo_rules.specs.SiloValue.{SiloValue, first_silo}
-use Rattle.silo_rules.specs.Stepping.{does, sees, receives}
-use Rattle.silo_rules.specs.Telling.{Heard, told}
+use Rattle.silo_rules.specs.Steps.{does, sees, receives}
+use Rattle.silo_rules.specs.Told.{Heard, told}
 use Rattle.deployment_headline.specs.Deployment.{Deployment, process_of}
 use Rattle.deployment_headline.specs.Steps.{Decide, Tell, See, Wake, Close, Find, Forget, Nudge, Offer, Receive, heard, took, after}
 

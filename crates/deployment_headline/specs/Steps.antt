@@ -13,8 +13,8 @@ use Rattle.directory_rules.specs.Step.{Stepped}
 use Rattle.directory_rules.specs.Input.{Input, Wakes, Closes, Finds, Forgets, Nudges, Offers}
 use Rattle.silo_rules.specs.Membership.{Change, Join, Leave, Die, Membership, changed}
 use Rattle.silo_rules.specs.SiloValue.{SiloValue, first_silo}
-use Rattle.silo_rules.specs.Stepping.{does, sees, receives}
-use Rattle.silo_rules.specs.Telling.{Heard, told}
+use Rattle.silo_rules.specs.Steps.{does, sees, receives}
+use Rattle.silo_rules.specs.Told.{Heard, told}
 use Rattle.deployment_headline.specs.Deployment.{Deployment, first_deployment, process_of}
 
 -- a step

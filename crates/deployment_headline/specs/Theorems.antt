@@ -16,7 +16,7 @@ use Rattle.directory_rules.specs.PlainMachine.{PlainStep, IsPlainStep, plain_of}
 use Rattle.directory_facts.specs.Own.{IsOwnLetter}
 use Rattle.silo_rules.specs.Membership.{Change}
 use Rattle.silo_rules.specs.SiloValue.{SiloValue}
-use Rattle.silo_rules.specs.Telling.{Heard, told}
+use Rattle.silo_rules.specs.Told.{Heard, told}
 use Rattle.deployment_headline.specs.Deployment.{Deployment, process_of}
 use Rattle.deployment_headline.specs.Limits.{with_room, deployment_with_room}
 use Rattle.deployment_headline.specs.Steps.{Step, IsStep, after, deployed}

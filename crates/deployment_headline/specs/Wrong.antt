@@ -9,7 +9,7 @@ use Rattle.directory_rules.specs.Letter.{Letter, Reply_letter}
 use Rattle.directory_rules.specs.Worked.{silo_a, silo_b, grain_a}
 use Rattle.silo_rules.specs.Membership.{Change, Join, Die}
 use Rattle.silo_rules.specs.SiloValue.{SiloValue}
-use Rattle.silo_rules.specs.Telling.{told}
+use Rattle.silo_rules.specs.Told.{told}
 use Rattle.deployment_headline.specs.Deployment.{Deployment, process_of}
 use Rattle.deployment_headline.specs.Steps.{Decide, Tell, See, Wake, Receive, delivers, heard, after, after_all, deployed}
 use Rattle.deployment_headline.specs.Worked.{worked_settings, opening, joining, handing}

@@ -1,6 +1,6 @@
 //! The verdict on a world.
 
-use crate::text::Output;
+use crate::output::Output;
 use crate::world::World;
 use crate::{dump, json, verdict};
 

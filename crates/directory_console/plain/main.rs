@@ -9,6 +9,7 @@ mod json;
 mod judging;
 #[path = "../../rebuild_checker/plain/names.rs"]
 mod names;
+mod output;
 mod script;
 #[path = "../../benches/plain/sha256.rs"]
 mod sha256;
@@ -18,10 +19,10 @@ mod verdict;
 mod world;
 
 use judging::judged;
+use output::Output;
 use script::{Command, LONGEST_LINE, read_line};
 use std::io::{self, BufRead, Read, Write};
 use std::process::ExitCode;
-use text::Output;
 use world::{Event, Settings, World};
 
 /// How many bytes a script may have.

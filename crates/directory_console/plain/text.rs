@@ -1,55 +1,12 @@
 //! What is printed: lines of events, and of what is asked about a world.
 
+use crate::output::Output;
 use crate::world::{
     Activation, Effect, Grain, Happening, Held, Kind, Letter, Outcome, Phase, Point, Range, Row, Silo, State, Status, World,
     entries_in,
 };
 
-/// Bytes on their way out. A line's words are put one after another, each with what stands before it.
-#[derive(Default)]
-pub struct Output(pub Vec<u8>);
-
-/// The digits of the numbers below a hundred.
-const PAIRS: [[u8; 2]; 100] = {
-    let mut pairs = [[0; 2]; 100];
-    let mut number = 0;
-    while number < 100 {
-        pairs[number] = [b'0' + (number / 10) as u8, b'0' + (number % 10) as u8];
-        number += 1;
-    }
-    pairs
-};
-
 impl Output {
-    pub fn text(&mut self, text: &[u8]) -> &mut Output {
-        self.0.extend_from_slice(text);
-        self
-    }
-
-    pub fn word(&mut self, word: &str) -> &mut Output {
-        self.text(word.as_bytes())
-    }
-
-    pub fn number(&mut self, number: impl Into<u64>) -> &mut Output {
-        let mut digits = [0; 20];
-        let mut at = digits.len();
-        let mut rest = number.into();
-        while rest >= 10 {
-            at -= 2;
-            digits[at..at + 2].copy_from_slice(&PAIRS[(rest % 100) as usize]);
-            rest /= 100;
-        }
-        if rest > 0 || at == digits.len() {
-            at -= 1;
-            digits[at] = b'0' + rest as u8;
-        }
-        self.text(&digits[at..])
-    }
-
-    fn count(&mut self, count: usize) -> &mut Output {
-        self.number(count as u64)
-    }
-
     fn silo(&mut self, world: &World, silo: Silo) -> &mut Output {
         self.text(world.silos.text(world.views().row(silo).name))
     }
@@ -212,31 +169,13 @@ impl Output {
         self.word("}");
     }
 
-    fn list<T>(&mut self, items: impl IntoIterator<Item = T>, mut put: impl FnMut(&mut Output, T)) -> &mut Output {
-        self.word("[");
-        for (index, item) in items.into_iter().enumerate() {
-            if index > 0 {
-                self.word(",");
-            }
-            put(self, item);
-        }
-        self.word("]")
-    }
-
     fn held_json(&mut self, world: &World, held: &Held) {
         self.word("{\"activation\":\"").activation(world, held.activation).word("\",\"grain\":").grain_json(world, held.grain);
         self.word(",\"phase\":\"").word(phase_word(held.phase)).word("\"}");
     }
 
     fn grain_json(&mut self, world: &World, grain: Grain) -> &mut Output {
-        self.word("\"");
-        for byte in world.grains().text(grain) {
-            if b"\"\\".contains(byte) {
-                self.word("\\");
-            }
-            self.0.push(*byte);
-        }
-        self.word("\"")
+        self.quoted(world.grains().text(grain))
     }
 
     /// The entries stand in the order of hashes, and are told in the order of grains.

@@ -16,6 +16,7 @@ mod ring;
 mod sight;
 mod transfer;
 mod views;
+mod words;
 
 pub use host::{Held, Phase};
 pub use identities::{Activation, Grain, Grains, Silo, SiloName, Silos, number};

@@ -2,7 +2,7 @@
 //! `docs/RULES.md#the-program`.
 #![tactic(auto)]
 
-use console_command::{Carried, carry_out, carry_out_nothing, end_threads};
+use console_command::{Run, end_threads, run_without_words, run_words};
 use console_threads::{MARK_BLOCKS, play_on_threads};
 use silo_threads::PARTS;
 use std::marker::Brand;
@@ -17,12 +17,12 @@ fn main(rt: HostRuntime) -> ExitCode {
     let output = &mut io::writer(&rt);
     let errors = &mut rt.stderr();
     let carried = match words(&rt) {
-        Ok(words) => carry_out(rt.alloc(), &words, input, output, errors),
-        Err(error) => Carried::Ended(carry_out_nothing(error.kind(), errors)),
+        Ok(words) => run_words(rt.alloc(), &words, input, output, errors),
+        Err(error) => Run::Ended(run_without_words(error.kind(), errors)),
     };
     let exit = match carried {
-        Carried::Ended(exit) => exit,
-        Carried::OnThreads(settings) => {
+        Run::Ended(exit) => exit,
+        Run::OnThreads(settings) => {
             let ended = match Slots::new(rt.alloc(), MARK_BLOCKS) {
                 Ok(blocks) => play_on_threads::<Brand, _, _, _, _>(
                     &rt,

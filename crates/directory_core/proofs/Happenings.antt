@@ -5,7 +5,10 @@ use Rattle.std.proofs.lemmas.Bool.Decides.{nat_tests}
 use Rattle.std.specs.Option.{option_or}
 use Rattle.std.proofs.lemmas.Bool.{le-ltb, lt-ltb}
 use Rattle.silo_address.specs.Silo.{Silo}
-use Rattle.directory_rules.specs.Event.{Event, Happening, Delivered, Did, Saw, Span}
+use Rattle.directory_rules.specs.Event.{Event}
+use Rattle.directory_rules.specs.declared.outcome.Happening.{Happening}
+use Rattle.directory_rules.specs.declared.outcome.Happening.TheVariants.{Delivered, Did, Saw}
+use Rattle.directory_rules.specs.declared.outcome.Span.{Span}
 use Rattle.directory_rules.specs.Letter.{Letter, kind_of}
 use Rattle.directory_rules.specs.Node.{Node}
 use Rattle.directory_rules.specs.Step.{Stepped}
@@ -16,10 +19,10 @@ use Rattle.directory_rules.specs.Happens.{attempted, deliver, delivers, delivers
 use Rattle.directory_rules.specs.Receive.{received}
 use Rattle.directory_rules.specs.declared.Effect.{Effect}
 use Rattle.directory_node.specs.Follows.{RefusesBy}
-use Rattle.directory_node.specs.Lacking.{Counts, MayLackMemory}
-use Rattle.directory_node.specs.Planning.{Sends}
-use Rattle.directory_core.specs.Applying.{IsOkOfUse}
-use Rattle.directory_core.specs.Stepping.{IsOwn, after_step, letters_number}
+use Rattle.directory_node.specs.Memory.{Counts, MayLackMemory}
+use Rattle.directory_node.specs.Plans.{Sends}
+use Rattle.directory_core.specs.Applied.{IsOkOfUse}
+use Rattle.directory_core.specs.Steps.{IsOwn, after_step, letters_number}
 use Rattle.directory_core.specs.Whole.{IsWorld, LeavesWorld}
 
 pub full : (world : World) (event : Event) → world.settings.events ≤ world.accepted → happens world event ≡ Err 908

@@ -1,4 +1,4 @@
--- A letter of which nothing comes leaves the world as it was, but that it is fresh no more.
+-- A letter of which nothing comes leaves the world as it was, but that it is fresh no more; so does a step of a silo's own.
 use Rattle.std.proofs.Common.{◌≡◌, ◌+◌, Bool, false, ℕ, [], Ok, Some, None, IsSome, refl, sym, ◌∙◌, ap, subst, arith}
 use Rattle.std.specs.Prelude.{◌↔◌, IsTrue}
 use Rattle.std.specs.List.Sorted.{IsStrictlySortedBy}
@@ -11,8 +11,9 @@ use Rattle.silo_address.specs.Silo.{Silo, silo_cmp}
 use Rattle.silo_address.proofs.Order.{silo_cmp_total}
 use Rattle.directory_rules.specs.declared.effect.Effect.{Effect}
 use Rattle.directory_rules.specs.declared.letter_kind.LetterKind.{LetterKind}
-use Rattle.directory_rules.specs.Event.{Delivered}
-use Rattle.directory_rules.specs.Happens.{counted, deliver, node_of, tells}
+use Rattle.directory_rules.specs.declared.outcome.Happening.TheVariants.{Delivered, Did}
+use Rattle.directory_rules.specs.Happens.{counted, deliver, does, node_of, tells}
+use Rattle.directory_rules.specs.Input.{Input, step}
 use Rattle.directory_rules.specs.Letter.{Letter, kind_of}
 use Rattle.directory_rules.specs.Mail.{letter_of, with_delivered}
 use Rattle.directory_rules.specs.Node.{Node}
@@ -20,13 +21,13 @@ use Rattle.directory_rules.specs.Receive.{received}
 use Rattle.directory_rules.specs.Step.{silently}
 use Rattle.directory_rules.specs.World.{World}
 use Rattle.letter_mail.specs.Mail.{MailValue, with_stale}
-use Rattle.directory_node.specs.Lacking.{IsIdle}
+use Rattle.directory_node.specs.Memory.{IsIdle}
 use Rattle.directory_node.proofs.Ignored.{idle_is}
-use Rattle.directory_core.specs.Delivering.{Passes}
-use Rattle.directory_core.specs.Stepping.{after_step}
+use Rattle.directory_core.specs.Delivery.{Passes}
+use Rattle.directory_core.specs.Steps.{after_step}
 use Rattle.directory_core.specs.Whole.{IsWorld, LeavesWorld}
 use Rattle.directory_core.proofs.Entries.{put_there}
-use Rattle.directory_core.proofs.Happenings.{delivered_told}
+use Rattle.directory_core.proofs.Happenings.{delivered_told, does_so, taken_told}
 
 -- a silo that has its node as it was, and no letters sent
 stays : (world : World) (silo : Silo) (node : Node) → IsStrictlySortedBy silo_cmp (keys_of world.nodes) → node_of world silo ≡ Some node → after_step world silo node [] ≡ counted world
@@ -63,6 +64,18 @@ pub passed_leaves : (world : World) (number : ℕ) (kind : LetterKind) (effect :
 passed_leaves world number kind effect p sorted leaves letter is =
     subst (λ (l : Letter). IsWorld (counted (with_delivered world number l))) (same_Some p.letter letter (sym p.mailed ∙ is))
     (subst LeavesWorld (passed_told world number kind effect p sorted) leaves)
+
+-- ---- a step of a silo's own that leaves its node as it is, and sends nothing
+pub stayed_told : (world : World) (silo : Silo) (input : Input) (node : Node) (effect : Effect) → IsStrictlySortedBy silo_cmp (keys_of world.nodes) → node_of world silo ≡ Some node
+    → step node input ≡ Ok (silently node effect) → does world silo input ≡ Ok (tells world (Did silo effect))
+stayed_told world silo input node effect sorted there is =
+    does_so world silo input node (silently node effect) there is
+    ∙ taken_told world silo (Did silo effect) (silently node effect) refl
+    ∙ ap (λ (w : World). Ok (record { outcome = record { happening = Did silo effect; sent = None }; world = w })) (stays world silo node sorted there)
+
+pub stayed_leaves : (world : World) (silo : Silo) (input : Input) (node : Node) (effect : Effect) → IsStrictlySortedBy silo_cmp (keys_of world.nodes) → node_of world silo ≡ Some node
+    → step node input ≡ Ok (silently node effect) → LeavesWorld (does world silo input) → IsWorld (counted world)
+stayed_leaves world silo input node effect sorted there is leaves = subst LeavesWorld (stayed_told world silo input node effect sorted there is) leaves
 
 -- ---- the test, at the letter's own kind
 pub of_use : (kind its : LetterKind) (effect : Effect) (idle : Bool) → (IsTrue idle ↔ IsIdle kind effect) → kind ≡ its → idle ≡ false → ¬ (IsIdle its effect)

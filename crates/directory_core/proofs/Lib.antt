@@ -3,7 +3,8 @@ pub mod Kept
 pub mod Made
 pub mod Tidied
 pub mod Happenings
-pub mod Running
+pub mod Runs
 pub mod CurrentView
 pub mod Numbered
 pub mod Idle
+pub mod Unchanged

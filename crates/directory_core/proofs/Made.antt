@@ -19,10 +19,12 @@ use Rattle.directory_rules.proofs.Mails.{mail_after}
 use Rattle.directory_rules.proofs.Peopled.{peopled_after}
 use Rattle.directory_facts.specs.Seen.{SeesItsVersion}
 use Rattle.directory_facts.proofs.Lawful.{nodes_see, settings_stay, shared_by}
-use Rattle.directory_facts.proofs.Placing.{AllAdded, added_view}
-use Rattle.directory_facts.proofs.Seeing.{seen_facts, seen_keep}
-use Rattle.directory_headline.proofs.Ending.{headline_after, plain_after}
-use Rattle.directory_headline.proofs.Running.{one_more}
+use Rattle.directory_facts.proofs.Places.{AllAdded, added_view}
+use Rattle.directory_facts.proofs.SeenRings.{seen_facts, seen_keep}
+use Rattle.directory_headline.proofs.Theorems.{headline_after, plain_after}
+use Rattle.directory_headline.proofs.Runs.{one_more}
+use Rattle.dump_headline.specs.Told.{IsRightlyTold}
+use Rattle.dump_headline.proofs.Theorem.{rightly_told}
 use Rattle.directory_node.specs.Placed.{ArePlaced}
 use Rattle.letter_mail.specs.Mail.{MailValue}
 use Rattle.directory_core.specs.Whole.{IsWorld, LeavesWorld}
@@ -67,6 +69,9 @@ holds P law world is = subst P (sym is.made) (law world.settings is.events is.in
 
 pub headline_of : (world : World) → IsWorld world → Headline world
 headline_of = holds Headline headline_after
+
+pub told_rightly : (world : World) → IsWorld world → IsRightlyTold world
+told_rightly = holds IsRightlyTold rightly_told
 
 pub plain_of_all : (world : World) → IsWorld world → MovesPlainly world
 plain_of_all = holds MovesPlainly plain_after

@@ -14,7 +14,7 @@ use Rattle.directory_rules.specs.Piece.{Piece}
 use Rattle.directory_rules.specs.Table.{Table, entries_of, lie_in}
 use Rattle.directory_rules.specs.World.{World}
 use Rattle.directory_facts.proofs.Lawful.{events_name_hashes, pieces_are_owned}
-use Rattle.grain_partition.specs.Holding.{are_tidy}
+use Rattle.grain_partition.specs.Holdings.{are_tidy}
 use Rattle.grain_partition.proofs.SettledHashes.{both_are}
 use Rattle.directory_core.specs.Whole.{IsWorld}
 

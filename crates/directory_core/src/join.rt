@@ -7,15 +7,14 @@ ghost use Rattle.directory_rules.specs.Happens.{join};
 ghost use Rattle.directory_rules.specs.Laws.{ArePeopled};
 ghost use Rattle.directory_rules.specs.Node.{new_node};
 ghost use Rattle.directory_node.specs.Follows.{Follows};
-ghost use Rattle.directory_core.specs.Applying.{accepted_as};
-ghost use Rattle.directory_core.specs.Joining.{nodes_without, with_admitted};
+ghost use Rattle.directory_core.specs.Applied.{accepted_as};
+ghost use Rattle.directory_core.specs.Join.{nodes_without, with_admitted};
 ghost use Rattle.directory_core.specs.Numbers.{IsNumberedUnlessMemory, event_refusal_number};
 ghost use Rattle.directory_core.specs.Whole.{IsWorld, LeavesWorld};
 
 use crate::nodes::{put_new_node, remove_node};
 use crate::{EventRefusal, World};
-use cluster_events::{Happening, Outcome};
-use directory_rules::Settings;
+use directory_rules::{Happening, Outcome, Settings};
 use hash_ring::{Places, RingError};
 use membership_view::{Joined, Views};
 use shared_node::SharedNode;

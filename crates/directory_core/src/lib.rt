@@ -3,25 +3,27 @@
 #![tactic(auto)]
 
 mod apply;
-mod delivering;
+mod delivery;
+mod dumping;
 mod join;
-mod leaving;
+mod leave;
 mod nodes;
-mod passing;
+mod pass;
 mod planned;
-mod posting;
+mod post;
 mod refusal;
+mod rows;
 mod run;
 mod sight;
 mod steps;
 mod told;
 mod world;
 
-pub use cluster_events::{Event, Happening, Outcome, Span};
-pub use delivering::Undelivered;
+pub use delivery::Undelivered;
 pub use directory_letters::{Body, Letter};
 pub use directory_node::Node;
-pub use directory_rules::{Effect, LetterKind, Policy, Settings};
+pub use directory_rules::{Effect, Event, Happening, LetterKind, Outcome, Policy, Settings, Span};
+pub use dump_lists::Dump;
 pub use hash_ring::Hashing;
 pub use membership_view::{Status, Views};
 pub use planned::UndeliveredPlan;

@@ -3,15 +3,16 @@ ghost use Rattle.std.specs.Prelude.{◌≡◌, ◌<◌, IfErr, IfOk, OnErr};
 ghost use Rattle.directory_rules.specs.Event.{Deliver};
 ghost use Rattle.directory_rules.specs.Happens.{deliver, happens};
 ghost use Rattle.directory_rules.specs.Headline.{Headline};
+ghost use Rattle.dump_headline.specs.Told.{IsRightlyTold};
 ghost use Rattle.directory_node.specs.Follows.{Follows};
-ghost use Rattle.directory_core.specs.Applying.{IsOkOfUse, IsPlainlyTold, accepted_as};
-ghost use Rattle.directory_core.specs.Delivering.{IsPlanWith, plan_back, undelivered_plan_number};
+ghost use Rattle.directory_core.specs.Applied.{IsOkOfUse, IsPlainlyTold, accepted_as};
+ghost use Rattle.directory_core.specs.Delivery.{IsPlanWith, plan_back, undelivered_plan_number};
 ghost use Rattle.directory_core.specs.Numbers.{IsNumberedUnlessMemory};
 ghost use Rattle.directory_core.specs.Whole.{LeavesWorld};
 
 use crate::{EventRefusal, World};
-use cluster_events::{Happening, Outcome};
 use directory_node::{Plan, is_idle};
+use directory_rules::{Happening, Outcome};
 
 /// A plan that couldn't be carried out: why, and the plan itself, which may be tried again. Where memory runs out it is used up.
 #[derive(Drop)]
@@ -32,6 +33,7 @@ impl World {
         ensures back { IfErr result (λ undelivered. undelivered.plan ≡ plan_back (undelivered_plan_number undelivered) plan) }
         ensures unchanged { OnErr result (self.new ≡ self.old) }
         ensures headline { Headline self.new }
+        ensures right { IsRightlyTold self.new }
         ensures plain { IfOk result (λ outcome. IsPlainlyTold self.old outcome self.new) }
     {
         self.whole();

@@ -1,13 +1,14 @@
 ghost use Rattle.std.specs.Prelude.{◌≡◌, ◌⊎◌, ◌++◌, ◌∷◌, [], ℕ, IfOk, OnErr, OnOk, map, take};
-ghost use Rattle.cluster_events.specs.EventModel.{event_of};
+ghost use Rattle.directory_rules.specs.EventModel.{event_of};
 ghost use Rattle.directory_rules.specs.Happens.{happens};
-ghost use Rattle.directory_core.specs.Applying.{excused};
+ghost use Rattle.directory_core.specs.Applied.{excused};
 ghost use Rattle.directory_rules.specs.Headline.{Headline};
 ghost use Rattle.directory_rules.specs.Run.{run, told_of, world_after};
-ghost use Rattle.directory_core.specs.Moving.{AllMovePlainly, MovesBy};
+ghost use Rattle.dump_headline.specs.Told.{IsRightlyTold};
+ghost use Rattle.directory_core.specs.PlainSteps.{AllMovePlainly, MovesBy};
 
 use crate::{Told, World};
-use cluster_events::Event;
+use directory_rules::Event;
 use std::alloc::{AllocError, Global};
 
 impl World {
@@ -15,13 +16,15 @@ impl World {
     /// told, or why it was refused (`docs/RULES.md#the-world`). Out of memory ends the run, and what was applied stands.
     ///
     /// The headline holds of the world that is left, and each accepted event is the step of the plain machine that it tells
-    /// (`docs/RULES.md#what-is-to-hold-of-the-world`).
+    /// (`docs/RULES.md#what-is-to-hold-of-the-world`); the dump of that world is right
+    /// (`docs/RULES.md#the-dump-and-the-verdict`).
     pub fn run(&mut self, alloc: Global, events: &[Event]) -> Result<Vec<Told>, AllocError>
         ensures told { IfOk result (λ told. told.items ≡ (run self.old (map event_of events.now)).told) }
         ensures world { OnOk result (self.new ≡ (run self.old (map event_of events.now)).world) }
         ensures plain { OnOk result (AllMovePlainly self.old (map event_of events.now)) }
         ensures stopped { OnErr result ((count : ℕ) × (self.new ≡ (run self.old (map event_of (take count events.now))).world) × AllMovePlainly self.old (map event_of (take count events.now))) }
         ensures headline { Headline self.new }
+        ensures right { IsRightlyTold self.new }
     {
         let mut told = Vec::new(alloc);
         for event in events {
@@ -38,6 +41,7 @@ impl World {
         ensures stopped { OnErr result ((self.new ≡ self.old) ⊎ (self.new ≡ world_after (happens self.old (event_of event.now)) self.old)) }
         ensures plain { MovesBy self.old (event_of event.now) }
         ensures headline { Headline self.new }
+        ensures right { IsRightlyTold self.new }
     {
         event.in_range();
         self.headline();
@@ -51,8 +55,9 @@ impl World {
         ensures told { IfOk result (λ told. told ≡ told_of (happens self.old (event_of event.now))) }
         ensures world { OnOk result (self.new ≡ world_after (happens self.old (event_of event.now)) self.old) }
         ensures unchanged { OnErr result (self.new ≡ self.old) }
-        ensures memory { OnErr result (excused event.now (happens self.old (event_of event.now))) }
+        ensures memory { OnErr result (excused self.old event.now (happens self.old (event_of event.now))) }
         ensures headline { Headline self.new }
+        ensures right { IsRightlyTold self.new }
     {
         match self.apply(event) {
             Ok(outcome) => Ok(Told::new(Ok(outcome))),

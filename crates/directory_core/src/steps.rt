@@ -1,31 +1,30 @@
 ghost use Rattle.std.specs.Prelude.{◌≡◌, ◌<◌, ◌+◌, nat_le, true, IfErr, IsOk, IsSome, OnOk, OnErr, Some};
 ghost use Rattle.directory_rules.specs.Happens.{absent_number, counted, deliver, does, lose, node_of, taken};
-ghost use Rattle.directory_rules.specs.Input.{Nudges};
+ghost use Rattle.directory_rules.specs.Input.{Forgets, Nudges};
 ghost use Rattle.directory_rules.specs.Letter.{Letter as LetterValue};
 ghost use Rattle.directory_rules.specs.Mail.{has_room_for, letter_of, span_of, with_delivered, with_lost};
 ghost use Rattle.directory_rules.specs.Node.{Node as NodeValue};
 ghost use Rattle.directory_node.specs.Follows.{Follows};
 ghost use Rattle.directory_node.specs.InputModel.{input_of};
 ghost use Rattle.directory_node.specs.Numbers.{step_refusal_number};
-ghost use Rattle.directory_node.specs.Planning.{Fits, changed, step_by};
-ghost use Rattle.cluster_events.specs.OutcomeModel.{happening_of, span_of as code_span};
-ghost use Rattle.std.specs.Option.{option_map, option_or};
-ghost use Rattle.directory_core.specs.Applying.{IsNever, IsOkOfUse, IsOkOrFull, accepted_as};
+ghost use Rattle.directory_node.specs.Plans.{Fits, changed, step_by};
+ghost use Rattle.std.specs.Option.{option_or};
+ghost use Rattle.directory_core.specs.Applied.{HasForgotten, IsAwaited, IsNever, IsOkOfUse, accepted_as};
 ghost use Rattle.directory_core.specs.Numbers.{IsNumberedUnlessMemory, event_refusal_number};
-ghost use Rattle.directory_core.specs.Stepping.{IsOwn, after_step, letters_number};
+ghost use Rattle.directory_core.specs.Steps.{IsOwn, after_step, letters_number};
 ghost use Rattle.directory_core.specs.Whole.{IsWorld, LeavesWorld};
 
-use crate::posting::{carry_out_at, receive_at};
+use crate::post::{carry_out_at, receive_at};
 use crate::{EventRefusal, World};
-use cluster_events::{Happening, Outcome, Span};
 use directory_letters::Letter;
 use directory_node::{Change, Input, Plan, StepRefusal, is_idle};
-use silo_address::SiloAddress;
-use std::alloc::{AllocError, Global};
+use directory_rules::{Effect, Happening, Outcome, Span};
+use silo_address::{GrainId, SiloAddress};
+use std::alloc::AllocError;
 
 // Steps of silos in the world: a step is planned, which changes nothing yet, then its letters are sent and it is carried out.
 impl World {
-    // A silo takes a step of its own, which is no sight and no nudge: 901, 902, then as the step refuses, then 909.
+    // A silo takes a step of its own, which is no sight, no nudge and no forget: 901, 902, then as the step refuses, then 909.
     #[inline(never)]
     pub(crate) fn does(
         &mut self,
@@ -53,15 +52,50 @@ impl World {
         self.take(silo, happening, plan)
     }
 
-    // A silo sends again what it has outstanding: 901, 902, then as the step refuses, then 909.
+    // A silo forgets what its cache has of a grain: 901, 902. Needs memory only where the cache has something of it.
+    #[inline(never)]
+    pub(crate) fn forgets(
+        &mut self,
+        silo: &SiloAddress,
+        grain: &GrainId,
+    ) -> Result<Outcome, EventRefusal>
+        requires room { self.old.accepted < self.old.settings.events }
+        requires leaves { LeavesWorld (does self.old silo.now (Forgets grain.now)) }
+        ensures told { Follows (accepted_as self.new) event_refusal_number (HasForgotten silo.now grain.now) (does self.old silo.now (Forgets grain.now)) result }
+        ensures numbered { IfErr result IsNumberedUnlessMemory }
+        ensures unchanged { OnErr result (self.new ≡ self.old) }
+    {
+        self.whole();
+        let Some(node) = self.node(silo) else {
+            return Err(self.absent(silo));
+        };
+        let plan = match node.plan(self.alloc, &Input::Forgets(grain)) {
+            Ok(plan) => plan,
+            Err(_) => unreachable!(),
+        };
+        match plan.effect {
+            Effect::NothingCached(_) => Ok(self.stay(silo, plan.effect)),
+            effect => {
+                let happening = Happening::Did {
+                    silo: *silo,
+                    effect,
+                };
+                self.take(silo, happening, plan)
+            }
+        }
+    }
+
+    // A silo sends again what it has outstanding: 901, 902, then as the step refuses, then 909. Needs memory only where it waits for
+    // something.
     #[inline(never)]
     pub(crate) fn nudges(&mut self, silo: &SiloAddress) -> Result<Outcome, EventRefusal>
         requires room { self.old.accepted < self.old.settings.events }
         requires leaves { LeavesWorld (does self.old silo.now Nudges) }
-        ensures told { Follows (accepted_as self.new) event_refusal_number IsOkOrFull (does self.old silo.now Nudges) result }
+        ensures told { Follows (accepted_as self.new) event_refusal_number (IsAwaited self.old silo.now) (does self.old silo.now Nudges) result }
         ensures numbered { IfErr result IsNumberedUnlessMemory }
         ensures unchanged { OnErr result (self.new ≡ self.old) }
     {
+        self.whole();
         let Some(node) = self.node(silo) else {
             return Err(self.absent(silo));
         };
@@ -69,6 +103,9 @@ impl World {
             Ok(plan) => plan,
             Err(refusal) => return Err(EventRefusal::of_node(refusal)),
         };
+        if node.is_quiet() {
+            return Ok(self.stay(silo, Effect::Nudged));
+        }
         let happening = Happening::Did {
             silo: *silo,
             effect: plan.effect,
@@ -86,8 +123,8 @@ impl World {
         requires room { self.old.accepted < self.old.settings.events }
         requires there { IsSome (node_of self.old silo.now) }
         requires fits { (node : NodeValue) → node_of self.old silo.now ≡ Some node → Fits plan.change node }
-        requires leaves { (node : NodeValue) → node_of self.old silo.now ≡ Some node → LeavesWorld (taken self.old silo.now (happening_of happening) (step_by node plan)) }
-        ensures told { (node : NodeValue) → node_of self.old silo.now ≡ Some node → Follows (accepted_as self.new) event_refusal_number IsOk (taken self.old silo.now (happening_of happening) (step_by node plan)) result }
+        requires leaves { (node : NodeValue) → node_of self.old silo.now ≡ Some node → LeavesWorld (taken self.old silo.now happening (step_by node plan)) }
+        ensures told { (node : NodeValue) → node_of self.old silo.now ≡ Some node → Follows (accepted_as self.new) event_refusal_number IsOk (taken self.old silo.now happening (step_by node plan)) result }
         ensures numbered { IfErr result IsNumberedUnlessMemory }
         ensures unchanged { OnErr result (self.new ≡ self.old) }
     {
@@ -124,11 +161,6 @@ impl World {
         }
     }
 
-    // Where memory comes from.
-    fn allocator(&self) -> Global {
-        self.alloc
-    }
-
     // Why a silo without a node takes no step.
     pub(crate) fn absent(&self, silo: &SiloAddress) -> EventRefusal
         ensures number { event_refusal_number result ≡ Some (absent_number self.now silo.now) }
@@ -160,7 +192,7 @@ impl World {
     // The first and the last number of letters that are sent now.
     pub(crate) fn span_of(&self, letters: &[Letter]) -> Option<Span>
         requires { has_room_for self.now letters.now ≡ true }
-        ensures { option_map code_span result ≡ span_of self.now letters.now }
+        ensures { result ≡ span_of self.now letters.now }
     {
         self.settings.counts_fit();
         match letters {
@@ -181,6 +213,7 @@ impl World {
         ensures numbered { IfErr result IsNumberedUnlessMemory }
         ensures unchanged { OnErr result (self.new ≡ self.old) }
     {
+        let alloc = self.alloc;
         let found = self.letter(number);
         let Some(mailed) = &found else {
             return Err(EventRefusal::NoSuchLetter);
@@ -191,7 +224,7 @@ impl World {
         let Some(node) = self.node(&to) else {
             return Err(EventRefusal::DeadSilo);
         };
-        let Ok(plan) = node.plan_letter(self.allocator(), letter) else {
+        let Ok(plan) = node.plan_letter(alloc, letter) else {
             return Err(self.refused_sending(node.answer_count(letter)));
         };
         drop(found);

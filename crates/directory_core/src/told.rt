@@ -3,7 +3,7 @@ ghost use Rattle.directory_core.specs.Numbers.{event_refusal_number};
 ghost use Rattle.directory_core.specs.ToldModel.{told_as};
 
 use crate::EventRefusal;
-use cluster_events::Outcome;
+use directory_rules::Outcome;
 use std::marker::Model;
 
 /// What an event of a run told: its outcome, or why it was refused.
@@ -14,7 +14,7 @@ pub struct Told {
 
 impl Model for Told {
     ghost use Rattle.std.specs.Prelude.{ℕ, Result};
-    ghost use Rattle.directory_rules.specs.Event.{Outcome};
+    ghost use Rattle.directory_rules.specs.declared.outcome.Outcome.{Outcome};
 
     ghost Value = { Result Outcome ℕ };
 

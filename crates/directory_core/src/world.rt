@@ -10,11 +10,12 @@ ghost use Rattle.directory_rules.specs.Happens.{node_of};
 ghost use Rattle.directory_rules.specs.Mail.{letter_of};
 ghost use Rattle.directory_rules.specs.World.{current_ring};
 ghost use Rattle.directory_rules.specs.Happens.{least_deliverable};
-ghost use Rattle.grain_partition.specs.Holding.{are_tidy};
+ghost use Rattle.grain_partition.specs.Holdings.{are_tidy};
 ghost use Rattle.letter_mail.specs.Mail.{has_fresh, least_fresh_to};
 ghost use Rattle.letter_mail.specs.MailedModel.{letter_seen};
+ghost use Rattle.dump_headline.specs.Told.{IsRightlyTold};
 ghost use Rattle.directory_core.specs.CurrentView.{HasSeenCurrent, IsCurrentSeen};
-ghost use Rattle.directory_core.specs.Mailing.{mail_of};
+ghost use Rattle.directory_core.specs.WorldMail.{mail_of};
 ghost use Rattle.directory_core.specs.Whole.{IsWorld};
 
 use directory_node::{Node, Transition};
@@ -50,7 +51,7 @@ impl Model for World {
 
     ghost Value = { World };
 
-    ghost use Rattle.directory_core.specs.Sharing.{IsWhole};
+    ghost use Rattle.directory_core.specs.Transitions.{IsWhole};
     ghost use Rattle.directory_core.specs.WorldModel.{world_of};
 
     ghost view = { world_of };
@@ -125,7 +126,7 @@ impl World {
     pub fn node(&self, silo: &SiloAddress) -> Option<&Node>
         ensures { option_copied result ≡ node_of self.now silo.now }
     {
-        let shared = self.shared_node(silo)?;
+        let shared = self.nodes.get(silo)?;
         Some(shared.node())
     }
 
@@ -244,9 +245,11 @@ impl World {
     }
 
     /// A law: the headline holds of every world, and each event that a world accepts is one step of the plain machine
-    /// (`docs/RULES.md#what-is-to-hold-of-the-world`).
+    /// (`docs/RULES.md#what-is-to-hold-of-the-world`); its dump is a dump in which all is right
+    /// (`docs/RULES.md#the-dump-and-the-verdict`).
     pub fn headline(&self)
         ensures headline { Headline self.now }
+        ensures right { IsRightlyTold self.now }
         ensures plain { MovesPlainly self.now }
     {
         self.whole();

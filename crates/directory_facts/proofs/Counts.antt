@@ -16,7 +16,7 @@ use Rattle.directory_facts.specs.Own.{HoldsOnce, CountsOnce}
 use Rattle.directory_facts.proofs.Entries.{same_key, all_set, all_removed, found_so}
 use Rattle.directory_facts.proofs.Carried.{Facts, Keeps}
 use Rattle.directory_facts.proofs.Ways.{Ways}
-use Rattle.directory_facts.proofs.Stepping.{by_way}
+use Rattle.directory_facts.proofs.EachStep.{by_way}
 
 -- what holds of each activation's grain and count
 abbrev pub Each : (Grain → ℕ → Type 0) → List (Grain × Held) → Type 0

@@ -22,11 +22,11 @@ use Rattle.directory_facts.specs.Pieces.{IsPiece, IsHashedInto}
 use Rattle.directory_facts.specs.Laws.{world_by, SettingsStay, NodesAreOwn, CountsAreApart, LettersAreOwn, NodesSeeTheirVersions, RowsHavePlaces, NodesHavePieces, PiecesAreOwned, NamesAreInRange, EventsNameHashes}
 use Rattle.directory_facts.proofs.Carried.{Facts, Keeps}
 use Rattle.directory_facts.proofs.Reached.{everywhere, found_node, found_letter}
-use Rattle.directory_facts.proofs.Owning.{own_facts, own_keep, is_own_node}
+use Rattle.directory_facts.proofs.Owners.{own_facts, own_keep, is_own_node}
 use Rattle.directory_facts.proofs.Counts.{counts_once, counted_facts, counted_keep}
-use Rattle.directory_facts.proofs.Placing.{added_row}
-use Rattle.directory_facts.proofs.Seeing.{AreViews, seen_facts, seen_keep}
-use Rattle.directory_facts.proofs.Naming.{has_names, place_silo, ring_silos}
+use Rattle.directory_facts.proofs.Places.{added_row}
+use Rattle.directory_facts.proofs.SeenRings.{AreViews, seen_facts, seen_keep}
+use Rattle.directory_facts.proofs.Names.{has_names, place_silo, ring_silos}
 use Rattle.directory_facts.proofs.NamesKept.{all_names, names_keep}
 use Rattle.directory_facts.proofs.PiecesKept.{all_facts, all_keep, has_pieces}
 

@@ -30,13 +30,13 @@ use Rattle.directory_rules.specs.Table.{Table, table_of, with_entry}
 use Rattle.directory_rules.specs.Piece.{Piece, Holding}
 use Rattle.directory_rules.specs.Sight.{is_next}
 use Rattle.directory_rules.specs.Snapshot.{Snapshot, Page}
-use Rattle.directory_rules.specs.Gathering.{Gathering, new_gathering, gathered}
+use Rattle.directory_rules.specs.Gatherings.{Gathering, new_gathering, gathered}
 use Rattle.directory_rules.specs.Recovery.{Report, Recovery, new_recovery, recovered}
 use Rattle.directory_rules.specs.Host.{Host, entry_of, held_of, next_held, with_started, with_closing, with_find, without_find, without_held, confirmed, renewed, is_firm}
 use Rattle.directory_rules.specs.Answer.{piece_with, with_piece, turned, serving_piece, served_by, answered_from, answered}
 use Rattle.directory_rules.specs.Letter.{Letter, Request_letter, Page_letter, Report_letter}
 use Rattle.directory_rules.specs.Node.{Node, new_node}
-use Rattle.directory_rules.specs.Sending.{all_requests, all_wants, gathering_of, recovery_of, query_letters}
+use Rattle.directory_rules.specs.Sent.{all_requests, all_wants, gathering_of, recovery_of, query_letters}
 use Rattle.directory_rules.specs.Step as at
 use Rattle.directory_rules.specs.Transfer as tr
 use Rattle.directory_rules.specs.Input.{Input}
@@ -46,16 +46,16 @@ use Rattle.directory_facts.specs.Seen.{SeesItsVersion}
 use Rattle.directory_facts.proofs.Entries.{same_key, all_put, all_set, all_removed, found_so}
 use Rattle.directory_facts.proofs.Carried.{Facts, Brings, Keeps, Both, KeepsBeside, beside, both_keep}
 use Rattle.directory_facts.proofs.Ways.{MayBegin, Ways}
-use Rattle.directory_facts.proofs.Stepping.{by_way}
-use Rattle.directory_facts.proofs.Owning.{OwnNode, own_facts, own_keep}
+use Rattle.directory_facts.proofs.EachStep.{by_way}
+use Rattle.directory_facts.proofs.Owners.{OwnNode, own_facts, own_keep}
 use Rattle.directory_facts.proofs.Counts.{AreOf, closed_are, confirmed_are, less_are, renewed_are}
-use Rattle.directory_facts.proofs.Seeing.{seen_facts, seen_keep}
-use Rattle.directory_facts.proofs.Placing.{added_is}
-use Rattle.directory_facts.proofs.Serving.{serves}
-use Rattle.directory_facts.proofs.Collecting.{found_or}
+use Rattle.directory_facts.proofs.SeenRings.{seen_facts, seen_keep}
+use Rattle.directory_facts.proofs.Places.{added_is}
+use Rattle.directory_facts.proofs.Served.{serves}
+use Rattle.directory_facts.proofs.Collected.{found_or}
 use Rattle.directory_facts.proofs.PiecesKept.{base_facts}
 use Rattle.directory_facts.proofs.NamedTables.{AllNamed, entries_named, table_named, folded_named, handed_named, GatheredNamed, gathered_named, RecoveredNamed, recovered_named, NamesAct, turned_named}
-use Rattle.directory_facts.proofs.Naming.{Names, NamesOf, NamesBody, Says, SharedNames, named_facts, one_says, request_says, requests_say, pieces_say, OfSilos, ring_silos}
+use Rattle.directory_facts.proofs.Names.{Names, NamesOf, NamesBody, Says, SharedNames, named_facts, one_says, request_says, requests_say, pieces_say, OfSilos, ring_silos}
 use Rattle.directory_facts.proofs.NamedSights.{TablesNamed, AwaitSilos, arcs_from, pieces_named, pieces_await, shelf_named, gatherings_anew, recoveries_anew}
 
 -- ---- requests that are served

@@ -27,7 +27,7 @@ use Rattle.directory_rules.specs.Table.{Table, entry_at, entries_of, with_entry,
 use Rattle.directory_rules.specs.Piece.{Piece, Holding}
 use Rattle.directory_rules.specs.Answer.{Answered, Turned, turned, registered_over, deregistered_from, found_reply, is_previous, piece_with, serving_piece, served_by, answered_from, answered}
 use Rattle.directory_rules.specs.Sight.{is_owner}
-use Rattle.directory_rules.specs.Sending.{grain_of}
+use Rattle.directory_rules.specs.Sent.{grain_of}
 use Rattle.directory_rules.proofs.Cases.{on_bool}
 use Rattle.directory_rules.proofs.Removed.{lookup_removed, sorted_removed}
 use Rattle.directory_rules.proofs.Ranges.{ranges, Rising, stands_at}
@@ -35,14 +35,14 @@ use Rattle.directory_rules.proofs.Tables.{turned_leaves}
 use Rattle.directory_facts.specs.Pieces.{IsPiece, ArePieces}
 use Rattle.directory_facts.specs.Whole.{StandUnderStarts, entry_in}
 use Rattle.directory_facts.specs.OneMap.{IsMapOf, IsAnsweredBy, NodesHaveOneMap, NodesAnswerByOneMap}
-use Rattle.directory_facts.proofs.Counting.{holding, counted, at_most_one}
+use Rattle.directory_facts.proofs.OwnPieces.{holding, counted, at_most_one}
 use Rattle.directory_facts.proofs.Entries.{same_key}
 use Rattle.directory_facts.proofs.Lookups.{found_put}
-use Rattle.directory_facts.proofs.Serving.{serves, found_holds}
-use Rattle.directory_facts.proofs.Tabling.{InOrder, order_nil}
-use Rattle.directory_facts.proofs.Piecing.{all_ordered}
+use Rattle.directory_facts.proofs.Served.{serves, found_holds}
+use Rattle.directory_facts.proofs.Tables.{InOrder, order_nil}
+use Rattle.directory_facts.proofs.Pieces.{all_ordered}
 use Rattle.directory_facts.proofs.Hashes.{grains_have_hashes}
-use Rattle.directory_facts.proofs.Leaving.{starts_rise, answers_leave_others}
+use Rattle.directory_facts.proofs.Answers.{starts_rise, answers_leave_others}
 use Rattle.directory_facts.proofs.Lawful.{nodes_have_pieces, pieces_are_owned}
 
 -- ---- an entry that is put in

@@ -24,12 +24,12 @@ use Rattle.directory_rules.specs.Table.{Table, table_of, rise_by_grain, lie_in}
 use Rattle.directory_rules.specs.Piece.{Piece}
 use Rattle.directory_rules.specs.Sight.{is_next}
 use Rattle.directory_rules.specs.Snapshot.{Page}
-use Rattle.directory_rules.specs.Gathering.{Gathering, new_gathering, gathered}
+use Rattle.directory_rules.specs.Gatherings.{Gathering, new_gathering, gathered}
 use Rattle.directory_rules.specs.Recovery.{Report, Recovery, new_recovery, recovered}
 use Rattle.directory_rules.specs.Letter.{Letter, Request_letter}
 use Rattle.directory_rules.specs.Node.{Node, new_node}
 use Rattle.directory_rules.specs.Answer.{answered}
-use Rattle.directory_rules.specs.Sending.{gathering_of, recovery_of}
+use Rattle.directory_rules.specs.Sent.{gathering_of, recovery_of}
 use Rattle.directory_rules.specs.Step as at
 use Rattle.directory_rules.specs.Transfer as tr
 use Rattle.directory_rules.specs.Input.{Input}
@@ -42,12 +42,12 @@ use Rattle.directory_facts.specs.Pieces.{IsHashedInto, IsTableOf, IsGathering, I
 use Rattle.directory_facts.proofs.Entries.{all_put, all_removed}
 use Rattle.directory_facts.proofs.Carried.{Facts, Brings, Keeps, Both, KeepsBeside, beside, both_keep}
 use Rattle.directory_facts.proofs.Ways.{HasPiece, IsPageTaken, IsReportTaken, Ways}
-use Rattle.directory_facts.proofs.Stepping.{by_way}
-use Rattle.directory_facts.proofs.Owning.{OwnNode, own_facts, own_keep}
-use Rattle.directory_facts.proofs.Seeing.{seen_facts, seen_keep}
-use Rattle.directory_facts.proofs.Tabling.{table_nil, table_rising}
-use Rattle.directory_facts.proofs.Collecting.{found_or, gathered_into, GatheredInto, recovered_into, RecoveredInto}
-use Rattle.directory_facts.proofs.Piecing.{HasTable, Pieces, no_pieces, are_pieces, bare_table, pieces_made, pieces_changed, pieces_answered}
+use Rattle.directory_facts.proofs.EachStep.{by_way}
+use Rattle.directory_facts.proofs.Owners.{OwnNode, own_facts, own_keep}
+use Rattle.directory_facts.proofs.SeenRings.{seen_facts, seen_keep}
+use Rattle.directory_facts.proofs.Tables.{table_nil, table_rising}
+use Rattle.directory_facts.proofs.Collected.{found_or, gathered_into, GatheredInto, recovered_into, RecoveredInto}
+use Rattle.directory_facts.proofs.Pieces.{HasTable, Pieces, no_pieces, are_pieces, bare_table, pieces_made, pieces_changed, pieces_answered}
 
 -- what a node keeps of ranges
 pub record Keeping (hashing : Hashing) (pieces : List (ℕ × Piece)) (gatherings : List (ℕ × Gathering)) (recoveries : List (ℕ × Recovery)) : Type 0 where

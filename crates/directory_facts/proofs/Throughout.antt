@@ -10,7 +10,7 @@ use Rattle.texts.proofs.Decided.{both}
 use Rattle.ring_range.specs.Range.{circle, Range, IsRange, distance, ahead, holds, within}
 use Rattle.ring_range.specs.Cut.{cut_parts, IsInside}
 use Rattle.ring_range.proofs.Circle.{distance-up, distance-round, distance-lt, distance-itself, distance-back, distance-zero, ahead-lt, distance-ahead, distance-turn}
-use Rattle.ring_range.proofs.Cutting.{is_cut, ranges}
+use Rattle.ring_range.proofs.Cuts.{is_cut, ranges}
 use Rattle.directory_rules.specs.Piece.{Piece}
 use Rattle.directory_rules.specs.Sight.{is_settled, is_in_settled}
 use Rattle.directory_rules.specs.Laws.{lies_settled}

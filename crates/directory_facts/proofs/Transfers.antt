@@ -21,11 +21,11 @@ use Rattle.directory_rules.specs.Settings.{page_size}
 use Rattle.directory_rules.specs.Piece.{Piece}
 use Rattle.directory_rules.specs.Table.{Table, table_of, rise_by_grain, lie_in}
 use Rattle.directory_rules.specs.Snapshot.{Snapshot, Page, page_count, page_entries, page_of, digest_of}
-use Rattle.directory_rules.specs.Gathering.{Gathering, Whole, Gathered, Wants_page, Has_all, Refuses, new_gathering, with_page, is_in_turn, completed, gathered, agrees, is_entry_count}
+use Rattle.directory_rules.specs.Gatherings.{Gathering, Whole, Gathered, Wants_page, Has_all, Refuses, new_gathering, with_page, is_in_turn, completed, gathered, agrees, is_entry_count}
 use Rattle.directory_rules.specs.Recovery.{Report, Has_union, recovered}
 use Rattle.directory_rules.specs.Letter.{Letter}
 use Rattle.directory_rules.specs.Node.{Node}
-use Rattle.directory_rules.specs.Sending.{gathering_of, recovery_of}
+use Rattle.directory_rules.specs.Sent.{gathering_of, recovery_of}
 use Rattle.directory_rules.specs.Step.{silently}
 use Rattle.directory_rules.specs.declared.effect.Effect.TheVariants as effect
 use Rattle.directory_rules.specs.Transfer.{piece_at, has_range, is_awaiting_from, is_recovering, awaits, recovers, with_settled, gathered_by, recovered_by, is_page_awaited, paged, is_report_awaited, reported}

@@ -10,7 +10,7 @@ use Rattle.hash_ring.specs.Hash.{hash_grain}
 use Rattle.directory_rules.specs.declared.piece_state.PieceState.TheVariants.{Settled}
 use Rattle.directory_rules.specs.Table.{Table}
 use Rattle.directory_rules.specs.Piece.{Piece}
-use Rattle.directory_rules.specs.Gathering.{Gathering}
+use Rattle.directory_rules.specs.Gatherings.{Gathering}
 use Rattle.directory_rules.specs.Recovery.{Recovery}
 use Rattle.directory_rules.specs.Node.{Node}
 

@@ -6,11 +6,11 @@ use Rattle.ring_range.specs.Range.{Range}
 use Rattle.directory_rules.specs.declared.piece_state.PieceState.TheVariants.{Settled}
 use Rattle.directory_rules.specs.Table.{Table, table_of}
 use Rattle.directory_rules.specs.Snapshot.{Snapshot, Page, page_count, page_of}
-use Rattle.directory_rules.specs.Gathering.{Gathering, Gathered, Wants_page, Has_all, Refuses, new_gathering, gathered}
+use Rattle.directory_rules.specs.Gatherings.{Gathering, Gathered, Wants_page, Has_all, Refuses, new_gathering, gathered}
 use Rattle.directory_rules.specs.Recovery.{Report, Has_union, recovered}
 use Rattle.directory_rules.specs.Letter.{Letter}
 use Rattle.directory_rules.specs.Node.{Node}
-use Rattle.directory_rules.specs.Sending.{gathering_of, recovery_of}
+use Rattle.directory_rules.specs.Sent.{gathering_of, recovery_of}
 use Rattle.directory_rules.specs.Transfer.{piece_at, is_page_awaited, paged, is_report_awaited, reported}
 
 -- a snapshot's pages, from the first to the last

@@ -14,7 +14,7 @@ use Rattle.directory_rules.specs.declared.held.Phase.TheVariants.{Asking, Firm, 
 use Rattle.directory_rules.specs.Host.{Host, held_acts, find_acts, outstanding, new_number}
 use Rattle.directory_rules.specs.Laws.{requests_of, AreNumbered}
 use Rattle.directory_rules.proofs.Cases.{on_bool}
-use Rattle.directory_rules.proofs.Numbering.{one, one_cases, times, with_number, numbers}
+use Rattle.directory_rules.proofs.RequestNumbers.{one, one_cases, times, with_number, numbers}
 use Rattle.directory_rules.proofs.Renewal.{held_numbers, same_keys, request_numbers, renewed_once, renewed_below}
 use Rattle.directory_facts.proofs.Entries.{same_key}
 

@@ -11,7 +11,9 @@ use Rattle.membership_view.specs.Changes as change
 use Rattle.hash_ring.specs.Places.{PlacesValue, after_add}
 use Rattle.directory_rules.specs.Letter.{Letter, kind_of}
 use Rattle.directory_rules.specs.Node.{Node}
-use Rattle.directory_rules.specs.Event.{Event, Join, Leave, Kill, See, Wake, Close, Find, Forget, Deliver, Lose, Nudge, Offer, Happening, Joined, Left, Saw, Did, Delivered, Lost}
+use Rattle.directory_rules.specs.Event.{Event, Join, Leave, Kill, See, Wake, Close, Find, Forget, Deliver, Lose, Nudge, Offer}
+use Rattle.directory_rules.specs.declared.outcome.Happening.{Happening}
+use Rattle.directory_rules.specs.declared.outcome.Happening.TheVariants.{Joined, Left, Saw, Did, Delivered, Lost}
 use Rattle.directory_rules.specs.Step.{Stepped}
 use Rattle.directory_rules.specs.Input.{Input, Sees, Wakes, Closes, Finds, Forgets, Nudges, Offers, Receives, step}
 use Rattle.directory_rules.specs.World.{World, Accepted}
@@ -40,9 +42,6 @@ accepted_step world silo happening stepped = record {
   outcome = record { happening = happening; sent = span_of world stepped.letters };
   world = with_step world silo stepped;
 }
-
-abbrev pub joined_world : World → Silo → ViewsValue → PlacesValue → World
-joined_world world silo next added = rule.counted (rule.after_joining world silo (change.occupant silo world.views.rows) next added)
 
 -- what is to be shown of every way
 pub record EventWays (world : World) (P : Accepted → Type 0) : Type 0 where

@@ -19,8 +19,8 @@ use Rattle.directory_rules.specs.Happens.{node_of}
 use Rattle.directory_rules.specs.Laws.{ArePeopled, IsOfOneVersion, AreNumbered, HoldOnce}
 use Rattle.directory_facts.specs.Own.{IsOwnNode, IsOwnLetter}
 use Rattle.directory_facts.specs.Seen.{SeesItsVersion}
-use Rattle.directory_facts.proofs.Seeing.{AreViews}
-use Rattle.directory_facts.proofs.Tabling.{InOrder}
+use Rattle.directory_facts.proofs.SeenRings.{AreViews}
+use Rattle.directory_facts.proofs.Tables.{InOrder}
 
 -- the piece's entries lie in it; one that isn't settled has none
 pub record IsPiece (hash : Grain → ℕ) (piece : Piece) : Type 0 where

@@ -23,9 +23,9 @@ use Rattle.directory_facts.specs.Own.{IsOwnNode, IsOwnLetter}
 use Rattle.directory_facts.specs.Pieces as facts
 use Rattle.directory_facts.specs.Laws.{world_by}
 use Rattle.directory_facts.proofs.Lawful.{settings_stay, shared_by, nodes_are_own, letters_are_own, nodes_see, nodes_have_pieces, pieces_are_owned, events_name_hashes}
-use Rattle.directory_facts.proofs.Seeing.{AreViews, seen_facts, seen_keep}
+use Rattle.directory_facts.proofs.SeenRings.{AreViews, seen_facts, seen_keep}
 use Rattle.directory_headline.proofs.Facts.{IsPiece}
-use Rattle.directory_headline.proofs.Running.{FactsHold}
+use Rattle.directory_headline.proofs.Runs.{FactsHold}
 
 above : (key : ℕ) (es : List (ℕ × Piece)) → All (λ e. key < e.0) es → AllByRecursion (λ other. nat_cmp key other ≡ Less) (keys_of es)
 above key [] all = tt

@@ -12,7 +12,7 @@ use Rattle.directory_rules.specs.Piece.{Piece}
 use Rattle.directory_rules.specs.Answer.{piece_with}
 use Rattle.directory_rules.proofs.Cases.{on_bool}
 use Rattle.directory_headline.proofs.Facts.{IsPiece}
-use Rattle.directory_facts.proofs.Counting.{holding, counted, found_counted}
+use Rattle.directory_facts.proofs.OwnPieces.{holding, counted, found_counted}
 
 -- a piece that has one hash and holds another has that one too
 pub one_piece : (h k : ℕ) (pieces : List (ℕ × Piece)) (piece : Piece) → holding k pieces ≤ 1 → piece_with h pieces ≡ Some piece → holds piece.range k ≡ true → piece_with k pieces ≡ Some piece

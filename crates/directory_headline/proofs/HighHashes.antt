@@ -20,10 +20,10 @@ use Rattle.directory_rules.specs.Piece.{Piece}
 use Rattle.directory_rules.specs.Answer.{piece_with}
 use Rattle.directory_rules.specs.Sight.{is_owner}
 use Rattle.directory_rules.specs.Laws.{HoldOnce}
-use Rattle.directory_facts.proofs.Serving.{found_holds}
+use Rattle.directory_facts.proofs.Served.{found_holds}
 use Rattle.directory_facts.proofs.Throughout.{some_counted}
 use Rattle.directory_headline.proofs.PieceAt.{of_found}
-use Rattle.directory_facts.proofs.Counting.{counted_first, found_counted, at_most_one}
+use Rattle.directory_facts.proofs.OwnPieces.{counted_first, found_counted, at_most_one}
 use Rattle.directory_headline.proofs.HashPieces.{one_piece}
 
 -- the hash itself; for a number above the circle the highest hash

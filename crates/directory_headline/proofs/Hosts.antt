@@ -15,12 +15,12 @@ use Rattle.directory_rules.specs.Host.{Host, held_of}
 use Rattle.directory_rules.specs.Cache.{Cache}
 use Rattle.directory_rules.specs.Letter.{Request_letter}
 use Rattle.directory_rules.specs.Node.{Node}
-use Rattle.directory_rules.specs.Sending.{letter_to, hash_of, request_of, owner_by, letter_if_owned, request_letters}
+use Rattle.directory_rules.specs.Sent.{letter_to, hash_of, request_of, owner_by, letter_if_owned, request_letters}
 use Rattle.directory_rules.specs.World.{World}
 use Rattle.directory_headline.specs.SiloState.{state_of}
 use Rattle.directory_headline.specs.Shown.{held_as, IsShownHost, IsShownHolding, IsShownNode, IsShownLetter, IsShownRequest}
 use Rattle.directory_headline.proofs.Actors.{Grows}
-use Rattle.directory_headline.proofs.Growing.{shelf_still, gatherings_still, recoveries_still}
+use Rattle.directory_headline.proofs.MoreLetters.{shelf_still, gatherings_still, recoveries_still}
 use Rattle.directory_headline.proofs.Frame.{Here, node_shown, no_letters, one_letter}
 
 -- what a silo has for others is as it was

@@ -32,8 +32,8 @@ use Rattle.directory_rules.specs.Answer.{piece_with}
 use Rattle.directory_rules.proofs.Cases.{on_bool}
 use Rattle.directory_rules.proofs.Tables.{other_than_put}
 use Rattle.directory_facts.proofs.Entries.{same_key}
-use Rattle.directory_facts.proofs.Tabling.{InOrder, order_nil, order_filtered}
-use Rattle.directory_facts.proofs.Piecing.{all_ordered}
+use Rattle.directory_facts.proofs.Tables.{InOrder, order_nil, order_filtered}
+use Rattle.directory_facts.proofs.Pieces.{all_ordered}
 use Rattle.directory_headline.specs.Setting.{is_alive_in}
 use Rattle.directory_headline.specs.Shown.{activation_in}
 use Rattle.directory_headline.proofs.Facts.{IsPiece}

@@ -9,7 +9,7 @@ use Rattle.ring_range.specs.Range.{holds}
 use Rattle.directory_rules.specs.Piece.{Piece}
 use Rattle.directory_rules.specs.Answer.{piece_with}
 use Rattle.directory_rules.proofs.Cases.{on_bool}
-use Rattle.directory_facts.proofs.Counting.{holding, counted}
+use Rattle.directory_facts.proofs.OwnPieces.{holding, counted}
 
 module _ (start h : ℕ) where
   -- a piece that stands under the start and holds the hash is counted

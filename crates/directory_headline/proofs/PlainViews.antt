@@ -8,7 +8,7 @@ use Rattle.membership_view.specs.View.{status_of}
 use Rattle.membership_view.specs.Views.{ViewsValue, view_at, status_at}
 use Rattle.membership_view.specs.Changes as change
 use Rattle.membership_view.specs.Step.{Joins, MembershipStep}
-use Rattle.membership_view.proofs.Staying.{rows_stay}
+use Rattle.membership_view.proofs.Unchanged.{rows_stay}
 use Rattle.hash_ring.specs.Places.{PlacesValue}
 use Rattle.directory_rules.specs.Membership.{is_dead_in}
 use Rattle.directory_rules.specs.Node.{Node, new_node}

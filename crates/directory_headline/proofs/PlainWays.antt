@@ -26,7 +26,7 @@ use Rattle.directory_rules.specs.PlainMachine.{Life, Is_asking, Is_firm, Is_clos
 use Rattle.directory_rules.proofs.Cases.{on_bool}
 use Rattle.directory_facts.specs.Own.{HoldsOnce}
 use Rattle.directory_facts.proofs.Ways.{Ways, MayClose}
-use Rattle.directory_facts.proofs.Stepping.{by_way}
+use Rattle.directory_facts.proofs.EachStep.{by_way}
 use Rattle.directory_facts.proofs.Lookups.{found_set, found_beside_set, found_beside_removed, find_looked, found_at_end, found_beside_end, once_removed}
 
 -- no activation changes, and no count is used

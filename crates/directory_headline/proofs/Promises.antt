@@ -43,7 +43,7 @@ use Rattle.directory_rules.specs.Settled.{HasNode, OwnsIn, IsSettledAt, entries_
 use Rattle.directory_rules.specs.Headline.{RingsAreSortedAnew, IsRetry, UnsettledRangesRetry, NoTwoFirm, OneSettles, Headline}
 use Rattle.directory_rules.proofs.Retried.{unsettled_retries}
 use Rattle.directory_facts.proofs.Hashes.{grains_have_hashes}
-use Rattle.directory_facts.proofs.Serving.{serves}
+use Rattle.directory_facts.proofs.Served.{serves}
 use Rattle.directory_headline.specs.Setting.{IsSettingOf}
 use Rattle.directory_headline.specs.Shown.{held_in, held_as, activation_in, is_settled_piece}
 use Rattle.directory_headline.proofs.Facts.{WorldFacts, IsPiece}

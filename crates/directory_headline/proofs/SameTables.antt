@@ -13,7 +13,7 @@ use Rattle.silo_address.proofs.Order.{grain_cmp_total, grain_cmp_exact}
 use Rattle.ring_range.specs.Range.{Range, holds}
 use Rattle.directory_rules.specs.Table.{Table, entry_at, entries_of, table_of}
 use Rattle.directory_rules.proofs.Cases.{on_bool}
-use Rattle.directory_facts.proofs.Tabling.{order_rising, above_all, InOrder}
+use Rattle.directory_facts.proofs.Tables.{order_rising, above_all, InOrder}
 use Rattle.directory_headline.specs.Shown.{IsListOf, activation_in}
 use Rattle.directory_facts.proofs.Lookups.{absent_found, lookup_first, lookup_later}
 use Rattle.directory_headline.proofs.TableEntries.{table_tail, head_apart, found_own, found_holds, none_above}

@@ -18,7 +18,7 @@ use Rattle.directory_rules.specs.declared.piece_state.PieceState.{PieceState}
 use Rattle.directory_rules.specs.declared.piece_state.PieceState.TheVariants as state
 use Rattle.directory_rules.specs.Table.{Table, entry_at}
 use Rattle.directory_rules.specs.Piece.{Piece}
-use Rattle.directory_rules.specs.Gathering.{Gathering}
+use Rattle.directory_rules.specs.Gatherings.{Gathering}
 use Rattle.directory_rules.specs.Recovery.{Recovery}
 use Rattle.directory_rules.specs.Answer.{piece_with}
 use Rattle.directory_rules.specs.Sight.{is_settled, is_owner}
@@ -32,7 +32,7 @@ use Rattle.directory_facts.proofs.Ways.{HasPiece}
 use Rattle.directory_facts.proofs.Throughout.{some_counted}
 use Rattle.directory_headline.specs.SiloState.{state_of}
 use Rattle.directory_headline.specs.Shown.{IsShownNode, IsShownHolding, IsShownGathering, IsShownRecovery, is_settled_piece, has_settled, activation_in}
-use Rattle.directory_facts.proofs.Counting.{owner_silo_is}
+use Rattle.directory_facts.proofs.OwnPieces.{owner_silo_is}
 use Rattle.directory_headline.proofs.PieceSet.{looked_counted, looked_found, set_found, set_elsewhere}
 use Rattle.directory_headline.proofs.Frame.{Here, node_shown, node_facts, host_is, hash_is, seen_is, owner_is, alive}
 use Rattle.directory_headline.proofs.HighHashes.{held_once}

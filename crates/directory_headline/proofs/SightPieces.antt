@@ -9,7 +9,7 @@ use Rattle.silo_address.specs.Silo.{Silo, silo_eq}
 use Rattle.membership_view.specs.View.{ViewValue}
 use Rattle.ring_range.specs.Range.{circle, Range, IsRange, holds}
 use Rattle.hash_ring.specs.declared.Hashing.{Hashing}
-use Rattle.range_moves.specs.declared.Arc.{Arc}
+use Rattle.range_moves.specs.declared.RingArc.{RingArc}
 use Rattle.directory_rules.specs.declared.piece_state.PieceState.{PieceState}
 use Rattle.directory_rules.specs.declared.piece_state.PieceState.TheVariants as state
 use Rattle.directory_rules.specs.declared.piece_state.PieceState.TheVariants.{Settled}
@@ -23,7 +23,7 @@ use Rattle.directory_rules.specs.Laws.{lies_settled}
 use Rattle.directory_rules.proofs.Cases.{on_bool}
 use Rattle.directory_rules.proofs.Pieces.{under}
 use Rattle.directory_headline.specs.Shown.{is_settled_piece, has_settled}
-use Rattle.directory_facts.proofs.Counting.{holding, counted, found_counted}
+use Rattle.directory_facts.proofs.OwnPieces.{holding, counted, found_counted}
 
 -- ---- the settled piece that has a hash
 pub record HasSettledPiece (h : ℕ) (pieces : List (ℕ × Piece)) : Type 0 where
@@ -86,7 +86,7 @@ missing_unsettled true view silo from = from_unsettled view silo from
 missing_unsettled false view silo from = refl
 
 module _ (next : Bool) (hashing : Hashing) (view : ViewValue) (silo : Silo) (pieces : List (ℕ × Piece)) where
-  arc_made : (arc : Arc) → IsRange arc.range → IsMade hashing view pieces (piece_of next hashing view silo pieces arc)
+  arc_made : (arc : RingArc) → IsRange arc.range → IsMade hashing view pieces (piece_of next hashing view silo pieces arc)
   arc_made arc range =
       on_bool (λ b. was_settled pieces arc.range ≡ b
       → IsMade hashing view pieces (cond {A = Piece} b (record { range = arc.range; state = Settled; entries = kept_entries hashing view pieces arc.range }) (record { range = arc.range; state = missing_state next view silo arc.from; entries = [] })))
@@ -95,10 +95,10 @@ module _ (next : Bool) (hashing : Hashing) (view : ViewValue) (silo : Silo) (pie
       (λ f not. record { range = range; settled = λ is. absurd (never arc is); entries = λ is. absurd (never arc is) })
       refl
     where
-      never : (arc : Arc) → missing_state next view silo arc.from ≡ Settled → ⊥
+      never : (arc : RingArc) → missing_state next view silo arc.from ≡ Settled → ⊥
       never arc is = let no = missing_unsettled next view silo arc.from in let yes = ap is_settled is in cc (no, yes)
 
-  pub all_made : (arcs : List Arc) → All (λ arc. IsRange arc.range) arcs → All (λ e. IsMade hashing view pieces e.1) (pieces_after next hashing view silo pieces arcs)
+  pub all_made : (arcs : List RingArc) → All (λ arc. IsRange arc.range) arcs → All (λ e. IsMade hashing view pieces e.1) (pieces_after next hashing view silo pieces arcs)
   all_made arcs ranges =
       All-map (λ e. IsMade hashing view pieces e.1) (under next hashing view silo pieces) (filter (λ arc. is_owner silo arc.to) arcs)
       (All-filter (λ arc. is_owner silo arc.to) (λ arc. IsMade hashing view pieces (piece_of next hashing view silo pieces arc)) arcs
@@ -125,7 +125,7 @@ module _ (hashing : Hashing) (view : ViewValue) (silo : Silo) (pieces : List (�
   for_owner None range has was = All-nil Sealed
   for_owner (Some to) range has was = All-cons Sealed _ [] (record { version = refl; range = has; settled = was; entries = refl }) (All-nil Sealed)
 
-  pub all_sealed : (arcs : List Arc) → All (λ arc. HasHash arc.range) arcs → All (IsSealed hashing view pieces) (sealed hashing view silo pieces arcs)
+  pub all_sealed : (arcs : List RingArc) → All (λ arc. HasHash arc.range) arcs → All (IsSealed hashing view pieces) (sealed hashing view silo pieces arcs)
   all_sealed [] all = All-nil Sealed
   all_sealed (arc ∷ arcs) all =
       let later = all_sealed arcs (All-tail (λ a. HasHash a.range) arc arcs all) in

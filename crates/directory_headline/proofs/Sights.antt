@@ -30,14 +30,14 @@ use Rattle.directory_rules.proofs.Cases.{on_bool}
 use Rattle.directory_rules.proofs.Pieces.{pieces_are_owned}
 use Rattle.directory_rules.proofs.Sights.{on_circle, compared}
 use Rattle.directory_facts.proofs.Carried.{IsSight}
-use Rattle.directory_facts.proofs.Serving.{found_holds}
+use Rattle.directory_facts.proofs.Served.{found_holds}
 use Rattle.directory_facts.proofs.Throughout.{settled_both, some_counted}
 use Rattle.directory_headline.specs.Setting.{is_member_in, is_alive_in, owner_in}
 use Rattle.directory_headline.specs.Shown.{has_settled}
 use Rattle.directory_headline.proofs.Facts.{NodeFacts}
 use Rattle.directory_headline.proofs.Frame.{Here, alive, node_facts, node_shown, host_is, seen_is, live_now, owner_is}
 use Rattle.directory_headline.proofs.PieceAt.{of_found}
-use Rattle.directory_facts.proofs.Counting.{holding, found_counted, owner_silo_is}
+use Rattle.directory_facts.proofs.OwnPieces.{holding, found_counted, owner_silo_is}
 use Rattle.directory_headline.proofs.Members.{live_since}
 use Rattle.directory_headline.proofs.SightPieces.{HasSettledPiece, has_piece, of_settled, lies_in_one, IsMade, all_made, IsSealed, all_sealed}
 use Rattle.directory_headline.proofs.HighHashes.{held_once}

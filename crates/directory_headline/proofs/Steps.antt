@@ -10,23 +10,23 @@ use Rattle.directory_rules.specs.Step.{Stepped}
 use Rattle.directory_rules.specs.Input.{Input}
 use Rattle.directory_rules.specs.World.{World}
 use Rattle.directory_facts.proofs.Ways.{Ways}
-use Rattle.directory_facts.proofs.Stepping.{by_way}
+use Rattle.directory_facts.proofs.EachStep.{by_way}
 use Rattle.directory_headline.proofs.Frame.{Here, Brings, Moves}
-use Rattle.directory_headline.proofs.Running.{AllMove}
-use Rattle.directory_headline.proofs.Staying.{nothing, cache_changes, find_ends, answers_so, forgoes}
-use Rattle.directory_headline.proofs.Finding.{finds}
-use Rattle.directory_headline.proofs.Beginning.{wakes, takes_over}
-use Rattle.directory_headline.proofs.Closing.{closes, offers}
+use Rattle.directory_headline.proofs.Runs.{AllMove}
+use Rattle.directory_headline.proofs.NoActions.{nothing, cache_changes, find_ends, answers_so, forgoes}
+use Rattle.directory_headline.proofs.Finds.{finds}
+use Rattle.directory_headline.proofs.Beginnings.{wakes, takes_over}
+use Rattle.directory_headline.proofs.Closes.{closes, offers}
 use Rattle.directory_headline.proofs.Replies.{confirms, yields, removes, misses}
-use Rattle.directory_headline.proofs.Telling.{reports}
-use Rattle.directory_headline.proofs.Serving.{answers}
-use Rattle.directory_headline.proofs.Paging.{hands, gathers, drops}
-use Rattle.directory_headline.proofs.Installing.{installs}
-use Rattle.directory_headline.proofs.Turning.{turns}
-use Rattle.directory_headline.proofs.Collecting.{collects}
-use Rattle.directory_headline.proofs.Recovering.{completes}
-use Rattle.directory_headline.proofs.Renewing.{nudges}
-use Rattle.directory_headline.proofs.Seeing.{sees}
+use Rattle.directory_headline.proofs.Queries.{reports}
+use Rattle.directory_headline.proofs.Requests.{answers}
+use Rattle.directory_headline.proofs.Pages.{hands, gathers, drops}
+use Rattle.directory_headline.proofs.LastPage.{installs}
+use Rattle.directory_headline.proofs.MissingSnapshot.{turns}
+use Rattle.directory_headline.proofs.Reports.{collects}
+use Rattle.directory_headline.proofs.LastReport.{completes}
+use Rattle.directory_headline.proofs.Nudges.{nudges}
+use Rattle.directory_headline.proofs.SightSteps.{sees}
 
 -- what is to be shown of a way
 abbrev pub Shows : Setting → World → protocol.World → Silo → Input → Stepped → Type 0

@@ -16,7 +16,7 @@ use Rattle.silo_address.proofs.Order.{grain_cmp_total, grain_cmp_exact}
 use Rattle.directory_rules.specs.Table.{Table, entry_at, entries_of, table_of}
 use Rattle.directory_rules.proofs.Cases.{on_bool}
 use Rattle.directory_facts.proofs.Entries.{same_key}
-use Rattle.directory_facts.proofs.Tabling.{InOrder}
+use Rattle.directory_facts.proofs.Tables.{InOrder}
 use Rattle.directory_facts.proofs.Lookups.{absent_found, lookup_first, lookup_later}
 
 -- ---- the first entry and the later ones

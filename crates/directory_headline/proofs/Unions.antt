@@ -8,7 +8,7 @@ use Rattle.directory_protocol.proofs.Changes.{grain_cases}
 use Rattle.directory_rules.specs.Table.{Table, entry_at, with_entry, table_of}
 use Rattle.directory_rules.specs.Recovery.{with_reported}
 use Rattle.directory_rules.proofs.Cases.{on_bool}
-use Rattle.directory_facts.proofs.Tabling.{InOrder}
+use Rattle.directory_facts.proofs.Tables.{InOrder}
 use Rattle.directory_facts.proofs.Lookups.{found_put, found_beside_put, absent_found, lookup_first, lookup_later}
 use Rattle.directory_headline.proofs.TableEntries.{table_tail, head_apart}
 

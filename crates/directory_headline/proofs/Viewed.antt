@@ -15,8 +15,8 @@ use Rattle.membership_view.specs.Changes as change
 use Rattle.membership_view.specs.Laws.{Accepts}
 use Rattle.membership_view.specs.Step.{Joins, Leaves, Dies}
 use Rattle.membership_view.proofs.Order.{Decides-shares}
-use Rattle.membership_view.proofs.Staying.{versions_rise}
-use Rattle.membership_view.proofs.Stepping.{changes_are_steps}
+use Rattle.membership_view.proofs.Unchanged.{versions_rise}
+use Rattle.membership_view.proofs.Changes.{changes_are_steps}
 use Rattle.hash_ring.specs.Places.{PlacesValue}
 use Rattle.directory_protocol.specs.Setting.{Setting}
 use Rattle.directory_protocol.specs.World as protocol
@@ -34,7 +34,7 @@ use Rattle.directory_rules.proofs.Removed.{lookup_removed}
 use Rattle.directory_headline.specs.SiloState.{state_of, first_state}
 use Rattle.directory_headline.specs.Shown.{Shown, IsShownNode, IsShownLetter, IsShownSnapshot, IsShownGathering, IsShownRecovery}
 use Rattle.directory_headline.proofs.Actors.{Grows}
-use Rattle.directory_headline.proofs.Growing.{letter_still, node_still}
+use Rattle.directory_headline.proofs.MoreLetters.{letter_still, node_still}
 use Rattle.directory_facts.proofs.Lookups.{found_put, found_beside_put, found_beside_removed}
 use Rattle.directory_headline.proofs.Facts.{WorldFacts}
 

@@ -25,7 +25,7 @@ use Rattle.directory_rules.specs.Settings.{page_size}
 use Rattle.directory_rules.specs.Table.{entry_at, table_of, rise_by_grain}
 use Rattle.directory_rules.specs.Piece.{Piece, Holding}
 use Rattle.directory_rules.specs.Snapshot.{Snapshot, Page, page_count, page_entries}
-use Rattle.directory_rules.specs.Gathering.{Gathering, Whole}
+use Rattle.directory_rules.specs.Gatherings.{Gathering, Whole}
 use Rattle.directory_rules.specs.Recovery.{Report, Recovery, is_among}
 use Rattle.directory_rules.specs.Host.{Host, held_of}
 use Rattle.directory_rules.specs.Answer.{piece_with, last_served}

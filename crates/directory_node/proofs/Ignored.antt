@@ -14,20 +14,20 @@ use Rattle.directory_rules.specs.declared.reply.Reply.{Reply}
 use Rattle.directory_rules.specs.declared.reply.Reply.TheVariants as reply
 use Rattle.directory_rules.specs.Answer.{answered}
 use Rattle.directory_rules.specs.Cache.{learnt}
-use Rattle.directory_rules.specs.Gathering.{Gathered, Has_all, Refuses, Wants_page, gathered}
+use Rattle.directory_rules.specs.Gatherings.{Gathered, Has_all, Refuses, Wants_page, gathered}
 use Rattle.directory_rules.specs.Host.{asking_under, closing_under, is_finding, is_outstanding, without_find}
 use Rattle.directory_rules.specs.Letter.{Body, Letter, Request_letter, Reply_letter, Ask_letter, Page_letter, Missing_letter, Done_letter, Query_letter, Report_letter, Behind_letter, Ahead_letter, Offer_letter, act_kind, kind_of}
 use Rattle.directory_rules.specs.Node.{Node}
 use Rattle.directory_rules.specs.Receive.{received, received_body, reply_effect, replying, takes_offer}
 use Rattle.directory_rules.specs.Recovery.{Awaits_more, Has_union, Recovered, Rejects, recovered}
 use Rattle.directory_rules.specs.Reply.{confirmed_by, ended_by, yielded_by}
-use Rattle.directory_rules.specs.Sending.{gathering_of, recovery_of}
+use Rattle.directory_rules.specs.Sent.{gathering_of, recovery_of}
 use Rattle.directory_rules.specs.Snapshot.{Hands_page, Has_none, Is_behind, ShelfAnswer, has_snapshot, shelf_answer, shelf_without}
 use Rattle.directory_rules.specs.Step.{Stepped, silently, started}
 use Rattle.directory_rules.specs.Transfer.{answering, asked_by, awaits, gathered_by, is_page_awaited, is_report_awaited, missing, queried, querying, recovered_by, report_of, turned_to_recovery}
 use Rattle.range_recovery.specs.Progress.{progress_of}
 use Rattle.range_recovery.specs.declared.progress.Progress.{Progress}
-use Rattle.directory_node.specs.Lacking.{Counts, IsIdle, tells_only}
+use Rattle.directory_node.specs.Memory.{Counts, IsIdle, tells_only}
 
 -- a step that is ignored leaves the node and sends nothing
 abbrev Ignores : Node → Stepped → Type 0

@@ -17,12 +17,12 @@ use Rattle.directory_rules.specs.Host.{Host, find_acts, held_acts, new_number, o
 use Rattle.directory_rules.specs.Letter.{Letter}
 use Rattle.directory_rules.specs.Node.{Node}
 use Rattle.directory_rules.specs.Piece.{Piece}
-use Rattle.directory_rules.specs.Sending.{all_wants, request_letters, wants_by}
+use Rattle.directory_rules.specs.Sent.{all_wants, request_letters, wants_by}
 use Rattle.directory_rules.specs.Sight.{is_settled}
 use Rattle.directory_rules.specs.Step.{Stepped, having_nudged, silently}
-use Rattle.directory_rules.proofs.Numbering.{numbers, one_same, times, with_number}
+use Rattle.directory_rules.proofs.RequestNumbers.{numbers, one_same, times, with_number}
 use Rattle.directory_rules.proofs.Renewal.{held_numbers, put_all_each, request_numbers, same_keys}
-use Rattle.directory_node.specs.Lacking.{is_quiet}
+use Rattle.directory_node.specs.Memory.{is_quiet}
 
 none_of : {X : Type 0} (xs : List X) → (length xs == 0) ≡ true → xs ≡ []
 none_of [] is = refl

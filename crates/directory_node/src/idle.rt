@@ -2,7 +2,7 @@
 ghost use Rattle.std.specs.Prelude.{◌≡◌, ◌↔◌, IsTrue};
 ghost use Rattle.std.specs.List.{list_all};
 ghost use Rattle.directory_rules.specs.Sight.{is_settled};
-ghost use Rattle.directory_node.specs.Lacking.{IsIdle, is_quiet, tells_only};
+ghost use Rattle.directory_node.specs.Memory.{IsIdle, is_quiet, tells_only};
 
 use crate::Node;
 use directory_rules::{Effect, LetterKind, PieceState};

@@ -2,19 +2,19 @@
 //! `docs/RULES.md#the-world`.
 #![tactic(auto)]
 
-mod carrying;
-mod closing;
-mod gathering;
+mod change;
+mod close;
 mod idle;
 mod node;
 mod own_steps;
 mod recoveries;
 mod replies;
 mod requests;
-mod seeing;
-mod sending;
+mod sends;
 mod sight;
+mod sight_change;
 mod step;
+mod transfer_changes;
 mod transfers;
 
 pub use idle::is_idle;

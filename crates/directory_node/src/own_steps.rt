@@ -1,12 +1,9 @@
-ghost use Rattle.std.specs.Prelude.{◌≡◌, IfErr, IfOk, IsOk, OnErr, None, Some, length};
-ghost use Rattle.directory_rules.specs.Cache.{hint_of, in_front};
-ghost use Rattle.directory_rules.specs.Node.{Node as NodeValue};
+ghost use Rattle.std.specs.Prelude.{◌≡◌, IfErr, IfOk, OnErr, None, length};
 ghost use Rattle.directory_rules.specs.Step.{finding, find_grain, forget, silently, started, wake};
-ghost use Rattle.directory_rules.specs.declared.Effect.TheVariants.{Cached};
 ghost use Rattle.hash_ring.specs.Ring.{is_active_in};
 ghost use Rattle.node_plans.specs.Follows.{Follows};
 ghost use Rattle.node_plans.specs.Numbers.{step_refusal_number};
-ghost use Rattle.node_plans.specs.Planning.{Fits, Sends, step_by};
+ghost use Rattle.node_plans.specs.Plans.{Fits, Sends, step_by};
 
 use crate::{Change, Node, Plan, StepRefusal};
 use directory_rules::{Act, Effect};
@@ -21,7 +18,7 @@ impl Node {
         ensures fits { IfOk result (λ plan. Fits plan.change self.now) }
     {
         self.settings.in_range();
-        if !self.is_active() {
+        if !self.sees_active(&self.host.silo()) {
             return Err(StepRefusal::NotActiveSilo);
         }
         if self.host.held(grain).is_some() {
@@ -68,7 +65,7 @@ impl Node {
     {
         self.settings.in_range();
         if let Some(activation) = hint_in(&self.cache, grain) {
-            return use_of(alloc, grain, activation);
+            return Ok(Plan::of_hint(alloc, grain, activation));
         }
         if self.host.is_full_of_finds(&self.settings) {
             return Err(StepRefusal::HostFull);
@@ -126,13 +123,6 @@ impl Node {
         }
     }
 
-    // Whether the silo is Active in the view that it has seen.
-    pub(crate) fn is_active(&self) -> bool
-        ensures { result ≡ is_active_in self.now.view self.now.host.silo }
-    {
-        self.sees_active(&self.host.silo())
-    }
-
     // Whether a silo is Active in the view that this one has seen.
     pub(crate) fn sees_active(&self, silo: &SiloAddress) -> bool
         ensures { result ≡ is_active_in self.now.view silo.now }
@@ -153,13 +143,4 @@ impl Node {
             activation: ActivationId { silo, count },
         }
     }
-}
-
-// The plan of a find whose hint the cache had.
-fn use_of(alloc: Global, grain: &GrainId, activation: ActivationId) -> Result<Plan, StepRefusal>
-    ensures planned { (node : NodeValue) → hint_of node.cache grain.now ≡ Some activation → IfOk result (λ plan. step_by node plan ≡ silently (record node { cache = in_front node.cache grain.now activation }) (Cached (record { grain = grain.now; activation = activation }))) }
-    ensures change { IfOk result (λ plan. plan.change ≡ Change.UsesHint grain.now) }
-    ensures accepted { IsOk result }
-{
-    Ok(Plan::of_hint(alloc, grain, activation))
 }

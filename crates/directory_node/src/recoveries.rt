@@ -4,10 +4,10 @@ ghost use Rattle.std.specs.Ordering.{nat_cmp};
 ghost use Rattle.std.specs.Prelude.{◌≡◌, if◌then◌else◌, IsTrue, IfOk, OnOk, OnErr, Ok, Some, length, true};
 ghost use Rattle.directory_rules.specs.Recovery.{Recovery as RecoveryValue, recovered};
 ghost use Rattle.directory_rules.specs.Table.{lie_in, rise_by_grain};
-ghost use Rattle.directory_rules.specs.Sending.{recovery_of};
+ghost use Rattle.directory_rules.specs.Sent.{recovery_of};
 ghost use Rattle.directory_rules.specs.Transfer.{answer_to, answering, has_range, is_recovering, is_report_awaited, piece_at, queried, recovered_by, recovers, report_of, reported, with_settled};
 ghost use Rattle.directory_letters.specs.LetterModel.{body_of};
-ghost use Rattle.node_plans.specs.Planning.{Fits, step_by};
+ghost use Rattle.node_plans.specs.Plans.{Fits, step_by};
 
 use crate::{Change, Node, Plan};
 use directory_letters::{Body, Letter};
@@ -103,7 +103,7 @@ impl Node {
         let Some(recovery) = self.recoveries.get(&report.range().start()) else {
             unreachable!()
         };
-        let progress = match recovery.judge(report) {
+        let progress = match recovery.progress_with(report) {
             Ok(progress) => progress,
             Err(_) => return Ok(Plan::idle(alloc, Effect::Ignored)),
         };

@@ -1,7 +1,7 @@
 ghost use Rattle.std.specs.Prelude.{◌≡◌};
 ghost use Rattle.directory_rules.specs.Host.{asking_under, closing_under};
 ghost use Rattle.directory_rules.specs.Reply.{confirmed_by, ended_by, found_by, not_found_by, replied, retry_by, yielded_by};
-ghost use Rattle.node_plans.specs.Planning.{Fits, step_by};
+ghost use Rattle.node_plans.specs.Plans.{Fits, step_by};
 
 use crate::{Change, Node, Plan};
 use directory_rules::{Effect, Reply};

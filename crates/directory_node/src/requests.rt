@@ -1,8 +1,7 @@
-ghost use Rattle.std.specs.Prelude.{◌≡◌, ◌&&◌, ◌==◌, IfOk, OnErr, length};
-ghost use Rattle.silo_address.specs.Silo.{silo_eq};
+ghost use Rattle.std.specs.Prelude.{◌≡◌, IfOk, OnErr, length};
 ghost use Rattle.directory_rules.specs.Answer.{answered};
 ghost use Rattle.directory_rules.specs.Receive.{requested};
-ghost use Rattle.node_plans.specs.Planning.{Fits, changed, step_by};
+ghost use Rattle.node_plans.specs.Plans.{Fits, changed, step_by};
 
 use crate::{Change, Node, Plan};
 use directory_letters::{Body, Letter};
@@ -22,7 +21,7 @@ impl Node {
         ensures fits { IfOk result (λ plan. Fits plan.change self.now) }
         ensures one { OnErr result (length (requested self.now letter.now request.now).letters ≡ 1) }
     {
-        if !is_senders(letter, request) {
+        if !(request.sender == letter.from() && request.version == letter.version()) {
             return Ok(Plan::idle(alloc, Effect::Ignored));
         }
         let reply = self.holding.answer(request);
@@ -48,11 +47,4 @@ impl Node {
             Act::Register { .. } | Act::Deregister { .. } => Change::Serves(*request),
         }
     }
-}
-
-// Whether the request is the letter's sender's, of the letter's version.
-fn is_senders(letter: &Letter, request: &Request) -> bool
-    ensures { result ≡ (silo_eq request.now.sender letter.now.from && (request.now.version == letter.now.version)) }
-{
-    request.sender == letter.from() && request.version == letter.version()
 }

@@ -2,10 +2,10 @@
 ghost use Rattle.std.specs.Prelude.{◌≡◌, ◌&&◌, ◌==◌, ◌<◌, ◌+◌, ◌++◌, if◌then◌else◌, IfErr, IfOk, IsOk, flat_map, length, true};
 ghost use Rattle.directory_rules.specs.Host.{has_numbers, outstanding, renewed};
 ghost use Rattle.directory_rules.specs.Input.{Nudges};
-ghost use Rattle.directory_rules.specs.Sending.{all_wants, request_letters};
+ghost use Rattle.directory_rules.specs.Sent.{all_wants, request_letters};
 ghost use Rattle.directory_rules.specs.Sight.{is_next, sealed};
 ghost use Rattle.directory_rules.specs.Step.{compared_points, having_nudged, nudge, see, sight};
-ghost use Rattle.grain_partition.specs.Holding.{ArePieces};
+ghost use Rattle.grain_partition.specs.Holdings.{ArePieces};
 ghost use Rattle.grain_partition.specs.Seen.{pieces_seen};
 ghost use Rattle.hash_ring.specs.Ring.{are_added, ring_of};
 ghost use Rattle.host_activations.specs.Renewal.{renewal_of};
@@ -14,10 +14,10 @@ ghost use Rattle.grain_partition.specs.Sight.{AreOfRings};
 ghost use Rattle.node_plans.specs.Follows.{Follows, RefusesBy};
 ghost use Rattle.node_plans.specs.Numbers.{step_refusal_number};
 ghost use Rattle.node_plans.specs.Placed.{ArePlaced};
-ghost use Rattle.node_plans.specs.Planning.{Fits, FitsSight, step_by};
+ghost use Rattle.node_plans.specs.Plans.{Fits, FitsSight, step_by};
 ghost use Rattle.node_plans.specs.Sender.{ahead, wants_of};
 ghost use Rattle.node_plans.specs.Transition.{IsOfSight};
-ghost use Rattle.directory_node.specs.Lacking.{MayLackMemory};
+ghost use Rattle.directory_node.specs.Memory.{MayLackMemory};
 ghost use Rattle.hash_ring.specs.Places.{PlacesValue};
 ghost use Rattle.membership_view.specs.View.{ViewValue};
 
@@ -29,7 +29,7 @@ use hash_ring::{Places, Ring};
 use host_activations::Renewal;
 use membership_view::View;
 use node_plans::{Sender, advanced, copied_seen, new_waits, ring_of, seen_effect};
-use range_moves::{Arc, arcs};
+use range_moves::{RingArc, arcs};
 use seal_snapshot::Snapshot;
 use std::alloc::{AllocError, Global};
 use std::collections::BTreeMap;
@@ -195,7 +195,7 @@ impl Node {
         before: &View,
         places: &Places,
         ring: &Ring,
-    ) -> Result<Vec<Arc>, AllocError>
+    ) -> Result<Vec<RingArc>, AllocError>
         requires { are_added before.now places.now ≡ true }
         ensures exact { IfOk result (λ arcs. arcs.items ≡ arcs_of (compared_points next self.now before.now places.now) ring.now.points) }
         ensures whole { IfOk result (λ arcs. AreArcs (compared_points next self.now before.now places.now) ring.now.points arcs.items) }

@@ -1,23 +1,18 @@
-ghost use Rattle.std.specs.Prelude.{◌≡◌, [], IfOk, IsOk, OnErr, Ok, length};
-ghost use Rattle.directory_rules.specs.Input.{Receives, step};
+ghost use Rattle.std.specs.Prelude.{◌≡◌, IfOk, IsOk, OnErr, length};
+ghost use Rattle.directory_rules.specs.Input.{step};
 ghost use Rattle.directory_rules.specs.Receive.{received};
-ghost use Rattle.directory_rules.specs.Reply.{replied};
-ghost use Rattle.directory_rules.specs.Step.{forget};
-ghost use Rattle.directory_rules.specs.Transfer.{done};
 ghost use Rattle.node_plans.specs.Placed.{IsPlaced};
 ghost use Rattle.node_plans.specs.InputModel.{input_of};
 ghost use Rattle.node_plans.specs.Follows.{Follows};
 ghost use Rattle.node_plans.specs.Numbers.{step_refusal_number};
-ghost use Rattle.node_plans.specs.Planning.{Fits, answer_count, changed, step_by};
-ghost use Rattle.directory_node.specs.Lacking.{Counts, MayLackMemory};
+ghost use Rattle.node_plans.specs.Plans.{Fits, answer_count, changed, step_by};
+ghost use Rattle.directory_node.specs.Memory.{Counts, MayLackMemory};
 ghost use Rattle.directory_node.specs.SteppedModel.{stepped_of};
 
 use crate::{Change, Input, Node, Plan, StepRefusal};
 use directory_letters::{Body, Letter};
-use directory_rules::{Effect, Reply};
+use directory_rules::Effect;
 use node_plans::member_count;
-use ring_range::RingRange;
-use silo_address::GrainId;
 use std::alloc::{AllocError, Global};
 
 /// What a step makes: the new node, the letters that it sends, in order, and what it did.
@@ -99,30 +94,13 @@ impl Node {
             Input::Wakes(grain) => self.plan_wake(alloc, grain),
             Input::Closes(grain) => self.plan_close(alloc, grain),
             Input::Finds(grain) => self.plan_find(alloc, grain),
-            Input::Forgets(grain) => self.plan_to_forget(alloc, grain),
+            Input::Forgets(grain) => Ok(self.plan_forget(alloc, grain)),
             Input::Nudges => self.plan_nudge(alloc),
             Input::Offers { grain, to } => self.plan_offer(alloc, grain, to),
-            Input::Receives(letter) => self.plan_receipt(alloc, letter),
-        }
-    }
-
-    // What the silo's cache has of a grain is forgotten, which is never refused.
-    fn plan_to_forget(&self, alloc: Global, grain: &GrainId) -> Result<Plan, StepRefusal>
-        ensures planned { IfOk result (λ plan. step_by self.now plan ≡ forget self.now grain.now) }
-        ensures fits { IfOk result (λ plan. Fits plan.change self.now) }
-        ensures accepted { IsOk result }
-    {
-        Ok(self.plan_forget(alloc, grain))
-    }
-
-    // A letter comes, which is never refused.
-    fn plan_receipt(&self, alloc: Global, letter: &Letter) -> Result<Plan, StepRefusal>
-        ensures planned { Follows (step_by self.now) step_refusal_number (MayLackMemory self.now (Receives letter.now)) (Ok (received self.now letter.now)) result }
-        ensures fits { IfOk result (λ plan. Fits plan.change self.now) }
-    {
-        match self.plan_letter(alloc, letter) {
-            Ok(plan) => Ok(plan),
-            Err(_) => Err(StepRefusal::OutOfMemory),
+            Input::Receives(letter) => match self.plan_letter(alloc, letter) {
+                Ok(plan) => Ok(plan),
+                Err(_) => Err(StepRefusal::OutOfMemory),
+            },
         }
     }
 
@@ -137,54 +115,18 @@ impl Node {
     {
         match letter.body() {
             Body::Request(request) => self.plan_request(alloc, letter, request),
-            Body::Reply { number, reply } => self.plan_answered(alloc, letter, *number, reply),
+            Body::Reply { number, reply } => {
+                Ok(self.plan_reply(alloc, letter.version(), *number, reply))
+            }
             Body::Ask { range, page } => self.plan_ask(alloc, letter, *range, *page),
             Body::Page(page) => self.plan_page(alloc, letter, page),
             Body::Missing(range) => self.plan_missing(alloc, letter, *range),
-            Body::Done(range) => self.plan_taken_over(alloc, letter, *range),
+            Body::Done(range) => Ok(self.plan_done(alloc, letter, *range)),
             Body::Query(range) => self.plan_query(alloc, letter, *range),
             Body::Report(report) => self.plan_report(alloc, letter, report),
-            Body::Behind(_) | Body::Ahead(_) => self.plan_noted(alloc),
+            Body::Behind(_) | Body::Ahead(_) => Ok(Plan::idle(alloc, Effect::Noted)),
             Body::Offer(entry) => self.plan_offered(alloc, letter, entry),
         }
-    }
-
-    // A reply comes.
-    fn plan_answered(
-        &self,
-        alloc: Global,
-        letter: &Letter,
-        number: u64,
-        reply: &Reply,
-    ) -> Result<Plan, AllocError>
-        ensures planned { IfOk result (λ plan. step_by self.now plan ≡ replied self.now letter.now.version number reply.now) }
-        ensures fits { IfOk result (λ plan. Fits plan.change self.now) }
-        ensures planned_always { IsOk result }
-    {
-        Ok(self.plan_reply(alloc, letter.version(), number, reply))
-    }
-
-    // The new owner has its snapshot.
-    fn plan_taken_over(
-        &self,
-        alloc: Global,
-        letter: &Letter,
-        range: RingRange,
-    ) -> Result<Plan, AllocError>
-        ensures planned { IfOk result (λ plan. step_by self.now plan ≡ done self.now letter.now range) }
-        ensures fits { IfOk result (λ plan. Fits plan.change self.now) }
-        ensures planned_always { IsOk result }
-    {
-        Ok(self.plan_done(alloc, letter, range))
-    }
-
-    // Another silo has seen an earlier or a later view: that is noted, and nothing comes of it.
-    fn plan_noted(&self, alloc: Global) -> Result<Plan, AllocError>
-        ensures planned { IfOk result (λ plan. step_by self.now plan ≡ record { node = self.now; letters = []; effect = Effect.Noted }) }
-        ensures fits { IfOk result (λ plan. Fits plan.change self.now) }
-        ensures planned_always { IsOk result }
-    {
-        Ok(Plan::idle(alloc, Effect::Noted))
     }
 
     /// How many letters the node sends by this letter, where it needs memory for it: a report is answered by none, and where a

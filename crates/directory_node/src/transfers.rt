@@ -1,14 +1,14 @@
 //! The letters of transfers: how the previous owner hands its snapshot out page by page, and what the new owner makes of each.
 ghost use Rattle.std.specs.Prelude.{◌≡◌, ◌++◌, IfOk, OnErr, Ok, length, true};
-ghost use Rattle.directory_rules.specs.Gathering.{gathered};
-ghost use Rattle.directory_rules.specs.Sending.{gathering_of};
+ghost use Rattle.directory_rules.specs.Gatherings.{gathered};
+ghost use Rattle.directory_rules.specs.Sent.{gathering_of};
 ghost use Rattle.directory_rules.specs.Table.{rise_by_grain};
 ghost use Rattle.directory_rules.specs.Transfer.{asked, awaits, done, gathered_by, is_awaiting_from, is_page_awaited, missing, paged};
-ghost use Rattle.node_plans.specs.Planning.{Fits, answer_count, step_by};
+ghost use Rattle.node_plans.specs.Plans.{Fits, answer_count, step_by};
 ghost use Rattle.directory_rules.specs.Letter.{Missing_letter};
 ghost use Rattle.seal_snapshot.specs.Progress.{progress_of};
 ghost use Rattle.seal_snapshot.specs.declared.progress.Progress.TheVariants.{Complete, More};
-ghost use Rattle.grain_partition.specs.Holding.{HasPiece};
+ghost use Rattle.grain_partition.specs.Holdings.{HasPiece};
 
 use crate::{Change, Node, Plan};
 use directory_letters::{Body, Letter};
@@ -104,7 +104,7 @@ impl Node {
         if !self.is_page_awaited(letter, page, gathering.entries()) {
             return Ok(Plan::idle(alloc, Effect::Ignored));
         }
-        match gathering.judge(page) {
+        match gathering.progress_with(page) {
             Ok(Progress::More) => self.plan_more(alloc, letter, page),
             Ok(Progress::Complete) => self.plan_install(alloc, letter, page, gathering),
             Err(GatheringError::WrongDigest) => {

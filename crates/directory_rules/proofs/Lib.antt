@@ -1,6 +1,6 @@
 pub mod Cases
 pub mod Runs
-pub mod Sealing
+pub mod Seals
 pub mod Tables
 pub mod Kept
 pub mod Mails
@@ -17,7 +17,7 @@ pub mod Peopled
 pub mod Retried
 pub mod Nodes
 pub mod Versions
-pub mod Numbering
+pub mod RequestNumbers
 pub mod Renewal
 pub mod Numbered
 pub mod Throughout

@@ -10,7 +10,8 @@ use Rattle.membership_view.proofs.Entries.{Equal-from}
 use Rattle.std.proofs.lemmas.Map.Lookups.{exact_unsigned}
 use Rattle.directory_rules.specs.Settings.{Settings}
 use Rattle.directory_rules.specs.Letter.{Letter}
-use Rattle.directory_rules.specs.Event.{Event, Lose, Lost}
+use Rattle.directory_rules.specs.Event.{Event, Lose}
+use Rattle.directory_rules.specs.declared.outcome.Happening.TheVariants.{Lost}
 use Rattle.directory_rules.specs.World.{Posted, World, Accepted}
 use Rattle.directory_rules.specs.Mail.{letter_of, with_lost, fresh_letter, numbered}
 use Rattle.directory_rules.specs.Happens as rule

@@ -23,7 +23,7 @@ use Rattle.directory_rules.specs.declared.effect.Effect.TheVariants.{Ignored}
 use Rattle.directory_rules.specs.declared.effect.Effect.TheVariants as effect
 use Rattle.directory_rules.specs.Sight.{is_next}
 use Rattle.directory_rules.specs.Snapshot.{ShelfAnswer, Hands_page, Has_none, Is_behind, has_snapshot, shelf_without}
-use Rattle.directory_rules.specs.Gathering.{Gathered, Wants_page, Has_all, Refuses, gathered}
+use Rattle.directory_rules.specs.Gatherings.{Gathered, Wants_page, Has_all, Refuses, gathered}
 use Rattle.directory_rules.specs.Recovery.{Recovered, Awaits_more, Has_union, Rejects, recovered}
 use Rattle.directory_rules.specs.Answer.{answered}
 use Rattle.directory_rules.specs.Letter.{Body, Request_letter, Reply_letter, Ask_letter, Page_letter, Missing_letter, Done_letter, Query_letter, Report_letter, Behind_letter, Ahead_letter, Offer_letter, Letter}
@@ -32,7 +32,7 @@ use Rattle.directory_rules.specs.Step as at
 use Rattle.directory_rules.specs.Reply as re
 use Rattle.directory_rules.specs.Transfer as tr
 use Rattle.directory_rules.specs.Receive as rc
-use Rattle.directory_rules.specs.Sending.{gathering_of, recovery_of}
+use Rattle.directory_rules.specs.Sent.{gathering_of, recovery_of}
 use Rattle.directory_rules.specs.Host.{Host, held_acts, find_acts, next_held, without_held, with_started, with_closing, with_find, without_find, confirmed, renewed, new_number, outstanding, is_firm, has_numbers, has_count, is_full_of_activations, is_full_of_finds, held_of, asking_under, closing_under, is_finding, is_outstanding}
 use Rattle.directory_rules.specs.Cache.{hint_of}
 use Rattle.directory_rules.specs.Input.{Input, Sees, Wakes, Closes, Finds, Forgets, Nudges, Offers, Receives, step}
@@ -40,7 +40,7 @@ use Rattle.directory_rules.specs.Run.{run_from_start}
 use Rattle.directory_rules.specs.Laws.{requests_of, AreNumbered, NumbersAreDistinct}
 use Rattle.directory_rules.proofs.Cases.{on_bool}
 use Rattle.directory_rules.proofs.Nodes.{StepsKeep, each_after, of_found}
-use Rattle.directory_rules.proofs.Numbering.{one, one_same, one_cases, times, times_append, times_removed, times_set, times_pushed, times_unfound, times_put_most, numbers}
+use Rattle.directory_rules.proofs.RequestNumbers.{one, one_same, one_cases, times, times_append, times_removed, times_set, times_pushed, times_unfound, times_put_most, numbers}
 use Rattle.directory_rules.proofs.Renewal.{held_numbers, same_keys, mapped_keys, length_put_all, renewed_numbers, request_numbers, renewed_once, renewed_below}
 
 -- a number occurs once at most, and none from the next one on

@@ -18,7 +18,7 @@ use Rattle.hash_ring.specs.declared.Point.{Point}
 use Rattle.hash_ring.specs.Point.{IsOnCircle}
 use Rattle.hash_ring.specs.Places.{PlacesValue, IsPlaces}
 use Rattle.hash_ring.specs.Ring.{is_active_in, sorted_ring}
-use Rattle.range_moves.specs.declared.Arc.{Arc}
+use Rattle.range_moves.specs.declared.RingArc.{RingArc}
 use Rattle.range_moves.specs.Arcs.{owner_silo, arcs_of}
 use Rattle.range_moves.proofs.Between.{arcs_whole}
 use Rattle.directory_rules.specs.declared.act.Act.{Act}
@@ -37,7 +37,7 @@ use Rattle.directory_rules.specs.Sight.{is_next, is_owner}
 use Rattle.directory_rules.specs.Piece.{Piece, Holding}
 use Rattle.directory_rules.specs.Table.{Table, rise_by_grain, lie_in}
 use Rattle.directory_rules.specs.Snapshot.{Page, ShelfAnswer, Hands_page, Has_none, Is_behind, has_snapshot, shelf_without}
-use Rattle.directory_rules.specs.Gathering.{Gathered, Wants_page, Has_all, Refuses, gathered}
+use Rattle.directory_rules.specs.Gatherings.{Gathered, Wants_page, Has_all, Refuses, gathered}
 use Rattle.directory_rules.specs.Recovery.{Report, Recovered, Awaits_more, Has_union, Rejects, recovered}
 use Rattle.directory_rules.specs.Answer.{piece_with, is_numbered, last_served, with_piece, serving_by_state, serving_by_piece, serving_piece, served_by, answered_from, answered}
 use Rattle.directory_rules.specs.Letter.{Body, Request_letter, Reply_letter, Ask_letter, Page_letter, Missing_letter, Done_letter, Query_letter, Report_letter, Behind_letter, Ahead_letter, Offer_letter, Letter}
@@ -46,7 +46,7 @@ use Rattle.directory_rules.specs.Step as at
 use Rattle.directory_rules.specs.Reply as re
 use Rattle.directory_rules.specs.Transfer as tr
 use Rattle.directory_rules.specs.Receive as rc
-use Rattle.directory_rules.specs.Sending.{gathering_of, recovery_of}
+use Rattle.directory_rules.specs.Sent.{gathering_of, recovery_of}
 use Rattle.directory_rules.specs.Host.{renewed, outstanding, is_firm, has_numbers, has_count, is_full_of_activations, is_full_of_finds, held_of, asking_under, closing_under, is_finding, is_outstanding}
 use Rattle.directory_rules.specs.Cache.{hint_of}
 use Rattle.directory_rules.specs.Input.{Input, Sees, Wakes, Closes, Finds, Forgets, Nudges, Offers, Receives, step}
@@ -267,7 +267,7 @@ sight next node before view places is kept =
       on_circle = on_circle view places kept;
       once = λ hash below. held_by_ranges hash (at.sight next node before view places).node.holding.pieces ∙ (sight_owned next node before view places is.on_circle kept).once hash below;
       rising = rising_arcs next node.settings.hashing view node.host.silo node.holding.pieces (filter (λ arc. is_owner node.host.silo arc.to) arcs)
-          (AllPairs-filter (λ (arc later : Arc). arc.range.start < later.range.start) (λ arc. is_owner node.host.silo arc.to) arcs
+          (AllPairs-filter (λ (arc later : RingArc). arc.range.start < later.range.start) (λ arc. is_owner node.host.silo arc.to) arcs
           (arcs_whole old new (compared next node before places is.on_circle kept) (on_circle view places kept)).in_order);
     }
 

@@ -19,9 +19,9 @@ use Rattle.membership_view.specs.Changes.{Join, Leave, Die, after, after_join, l
 use Rattle.membership_view.specs.Step.{Joins, Leaves, Dies}
 use Rattle.membership_view.proofs.Entries.{lookup-insert_entry, sorted-insert_entry, Equal-from}
 use Rattle.membership_view.proofs.Kept.{whole-after}
-use Rattle.membership_view.proofs.Stepping.{changes_are_steps}
+use Rattle.membership_view.proofs.Changes.{changes_are_steps}
 use Rattle.membership_view.proofs.Order.{Decides-shares}
-use Rattle.membership_view.proofs.Looking.{occupant_law}
+use Rattle.membership_view.proofs.Searches.{occupant_law}
 use Rattle.directory_rules.specs.Node.{Node}
 use Rattle.directory_rules.specs.Laws.{is_live, ArePeopled}
 use Rattle.directory_rules.proofs.Cases.{on_bool}

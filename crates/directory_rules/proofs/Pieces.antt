@@ -13,7 +13,7 @@ use Rattle.ring_range.specs.Range.{Range, holds}
 use Rattle.hash_ring.specs.declared.Point.{Point}
 use Rattle.hash_ring.specs.declared.Hashing.{Hashing}
 use Rattle.hash_ring.specs.Hash.{hash_grain}
-use Rattle.range_moves.specs.declared.Arc.{Arc}
+use Rattle.range_moves.specs.declared.RingArc.{RingArc}
 use Rattle.range_moves.specs.Arcs.{owner_silo, all_places, arcs_per_hash, AreArcs}
 use Rattle.directory_rules.specs.declared.piece_state.PieceState.TheVariants.{Settled}
 use Rattle.directory_rules.specs.Membership.{is_dead_in}
@@ -23,11 +23,11 @@ use Rattle.directory_rules.specs.Laws.{HoldOwned}
 use Rattle.directory_rules.proofs.Cases.{on_bool}
 
 -- the hash's owner, where the arc holds it
-abbrev Tells : ℕ → Option Silo → Arc → Type 0
+abbrev Tells : ℕ → Option Silo → RingArc → Type 0
 Tells hash owner arc = holds arc.range hash ≡ true → arc.to ≡ owner
 
 -- a piece has its arc's range, settled or not
-pub piece_range : (next : Bool) (hashing : Hashing) (view : ViewValue) (silo : Silo) (pieces : List (ℕ × Piece)) (arc : Arc) → (piece_of next hashing view silo pieces arc).range ≡ arc.range
+pub piece_range : (next : Bool) (hashing : Hashing) (view : ViewValue) (silo : Silo) (pieces : List (ℕ × Piece)) (arc : RingArc) → (piece_of next hashing view silo pieces arc).range ≡ arc.range
 piece_range next hashing view silo pieces arc =
     on_bool (λ b. (cond {A = Piece} b (record { range = arc.range; state = Settled; entries = kept_entries hashing view pieces arc.range }) (record { range = arc.range; state = missing_state next view silo arc.from; entries = [] })).range ≡ arc.range) (was_settled pieces arc.range) (λ t. refl) (λ f. refl)
 
@@ -43,7 +43,7 @@ counted_out true false count is = refl
 counted_out false true count is = omega arith
 counted_out false false count is = refl
 
-abbrev pub under : (next : Bool) → Hashing → ViewValue → Silo → List (ℕ × Piece) → Arc → (ℕ × Piece)
+abbrev pub under : (next : Bool) → Hashing → ViewValue → Silo → List (ℕ × Piece) → RingArc → (ℕ × Piece)
 under next hashing view silo pieces arc = (arc.range.start, piece_of next hashing view silo pieces arc)
 
 -- how many of the pieces hold the hash
@@ -54,7 +54,7 @@ no_owned : (owned : Bool) → ◌≡◌ {A = ℕ} 0 (cond owned 0 0)
 no_owned true = refl
 no_owned false = refl
 
-counted_arcs : (next : Bool) (hashing : Hashing) (view : ViewValue) (silo : Silo) (pieces : List (ℕ × Piece)) (hash : ℕ) (owner : Option Silo) (arcs : List Arc) → All (Tells hash owner) arcs
+counted_arcs : (next : Bool) (hashing : Hashing) (view : ViewValue) (silo : Silo) (pieces : List (ℕ × Piece)) (hash : ℕ) (owner : Option Silo) (arcs : List RingArc) → All (Tells hash owner) arcs
     → count_by (λ e. holds e.1.range hash) (pieces_after next hashing view silo pieces arcs) ≡ cond (is_owner silo owner) (count_by (λ arc. holds arc.range hash) arcs) 0
 counted_arcs next hashing view silo pieces hash owner [] tells = no_owned (is_owner silo owner)
 counted_arcs next hashing view silo pieces hash owner (arc ∷ arcs) tells =
@@ -67,7 +67,7 @@ counted_arcs next hashing view silo pieces hash owner (arc ∷ arcs) tells =
     ∙ ap (λ c. cond (holds arc.range hash) 1 0 + c) rest
     ∙ counted_in (holds arc.range hash) (is_owner silo owner) (count_by (λ a. holds a.range hash) arcs) (λ held. ap (is_owner silo) (sym (told held)) ∙ t))
     (λ f. rest ∙ counted_out (holds arc.range hash) (is_owner silo owner) (count_by (λ a. holds a.range hash) arcs) (λ held. ap (is_owner silo) (sym (told held)) ∙ f))
-    ∙ ap (λ c. cond (is_owner silo owner) c 0) (sym (sum_by-cons (λ (a : Arc). cond (holds a.range hash) 1 0) arc arcs))
+    ∙ ap (λ c. cond (is_owner silo owner) c 0) (sym (sum_by-cons (λ (a : RingArc). cond (holds a.range hash) 1 0) arc arcs))
 
 passed_all : {X : Type 0} (p : X → Bool) (xs : List X) → All (λ x. p x ≡ true) (filter p xs)
 passed_all p [] = All-nil (λ x. p x ≡ true)
@@ -86,17 +86,17 @@ kept_lie hashing view pieces range =
       All-imp : {X : Type 0} (P Q : X → Type 0) (xs : List X) → ((x : X) → P x → Q x) → All P xs → All Q xs
       All-imp P Q xs imp all = λ k d below. imp _ (all k d below)
 
-abbrev made : (next : Bool) → Hashing → ViewValue → Silo → List (ℕ × Piece) → Arc → Bool → Piece
+abbrev made : (next : Bool) → Hashing → ViewValue → Silo → List (ℕ × Piece) → RingArc → Bool → Piece
 made next hashing view silo pieces arc b =
     cond b (record { range = arc.range; state = Settled; entries = kept_entries hashing view pieces arc.range }) (record { range = arc.range; state = missing_state next view silo arc.from; entries = [] })
 
-piece_lies : (next : Bool) (hashing : Hashing) (view : ViewValue) (silo : Silo) (pieces : List (ℕ × Piece)) (arc : Arc)
+piece_lies : (next : Bool) (hashing : Hashing) (view : ViewValue) (silo : Silo) (pieces : List (ℕ × Piece)) (arc : RingArc)
     → All (LiesIn hashing (piece_of next hashing view silo pieces arc).range) (piece_of next hashing view silo pieces arc).entries
 piece_lies next hashing view silo pieces arc =
     on_bool (λ b. All (LiesIn hashing (made next hashing view silo pieces arc b).range) (made next hashing view silo pieces arc b).entries) (was_settled pieces arc.range)
     (λ t. kept_lie hashing view pieces arc.range) (λ f. All-nil (LiesIn hashing arc.range))
 
-all_lie : (next : Bool) (hashing : Hashing) (view : ViewValue) (silo : Silo) (pieces : List (ℕ × Piece)) (arcs : List Arc)
+all_lie : (next : Bool) (hashing : Hashing) (view : ViewValue) (silo : Silo) (pieces : List (ℕ × Piece)) (arcs : List RingArc)
     → All (λ e. All (LiesIn hashing e.1.range) e.1.entries) (pieces_after next hashing view silo pieces arcs)
 all_lie next hashing view silo pieces arcs =
     All-map (λ e. All (LiesIn hashing e.1.range) e.1.entries) (λ arc. (arc.range.start, piece_of next hashing view silo pieces arc)) (filter (λ arc. is_owner silo arc.to) arcs)
@@ -109,7 +109,7 @@ count_owned silo [] (p ∷ new) hash = refl
 count_owned silo (q ∷ old) (p ∷ new) hash = refl
 
 -- so pieces that are made of the arcs between two rings are what the silo owns in the new one
-pub pieces_are_owned : (next : Bool) (hashing : Hashing) (view : ViewValue) (silo : Silo) (pieces : List (ℕ × Piece)) (old new : List Point) (arcs : List Arc) → AreArcs old new arcs
+pub pieces_are_owned : (next : Bool) (hashing : Hashing) (view : ViewValue) (silo : Silo) (pieces : List (ℕ × Piece)) (old new : List Point) (arcs : List RingArc) → AreArcs old new arcs
     → HoldOwned hashing new silo (pieces_after next hashing view silo pieces arcs)
 pieces_are_owned next hashing view silo pieces old new arcs are = record {
   once = λ hash below. counted_arcs next hashing view silo pieces hash (owner_silo new hash) arcs (λ k d within held. sym ((are.owners k d within) hash below held).after)

@@ -10,7 +10,7 @@ use Rattle.hash_ring.specs.declared.hashing.Hashing.{Hashing}
 use Rattle.hash_ring.specs.declared.hashing.Hashing.TheVariants.{Sha256, Stated}
 use Rattle.hash_ring.specs.Hash.{hash_text, point_text, hashed_places}
 use Rattle.hash_ring.specs.Places.{PlacesValue, IsPlaces, is_point_count, has_points, places_for, is_added, with_silo, after_add}
-use Rattle.hash_ring.proofs.Rising.{sorted-from_Rising}
+use Rattle.hash_ring.proofs.StrictOrder.{sorted-from_Rising}
 use Rattle.hash_ring.proofs.PlacesKept.{IsPlaces-with_silo}
 use Rattle.directory_rules.specs.Settings.{Settings, AreSettings}
 use Rattle.directory_rules.specs.World.{first_world}

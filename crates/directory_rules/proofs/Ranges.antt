@@ -13,7 +13,7 @@ use Rattle.silo_address.specs.Silo.{Silo}
 use Rattle.membership_view.specs.View.{ViewValue}
 use Rattle.ring_range.specs.Range.{Range, holds}
 use Rattle.hash_ring.specs.declared.Hashing.{Hashing}
-use Rattle.range_moves.specs.declared.Arc.{Arc}
+use Rattle.range_moves.specs.declared.RingArc.{RingArc}
 use Rattle.directory_rules.specs.Answer.{piece_with}
 use Rattle.directory_rules.specs.Piece.{Piece}
 use Rattle.directory_rules.specs.Sight.{piece_of}
@@ -87,10 +87,10 @@ stands_at hash (e ∷ es) piece rising is = at (holds e.1.range hash) is (λ lat
         ap (λ b. cond b (Some e.1) (lookup (is_at (nat_cmp piece.range.start)) es)) (at_less piece.range.start e.0 (begins_behind e.0 hash es piece rising.1 there)) ∙ rest there
 
 -- ---- the pieces of arcs that rise
-abbrev Below : Arc → Arc → Type 0
+abbrev Below : RingArc → RingArc → Type 0
 Below arc later = arc.range.start < later.range.start
 
-above_all : (next : Bool) (hashing : Hashing) (view : ViewValue) (silo : Silo) (pieces : List (ℕ × Piece)) (low : ℕ) (arcs : List Arc) → All (λ arc. low < arc.range.start) arcs
+above_all : (next : Bool) (hashing : Hashing) (view : ViewValue) (silo : Silo) (pieces : List (ℕ × Piece)) (low : ℕ) (arcs : List RingArc) → All (λ arc. low < arc.range.start) arcs
     → All (λ later. low < later.1.start) (ranges (map (under next hashing view silo pieces) arcs))
 above_all next hashing view silo pieces low [] above = All-nil (λ later. low < later.1.start)
 above_all next hashing view silo pieces low (arc ∷ arcs) above =
@@ -98,7 +98,7 @@ above_all next hashing view silo pieces low (arc ∷ arcs) above =
     (subst (λ (r : Range). low < r.start) (sym (piece_range next hashing view silo pieces arc)) (All-head (λ a. low < a.range.start) arc arcs above))
     (above_all next hashing view silo pieces low arcs (All-tail (λ a. low < a.range.start) arc arcs above))
 
-pub rising_arcs : (next : Bool) (hashing : Hashing) (view : ViewValue) (silo : Silo) (pieces : List (ℕ × Piece)) (arcs : List Arc) → AllPairs Below arcs → Rising (ranges (map (under next hashing view silo pieces) arcs))
+pub rising_arcs : (next : Bool) (hashing : Hashing) (view : ViewValue) (silo : Silo) (pieces : List (ℕ × Piece)) (arcs : List RingArc) → AllPairs Below arcs → Rising (ranges (map (under next hashing view silo pieces) arcs))
 rising_arcs next hashing view silo pieces [] rise = tt
 rising_arcs next hashing view silo pieces (arc ∷ arcs) rise = (
   ap (λ (r : Range). r.start) (sym (piece_range next hashing view silo pieces arc)),

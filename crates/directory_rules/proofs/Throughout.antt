@@ -9,7 +9,7 @@ use Rattle.texts.proofs.Decided.{both}
 use Rattle.ring_range.specs.Range.{circle, Range, IsRange, EachHash, holds, within}
 use Rattle.ring_range.specs.Cut.{cut_parts}
 use Rattle.ring_range.proofs.Circle.{Decides-holds, Decides-within}
-use Rattle.ring_range.proofs.Cutting.{is_cut, ranges}
+use Rattle.ring_range.proofs.Cuts.{is_cut, ranges}
 use Rattle.directory_rules.specs.Piece.{Piece}
 use Rattle.directory_rules.specs.Sight.{is_settled, is_in_settled, was_settled}
 use Rattle.directory_rules.specs.Laws.{lies_settled}

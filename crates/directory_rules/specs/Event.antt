@@ -1,10 +1,8 @@
--- Events: what may happen to the world, one after the other, and what is told of each.
-use Rattle.std.specs.Prelude.{ℕ, ◌<◌, Option, List, All}
+-- Events: what may happen to the world, one after the other. What is told of each is data that rule and code share.
+use Rattle.std.specs.Prelude.{ℕ, ◌<◌, List, All}
 use Rattle.silo_address.specs.Silo.{Silo, IsSilo}
 use Rattle.silo_address.specs.Grain.{Grain, IsGrain}
 use Rattle.ring_range.specs.Range.{circle}
-use Rattle.directory_rules.specs.declared.effect.Effect.{Effect}
-use Rattle.directory_rules.specs.declared.letter_kind.LetterKind.{LetterKind}
 
 -- an event
 pub data Event : Type 0 where
@@ -41,27 +39,3 @@ IsEvent (Deliver number) = Unit {0}
 IsEvent (Lose number) = Unit {0}
 IsEvent (Nudge silo) = IsSilo silo
 IsEvent (Offer silo grain to) = IsSilo silo × IsGrain grain × IsSilo to
-
--- what happened
-pub data Happening : Type 0 where
-  -- the version made, the silo, and the older one of its endpoint that became Dead
-  Joined : (version : ℕ) → Silo → (replaced : Option Silo) → Happening
-  Left : (version : ℕ) → Silo → Happening
-  Died : (version : ℕ) → Silo → Happening
-  -- the silo's See of that version
-  Saw : Silo → (version : ℕ) → Effect → Happening
-  -- another step of the silo's own
-  Did : Silo → Effect → Happening
-  Delivered : (number : ℕ) → LetterKind → Effect → Happening
-  Lost : (number : ℕ) → Happening
-
--- the first and the last number of the letters that an event sent
-pub record Span : Type 0 where
-  pub first : ℕ
-  pub last : ℕ
-
--- what an accepted event tells
-pub record Outcome : Type 0 where
-  pub happening : Happening
-  -- none where no letter was sent
-  pub sent : Option Span

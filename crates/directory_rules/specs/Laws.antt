@@ -16,7 +16,7 @@ use Rattle.hash_ring.specs.declared.Point.{Point}
 use Rattle.hash_ring.specs.Hash.{hash_grain}
 use Rattle.hash_ring.specs.Point.{IsOnCircle}
 use Rattle.hash_ring.specs.Places.{PlacesValue, IsPlaces}
-use Rattle.range_moves.specs.declared.Arc.{Arc}
+use Rattle.range_moves.specs.declared.RingArc.{RingArc}
 use Rattle.range_moves.specs.Arcs.{owner_silo}
 use Rattle.directory_rules.specs.declared.act.Act.{Act}
 use Rattle.directory_rules.specs.declared.act.Request.{Request}
@@ -54,7 +54,7 @@ pub record IsHandedOver (view : ViewValue) (silo : Silo) (pieces : List (ℕ × 
 
 -- what a sight seals was wholly settled, and its new owner is another silo
 abbrev pub SealedWasSettled : Type 0
-SealedWasSettled = (hashing : Hashing) (view : ViewValue) (silo : Silo) (pieces : List (ℕ × Piece)) (arcs : List Arc) → All (IsHandedOver view silo pieces) (sealed hashing view silo pieces arcs)
+SealedWasSettled = (hashing : Hashing) (view : ViewValue) (silo : Silo) (pieces : List (ℕ × Piece)) (arcs : List RingArc) → All (IsHandedOver view silo pieces) (sealed hashing view silo pieces arcs)
 
 -- each hash that the silo owns by the ring's points is in one of the pieces, and any other in none
 abbrev pub HoldOnce : List Point → Silo → List (ℕ × Piece) → Type 0

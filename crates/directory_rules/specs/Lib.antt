@@ -4,7 +4,7 @@ pub mod Membership
 pub mod Table
 pub mod Piece
 pub mod Snapshot
-pub mod Gathering
+pub mod Gatherings
 pub mod Recovery
 pub mod Host
 pub mod Cache
@@ -15,7 +15,7 @@ pub mod World
 pub mod Answer
 pub mod Sight
 pub mod Placement
-pub mod Sending
+pub mod Sent
 pub mod Step
 pub mod Reply
 pub mod Transfer
@@ -29,3 +29,5 @@ pub mod PlainMachine
 pub mod Headline
 pub mod Laws
 pub mod Worked
+pub mod EventModel
+pub mod EventCopies

@@ -6,7 +6,7 @@ use Rattle.std.specs.List.{enumerate_from}
 use Rattle.std.specs.Map.{lookup, set_value, remove_entry}
 use Rattle.std.specs.BTreeMap.{is_at}
 use Rattle.directory_rules.specs.Letter.{Letter}
-use Rattle.directory_rules.specs.Event.{Span}
+use Rattle.directory_rules.specs.declared.outcome.Span.{Span}
 use Rattle.directory_rules.specs.World.{Posted, World}
 
 -- the letter of that number, if it is in the mail

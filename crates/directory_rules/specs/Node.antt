@@ -6,7 +6,7 @@ use Rattle.hash_ring.specs.Ring.{RingValue}
 use Rattle.directory_rules.specs.Settings.{Settings}
 use Rattle.directory_rules.specs.Piece.{Holding}
 use Rattle.directory_rules.specs.Snapshot.{Snapshot}
-use Rattle.directory_rules.specs.Gathering.{Gathering}
+use Rattle.directory_rules.specs.Gatherings.{Gathering}
 use Rattle.directory_rules.specs.Recovery.{Recovery}
 use Rattle.directory_rules.specs.Host.{Host, new_host}
 use Rattle.directory_rules.specs.Cache.{Cache, new_cache}

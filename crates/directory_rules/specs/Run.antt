@@ -1,6 +1,7 @@
 -- A run: a list of events, one after the other. A refused event changes nothing, and the run goes on.
 use Rattle.std.specs.Prelude.{ℕ, List, [], ◌∷◌, Result, Ok, Err}
-use Rattle.directory_rules.specs.Event.{Event, Outcome}
+use Rattle.directory_rules.specs.Event.{Event}
+use Rattle.directory_rules.specs.declared.outcome.Outcome.{Outcome}
 use Rattle.directory_rules.specs.Settings.{Settings}
 use Rattle.directory_rules.specs.World.{World, Accepted, first_world}
 use Rattle.directory_rules.specs.Happens.{happens}

@@ -10,7 +10,7 @@ use Rattle.ring_range.specs.Range.{Range, holds, within}
 use Rattle.ring_range.specs.Cut.{cut_parts}
 use Rattle.hash_ring.specs.declared.Hashing.{Hashing}
 use Rattle.hash_ring.specs.Hash.{hash_grain}
-use Rattle.range_moves.specs.declared.Arc.{Arc}
+use Rattle.range_moves.specs.declared.RingArc.{RingArc}
 use Rattle.directory_rules.specs.declared.piece_state.PieceState.{PieceState}
 use Rattle.directory_rules.specs.declared.piece_state.PieceState.TheVariants.{Settled, Awaiting, Recovering}
 use Rattle.directory_rules.specs.Membership.{is_dead_in}
@@ -66,19 +66,19 @@ abbrev pub missing_state : (next : Bool) → ViewValue → Silo → Option Silo 
 missing_state next view silo from = if next then state_from view silo from else Recovering
 
 -- the piece of an arc that the silo owns in the view: it stays settled where it was
-abbrev pub piece_of : (next : Bool) → Hashing → ViewValue → Silo → List (ℕ × Piece) → Arc → Piece
+abbrev pub piece_of : (next : Bool) → Hashing → ViewValue → Silo → List (ℕ × Piece) → RingArc → Piece
 piece_of next hashing view silo pieces arc =
     if was_settled pieces arc.range
     then record { range = arc.range; state = Settled; entries = kept_entries hashing view pieces arc.range }
     else record { range = arc.range; state = missing_state next view silo arc.from; entries = [] }
 
 -- the pieces after the sight: one for each arc that the silo owns in the view, under its start
-abbrev pub pieces_after : (next : Bool) → Hashing → ViewValue → Silo → List (ℕ × Piece) → List Arc → List (ℕ × Piece)
+abbrev pub pieces_after : (next : Bool) → Hashing → ViewValue → Silo → List (ℕ × Piece) → List RingArc → List (ℕ × Piece)
 pieces_after next hashing view silo pieces arcs =
     map (λ arc. (arc.range.start, piece_of next hashing view silo pieces arc)) (filter (λ arc. is_owner silo arc.to) arcs)
 
 -- whether the arc is handed over: the silo owned it, another one owns it now, and all of it was settled
-abbrev pub is_handed_over : Silo → List (ℕ × Piece) → Arc → Bool
+abbrev pub is_handed_over : Silo → List (ℕ × Piece) → RingArc → Bool
 is_handed_over silo pieces arc = is_owner silo arc.from && is_some arc.to && not (is_owner silo arc.to) && was_settled pieces arc.range
 
 -- the snapshot of the range for its owner in the view, if there is one
@@ -93,7 +93,7 @@ snapshot_for (Some to) hashing view silo pieces range = record {
 } ∷ []
 
 -- the snapshots that a sight of the next version seals: one for each arc that is handed over
-abbrev pub sealed : Hashing → ViewValue → Silo → List (ℕ × Piece) → List Arc → List Snapshot
+abbrev pub sealed : Hashing → ViewValue → Silo → List (ℕ × Piece) → List RingArc → List Snapshot
 sealed hashing view silo pieces arcs =
     flat_map (λ arc. snapshot_for arc.to hashing view silo pieces arc.range) (filter (is_handed_over silo pieces) arcs)
 

@@ -7,7 +7,7 @@ use Rattle.membership_view.specs.View.{ViewValue}
 use Rattle.hash_ring.specs.declared.Point.{Point}
 use Rattle.hash_ring.specs.Places.{PlacesValue}
 use Rattle.hash_ring.specs.Ring.{ring_of, sorted_ring, is_active_in}
-use Rattle.range_moves.specs.declared.Arc.{Arc}
+use Rattle.range_moves.specs.declared.RingArc.{RingArc}
 use Rattle.range_moves.specs.Arcs.{arcs_of}
 use Rattle.directory_rules.specs.declared.act.Act.TheVariants as act
 use Rattle.directory_rules.specs.declared.held.Held.{Held}
@@ -16,14 +16,14 @@ use Rattle.directory_rules.specs.declared.effect.Effect.TheVariants.{Next, Skip,
 use Rattle.directory_rules.specs.declared.piece_state.PieceState.{PieceState}
 use Rattle.directory_rules.specs.declared.piece_state.PieceState.TheVariants as state
 use Rattle.directory_rules.specs.Piece.{Piece}
-use Rattle.directory_rules.specs.Gathering.{Gathering, new_gathering}
+use Rattle.directory_rules.specs.Gatherings.{Gathering, new_gathering}
 use Rattle.directory_rules.specs.Recovery.{Recovery, new_recovery}
 use Rattle.directory_rules.specs.Sight.{is_next, pieces_after, sealed, shelf_after}
 use Rattle.directory_rules.specs.Host.{held_of, entry_of, is_firm, outstanding, has_numbers, has_count, is_full_of_activations, is_full_of_finds, next_held, with_started, with_closing, with_find, renewed}
 use Rattle.directory_rules.specs.Cache.{hint_of, in_front, without_pair, cache_seeing}
 use Rattle.directory_rules.specs.Letter.{Letter, Offer_letter}
 use Rattle.directory_rules.specs.Node.{Node}
-use Rattle.directory_rules.specs.Sending.{letter_to, request_letters, all_requests, all_wants}
+use Rattle.directory_rules.specs.Sent.{letter_to, request_letters, all_requests, all_wants}
 
 -- what a step makes: the new node, the letters that it sends, in order, and what it did
 pub record Stepped : Type 0 where
@@ -75,7 +75,7 @@ with_pieces node view places pieces = record node {
 }
 
 -- the node after the sight, by the arcs between the two rings
-abbrev pub node_after : (next : Bool) → Node → ViewValue → PlacesValue → List Arc → Node
+abbrev pub node_after : (next : Bool) → Node → ViewValue → PlacesValue → List RingArc → Node
 node_after next node view places arcs = record (with_pieces node view places (pieces_after next node.settings.hashing view node.host.silo node.holding.pieces arcs)) {
   shelf = shelf_after next view node.shelf (sealed node.settings.hashing view node.host.silo node.holding.pieces arcs);
 }

@@ -4,7 +4,8 @@ use Rattle.silo_address.specs.Silo.{Silo}
 use Rattle.silo_address.specs.Grain.{Grain}
 use Rattle.hash_ring.specs.declared.Hashing.TheVariants.{Stated}
 use Rattle.directory_rules.specs.Settings.{Settings, directory_settings}
-use Rattle.directory_rules.specs.Event.{Event, Join, Leave, Kill, See, Wake, Close, Find, Forget, Deliver, Lose, Nudge, Offer, Outcome}
+use Rattle.directory_rules.specs.Event.{Event, Join, Leave, Kill, See, Wake, Close, Find, Forget, Deliver, Lose, Nudge, Offer}
+use Rattle.directory_rules.specs.declared.outcome.Outcome.{Outcome}
 use Rattle.directory_rules.specs.Run.{run_from_start}
 
 -- the silos 10.0.0.1:1000@1, 10.0.0.2:1000@1 and 10.0.0.3:1000@1, and the grains user/a#7 and user/b#8

@@ -9,7 +9,7 @@ use Rattle.hash_ring.specs.Ring.{sorted_ring}
 use Rattle.directory_rules.specs.Settings.{Settings}
 use Rattle.directory_rules.specs.Letter.{Letter}
 use Rattle.directory_rules.specs.Node.{Node}
-use Rattle.directory_rules.specs.Event.{Outcome}
+use Rattle.directory_rules.specs.declared.outcome.Outcome.{Outcome}
 
 -- a letter in the mail; it is fresh until it was delivered
 pub record Posted : Type 0 where

@@ -4,9 +4,11 @@
 
 mod act;
 mod effect;
+mod event;
 mod held;
 pub mod laws;
 mod letter_kind;
+mod outcome;
 mod piece_state;
 mod policy;
 mod reply;
@@ -14,8 +16,10 @@ mod settings;
 
 pub use act::{Act, Request};
 pub use effect::Effect;
+pub use event::Event;
 pub use held::{Held, Phase};
 pub use letter_kind::LetterKind;
+pub use outcome::{Happening, Outcome, Span};
 pub use piece_state::PieceState;
 pub use policy::Policy;
 pub use reply::{Reply, Why};

@@ -1,3 +1,3 @@
 pub mod Back
-pub mod Placing
-pub mod Passing
+pub mod Places
+pub mod UnchangedNodes

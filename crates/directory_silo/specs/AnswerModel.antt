@@ -3,7 +3,7 @@ use Rattle.directory_rules.specs.Step.{Stepped}
 use Rattle.directory_silo.specs.declared.answer.Answer.{Answer}
 use Rattle.silo_rules.specs.declared.news.News.{News}
 use Rattle.silo_rules.specs.SiloValue.{SiloValue}
-use Rattle.silo_rules.specs.Telling.{Heard}
+use Rattle.silo_rules.specs.Told.{Heard}
 
 -- the step that leaves this silo, and answers so
 abbrev pub stepped_as : SiloValue → Answer → Stepped

@@ -1,4 +1,4 @@
 pub mod Numbers
 pub mod SiloModel
 pub mod AnswerModel
-pub mod Heeding
+pub mod Heeded

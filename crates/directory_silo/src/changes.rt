@@ -3,7 +3,7 @@ ghost use Rattle.directory_node.specs.Follows.{Follows};
 ghost use Rattle.directory_silo.specs.AnswerModel.{heard_as};
 ghost use Rattle.silo_rules.specs.Membership.{Join, Leave, Die, changed, replaced_by};
 ghost use Rattle.directory_silo.specs.Numbers.{silo_refusal_number};
-ghost use Rattle.silo_rules.specs.Telling.{IsNever, MakesVersion, heard_by, told};
+ghost use Rattle.silo_rules.specs.Told.{IsNever, MakesVersion, heard_by, told};
 
 use crate::known::{is_known_death, is_known_join, is_known_leave};
 use crate::membership::join;

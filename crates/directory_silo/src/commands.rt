@@ -2,12 +2,12 @@ ghost use Rattle.std.specs.Prelude.{◌≡◌, IsOk, OnErr};
 ghost use Rattle.directory_rules.specs.Input.{Wakes, Closes, Finds, Forgets, Nudges, Offers};
 ghost use Rattle.directory_rules.specs.Letter.{kind_of};
 ghost use Rattle.directory_node.specs.Follows.{Follows};
-ghost use Rattle.directory_node.specs.Lacking.{MayLackMemory};
+ghost use Rattle.directory_node.specs.Memory.{MayLackMemory};
 ghost use Rattle.directory_silo.specs.AnswerModel.{stepped_as};
 ghost use Rattle.directory_silo.specs.Numbers.{silo_refusal_number};
-ghost use Rattle.silo_rules.specs.Stepping.{does, receives};
-ghost use Rattle.directory_silo.specs.Heeding.{IsHeeded};
-ghost use Rattle.silo_rules.specs.Telling.{IsNever};
+ghost use Rattle.silo_rules.specs.Steps.{does, receives};
+ghost use Rattle.directory_silo.specs.Heeded.{IsHeeded};
+ghost use Rattle.silo_rules.specs.Told.{IsNever};
 
 use crate::{Answer, Silo, SiloRefusal};
 use directory_letters::Letter;

@@ -10,7 +10,7 @@ mod membership;
 mod refusal;
 mod sight;
 mod silo;
-mod taking;
+mod step;
 
 pub use answer::Answer;
 pub use directory_letters::{Body, Letter};

@@ -2,10 +2,10 @@ ghost use Rattle.std.specs.Prelude.{◌≡◌, ◌≤◌, ◌<◌, IfErr, IfOk, 
 ghost use Rattle.membership_view.specs.Views.{view_at};
 ghost use Rattle.directory_rules.specs.Input.{step};
 ghost use Rattle.directory_node.specs.Follows.{Follows};
-ghost use Rattle.directory_node.specs.Planning.{Fits, step_by};
+ghost use Rattle.directory_node.specs.Plans.{Fits, step_by};
 ghost use Rattle.directory_silo.specs.AnswerModel.{stepped_as};
 ghost use Rattle.directory_silo.specs.Numbers.{silo_refusal_number};
-ghost use Rattle.silo_rules.specs.Stepping.{is_seeable, sees, sight_of};
+ghost use Rattle.silo_rules.specs.Steps.{is_seeable, sees, sight_of};
 
 use crate::{Answer, Silo, SiloRefusal};
 use directory_node::{Input, Plan, StepRefusal};

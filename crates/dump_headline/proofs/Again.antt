@@ -7,7 +7,7 @@ use Rattle.serde_json.specs.Data.{Data, string}
 use Rattle.silo_address.specs.Chain.{◌>>=◌}
 use Rattle.silo_address.specs.Silo.{Silo, IsSilo}
 use Rattle.silo_address.specs.SiloText.{silo_text}
-use Rattle.silo_address.specs.SiloReading.{silo_words, read_silo}
+use Rattle.silo_address.specs.ReadSilo.{silo_words, read_silo}
 use Rattle.silo_address.specs.Grain.{grain_text}
 use Rattle.silo_address.specs.declared.ActivationId.{ActivationId}
 use Rattle.silo_address.specs.declared.Entry.{Entry}
@@ -17,7 +17,7 @@ use Rattle.silo_address.proofs.GrainCases.{grain_only}
 use Rattle.silo_address.proofs.SiloCases.{silo_only}
 use Rattle.ring_range.specs.Range.{IsRange}
 use Rattle.ring_range.specs.Text.{range_text}
-use Rattle.ring_range.proofs.Reading.{only}
+use Rattle.ring_range.proofs.ReadAgain.{only}
 use Rattle.hash_ring.specs.declared.hashing.Hashing.{Hashing}
 use Rattle.hash_ring.specs.declared.hashing.Hashing.TheVariants.{Sha256, Stated}
 use Rattle.hash_ring.specs.declared.point.Point.{Point}

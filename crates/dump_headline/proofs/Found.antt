@@ -14,7 +14,7 @@ use Rattle.directory_rules.specs.Node.{Node}
 use Rattle.directory_rules.specs.World.{World}
 use Rattle.directory_rules.specs.Happens.{node_of}
 use Rattle.directory_headline.proofs.Facts.{IsPiece, WorldFacts}
-use Rattle.directory_facts.proofs.Counting.{holding, counted}
+use Rattle.directory_facts.proofs.OwnPieces.{holding, counted}
 use Rattle.directory_headline.proofs.HighHashes.{held_once}
 use Rattle.directory_headline.proofs.TableEntries.{found_holds}
 use Rattle.dump_rules.proofs.Contained.{contains_nothing, first_or_later}

@@ -19,4 +19,4 @@ pub mod Found
 pub mod Known
 pub mod Right
 pub mod Named
-pub mod Ending
+pub mod Theorem

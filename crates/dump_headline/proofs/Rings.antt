@@ -19,7 +19,7 @@ use Rattle.directory_rules.specs.Node.{Node}
 use Rattle.directory_rules.specs.World.{World}
 use Rattle.directory_rules.specs.Happens.{node_of}
 use Rattle.directory_rules.proofs.Cases.{on_bool}
-use Rattle.directory_facts.proofs.Placing.{added_row}
+use Rattle.directory_facts.proofs.Places.{added_row}
 use Rattle.directory_headline.proofs.Facts.{WorldFacts}
 use Rattle.dump_rules.specs.Dump.{named_places, dump_node, dump_of}
 use Rattle.dump_rules.specs.Verdict.{dump_places}

@@ -18,7 +18,7 @@ use Rattle.hash_ring.specs.declared.hashing.Hashing.TheVariants.{Sha256, Stated}
 use Rattle.hash_ring.specs.Places.{PlacesValue, IsPlaces, places_of, is_added}
 use Rattle.directory_rules.specs.World.{World}
 use Rattle.directory_rules.proofs.Cases.{on_bool}
-use Rattle.directory_facts.proofs.Placing.{added_row}
+use Rattle.directory_facts.proofs.Places.{added_row}
 use Rattle.directory_headline.proofs.Facts.{WorldFacts}
 use Rattle.dump_rules.specs.Dump.{dump_row, dump_of, named_places}
 use Rattle.dump_rules.specs.RightShape as right

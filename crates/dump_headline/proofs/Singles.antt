@@ -13,7 +13,7 @@ use Rattle.directory_rules.specs.Node.{Node}
 use Rattle.directory_rules.specs.World.{World}
 use Rattle.directory_rules.specs.Happens.{node_of}
 use Rattle.directory_headline.proofs.Facts.{IsPiece, WorldFacts}
-use Rattle.directory_facts.proofs.Counting.{holding, counted}
+use Rattle.directory_facts.proofs.OwnPieces.{holding, counted}
 use Rattle.directory_headline.proofs.HighHashes.{held_once}
 use Rattle.directory_headline.proofs.TableEntries.{each_once}
 use Rattle.dump_rules.specs.Dump.{dump_piece, dump_node}

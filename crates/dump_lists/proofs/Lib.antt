@@ -2,10 +2,10 @@ mod Along
 pub mod InOrder
 mod MembersTold
 mod PlainTexts
-pub mod Rising
+pub mod StrictRise
 pub mod SetsMade
 pub mod Spelled
-mod Standing
+mod MembersSoFar
 pub mod Ties
 mod Told
 pub mod ToldApart

@@ -13,7 +13,7 @@ use Rattle.serde_json.specs.Events.{members_len}
 use Rattle.serde_json.specs.Find.{get_member}
 use Rattle.serde_json.proofs.Views.{get_member-put}
 use Rattle.dump_rules.specs.Values.{member_in}
-use Rattle.dump_lists.specs.Reading.{IsReadingBy}
+use Rattle.dump_lists.specs.ReadAs.{IsReadingBy}
 use Rattle.dump_lists.specs.Straight.{IsAt, TellsBy}
 use Rattle.dump_lists.specs.declared.error.ReadError.{ReadError}
 use Rattle.dump_lists.specs.MembersRead.{AreRead, IsApart, IsRead, Stands, filled}
@@ -21,7 +21,7 @@ use Rattle.dump_lists.specs.MemberNames.{text_of_name}
 use Rattle.dump_lists.specs.declared.member_name.MemberName.{MemberName}
 use Rattle.dump_lists.specs.declared.members.Member.{Member}
 use Rattle.dump_lists.proofs.Along.{AreMembers, member_at, members_over, object_at, shorter_at, text_told}
-use Rattle.dump_lists.proofs.Standing.{stands_on}
+use Rattle.dump_lists.proofs.MembersSoFar.{stands_on}
 
 -- a member that was not there makes one more
 length_at : (o : Ordering) (k l : List ℕ) (d e : Data) (ms : Members) → match_ordering o (get_member k ms) (Some e) (get_member k ms) ≡ None

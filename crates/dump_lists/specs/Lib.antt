@@ -5,6 +5,6 @@ pub mod MembersRead
 pub mod Mixed
 pub mod PlainText
 pub mod ReadNumbers
-pub mod Reading
+pub mod ReadAs
 pub mod Sets
 pub mod Straight

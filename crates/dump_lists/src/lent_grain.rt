@@ -5,7 +5,7 @@ ghost use Rattle.std.specs.Ordering.{as_partial_cmp};
 ghost use Rattle.std.specs.Prelude.{◌≡◌, IfOk};
 ghost use Rattle.std.proofs.Common.{rules};
 ghost use Rattle.silo_address.specs.Grain.{IsGrain, grain_cmp, grain_eq, grain_text};
-ghost use Rattle.silo_address.specs.GrainReading.{read_grain};
+ghost use Rattle.silo_address.specs.ReadGrain.{read_grain};
 
 use silo_address::{GrainError, GrainId};
 use std::alloc::{AllocError, Global};

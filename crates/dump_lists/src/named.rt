@@ -8,7 +8,7 @@ ghost use Rattle.dump_rules.specs.DumpIn.{hashing_in, phase_in, state_in};
 ghost use Rattle.dump_rules.specs.Values.{activation_in, from_in, grain_in, range_in, silo_in};
 ghost use Rattle.dump_lists.specs.DumpModel.{phase_of, state_of};
 ghost use Rattle.dump_lists.specs.declared.error.ReadError.TheVariants.{OutOfMemory};
-ghost use Rattle.dump_lists.specs.Reading.{IsReading, IsReadingBy};
+ghost use Rattle.dump_lists.specs.ReadAs.{IsReading, IsReadingBy};
 
 use crate::{LentGrain, Phase, ReadError, State};
 use hash_ring::Hashing;

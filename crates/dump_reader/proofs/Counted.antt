@@ -9,7 +9,7 @@ use Rattle.serde_json.specs.View.{items_view, members_view}
 use Rattle.serde_json.specs.declared.value.Value.{Value}
 use Rattle.serde_json.proofs.Views.{Entry, members_len-members_view}
 use Rattle.dump_rules.specs.Values.{members_in, two_items, three_items}
-use Rattle.dump_lists.specs.Reading.{IsReadingBy}
+use Rattle.dump_lists.specs.ReadAs.{IsReadingBy}
 use Rattle.dump_lists.specs.declared.error.ReadError.TheVariants.{NotADump}
 
 -- what stands there, or nothing

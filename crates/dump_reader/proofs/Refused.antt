@@ -1,7 +1,7 @@
 -- A refusal that is passed on.
 use Rattle.std.proofs.Common.{◌≡◌, Option, None, Result, Ok, Err, sym, subst}
 use Rattle.std.specs.Result.{IsErrAnd}
-use Rattle.dump_lists.specs.Reading.{Fails, IsReadingBy}
+use Rattle.dump_lists.specs.ReadAs.{Fails, IsReadingBy}
 use Rattle.dump_lists.specs.declared.error.ReadError.{ReadError}
 use Rattle.dump_lists.specs.declared.error.ReadError.TheVariants.{NotJson, NotADump, OutOfMemory}
 

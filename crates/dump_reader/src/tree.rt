@@ -5,7 +5,7 @@ ghost use Rattle.serde_json.specs.Data.{Data};
 ghost use Rattle.serde_json.specs.View.{members_view, view};
 ghost use Rattle.dump_rules.specs.DumpIn.{dump_in, entry_in, held_in, node_in, piece_in, point_in, row_in};
 ghost use Rattle.dump_rules.specs.Values.{list_in, member_in, number_in, silo_in};
-ghost use Rattle.dump_lists.specs.Reading.{IsReading, IsReadingBy};
+ghost use Rattle.dump_lists.specs.ReadAs.{IsReading, IsReadingBy};
 
 use crate::values::{
     activation, from, grain, hashing, items, member, members_of, number, phase, range, silo, state,

@@ -7,7 +7,7 @@ ghost use Rattle.serde_json.specs.View.{items_view, members_view, view};
 ghost use Rattle.dump_rules.specs.DumpIn.{hashing_in, phase_in, state_in};
 ghost use Rattle.dump_rules.specs.Values.{activation_in, from_in, grain_in, members_in, number_in, range_in, silo_in, three_items, two_items};
 ghost use Rattle.dump_lists.specs.DumpModel.{phase_of, state_of};
-ghost use Rattle.dump_lists.specs.Reading.{IsReading, IsReadingBy};
+ghost use Rattle.dump_lists.specs.ReadAs.{IsReading, IsReadingBy};
 
 use dump_lists::{LentGrain, Phase, ReadError, State, named};
 use hash_ring::Hashing;

@@ -2,8 +2,8 @@
 use Rattle.std.specs.Fmt.{digits}
 use Rattle.std.specs.Str.{chars, is_utf8}
 use Rattle.serde_json.proofs.OnLiterals.{serde_json_on_literals}
-use Rattle.silo_address.specs.SiloReading.{silo_words, read_silo}
-use Rattle.silo_address.specs.GrainReading.{read_grain}
+use Rattle.silo_address.specs.ReadSilo.{silo_words, read_silo}
+use Rattle.silo_address.specs.ReadGrain.{read_grain}
 use Rattle.silo_address.specs.ActivationText.{read_activation}
 use Rattle.silo_address.specs.StatedHash.{stated_hash}
 use Rattle.ring_range.specs.Meet.{meet_of}

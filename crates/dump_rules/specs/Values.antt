@@ -6,9 +6,9 @@ use Rattle.serde_json.specs.Data.{Data, Items, no_items, item, Members}
 use Rattle.serde_json.specs.Find.{get_member, as_number, as_u64, as_str, as_array, as_object}
 use Rattle.serde_json.specs.Events.{members_len}
 use Rattle.silo_address.specs.Silo.{Silo}
-use Rattle.silo_address.specs.SiloReading.{read_silo}
+use Rattle.silo_address.specs.ReadSilo.{read_silo}
 use Rattle.silo_address.specs.Grain.{Grain}
-use Rattle.silo_address.specs.GrainReading.{read_grain}
+use Rattle.silo_address.specs.ReadGrain.{read_grain}
 use Rattle.silo_address.specs.declared.ActivationId.{ActivationId}
 use Rattle.silo_address.specs.ActivationText.{read_activation}
 use Rattle.ring_range.specs.Range.{Range}

@@ -1,8 +1,8 @@
-//! Dumps written as one line of JSON. The rules are in `docs/RULES.md#the-dump-and-the-verdict`.
+//! Dumps, and single nodes, written as one line of JSON. The rules are in `docs/RULES.md#the-dump-and-the-verdict`.
 #![tactic(auto)]
 
+mod dump;
 mod tokens;
 mod words;
-mod writing;
 
-pub use writing::write_dump;
+pub use dump::{write_dump, write_node};

@@ -8,7 +8,7 @@ use Rattle.std.proofs.lemmas.Option.{same_Some, slice_get_within}
 use Rattle.indexmap.specs.IndexMap.{set_value_at}
 use Rattle.indexmap.proofs.SetLemmas.{map-swap_remove}
 use Rattle.silo_address.specs.Grain.{Grain, grain_eq}
-use Rattle.silo_address.specs.GrainReading.{grain_at_slash}
+use Rattle.silo_address.specs.ReadGrain.{grain_at_slash}
 use Rattle.grain_names.specs.Names.{AreNamed, IsName, named}
 use Rattle.grain_names.proofs.Named.{same_test, stands_named}
 

@@ -11,7 +11,7 @@ use Rattle.std.proofs.lemmas.Cmp.{nat_list_eq_equiv, on_equiv}
 use Rattle.std.proofs.lemmas.Slice.Eq.{bytes_eq-Decides}
 use Rattle.indexmap.specs.IndexMap.{IndexMap, index_map_eq}
 use Rattle.silo_address.specs.Grain.{Grain, grain_eq}
-use Rattle.silo_address.specs.GrainReading.{grain_at_slash}
+use Rattle.silo_address.specs.ReadGrain.{grain_at_slash}
 use Rattle.silo_address.proofs.Same.{Decides-grain}
 use Rattle.grain_names.specs.Names.{AreNamed, IsName, named}
 use Rattle.grain_names.proofs.Named.{lookup_named}

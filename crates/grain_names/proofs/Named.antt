@@ -11,7 +11,7 @@ use Rattle.std.proofs.lemmas.Slice.Eq.{bytes_eq-Decides}
 use Rattle.indexmap.specs.IndexMap.{IndexMap, insert_entry}
 use Rattle.indexmap.proofs.CallerLemmas.{insert_entry-new}
 use Rattle.silo_address.specs.Grain.{Grain, IsGrain, grain_eq, grain_text}
-use Rattle.silo_address.specs.GrainReading.{grain_at_slash}
+use Rattle.silo_address.specs.ReadGrain.{grain_at_slash}
 use Rattle.silo_address.proofs.GrainCases.{grain_at_slash_again}
 use Rattle.silo_address.proofs.Same.{Decides-grain}
 use Rattle.grain_names.specs.Names.{IsName, AreNamed, named}

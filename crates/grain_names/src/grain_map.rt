@@ -4,7 +4,7 @@ ghost use Rattle.std.specs.Option.{option_eq, option_map};
 ghost use Rattle.std.specs.Prelude.{◌≡◌, ◌↔◌, ◌++◌, [], ◌∷◌, None, Some, IfOk, IfSome, IsTrue, MatchOption, OnErr, OnOk, length, set, slice_get};
 ghost use Rattle.std.specs.Box.{boxed_str_bytes};
 ghost use Rattle.silo_address.specs.Grain.{Grain, grain_eq};
-ghost use Rattle.silo_address.specs.GrainReading.{grain_at_slash};
+ghost use Rattle.silo_address.specs.ReadGrain.{grain_at_slash};
 ghost use Rattle.grain_names.specs.Names.{IsName};
 
 use indexmap::IndexMap;

@@ -16,7 +16,7 @@ use Rattle.texts.proofs.Decided.{both}
 use Rattle.membership_view.specs.View.{ViewValue}
 use Rattle.ring_range.specs.Range.{Range, IsRange, holds}
 use Rattle.hash_ring.specs.declared.Hashing.{Hashing}
-use Rattle.range_moves.specs.declared.Arc.{Arc}
+use Rattle.range_moves.specs.declared.RingArc.{RingArc}
 use Rattle.range_moves.specs.Arcs.{all_places, arcs_per_hash}
 use Rattle.range_moves.specs.Moves.{move_between}
 use Rattle.directory_rules.specs.Piece.{Piece}
@@ -30,32 +30,32 @@ one_at_most : (places : List ℕ) → arcs_per_hash places ≤ 1
 one_at_most [] = omega arith
 one_at_most (place ∷ places) = omega arith
 
-count_among : (p q : Arc → Bool) (arcs : List Arc) → count_by p (filter q arcs) ≤ count_by p arcs
+count_among : (p q : RingArc → Bool) (arcs : List RingArc) → count_by p (filter q arcs) ≤ count_by p arcs
 count_among p q [] = omega arith
 count_among p q (arc ∷ arcs) = by (q arc) (count_among p q arcs)
   where
     all : count_by p (arc ∷ arcs) ≡ cond (p arc) 1 0 + count_by p arcs
-    all = sum_by-cons (λ (a : Arc). cond (p a) 1 0) arc arcs
+    all = sum_by-cons (λ (a : RingArc). cond (p a) 1 0) arc arcs
 
     by : (b : Bool) → count_by p (filter q arcs) ≤ count_by p arcs → count_by p (cond b (arc ∷ filter q arcs) (filter q arcs)) ≤ count_by p (arc ∷ arcs)
-    by true rest = let these = sum_by-cons (λ (a : Arc). cond (p a) 1 0) arc (filter q arcs) in omega (arith, these, all, rest)
+    by true rest = let these = sum_by-cons (λ (a : RingArc). cond (p a) 1 0) arc (filter q arcs) in omega (arith, these, all, rest)
     by false rest = omega (arith, all, rest)
 
-apart_among : (q : Arc → Bool) (arcs : List Arc) → AreOfRings arcs → AreApart (filter q arcs)
+apart_among : (q : RingArc → Bool) (arcs : List RingArc) → AreOfRings arcs → AreApart (filter q arcs)
 apart_among q arcs of = record {
   once = λ hash below.
       let few = one_at_most (all_places of.old of.new) in
       omega (arith, few, count_among (λ arc. holds arc.range hash) q arcs, of.are.once hash below);
-  ranges = All-filter q (λ (arc : Arc). IsRange arc.range) arcs of.are.ranges;
-  present = All-filter q (λ (arc : Arc). 0 < arc.range.size) arcs of.are.present;
-  in_order = AllPairs-filter (λ (arc later : Arc). arc.range.start < later.range.start) q arcs of.are.in_order;
+  ranges = All-filter q (λ (arc : RingArc). IsRange arc.range) arcs of.are.ranges;
+  present = All-filter q (λ (arc : RingArc). 0 < arc.range.size) arcs of.are.present;
+  in_order = AllPairs-filter (λ (arc later : RingArc). arc.range.start < later.range.start) q arcs of.are.in_order;
 }
 
-pub owned_apart : (silo : Silo) (arcs : List Arc) → AreOfRings arcs → AreApart (owned_by silo arcs)
+pub owned_apart : (silo : Silo) (arcs : List RingArc) → AreOfRings arcs → AreApart (owned_by silo arcs)
 owned_apart silo arcs of = apart_among (λ arc. is_owner silo arc.to) arcs of
 
 -- ---- Those of one silo are enough for its sight.
-narrower : (p q : Arc → Bool) → ((arc : Arc) → p arc ≡ true → q arc ≡ true) → (arcs : List Arc) → filter p (filter q arcs) ≡ filter p arcs
+narrower : (p q : RingArc → Bool) → ((arc : RingArc) → p arc ≡ true → q arc ≡ true) → (arcs : List RingArc) → filter p (filter q arcs) ≡ filter p arcs
 narrower p q within [] = refl
 narrower p q within (arc ∷ arcs) = by (q arc) (p arc) refl refl (narrower p q within arcs)
   where
@@ -65,13 +65,13 @@ narrower p q within (arc ∷ arcs) = by (q arc) (p arc) refl refl (narrower p q 
     by false true is its rest = absurd (let no : false ≡ true = sym is ∙ within arc its in cc)
     by false false is its rest = rest ∙ ap (λ b. cond b (arc ∷ filter p arcs) (filter p arcs)) (sym its)
 
-pub own_after : (next : Bool) (hashing : Hashing) (view : ViewValue) (silo : Silo) (pieces : List (ℕ × Piece)) (arcs : List Arc)
+pub own_after : (next : Bool) (hashing : Hashing) (view : ViewValue) (silo : Silo) (pieces : List (ℕ × Piece)) (arcs : List RingArc)
     → pieces_after next hashing view silo pieces (owned_by silo arcs) ≡ pieces_after next hashing view silo pieces arcs
 own_after next hashing view silo pieces arcs =
     ap (λ l. map (λ arc. (arc.range.start, piece_of next hashing view silo pieces arc)) l)
     (narrower (λ arc. is_owner silo arc.to) (λ arc. is_owner silo arc.to) (λ arc is. is) arcs)
 
-pub own_seen : (next : Bool) (hashing : Hashing) (view : ViewValue) (silo : Silo) (pieces : List (ℕ × Piece)) (arcs : List Arc)
+pub own_seen : (next : Bool) (hashing : Hashing) (view : ViewValue) (silo : Silo) (pieces : List (ℕ × Piece)) (arcs : List RingArc)
     → pieces_seen next hashing view silo pieces (owned_by silo arcs) ≡ pieces_seen next hashing view silo pieces arcs
 own_seen next hashing view silo pieces arcs = ap emptied (own_after next hashing view silo pieces arcs)
 
@@ -99,7 +99,7 @@ gives_up silo range (Some owner) (Some to) settled is = by (silo_eq owner to) re
         absurd (let no : false ≡ true = ap not (sym one) ∙ other in cc)
     by false same = own
 
-pub own_sealed : (hashing : Hashing) (view : ViewValue) (silo : Silo) (pieces : List (ℕ × Piece)) (arcs : List Arc)
+pub own_sealed : (hashing : Hashing) (view : ViewValue) (silo : Silo) (pieces : List (ℕ × Piece)) (arcs : List RingArc)
     → sealed hashing view silo pieces (given_by silo arcs) ≡ sealed hashing view silo pieces arcs
 own_sealed hashing view silo pieces arcs =
     ap (λ l. flat_map (λ arc. snapshot_for arc.to hashing view silo pieces arc.range) l)
@@ -122,7 +122,7 @@ one_silo a b = by (is_at (silo_cmp a) b) (silo_eq a b) refl refl
         absurd (let no : false ≡ true = sym is ∙ same in cc)
     by false false is e = is ∙ sym e
 
-pub put_more : (silo : Silo) (arc : Arc) (before after : List (Silo × List Arc)) → Puts silo (arcs_under silo before ++ arc ∷ []) before after
+pub put_more : (silo : Silo) (arc : RingArc) (before after : List (Silo × List RingArc)) → Puts silo (arcs_under silo before ++ arc ∷ []) before after
     → (other : Silo) → arcs_under other after ≡ arcs_under other before ++ cond (silo_eq silo other) (arc ∷ []) []
 put_more silo arc before after puts other =
     ap all_of (puts other ∙ ap (λ b. cond b (Some (arcs_under silo before ++ arc ∷ [])) (stands_under other before)) (one_silo silo other))

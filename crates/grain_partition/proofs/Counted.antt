@@ -19,13 +19,13 @@ use Rattle.directory_rules.specs.Sight.{all_entries, entries_within, is_kept, is
 use Rattle.directory_rules.specs.Table.{Table, entries_of, lie_in, with_entry}
 use Rattle.directory_rules.specs.Laws.{lies_settled}
 use Rattle.directory_rules.proofs.Cases.{on_bool}
-use Rattle.grain_partition.specs.Holding.{ArePieces, are_tidy}
-use Rattle.grain_partition.proofs.Listing.{AreListed, front, listed_all, listed_more, listed_none, same_picked}
+use Rattle.grain_partition.specs.Holdings.{ArePieces, are_tidy}
+use Rattle.grain_partition.proofs.ListsByWalk.{AreListed, front, listed_all, listed_more, listed_none, same_picked}
 use Rattle.grain_partition.proofs.OnePiece.{counted, found_counts, one_for, passing}
 use Rattle.grain_partition.proofs.SettledHashes.{both_are, passes_of_any, settles}
 use Rattle.grain_partition.proofs.SettledParts.{Decides-was_settled}
 use Rattle.grain_partition.proofs.Tidy.{by_range, kept_by_steps, none_pass}
-use Rattle.grain_partition.proofs.Walking.{part_behind}
+use Rattle.grain_partition.proofs.Walks.{part_behind}
 
 -- ---- What pieces have that aren't settled doesn't count.
 abbrev unsettled : ℕ → Piece → Bool

@@ -10,39 +10,39 @@ use Rattle.std.specs.declared.cmp.Ordering.TheVariants.{Less}
 use Rattle.std.proofs.lemmas.List.Elements.{All-head, All-tail, All-map, All-filter}
 use Rattle.std.proofs.lemmas.List.Sums.{sum_by-cons}
 use Rattle.ring_range.specs.Range.{Range, IsRange, holds}
-use Rattle.range_moves.specs.declared.Arc.{Arc}
+use Rattle.range_moves.specs.declared.RingArc.{RingArc}
 use Rattle.directory_rules.specs.Piece.{Piece}
-use Rattle.grain_partition.specs.Holding.{ArePieces}
+use Rattle.grain_partition.specs.Holdings.{ArePieces}
 use Rattle.grain_partition.specs.Sight.{AreApart}
 use Rattle.grain_partition.proofs.OnePiece.{passing}
 
 less : (a b : ℕ) → a < b → nat_cmp a b ≡ Less
 less a b lt = sym (nat_cmp_is a b Less lt)
 
-abbrev Rising : List Arc → Type 0
+abbrev Rising : List RingArc → Type 0
 Rising arcs = AllPairs (λ arc later. arc.range.start < later.range.start) arcs
 
-rising_head : (arc : Arc) (arcs : List Arc) → Rising (arc ∷ arcs) → All (λ later. arc.range.start < later.range.start) arcs
+rising_head : (arc : RingArc) (arcs : List RingArc) → Rising (arc ∷ arcs) → All (λ later. arc.range.start < later.range.start) arcs
 rising_head arc arcs rise = λ k d lt. rise 0 (suc k) d (omega arith) (omega arith)
 
-rising_tail : (arc : Arc) (arcs : List Arc) → Rising (arc ∷ arcs) → Rising arcs
+rising_tail : (arc : RingArc) (arcs : List RingArc) → Rising (arc ∷ arcs) → Rising arcs
 rising_tail arc arcs rise = λ i j d lt within. rise (suc i) (suc j) d (omega arith) (omega arith)
 
-module _ (f : Arc → Piece) (q : Arc → Bool) where
-  abbrev pub made : List Arc → List (ℕ × Piece)
+module _ (f : RingArc → Piece) (q : RingArc → Bool) where
+  abbrev pub made : List RingArc → List (ℕ × Piece)
   made arcs = map (λ arc. (arc.range.start, f arc)) (filter q arcs)
 
-  all_above : (start : ℕ) (arcs : List Arc) → All (λ later. start < later.range.start) arcs → AllByRecursion (λ key. nat_cmp start key ≡ Less) (keys_of (made arcs))
+  all_above : (start : ℕ) (arcs : List RingArc) → All (λ later. start < later.range.start) arcs → AllByRecursion (λ key. nat_cmp start key ≡ Less) (keys_of (made arcs))
   all_above start [] above = tt
-  all_above start (arc ∷ arcs) above = by (q arc) (all_above start arcs (All-tail (λ (later : Arc). start < later.range.start) arc arcs above))
+  all_above start (arc ∷ arcs) above = by (q arc) (all_above start arcs (All-tail (λ (later : RingArc). start < later.range.start) arc arcs above))
     where
       by : (b : Bool) → AllByRecursion (λ key. nat_cmp start key ≡ Less) (keys_of (made arcs))
           → AllByRecursion (λ key. nat_cmp start key ≡ Less) (keys_of (map (λ arc. (arc.range.start, f arc)) (cond b (arc ∷ filter q arcs) (filter q arcs))))
-      by true rest = (less start arc.range.start (All-head (λ (later : Arc). start < later.range.start) arc arcs above), rest)
+      by true rest = (less start arc.range.start (All-head (λ (later : RingArc). start < later.range.start) arc arcs above), rest)
       by false rest = rest
 
   -- they stand by start
-  pub sorted_made : (arcs : List Arc) → Rising arcs → IsStrictlySortedBy nat_cmp (keys_of (made arcs))
+  pub sorted_made : (arcs : List RingArc) → Rising arcs → IsStrictlySortedBy nat_cmp (keys_of (made arcs))
   unfolding IsStrictlySortedBy
   sorted_made [] rise = tt
   sorted_made (arc ∷ arcs) rise = by (q arc) (sorted_made arcs (rising_tail arc arcs rise))
@@ -52,19 +52,19 @@ module _ (f : Arc → Piece) (q : Arc → Bool) where
       by true rest = (all_above arc.range.start arcs (rising_head arc arcs rise), rest)
       by false rest = rest
 
-  module _ (same : (arc : Arc) → (f arc).range ≡ arc.range) where
-    all_made : (P : ℕ → Range → Type 0) (arcs : List Arc) → All (λ arc. P arc.range.start arc.range) arcs → All (λ e. P e.0 e.1.range) (made arcs)
+  module _ (same : (arc : RingArc) → (f arc).range ≡ arc.range) where
+    all_made : (P : ℕ → Range → Type 0) (arcs : List RingArc) → All (λ arc. P arc.range.start arc.range) arcs → All (λ e. P e.0 e.1.range) (made arcs)
     all_made P arcs all =
-        All-map (λ (e : ℕ × Piece). P e.0 e.1.range) (λ (arc : Arc). (arc.range.start, f arc)) (filter q arcs)
+        All-map (λ (e : ℕ × Piece). P e.0 e.1.range) (λ (arc : RingArc). (arc.range.start, f arc)) (filter q arcs)
         (λ k d lt. subst (P (slice_index_or (filter q arcs) k d).range.start) (sym (same (slice_index_or (filter q arcs) k d)))
         (All-filter q (λ arc. P arc.range.start arc.range) arcs all k d lt))
 
-    count_made : (hash : ℕ) (arcs : List Arc) → passing (λ p. holds p.range hash) (made arcs) ≤ count_by (λ arc. holds arc.range hash) arcs
+    count_made : (hash : ℕ) (arcs : List RingArc) → passing (λ p. holds p.range hash) (made arcs) ≤ count_by (λ arc. holds arc.range hash) arcs
     count_made hash [] = omega arith
     count_made hash (arc ∷ arcs) = by (q arc) (count_made hash arcs)
       where
         counted : count_by (λ arc. holds arc.range hash) (arc ∷ arcs) ≡ cond (holds arc.range hash) 1 0 + count_by (λ arc. holds arc.range hash) arcs
-        counted = sum_by-cons (λ (arc : Arc). cond (holds arc.range hash) 1 0) arc arcs
+        counted = sum_by-cons (λ (arc : RingArc). cond (holds arc.range hash) 1 0) arc arcs
 
         by : (b : Bool) → passing (λ p. holds p.range hash) (made arcs) ≤ count_by (λ arc. holds arc.range hash) arcs
             → passing (λ p. holds p.range hash) (map (λ arc. (arc.range.start, f arc)) (cond b (arc ∷ filter q arcs) (filter q arcs))) ≤ count_by (λ arc. holds arc.range hash) (arc ∷ arcs)
@@ -74,7 +74,7 @@ module _ (f : Arc → Piece) (q : Arc → Bool) where
             omega (arith, one, counted)
         by false rest = omega (arith, counted)
 
-    pub pieces-made : (arcs : List Arc) → AreApart arcs → ArePieces (made arcs)
+    pub pieces-made : (arcs : List RingArc) → AreApart arcs → ArePieces (made arcs)
     pieces-made arcs apart = record {
       in_order = sorted_made arcs apart.in_order;
       under_start = all_made (λ start range. range.start ≡ start) arcs (λ k d lt. refl);

@@ -12,7 +12,7 @@ use Rattle.std.proofs.lemmas.Map.{keys-set_value}
 use Rattle.ring_range.specs.Range.{Range, IsRange, holds}
 use Rattle.directory_rules.specs.Piece.{Piece}
 use Rattle.directory_rules.specs.Answer.{with_piece}
-use Rattle.grain_partition.specs.Holding.{ArePieces, HasPiece}
+use Rattle.grain_partition.specs.Holdings.{ArePieces, HasPiece}
 
 module _ (start : ℕ) (old new : Piece) (same : old.range ≡ new.range) where
   abbrev set : List (ℕ × Piece) → List (ℕ × Piece)

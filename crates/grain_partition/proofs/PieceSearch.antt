@@ -15,7 +15,7 @@ use Rattle.ring_range.specs.Range.{circle, IsRange, distance, holds}
 use Rattle.ring_range.proofs.Circle.{distance-up, distance-round, distance-itself}
 use Rattle.directory_rules.specs.Piece.{Piece}
 use Rattle.directory_rules.specs.Answer.{piece_with}
-use Rattle.grain_partition.specs.Holding.{ArePieces}
+use Rattle.grain_partition.specs.Holdings.{ArePieces}
 use Rattle.grain_partition.specs.Search.{BeginsNearest}
 use Rattle.grain_partition.proofs.Around.{holds-below, below-holds}
 use Rattle.grain_partition.proofs.OnePiece.{at_lookup, only_one}

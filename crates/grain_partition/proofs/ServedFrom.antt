@@ -20,8 +20,8 @@ use Rattle.directory_rules.specs.declared.PieceState.{PieceState}
 use Rattle.directory_rules.specs.declared.PieceState.TheVariants.{Settled, Awaiting, Recovering}
 use Rattle.directory_rules.specs.Piece.{Piece, Holding}
 use Rattle.directory_rules.specs.Answer.{Answered, answered, answered_from, after_numbered, is_numbered, last_served, piece_with, served_by, serving_by_piece, serving_by_state, serving_piece, turned, with_piece}
-use Rattle.grain_partition.specs.Holding.{ArePieces}
-use Rattle.grain_partition.specs.Serving.{IsTurnOf}
+use Rattle.grain_partition.specs.Holdings.{ArePieces}
+use Rattle.grain_partition.specs.Served.{IsTurnOf}
 use Rattle.grain_partition.proofs.OnePiece.{at_lookup}
 use Rattle.grain_partition.proofs.Kept.{pieces-set}
 

@@ -18,7 +18,7 @@ use Rattle.directory_rules.specs.Answer.{piece_with}
 use Rattle.directory_rules.specs.Sight.{is_settled}
 use Rattle.directory_rules.specs.Laws.{lies_settled}
 use Rattle.directory_rules.proofs.Cases.{on_bool}
-use Rattle.grain_partition.specs.Holding.{ArePieces}
+use Rattle.grain_partition.specs.Holdings.{ArePieces}
 use Rattle.grain_partition.specs.Search.{SettlesAt}
 use Rattle.grain_partition.proofs.OnePiece.{by_entry, only_one}
 use Rattle.grain_partition.proofs.ServedFrom.{found_with}

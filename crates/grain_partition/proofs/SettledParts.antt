@@ -16,12 +16,12 @@ use Rattle.texts.proofs.Decided.{both}
 use Rattle.ring_range.specs.Range.{circle, Range, IsRange, distance, ahead, holds, within}
 use Rattle.ring_range.specs.Cut.{IsInside, IsCut, cut_parts}
 use Rattle.ring_range.proofs.Circle.{distance-ahead, distance-itself, distance-zero, ahead-lt}
-use Rattle.ring_range.proofs.Cutting.{is_cut, ranges}
+use Rattle.ring_range.proofs.Cuts.{is_cut, ranges}
 use Rattle.directory_rules.specs.Piece.{Piece}
 use Rattle.directory_rules.specs.Sight.{is_settled, is_in_settled, was_settled}
 use Rattle.directory_rules.proofs.Cases.{on_bool}
 use Rattle.directory_rules.proofs.Throughout.{settled_throughout}
-use Rattle.grain_partition.specs.Holding.{ArePieces}
+use Rattle.grain_partition.specs.Holdings.{ArePieces}
 use Rattle.grain_partition.specs.Settled.{LiesSettled}
 use Rattle.grain_partition.proofs.Around.{distance-over, holds-below, below-holds, step-back, within-before, within-full}
 use Rattle.grain_partition.proofs.OnePiece.{at_lookup, only_one}

@@ -18,16 +18,16 @@ use Rattle.membership_view.proofs.Found.{same_entries}
 use Rattle.texts.proofs.Decided.{both}
 use Rattle.ring_range.specs.Range.{Range, IsRange, circle, distance, holds}
 use Rattle.hash_ring.specs.declared.Hashing.{Hashing}
-use Rattle.range_moves.specs.declared.Arc.{Arc}
+use Rattle.range_moves.specs.declared.RingArc.{RingArc}
 use Rattle.directory_rules.specs.declared.PieceState.{PieceState}
 use Rattle.directory_rules.specs.declared.PieceState.TheVariants.{Settled}
 use Rattle.directory_rules.specs.Piece.{Piece}
 use Rattle.directory_rules.specs.Sight.{is_owner, is_settled, kept_entries, missing_state, piece_of, pieces_after, was_settled}
 use Rattle.directory_rules.specs.Table.{Table}
 use Rattle.directory_rules.proofs.Pieces.{piece_range}
-use Rattle.grain_partition.specs.Holding.{ArePieces, are_tidy}
+use Rattle.grain_partition.specs.Holdings.{ArePieces, are_tidy}
 use Rattle.grain_partition.specs.Sight.{AreApart}
-use Rattle.grain_partition.specs.Staying.{covers, left_of, piece_made, pieces_made, put_back, staying, stays_as, with_staying}
+use Rattle.grain_partition.specs.Kept.{covers, left_of, piece_made, pieces_made, put_back, staying, stays_as, with_staying}
 use Rattle.grain_partition.proofs.Around.{below-holds, holds-below}
 use Rattle.grain_partition.proofs.FromArcs.{made, sorted_made}
 use Rattle.grain_partition.proofs.OnePiece.{at_lookup}
@@ -116,8 +116,8 @@ module _ (hashing : Hashing) (view : ViewValue) where
       by false at = refl
 
 -- ---- What is found of pieces made of arcs.
-module _ (k : ℕ) (q : Arc → Bool) (f g : Arc → Piece) (h : Option Piece → Option Piece) (none : h None ≡ None) (each : (arc : Arc) → k ≡ arc.range.start → h (Some (f arc)) ≡ Some (g arc)) where
-  found_made : (arcs : List Arc) → h (lookup (is_at (nat_cmp k)) (made f q arcs)) ≡ lookup (is_at (nat_cmp k)) (made g q arcs)
+module _ (k : ℕ) (q : RingArc → Bool) (f g : RingArc → Piece) (h : Option Piece → Option Piece) (none : h None ≡ None) (each : (arc : RingArc) → k ≡ arc.range.start → h (Some (f arc)) ≡ Some (g arc)) where
+  found_made : (arcs : List RingArc) → h (lookup (is_at (nat_cmp k)) (made f q arcs)) ≡ lookup (is_at (nat_cmp k)) (made g q arcs)
   found_made [] = none
   found_made (arc ∷ arcs) = by (q arc) (found_made arcs)
     where
@@ -140,13 +140,13 @@ abbrev piece_with_all : Range → PieceState → Table → Piece
 piece_with_all range state entries = record { range = range; state = state; entries = entries }
 
 module _ (next : Bool) (hashing : Hashing) (view : ViewValue) (silo : Silo) (pieces : List (ℕ × Piece)) (are : ArePieces pieces) (tidy : are_tidy hashing pieces ≡ true) where
-  abbrev after_of : Arc → Piece
+  abbrev after_of : RingArc → Piece
   after_of arc = piece_of next hashing view silo pieces arc
 
-  abbrev bare : Arc → Piece
+  abbrev bare : RingArc → Piece
   bare arc = piece_with_all arc.range Settled []
 
-  module _ (arc : Arc) (piece : Piece) (found : lookup (is_at (nat_cmp arc.range.start)) pieces ≡ Some piece) (settled : is_settled piece.state ≡ true) (fits : arc.range.size ≤ piece.range.size) where
+  module _ (arc : RingArc) (piece : Piece) (found : lookup (is_at (nat_cmp arc.range.start)) pieces ≡ Some piece) (settled : is_settled piece.state ≡ true) (fits : arc.range.size ≤ piece.range.size) where
     begins : piece.range.start ≡ arc.range.start
     begins = at_lookup (λ e. e.1.range.start ≡ e.0) pieces are.under_start arc.range.start piece found
 
@@ -177,7 +177,7 @@ module _ (next : Bool) (hashing : Hashing) (view : ViewValue) (silo : Silo) (pie
         ap (piece_with_all arc.range Settled) (kept_of_part hashing view pieces are tidy arc.range arc.range.start piece found inside)
         ∙ sym (ap (λ b. cond b (piece_with_all arc.range Settled (kept_entries hashing view pieces arc.range)) (piece_with_all arc.range (missing_state next view silo arc.from) [])) was)
 
-  at_arc : (arc : Arc) → back_at hashing view (lookup (is_at (nat_cmp arc.range.start)) pieces) (Some (piece_made true next hashing view silo pieces arc)) ≡ Some (after_of arc)
+  at_arc : (arc : RingArc) → back_at hashing view (lookup (is_at (nat_cmp arc.range.start)) pieces) (Some (piece_made true next hashing view silo pieces arc)) ≡ Some (after_of arc)
   at_arc arc = by (lookup (is_at (nat_cmp arc.range.start)) pieces) refl
     where
       stayed : (piece : Piece) → lookup (is_at (nat_cmp arc.range.start)) pieces ≡ Some piece → (b : Bool) → covers arc.range piece ≡ b
@@ -193,7 +193,7 @@ module _ (next : Bool) (hashing : Hashing) (view : ViewValue) (silo : Silo) (pie
       by (Some piece) found = ap (λ p. Some p) (stayed piece found (covers arc.range piece) refl)
 
   -- so the pieces that stay, put back, make the pieces after
-  pub stayed_are_after : (arcs : List Arc) → AreApart arcs
+  pub stayed_are_after : (arcs : List RingArc) → AreApart arcs
       → fold (with_staying hashing view) (pieces_made true next hashing view silo pieces arcs) pieces ≡ pieces_after next hashing view silo pieces arcs
   stayed_are_after arcs apart =
       same_entries nat_cmp_total exact_unsigned (fold (with_staying hashing view) (pieces_made true next hashing view silo pieces arcs) pieces) (pieces_after next hashing view silo pieces arcs)

@@ -24,11 +24,11 @@ use Rattle.grain_table.proofs.Filters.{passed_is_table}
 use Rattle.grain_table.proofs.HashesBelow.{grain_below}
 use Rattle.grain_table.proofs.Listed.{values_kept}
 use Rattle.grain_table.proofs.Put.{put_in_is_table, put_in_nothing}
-use Rattle.grain_partition.specs.Holding.{ArePieces, are_tidy, tidied, settled_entries}
+use Rattle.grain_partition.specs.Holdings.{ArePieces, are_tidy, tidied, settled_entries}
 use Rattle.grain_partition.proofs.Counted.{AreCounted, counted_all, counted_more, nobody}
-use Rattle.grain_partition.proofs.Listing.{inside}
+use Rattle.grain_partition.proofs.ListsByWalk.{inside}
 use Rattle.grain_partition.proofs.SettledHashes.{both_are}
-use Rattle.grain_partition.proofs.Walking.{part_behind}
+use Rattle.grain_partition.proofs.Walks.{part_behind}
 
 -- what passes one test is among what passes a wider one
 narrowed : (p q : Entry → Bool) → ((e : Entry) → p e ≡ true → q e ≡ true) → (es : List Entry) → filter p (filter q es) ≡ filter p es

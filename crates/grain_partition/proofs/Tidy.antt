@@ -24,7 +24,7 @@ use Rattle.grain_table.proofs.ByGrain.{IsTable, nothing_is_table}
 use Rattle.grain_table.proofs.Filters.{kept_of}
 use Rattle.grain_table.proofs.HashesBelow.{grain_below}
 use Rattle.grain_table.proofs.Put.{put_in_is_table}
-use Rattle.grain_partition.specs.Holding.{ArePieces, are_tidy}
+use Rattle.grain_partition.specs.Holdings.{ArePieces, are_tidy}
 use Rattle.grain_partition.proofs.OnePiece.{by_entry, found_counts, passing}
 use Rattle.grain_partition.proofs.Within.{put_within, within-fold, within_range}
 

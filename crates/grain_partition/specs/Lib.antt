@@ -1,8 +1,8 @@
-pub mod Holding
+pub mod Holdings
 pub mod Search
-pub mod Serving
+pub mod Served
 pub mod Settled
 pub mod Sight
-pub mod Staying
+pub mod Kept
 pub mod Seen
 pub mod BySilo

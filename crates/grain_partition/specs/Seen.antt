@@ -3,7 +3,7 @@ use Rattle.std.specs.Prelude.{ℕ, Bool, List, [], map}
 use Rattle.silo_address.specs.Silo.{Silo}
 use Rattle.membership_view.specs.View.{ViewValue}
 use Rattle.hash_ring.specs.declared.Hashing.{Hashing}
-use Rattle.range_moves.specs.declared.Arc.{Arc}
+use Rattle.range_moves.specs.declared.RingArc.{RingArc}
 use Rattle.directory_rules.specs.Piece.{Piece}
 use Rattle.directory_rules.specs.Sight.{pieces_after}
 
@@ -12,5 +12,5 @@ abbrev pub emptied : List (ℕ × Piece) → List (ℕ × Piece)
 emptied pieces = map (λ e. (e.0, record e.1 { entries = [] })) pieces
 
 -- the pieces after the sight, without their entries
-abbrev pub pieces_seen : (next : Bool) → Hashing → ViewValue → Silo → List (ℕ × Piece) → List Arc → List (ℕ × Piece)
+abbrev pub pieces_seen : (next : Bool) → Hashing → ViewValue → Silo → List (ℕ × Piece) → List RingArc → List (ℕ × Piece)
 pieces_seen next hashing view silo pieces arcs = emptied (pieces_after next hashing view silo pieces arcs)

@@ -1,12 +1,12 @@
 //! Arcs under the silos whose they are, so that a silo comes to its own without a look at the others.
 ghost use Rattle.std.specs.Prelude.{◌≡◌, ◌++◌, List, [], ◌∷◌, Some, if◌then◌else◌, IfOk, OnOk};
-ghost use Rattle.range_moves.specs.declared.Arc.{Arc};
+ghost use Rattle.range_moves.specs.declared.RingArc.{RingArc};
 ghost use Rattle.silo_address.specs.Silo.{Silo};
 ghost use Rattle.directory_rules.specs.Sight.{is_owner};
 ghost use Rattle.grain_partition.specs.BySilo.{Puts, arcs_under, giver_of, given_by, owned_by, stands_under};
 
 use crate::own_arcs::OwnArcs;
-use range_moves::Arc;
+use range_moves::RingArc;
 use silo_address::SiloAddress;
 use std::alloc::{AllocError, Global};
 use std::collections::BTreeMap;
@@ -16,16 +16,16 @@ use std::marker::Model;
 /// (`docs/RULES.md#arcs-and-moves`).
 #[derive(Drop)]
 pub struct ArcsBySilo {
-    arcs: Vec<Arc>,
+    arcs: Vec<RingArc>,
     owned: BTreeMap<SiloAddress, OwnArcs>,
     given: BTreeMap<SiloAddress, OwnArcs>,
 }
 
 impl Model for ArcsBySilo {
     ghost use Rattle.std.specs.Prelude.{List};
-    ghost use Rattle.range_moves.specs.declared.Arc.{Arc};
+    ghost use Rattle.range_moves.specs.declared.RingArc.{RingArc};
 
-    ghost Value = { List Arc };
+    ghost Value = { List RingArc };
 
     ghost use Rattle.grain_partition.specs.BySilo.{AreBySilo};
 
@@ -36,7 +36,7 @@ impl Model for ArcsBySilo {
 
 impl ArcsBySilo {
     /// These arcs. Costs a logarithm for each. Fails only when memory runs out.
-    pub fn of(alloc: Global, arcs: Vec<Arc>) -> Result<ArcsBySilo, AllocError>
+    pub fn of(alloc: Global, arcs: Vec<RingArc>) -> Result<ArcsBySilo, AllocError>
         ensures { IfOk result (λ by_silo. by_silo ≡ arcs.items) }
     {
         let owned = owned_arcs(alloc, &arcs)?;
@@ -45,21 +45,21 @@ impl ArcsBySilo {
     }
 
     /// All of them.
-    pub fn all(&self) -> &[Arc]
+    pub fn all(&self) -> &[RingArc]
         ensures { result.now ≡ self.now }
     {
         &self.arcs
     }
 
     // Those that the silo owns after.
-    pub(crate) fn owned_by(&self, silo: &SiloAddress) -> &[Arc]
+    pub(crate) fn owned_by(&self, silo: &SiloAddress) -> &[RingArc]
         ensures { result.now ≡ owned_by silo.now self.now }
     {
         arcs_under(&self.owned, silo)
     }
 
     // Those that the silo gives up.
-    pub(crate) fn given_by(&self, silo: &SiloAddress) -> &[Arc]
+    pub(crate) fn given_by(&self, silo: &SiloAddress) -> &[RingArc]
         ensures { result.now ≡ given_by silo.now self.now }
     {
         arcs_under(&self.given, silo)
@@ -67,7 +67,7 @@ impl ArcsBySilo {
 }
 
 // The arcs under the silo.
-fn arcs_under<'a>(under: &'a BTreeMap<SiloAddress, OwnArcs>, silo: &SiloAddress) -> &'a [Arc]
+fn arcs_under<'a>(under: &'a BTreeMap<SiloAddress, OwnArcs>, silo: &SiloAddress) -> &'a [RingArc]
     ensures { result.now ≡ arcs_under silo.now under.now.entries }
 {
     match under.get(silo) {
@@ -77,7 +77,7 @@ fn arcs_under<'a>(under: &'a BTreeMap<SiloAddress, OwnArcs>, silo: &SiloAddress)
 }
 
 // The arcs under those who own them after.
-fn owned_arcs(alloc: Global, arcs: &[Arc]) -> Result<BTreeMap<SiloAddress, OwnArcs>, AllocError>
+fn owned_arcs(alloc: Global, arcs: &[RingArc]) -> Result<BTreeMap<SiloAddress, OwnArcs>, AllocError>
     ensures { IfOk result (λ owned. (silo : Silo) → arcs_under silo owned.entries ≡ owned_by silo arcs.now) }
 {
     let mut owned = BTreeMap::new(alloc);
@@ -88,7 +88,7 @@ fn owned_arcs(alloc: Global, arcs: &[Arc]) -> Result<BTreeMap<SiloAddress, OwnAr
 }
 
 // The arcs under those who give them up.
-fn given_arcs(alloc: Global, arcs: &[Arc]) -> Result<BTreeMap<SiloAddress, OwnArcs>, AllocError>
+fn given_arcs(alloc: Global, arcs: &[RingArc]) -> Result<BTreeMap<SiloAddress, OwnArcs>, AllocError>
     ensures { IfOk result (λ given. (silo : Silo) → arcs_under silo given.entries ≡ given_by silo arcs.now) }
 {
     let mut given = BTreeMap::new(alloc);
@@ -99,7 +99,7 @@ fn given_arcs(alloc: Global, arcs: &[Arc]) -> Result<BTreeMap<SiloAddress, OwnAr
 }
 
 // The silo that gives the arc up.
-fn giver_of(arc: &Arc) -> Option<SiloAddress>
+fn giver_of(arc: &RingArc) -> Option<SiloAddress>
     ensures { result ≡ giver_of arc.now }
 {
     arc.moved()?.from
@@ -110,7 +110,7 @@ fn put_under(
     alloc: Global,
     under: &mut BTreeMap<SiloAddress, OwnArcs>,
     owner: Option<SiloAddress>,
-    arc: &Arc,
+    arc: &RingArc,
 ) -> Result<(), AllocError>
     ensures { OnOk result ((silo : Silo) → arcs_under silo under.new.entries ≡ arcs_under silo under.old.entries ++ (if is_owner silo owner then arc.now ∷ [] else [])) }
 {
@@ -125,7 +125,7 @@ fn put_at(
     alloc: Global,
     under: &mut BTreeMap<SiloAddress, OwnArcs>,
     silo: SiloAddress,
-    arc: &Arc,
+    arc: &RingArc,
 ) -> Result<(), AllocError>
     ensures { OnOk result (Puts silo (arcs_under silo under.old.entries ++ arc.now ∷ []) under.old.entries under.new.entries) }
 {
@@ -141,9 +141,9 @@ fn put_at(
 fn push_at(
     under: &mut BTreeMap<SiloAddress, OwnArcs>,
     silo: &SiloAddress,
-    arc: &Arc,
+    arc: &RingArc,
 ) -> Result<(), AllocError>
-    ensures { OnOk result ((arcs : List Arc) → stands_under silo.now under.old.entries ≡ Some arcs → Puts silo.now (arcs ++ arc.now ∷ []) under.old.entries under.new.entries) }
+    ensures { OnOk result ((arcs : List RingArc) → stands_under silo.now under.old.entries ≡ Some arcs → Puts silo.now (arcs ++ arc.now ∷ []) under.old.entries under.new.entries) }
 {
     let Some(own) = under.get_mut(silo) else {
         return Ok(());

@@ -3,7 +3,7 @@ ghost use Rattle.std.specs.Prelude.{◌≡◌, filter, true, IfOk};
 ghost use Rattle.directory_rules.specs.Sight.{all_entries, kept_entries, was_settled};
 ghost use Rattle.hash_ring.specs.Hash.{hash_grain};
 ghost use Rattle.ring_range.specs.Range.{holds};
-ghost use Rattle.grain_partition.specs.Holding.{ArePieces, are_tidy};
+ghost use Rattle.grain_partition.specs.Holdings.{ArePieces, are_tidy};
 
 use crate::Piece;
 use crate::search::piece_with;

@@ -3,20 +3,20 @@
 #![tactic(auto)]
 
 mod by_silo;
-mod counting;
+mod count;
 mod entries;
-mod holding;
+mod holdings;
+mod kept_pieces;
 mod listed;
 mod own_arcs;
 mod piece;
-mod sealing;
+mod seals;
 mod search;
 mod seen;
 mod served;
 mod settled;
 mod sight;
-mod staying;
 
 pub use by_silo::ArcsBySilo;
-pub use holding::Holding;
+pub use holdings::Holding;
 pub use piece::Piece;

@@ -3,7 +3,7 @@ ghost use Rattle.std.specs.List.Sorted.{IsPermutation};
 ghost use Rattle.std.specs.Prelude.{◌≡◌, true, IfOk};
 ghost use Rattle.directory_rules.specs.Sight.{kept_entries, was_settled};
 ghost use Rattle.directory_rules.specs.Table.{entries_of};
-ghost use Rattle.grain_partition.specs.Holding.{ArePieces, are_tidy};
+ghost use Rattle.grain_partition.specs.Holdings.{ArePieces, are_tidy};
 
 use crate::Piece;
 use crate::entries::kept_entries;

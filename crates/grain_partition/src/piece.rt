@@ -3,7 +3,7 @@ ghost use Rattle.directory_rules.specs.Answer.{turned};
 ghost use Rattle.directory_rules.specs.declared.PieceState.TheVariants.{Recovering, Settled};
 ghost use Rattle.directory_rules.specs.Sight.{is_settled};
 ghost use Rattle.directory_rules.specs.Table.{entries_of, entry_at, lie_in};
-ghost use Rattle.grain_partition.specs.Staying.{covers, left_of};
+ghost use Rattle.grain_partition.specs.Kept.{covers, left_of};
 
 use directory_rules::{Act, PieceState, Reply};
 use grain_table::Table;

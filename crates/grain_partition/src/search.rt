@@ -1,7 +1,7 @@
 //! Where the piece of a hash is looked for.
 ghost use Rattle.std.specs.Prelude.{◌≡◌, [], MatchOption, option_copied};
 ghost use Rattle.directory_rules.specs.Answer.{piece_with};
-ghost use Rattle.grain_partition.specs.Holding.{ArePieces};
+ghost use Rattle.grain_partition.specs.Holdings.{ArePieces};
 ghost use Rattle.grain_partition.specs.Search.{BeginsNearest};
 
 use crate::Piece;

@@ -2,7 +2,7 @@
 ghost use Rattle.std.specs.Prelude.{◌≡◌, if◌then◌else◌, IfOk};
 ghost use Rattle.directory_rules.specs.Sight.{missing_state, was_settled};
 ghost use Rattle.directory_rules.specs.declared.PieceState.TheVariants.{Settled};
-ghost use Rattle.grain_partition.specs.Holding.{ArePieces};
+ghost use Rattle.grain_partition.specs.Holdings.{ArePieces};
 ghost use Rattle.grain_partition.specs.Seen.{pieces_seen};
 ghost use Rattle.grain_partition.specs.Sight.{AreApart};
 
@@ -12,7 +12,7 @@ use crate::sight::{is_owner, missing_state, put};
 use directory_rules::PieceState;
 use hash_ring::Hashing;
 use membership_view::View;
-use range_moves::Arc;
+use range_moves::RingArc;
 use silo_address::SiloAddress;
 use std::alloc::{AllocError, Global};
 use std::collections::BTreeMap;
@@ -25,7 +25,7 @@ pub(crate) fn pieces_seen(
     hashing: Hashing,
     view: &View,
     silo: &SiloAddress,
-    arcs: &[Arc],
+    arcs: &[RingArc],
 ) -> Result<BTreeMap<u32, Piece>, AllocError>
     requires pieces { ArePieces pieces.now.entries }
     requires arcs { AreApart arcs.now }
@@ -49,7 +49,7 @@ fn state_of(
     next: bool,
     view: &View,
     silo: &SiloAddress,
-    arc: &Arc,
+    arc: &RingArc,
 ) -> PieceState
     requires { ArePieces pieces.now.entries }
     ensures { result ≡ (if was_settled pieces.now.entries arc.now.range then Settled else missing_state next view.now silo.now arc.now.from) }

@@ -7,7 +7,7 @@ ghost use Rattle.std.specs.Ordering.{nat_cmp};
 ghost use Rattle.silo_address.specs.Silo.{silo_cmp};
 ghost use Rattle.directory_rules.specs.Answer.{turned};
 ghost use Rattle.directory_rules.specs.Piece.{Piece as PieceValue};
-ghost use Rattle.grain_partition.specs.Serving.{IsTurnOf, number_before};
+ghost use Rattle.grain_partition.specs.Served.{IsTurnOf, number_before};
 
 use crate::Piece;
 use directory_rules::{Act, Reply, Request};

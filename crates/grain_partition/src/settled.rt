@@ -3,7 +3,7 @@ ghost use Rattle.std.specs.Prelude.{◌≡◌, ◌-◌, ◌<◌, ◌≤◌, Matc
 ghost use Rattle.ring_range.specs.Range.{circle, distance, holds, part_of};
 ghost use Rattle.directory_rules.specs.Laws.{lies_settled};
 ghost use Rattle.directory_rules.specs.Sight.{was_settled};
-ghost use Rattle.grain_partition.specs.Holding.{ArePieces};
+ghost use Rattle.grain_partition.specs.Holdings.{ArePieces};
 ghost use Rattle.grain_partition.specs.Search.{SettlesAt};
 
 use crate::Piece;

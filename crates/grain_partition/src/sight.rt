@@ -4,19 +4,19 @@ ghost use Rattle.std.specs.Prelude.{◌≡◌, IfOk, OnOk, OnErr};
 ghost use Rattle.std.specs.BTreeMap.{insert_entry};
 ghost use Rattle.std.specs.Ordering.{nat_cmp};
 ghost use Rattle.directory_rules.specs.Sight.{is_owner, missing_state, piece_of, pieces_after};
-ghost use Rattle.grain_partition.specs.Holding.{ArePieces, are_tidy};
+ghost use Rattle.grain_partition.specs.Holdings.{ArePieces, are_tidy};
 ghost use Rattle.grain_partition.specs.Sight.{AreApart};
-ghost use Rattle.grain_partition.specs.Staying.{piece_made, pieces_made};
+ghost use Rattle.grain_partition.specs.Kept.{piece_made, pieces_made};
 
 use crate::Piece;
 use crate::entries::kept_entries;
+use crate::kept_pieces::{are_tidy, put_all_back, stays};
 use crate::settled::are_settled;
-use crate::staying::{are_tidy, put_all_back, stays};
 use directory_rules::PieceState;
 use grain_table::{Table, is_dead_in};
 use hash_ring::Hashing;
 use membership_view::View;
-use range_moves::Arc;
+use range_moves::RingArc;
 use silo_address::SiloAddress;
 use std::alloc::{AllocError, Global};
 use std::collections::BTreeMap;
@@ -31,7 +31,7 @@ pub(crate) fn sight(
     hashing: Hashing,
     view: &View,
     silo: &SiloAddress,
-    arcs: &[Arc],
+    arcs: &[RingArc],
 ) -> Result<(), AllocError>
     requires pieces { ArePieces pieces.old.entries }
     requires arcs { AreApart arcs.now }
@@ -56,7 +56,7 @@ fn pieces_made(
     hashing: Hashing,
     view: &View,
     silo: &SiloAddress,
-    arcs: &[Arc],
+    arcs: &[RingArc],
 ) -> Result<BTreeMap<u32, Piece>, AllocError>
     requires pieces { ArePieces pieces.now.entries }
     requires tidy { tidy ≡ are_tidy hashing pieces.now.entries }
@@ -85,7 +85,7 @@ fn piece_made(
     hashing: Hashing,
     view: &View,
     silo: &SiloAddress,
-    arc: &Arc,
+    arc: &RingArc,
 ) -> Result<Piece, AllocError>
     requires pieces { ArePieces pieces.now.entries }
     requires tidy { tidy ≡ are_tidy hashing pieces.now.entries }
@@ -107,7 +107,7 @@ fn piece_of(
     hashing: Hashing,
     view: &View,
     silo: &SiloAddress,
-    arc: &Arc,
+    arc: &RingArc,
 ) -> Result<Piece, AllocError>
     requires pieces { ArePieces pieces.now.entries }
     requires tidy { tidy ≡ are_tidy hashing pieces.now.entries }

@@ -14,7 +14,7 @@ use Rattle.std.specs.declared.cmp.Ordering.{Ordering}
 use Rattle.std.specs.declared.cmp.Ordering.TheVariants.{Less, Equal, Greater}
 use Rattle.silo_address.specs.Marks.{slash}
 use Rattle.silo_address.specs.Grain.{Grain, IsGrain, grain_cmp, grain_text}
-use Rattle.silo_address.specs.GrainReading.{grain_at_slash}
+use Rattle.silo_address.specs.ReadGrain.{grain_at_slash}
 use Rattle.silo_address.proofs.GrainCases.{grain_at_slash_again}
 use Rattle.silo_address.proofs.Order.{grain_cmp_total}
 use Rattle.grain_table.specs.declared.hashed_grain.HashedGrain.{HashedGrain}

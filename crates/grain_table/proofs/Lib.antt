@@ -3,7 +3,7 @@ pub mod ByGrain
 pub mod Taken
 pub mod Count
 pub mod Counted
-pub mod Turning
+pub mod Registers
 pub mod Put
 pub mod Filters
 pub mod Stretches
@@ -11,10 +11,10 @@ pub mod Ranges
 pub mod Same
 pub mod Within
 pub mod HashesBelow
-pub mod Lying
+pub mod Outside
 pub mod Ends
 pub mod OnSilos
-pub mod Sorting
+pub mod Sorted
 pub mod Listed
 pub mod Joined
 pub mod KeyOrder

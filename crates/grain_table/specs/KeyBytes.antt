@@ -3,7 +3,7 @@ use Rattle.std.specs.Prelude.{◌≡◌, ℕ, ◌<◌, ◌≤◌, Bool, false, L
 use Rattle.std.specs.Int.{w32, from_be_bytes, to_be_bytes}
 use Rattle.std.specs.List.{AllByRecursion}
 use Rattle.silo_address.specs.Grain.{Grain, IsGrain, grain_text}
-use Rattle.silo_address.specs.GrainReading.{grain_at_slash}
+use Rattle.silo_address.specs.ReadGrain.{grain_at_slash}
 use Rattle.silo_address.specs.declared.GrainError.{GrainError}
 use Rattle.grain_table.specs.declared.hashed_grain.HashedGrain.{HashedGrain}
 

@@ -1,10 +1,10 @@
 //! Tables of entries, in order of their grains' hashes. The rules see a table in the order of its grains.
 #![tactic(auto)]
 
+mod alive;
 mod hashed_grain;
 mod hashed_map;
-mod living;
 mod table;
 
-pub use living::is_dead_in;
+pub use alive::is_dead_in;
 pub use table::Table;

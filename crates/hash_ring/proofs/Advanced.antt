@@ -20,7 +20,7 @@ use Rattle.hash_ring.specs.Places.{PlacesValue, is_added, places_of}
 use Rattle.hash_ring.specs.Ring.{points_if, RingValue, IsRingBy, is_active_in, is_on_ring, new_silos, silo_points, points_of, sorted_ring, are_added}
 use Rattle.hash_ring.proofs.Members.{In, In-filter, In-from_filter, In-flat_map, In-from_flat_map, In-map, In-from_map}
 use Rattle.hash_ring.proofs.Order.{point_cmp_total, point_cmp_exact}
-use Rattle.hash_ring.proofs.Rising.{Rising, Rising-from_sorted, Rising-filter, Rising-inserted, In-start, In-all_inserted, In-from_inserted, same_rising, never_itself}
+use Rattle.hash_ring.proofs.StrictOrder.{Rising, Rising-from_sorted, Rising-filter, Rising-inserted, In-start, In-all_inserted, In-from_inserted, same_rising, never_itself}
 use Rattle.hash_ring.proofs.WholeSilos.{some_of, In-ring, In-from_ring, In-from_points_of, In-points_of}
 
 -- ---- Active silos, by their rows and by a look-up

@@ -20,7 +20,7 @@ use Rattle.hash_ring.specs.Owner.{owner_of, owns, is_of_silo, Owns}
 use Rattle.hash_ring.specs.Ring.{points_if, silo_points, points_of, sorted_points, ring_of, IsPointOf, IsSortedAnew, are_added, is_active_in}
 use Rattle.hash_ring.proofs.Members.{In, In-from_Contains, Contains-from_In}
 use Rattle.hash_ring.proofs.Order.{point_cmp_total, point_cmp_exact, same_point}
-use Rattle.hash_ring.proofs.Rising.{Rising-from_sorted, sorted-from_Rising, Rising-inserted, In-all_inserted, In-from_inserted, same_rising}
+use Rattle.hash_ring.proofs.StrictOrder.{Rising-from_sorted, sorted-from_Rising, Rising-inserted, In-all_inserted, In-from_inserted, same_rising}
 use Rattle.hash_ring.proofs.PointsOfViews.{points_from, IsAt, IsAt-from_In}
 use Rattle.hash_ring.proofs.WholeSilos.{In-from_points_of, In-points_of}
 use Rattle.hash_ring.proofs.Advanced.{active_in, In-active}

@@ -1,7 +1,7 @@
 pub mod Order
 pub mod Members
-pub mod Rising
-pub mod Sorting
+pub mod StrictOrder
+pub mod Sorts
 pub mod PointsOfViews
 pub mod HashedPlaces
 pub mod PlacesKept
@@ -10,10 +10,10 @@ pub mod Ownership
 pub mod OwnerSearch
 pub mod Thirds
 pub mod PutIn
-pub mod Merging
+pub mod Merges
 pub mod WholeSilos
 pub mod NewPoints
 pub mod Advanced
 pub mod Rooms
 pub mod Lawful
-pub mod Covering
+pub mod OwnRanges

@@ -22,7 +22,7 @@ use Rattle.hash_ring.specs.Point.{point_cmp, IsOnCircle}
 use Rattle.hash_ring.specs.Places.{PlacesValue, places_of, is_point_count, has_points, places_for, most_points, ArePlaces, IsPlaces}
 use Rattle.hash_ring.specs.Ring.{IsRing, points_if, silo_points, points_of, sorted_ring}
 use Rattle.hash_ring.proofs.Members.{In, In-from_flat_map, All-from_each}
-use Rattle.hash_ring.proofs.Rising.{sorted-from_Rising, Rising-inserted, In-from_inserted}
+use Rattle.hash_ring.proofs.StrictOrder.{sorted-from_Rising, Rising-inserted, In-from_inserted}
 use Rattle.hash_ring.proofs.Order.{point_cmp_total}
 use Rattle.hash_ring.proofs.PointsOfViews.{IsAt-from_In}
 

@@ -18,7 +18,7 @@ use Rattle.hash_ring.specs.declared.point.Point.{Point}
 use Rattle.hash_ring.specs.Places.{PlacesValue, places_of, is_added}
 use Rattle.hash_ring.specs.Ring.{RingValue, points_at, points_if, silo_points, points_of, is_on_ring, new_silos}
 use Rattle.hash_ring.proofs.Members.{In, In-from_flat_map}
-use Rattle.hash_ring.proofs.Rising.{Rising, Rising-from_sorted, Rising-filter, Rising-append}
+use Rattle.hash_ring.proofs.StrictOrder.{Rising, Rising-from_sorted, Rising-filter, Rising-append}
 
 abbrev at_index : Silo → ℕ × ℕ → Point
 at_index silo e = record { place = e.1; silo = silo; index = e.0 }

@@ -15,7 +15,7 @@ use Rattle.std.proofs.lemmas.Map.Keys.{Less-from_sorted}
 use Rattle.std.proofs.lemmas.Map.Lookups.{CmpEqualImpliesEq}
 use Rattle.std.proofs.lemmas.Bool.{cases_lt}
 use Rattle.hash_ring.proofs.Members.{In, In-from_Contains}
-use Rattle.hash_ring.proofs.Rising.{Rising-from_sorted, turned, In-insert_key, In-from_insert_key, Rising-insert_key, same_rising}
+use Rattle.hash_ring.proofs.StrictOrder.{Rising-from_sorted, turned, In-insert_key, In-from_insert_key, Rising-insert_key, same_rising}
 
 module _ {K : Type 0} {R : K → K → Ordering} (o : IsTotalOrder R) (exact : CmpEqualImpliesEq R) where
   -- what a binary search needs

@@ -125,9 +125,6 @@ room_round points place next rise on_circle some on_place past d first split = l
     low : circle - (place - (get_or points 0 d).place) ≤ room points place
     low = least_above (λ (p : Point). steps_to place p.place) (circle - (place - (get_or points 0 d).place)) circle points (omega arith) each
 
-pub room_within : (points : List Point) (place : ℕ) → room points place ≤ circle
-room_within points place = least_upto (λ (p : Point). steps_to place p.place) circle points
-
 -- ---- the first point at a place owns it
 pub owner_there : (points : List Point) (at : ℕ) (d : Point) → IsStrictlySortedBy point_cmp points → PlacesRise points → at < length points
     → ((e : Point) → 0 < at → (get_or points (at - 1) e).place ≢ (get_or points at e).place) → IsOwner points (get_or points at d).place (get_or points at d)

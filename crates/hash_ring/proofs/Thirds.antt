@@ -1,6 +1,5 @@
 -- A search by thirds, in points that stand by place.
 use Rattle.std.proofs.Common.{◌≡◌, ◌⊎◌, ℕ, ◌+◌, ◌-◌, ◌*◌, ◌<◌, ◌≤◌, List, length, get_or, Bool, true, false, sym, ap, subst, inl, inr, arith}
-use Rattle.std.specs.List.Sorted.{IsPartitionPoint}
 use Rattle.std.proofs.Common.{leb}
 use mir.Val.{bool_byte as from_bool}
 use Rattle.std.proofs.lemmas.Bool.{cases_lt, leb-true, leb-false}
@@ -13,13 +12,6 @@ pub record IsNarrowed (points : List Point) (start size place : ℕ) : Type 0 wh
   pub within : start + size ≤ length points
   pub below : (k : ℕ) (d : Point) → k < start → (get_or points k d).place ≤ place
   pub above : (k : ℕ) (d : Point) → start + size ≤ k → k < length points → place < (get_or points k d).place
-
-pub not_narrowed : (points : List Point) (place : ℕ) → IsNarrowed points 0 (length points) place
-not_narrowed points place = record {
-  within = omega arith;
-  below = λ k d before. absurd (omega arith);
-  above = λ k d after within. absurd (omega arith);
-}
 
 -- a step narrows
 pub narrowed : (points : List Point) (start size third place step : ℕ) → IsNarrowed points start size place → 3 * third ≤ size + 1 → 2 * third ≤ size → IsStepByThirds points start third place step
@@ -90,28 +82,3 @@ stepped_by points start third place e g near far a b rise some within nearer far
     subst (λ n. IsStepByThirds points start third place (third * (n + b))) (sym one)
     (subst (λ n. IsStepByThirds points start third place (third * (from_bool near + n))) (sym other)
     (stepped points start third place e g near far rise some within nearer farther))
-
--- ---- The end of the search, with no point left to look at or one.
-pub all_seen : (points : List Point) (start place : ℕ) → IsNarrowed points start 0 place → IsPartitionPoint (λ (p : Point). p.place ≤ place) (λ (p : Point). place < p.place) points start
-all_seen points start place old = (λ k d within before. old.below k d before, λ k d after within. old.above k d (omega arith) within)
-
-pub one_left : (points : List Point) (start place : ℕ) (e : Point) (near : Bool) → IsNarrowed points start 1 place → leb (get_or points start e).place place ≡ near
-    → IsPartitionPoint (λ (p : Point). p.place ≤ place) (λ (p : Point). place < p.place) points (start + from_bool near)
-one_left points start place e true old near =
-    (λ k d within before. low k d before (cases_lt k start), λ k d after within. old.above k d (omega arith) within)
-  where
-    low : (k : ℕ) (d : Point) → k < start + 1 → (k < start) ⊎ (start ≤ k) → (get_or points k d).place ≤ place
-    low k d before (inl passed) = old.below k d passed
-    low k d before (inr from) =
-        let same : start ≡ k = omega arith in
-        let w = old.within in
-        subst (λ n. (get_or points n d).place ≤ place) same (upto_at points start e d place (omega arith) near)
-one_left points start place e false old near =
-    (λ k d within before. old.below k d (omega arith), λ k d after within. high k d after within (cases_lt start k))
-  where
-    high : (k : ℕ) (d : Point) → start + 0 ≤ k → k < length points → (start < k) ⊎ (k ≤ start) → place < (get_or points k d).place
-    high k d after within (inl behind) = old.above k d (omega arith) within
-    high k d after within (inr there) =
-        let same : start ≡ k = omega arith in
-        let w = old.within in
-        subst (λ n. place < (get_or points n d).place) same (after_at points start e d place (omega arith) near)

@@ -19,7 +19,7 @@ use Rattle.hash_ring.specs.Ring.{points_if, silo_points, points_of, sorted_ring,
 use Rattle.hash_ring.specs.Search.{HasWholeSilos}
 use Rattle.hash_ring.proofs.Members.{In, In-from_Contains, Contains-from_In, In-filter, In-from_filter, In-flat_map, In-from_flat_map}
 use Rattle.hash_ring.proofs.Order.{point_cmp_total, point_cmp_exact}
-use Rattle.hash_ring.proofs.Rising.{Rising-from_sorted, sorted-from_Rising, Rising-filter, Rising-inserted, In-all_inserted, In-from_inserted}
+use Rattle.hash_ring.proofs.StrictOrder.{Rising-from_sorted, sorted-from_Rising, Rising-filter, Rising-inserted, In-all_inserted, In-from_inserted}
 use Rattle.hash_ring.proofs.PointsOfViews.{silo_of-silo_points}
 
 -- ---- which silos have points

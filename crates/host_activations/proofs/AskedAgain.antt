@@ -26,7 +26,7 @@ use Rattle.host_activations.proofs.Entries.{lookup-map}
 use Rattle.host_activations.proofs.Fields.{meant}
 use Rattle.host_activations.proofs.Found.{all_map}
 use Rattle.host_activations.proofs.Numbers.{number_at_itself}
-use Rattle.host_activations.proofs.Outstanding.{acts_are}
+use Rattle.host_activations.proofs.OutstandingActs.{acts_are}
 use Rattle.host_activations.proofs.Ranks.{found_behind}
 
 -- each is what is found under its number

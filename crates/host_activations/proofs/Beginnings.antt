@@ -9,7 +9,7 @@ use Rattle.silo_address.specs.declared.ActivationId.{ActivationId}
 use Rattle.directory_rules.specs.declared.Held.{Held}
 use Rattle.directory_rules.specs.declared.Phase.TheVariants.{Closing}
 use Rattle.directory_rules.specs.Host.{Host, held_of, is_firm, next_held, with_started, with_closing, with_find}
-use Rattle.held_activations.specs.Activations.{ActivationsValue}
+use Rattle.host_activations.specs.Activations.{ActivationsValue}
 use Rattle.membership_view.proofs.Entries.{sorted-nil}
 use Rattle.host_activations.specs.declared.asked.Asked.{Asked}
 use Rattle.host_activations.specs.declared.asked.Asked.TheVariants.{Activation, Find}
@@ -19,7 +19,7 @@ use Rattle.host_activations.specs.Asked.{asked_under, finds_in}
 use Rattle.host_activations.specs.IsHost.{AreHeld, IsHost}
 use Rattle.host_activations.specs.HostModel.{IsWhole, host_of}
 use Rattle.host_activations.proofs.Numbers.{begun, changed}
-use Rattle.host_activations.proofs.Kept.{free, asking_more, finding_more}
+use Rattle.host_activations.proofs.HostKept.{free, asking_more, finding_more}
 use Rattle.host_activations.proofs.Finds.{finds_put, finds_stay, find_more}
 use Rattle.host_activations.proofs.Fields.{made, meant, step_on, firm_rests}
 

@@ -23,7 +23,7 @@ use Rattle.directory_rules.specs.declared.Phase.TheVariants.{Asking, Firm, Closi
 use Rattle.directory_rules.specs.Host.{Host, find_acts, held_acts}
 use Rattle.directory_rules.specs.Laws.{AreNumbered, requests_of}
 use Rattle.directory_rules.proofs.Cases.{on_bool}
-use Rattle.directory_rules.proofs.Numbering.{one, one_same, one_cases, times, times_phase, with_number, numbers}
+use Rattle.directory_rules.proofs.RequestNumbers.{one, one_same, one_cases, times, times_phase, with_number, numbers}
 use Rattle.directory_rules.proofs.Renewal.{held_numbers, same_keys, length_put_all}
 use Rattle.host_activations.specs.declared.asked.Asked.{Asked}
 use Rattle.host_activations.specs.declared.asked.Asked.TheVariants.{Activation, Find}
@@ -31,7 +31,7 @@ use Rattle.host_activations.specs.Numbers.{number_in}
 use Rattle.host_activations.specs.Asked.{asked_under, find_in, finds_in}
 use Rattle.host_activations.specs.IsHost.{AreHeld}
 use Rattle.host_activations.proofs.Numbers.{number_at_itself}
-use Rattle.host_activations.proofs.Asking.{same_activation, no_find, nothing}
+use Rattle.host_activations.proofs.Agreement.{same_activation, no_find, nothing}
 use Rattle.host_activations.proofs.Found.{IsFoundIn, all_map, each_found}
 use Rattle.host_activations.proofs.Finds.{find_under, finds_sorted}
 use Rattle.host_activations.proofs.Fields.{meant}

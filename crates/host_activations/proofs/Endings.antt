@@ -18,7 +18,7 @@ use Rattle.host_activations.specs.IsHost.{AreHeld, IsHost}
 use Rattle.host_activations.specs.HostModel.{IsWhole, host_of}
 use Rattle.host_activations.proofs.Numbers.{GivesNumber, changed, gone}
 use Rattle.host_activations.proofs.Found.{each_found, found_by_search}
-use Rattle.host_activations.proofs.Kept.{asking_less, resting, finding_less}
+use Rattle.host_activations.proofs.HostKept.{asking_less, resting, finding_less}
 use Rattle.host_activations.proofs.Entries.{remove_absent}
 use Rattle.host_activations.proofs.Finds.{find_under, finds_taken, finds_kept, find_less}
 use Rattle.host_activations.proofs.Fields.{made, meant, asking_has}

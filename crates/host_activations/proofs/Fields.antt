@@ -9,7 +9,7 @@ use Rattle.directory_rules.specs.Host.{Host, is_firm, is_asking_under, is_closin
 use Rattle.host_activations.specs.declared.asked.Asked.{Asked}
 use Rattle.host_activations.specs.Numbers.{number_in}
 use Rattle.host_activations.specs.Asked.{finds_in}
-use Rattle.held_activations.specs.Begun.{IsNext}
+use Rattle.host_activations.specs.Begun.{IsNext}
 use Rattle.std.proofs.lemmas.Bool.{eqb-true}
 
 abbrev pub made : Silo → (next count : ℕ) → List (Grain × Held) → List (ℕ × Grain) → Host

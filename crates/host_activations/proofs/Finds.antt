@@ -17,7 +17,7 @@ use Rattle.host_activations.specs.declared.asked.Asked.TheVariants.{Activation, 
 use Rattle.host_activations.specs.Asked.{asked_under, find_in, finds_in}
 use Rattle.host_activations.proofs.Numbers.{on_number, through}
 use Rattle.host_activations.proofs.Entries.{sorted-remove_entry, length-remove_entry, remove_absent}
-use Rattle.host_activations.proofs.Asking.{asked_put, asked_taken}
+use Rattle.host_activations.proofs.Agreement.{asked_put, asked_taken}
 
 module _ (out : List (ℕ × Asked)) (sorted : IsStrictlySortedBy nat_cmp (keys_of out)) where
   -- the find under a number

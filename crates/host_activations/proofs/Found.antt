@@ -8,7 +8,7 @@ use Rattle.std.proofs.lemmas.Map.Keys.{IsDistinct-head, IsDistinct-tail}
 use Rattle.silo_address.specs.Grain.{Grain, grain_cmp, grain_eq}
 use Rattle.silo_address.proofs.Same.{Decides-grain}
 use Rattle.directory_rules.specs.declared.Held.{Held}
-use Rattle.held_activations.proofs.Grains.{at_itself, on_grain}
+use Rattle.host_activations.proofs.Grains.{at_itself, on_grain}
 
 -- an entry is what is found at its grain
 abbrev pub IsFoundIn : List (Grain × Held) → Grain × Held → Type 0

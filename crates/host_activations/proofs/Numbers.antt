@@ -11,7 +11,7 @@ use Rattle.silo_address.specs.Grain.{Grain, grain_cmp, grain_eq}
 use Rattle.silo_address.proofs.Order.{grain_cmp_total}
 use Rattle.membership_view.proofs.Entries.{Equal-from}
 use Rattle.directory_rules.specs.declared.Held.{Held}
-use Rattle.held_activations.proofs.Grains.{at_itself, by_order, on_grain, on_test}
+use Rattle.host_activations.proofs.Grains.{at_itself, by_order, on_grain, on_test}
 use Rattle.host_activations.specs.Numbers.{number_in, number_of}
 use Rattle.host_activations.proofs.Entries.{lookup_last, lookup_before}
 

@@ -16,7 +16,7 @@ use Rattle.host_activations.specs.declared.asked.Asked.TheVariants.{Activation, 
 use Rattle.host_activations.specs.Numbers.{number_in}
 use Rattle.host_activations.specs.Asked.{asked_under}
 use Rattle.host_activations.specs.IsHost.{AreHeld}
-use Rattle.host_activations.proofs.Asking.{same_activation, no_find, nothing}
+use Rattle.host_activations.proofs.Agreement.{same_activation, no_find, nothing}
 use Rattle.host_activations.proofs.Found.{IsFoundIn, all_map, each_found, search_finds, search_fails}
 
 -- what is outstanding under a number is an activation's request just where it is not a find's

@@ -12,13 +12,13 @@ use Rattle.silo_address.proofs.Same.{Decides-grain}
 use Rattle.membership_view.proofs.Found.{same_entries}
 use Rattle.directory_rules.specs.declared.Held.{Held}
 use Rattle.directory_rules.specs.Host.{Host}
-use Rattle.held_activations.specs.Activations.{ActivationsValue}
+use Rattle.host_activations.specs.Activations.{ActivationsValue}
 use Rattle.host_activations.specs.declared.asked.Asked.{Asked}
 use Rattle.host_activations.specs.declared.asked.Asked.TheVariants.{Activation, Find}
 use Rattle.host_activations.specs.contracts.asked.AskedPartialEq as asked_eq
 use Rattle.host_activations.specs.Asked.{asked_under, find_in, finds_in}
 use Rattle.host_activations.specs.IsHost.{AreHeld}
-use Rattle.host_activations.proofs.Asking.{nothing}
+use Rattle.host_activations.proofs.Agreement.{nothing}
 use Rattle.host_activations.proofs.Finds.{find_under, is_find}
 use Rattle.host_activations.specs.declared.host.Host.TheInside.{Inside}
 use Rattle.host_activations.specs.HostModel.{IsWhole, host_of}

@@ -13,10 +13,10 @@ use Rattle.membership_view.proofs.Entries.{sorted-insert_entry}
 use Rattle.membership_view.proofs.Found.{same_entries}
 use Rattle.directory_rules.specs.declared.Held.{Held}
 use Rattle.directory_rules.specs.declared.Phase.{Phase}
-use Rattle.held_activations.specs.Activations.{ActivationsValue}
+use Rattle.host_activations.specs.Activations.{ActivationsValue}
 use Rattle.host_activations.specs.declared.asked.Asked.{Asked}
 use Rattle.host_activations.specs.Asked.{asked_under}
-use Rattle.host_activations.proofs.Asking.{asked_put, asked_taken}
+use Rattle.host_activations.proofs.Agreement.{asked_put, asked_taken}
 use Rattle.host_activations.proofs.Entries.{sorted-remove_entry}
 use Rattle.host_activations.proofs.Numbers.{on_number, number_at_itself}
 

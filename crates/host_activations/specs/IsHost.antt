@@ -6,7 +6,7 @@ use Rattle.std.specs.List.Sorted.{IsStrictlySortedBy}
 use Rattle.std.specs.Map.{keys_of}
 use Rattle.silo_address.specs.Grain.{Grain, grain_eq}
 use Rattle.directory_rules.specs.declared.Held.{Held}
-use Rattle.held_activations.specs.Begun.{IsNext}
+use Rattle.host_activations.specs.Begun.{IsNext}
 use Rattle.host_activations.specs.declared.asked.Asked.{Asked}
 use Rattle.host_activations.specs.Asked.{AreAsked, asked_under, finds_in}
 

@@ -4,3 +4,11 @@ pub mod Acts
 pub mod IsHost
 pub mod HostModel
 pub mod Renewal
+pub mod Activations
+pub mod InOrder
+pub mod Begun
+pub mod ByHash
+pub mod Kept
+pub mod KeptFields
+pub mod Stretch
+pub mod Firm

@@ -9,9 +9,9 @@ mod replies;
 mod same;
 mod telling;
 
+use crate::Activations;
 use crate::asked::Asked;
 use directory_rules::{Held, Settings};
-use held_activations::Activations;
 pub use renewal::Renewal;
 use silo_address::{GrainId, SiloAddress};
 use std::alloc::{AllocError, Global};

@@ -2,7 +2,11 @@
 //! of its requests (`docs/RULES.md#phases`).
 #![tactic(auto)]
 
+mod activations;
 mod asked;
+mod by_hash;
 mod host;
+mod kept;
 
+pub use activations::{Activations, entry_on};
 pub use host::{Host, Renewal};

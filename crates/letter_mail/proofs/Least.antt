@@ -179,7 +179,3 @@ lesser_of None b c = refl
 lesser_of (Some a) None c = refl
 lesser_of (Some a) (Some b) None = refl
 lesser_of (Some a) (Some b) (Some c) = ap (λ n. Some n) (omega arith)
-
-pub lesser_none : (a : Option ℕ) → lesser a None ≡ a
-lesser_none None = refl
-lesser_none (Some a) = refl

@@ -1,5 +1,5 @@
-pub mod Growing
+pub mod GrainNumbers
 pub mod Posted
 pub mod Queued
 pub mod Least
-pub mod Sending
+pub mod TakenBack

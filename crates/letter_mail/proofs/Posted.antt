@@ -1,5 +1,5 @@
 -- Letters under their numbers: letter n of the mail stands in the n-th slot.
-use Rattle.std.proofs.Common.{◌≡◌, ◌≢◌, ◌⊎◌, inl, inr, ℕ, zero, suc, ◌+◌, ◌-◌, ◌<◌, ◌≤◌, true, false, cond, List, [], ◌∷◌, ◌++◌, length, get_or, set, take, map, Option, Some, None, IsSome, refl, sym, ◌∙◌, ap, subst, arith}
+use Rattle.std.proofs.Common.{◌≡◌, ◌≢◌, ◌⊎◌, inl, inr, ℕ, zero, suc, ◌+◌, ◌-◌, ◌<◌, ◌≤◌, true, false, cond, List, [], ◌∷◌, ◌++◌, length, get_or, set, take, Option, Some, None, IsSome, refl, sym, ◌∙◌, ap, subst, arith}
 use Rattle.std.specs.Prelude.{nat_le}
 use Rattle.std.specs.Option.{option_map, option_map_or}
 use Rattle.std.specs.List.{cons_option, enumerate_from, filter, filter_map}
@@ -9,7 +9,7 @@ use Rattle.std.specs.BTreeMap.{is_at}
 use Rattle.std.proofs.lemmas.Bool.{cases_eq, cases_lt, le-leb, lt-leb}
 use Rattle.std.proofs.lemmas.Cmp.{nat_cmp_total, tied_itself}
 use Rattle.std.proofs.lemmas.Map.Lookups.{exact_unsigned}
-use Rattle.std.proofs.lemmas.List.{append-nil, append_assoc, length-append, length-set, length-take-le}
+use Rattle.std.proofs.lemmas.List.{length-append, length-set, length-take-le}
 use Rattle.std.proofs.lemmas.List.Elements.{filter_map-append}
 use Rattle.std.proofs.lemmas.Option.{same_Some}
 use Rattle.silo_address.specs.Grain.{Grain}
@@ -21,11 +21,11 @@ use Rattle.letter_mail.specs.declared.slots.Slot.{Slot}
 use Rattle.letter_mail.specs.declared.slots.Slot.TheVariants.{Short, Whole, Lost}
 use Rattle.letter_mail.specs.Kept.{letter_by}
 use Rattle.letter_mail.specs.Slots.{AreKept, is_fresh, lost_slot, posted_from, posted_in, slot_from, slot_to, stale_slot}
-use Rattle.letter_mail.specs.Mail.{MailValue, has_fresh, letter_in, with_lost, with_posted, with_stale, without_last}
+use Rattle.letter_mail.specs.Mail.{has_fresh, letter_in, with_lost, with_posted, with_stale, without_last}
 use Rattle.letter_mail.specs.MailModel.{mail_in}
 use Rattle.letter_mail.specs.Queues.{fresh_at, is_fresh_in}
-use Rattle.letter_mail.specs.Keeping.{Grows}
-use Rattle.letter_mail.proofs.Growing.{posted_again}
+use Rattle.letter_mail.specs.KeptLetters.{Grows}
+use Rattle.letter_mail.proofs.GrainNumbers.{posted_again}
 
 -- ---- where a number stands
 here : (n m : ℕ) → n ≡ m → is_at (nat_cmp n) m ≡ true
@@ -160,18 +160,6 @@ put_slot grains (Short fresh brief) letter is =
 put_slot grains (Whole fresh whole) letter is =
     let same = same_Some (record { letter = whole.value; fresh = fresh }) (fresh_letter letter) is in (ap (λ (p : Posted). p.fresh) same, ap (λ (p : Posted). p.letter.to) same)
 put_slot grains (Lost to) letter is = absurd (cc (is))
-
--- some, and then more
-pub posted_none : (mail : MailValue) → with_posted mail [] ≡ mail
-posted_none mail =
-    ap (λ (l : List (ℕ × Posted)). record { letters = l; sent = mail.sent + 0 }) (append-nil mail.letters) ∙ ap (λ n. record { letters = mail.letters; sent = n }) (omega arith)
-
-pub posted_next : (mail : MailValue) (letter : Letter) (letters : List Letter) → with_posted (with_posted mail (letter ∷ [])) letters ≡ with_posted mail (letter ∷ letters)
-posted_next mail letter letters =
-    ap (λ (l : List (ℕ × Posted)). record { letters = l; sent = mail.sent + 1 + length letters })
-    (append_assoc mail.letters ((mail.sent + 1, fresh_letter letter) ∷ []) (map (λ e. (e.0, fresh_letter e.1)) (enumerate_from (mail.sent + 1 + 1) letters)))
-    ∙ ap (λ n. record { letters = mail.letters ++ (mail.sent + 1, fresh_letter letter) ∷ map (λ e. (e.0, fresh_letter e.1)) (enumerate_from (mail.sent + 1 + 1) letters); sent = n })
-    (further mail.sent (length letters))
 
 -- ---- a delivery
 abbrev under : ℕ → Option Posted → List (ℕ × Posted) → List (ℕ × Posted)

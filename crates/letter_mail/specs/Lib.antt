@@ -1,5 +1,5 @@
 pub mod Kept
-pub mod Keeping
+pub mod KeptLetters
 pub mod Slots
 pub mod Queues
 pub mod QueueModel

@@ -1,7 +1,7 @@
 ghost use Rattle.std.specs.Prelude.{◌≡◌, ◌<◌, ◌≤◌, ◌^◌, ℕ, List, Some, IfOk, IfSome, MatchOption, length};
 ghost use Rattle.std.specs.Map.{keys_of};
 ghost use Rattle.directory_letters.specs.LetterModel.{body_of};
-ghost use Rattle.letter_mail.specs.Keeping.{Grows};
+ghost use Rattle.letter_mail.specs.KeptLetters.{Grows};
 ghost use Rattle.letter_mail.specs.Kept.{IsNumbered, entry_by, grain_at, letter_by, range_by, said_by};
 ghost use Rattle.letter_mail.specs.Slots.{IsSlot, posted_in};
 ghost use Rattle.directory_rules.specs.Letter.{Reply_letter, Request_letter};

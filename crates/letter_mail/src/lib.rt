@@ -6,10 +6,10 @@ mod keep;
 mod kept;
 mod mail;
 mod mailed;
-mod passing;
-mod putting;
+mod passed;
 mod queue;
 mod queues;
+mod slot_changes;
 mod slots;
 
 pub use mail::Mail;

@@ -5,10 +5,10 @@ ghost use Rattle.letter_mail.specs.Mail.{HasRisingNumbers, has_fresh, least_fres
 ghost use Rattle.letter_mail.specs.MailedModel.{letter_seen};
 
 use crate::MailedLetter;
-use crate::passing::{deliver_in, lose_in};
-use crate::putting::{put_all, take_last};
+use crate::passed::{deliver_in, lose_in};
 use crate::queue::Queue;
 use crate::queues::first_at;
+use crate::slot_changes::{put_all, take_last};
 use crate::slots::{Slot, index_of, is_fresh_at};
 use directory_letters::Letter;
 use grain_names::GrainMap;

@@ -1,5 +1,5 @@
 pub mod Pairs
-pub mod Turning
+pub mod LastPair
 pub mod Rounds
-pub mod Living
+pub mod NoneDead
 pub mod Caches

@@ -1,5 +1,5 @@
 -- Hints as they are turned, one after the other, at a sight.
-use Rattle.std.proofs.Common.{◌≡◌, ℕ, ◌+◌, ◌-◌, ◌<◌, ◌≤◌, Bool, true, false, not, cond, List, [], ◌∷◌, ◌++◌, length, take, Some, None, refl, sym, ◌∙◌, ap, subst, arith, length-append, append-nil}
+use Rattle.std.proofs.Common.{◌≡◌, ℕ, ◌+◌, ◌-◌, ◌<◌, Bool, true, false, not, cond, List, [], ◌∷◌, ◌++◌, length, take, Some, None, refl, sym, ◌∙◌, ap, subst, arith, length-append, append-nil}
 use Rattle.std.proofs.lemmas.List.{append_assoc}
 use Rattle.std.proofs.lemmas.Option.{same_Some}
 use Rattle.std.specs.List.{IsDistinct}
@@ -13,7 +13,7 @@ use Rattle.directory_rules.specs.Membership.{is_dead_in}
 use Rattle.lru.specs.LruCache.{last_entry, promoted}
 use Rattle.lru.proofs.Pairs.{cut_end, last_of_push}
 use Rattle.lookup_cache.specs.Hints.{living_hints, turned}
-use Rattle.lookup_cache.proofs.Turning.{promoted_last}
+use Rattle.lookup_cache.proofs.LastPair.{promoted_last}
 
 abbrev pub Hint : Type 0
 Hint = Grain × ActivationId
@@ -60,17 +60,6 @@ turned_once_more view turns was now next is more turn =
           ∙ ap (λ l. l ++ end.0) (living-cons view end.1 is.back);
       turns_is = omega arith;
     }
-
--- after as many turns as there are hints
-pub turned_round : (view : ViewValue) (was now : List Hint) (turns : ℕ) → IsTurned view turns was now → length was ≤ turns → now ≡ living_hints view was
-turned_round view was now turns is all = by is.front is.was_is is.now_is refl
-  where
-    by : (front : List Hint) → was ≡ front ++ is.back → now ≡ living_hints view is.back ++ front → front ≡ is.front → now ≡ living_hints view was
-    by [] was_is now_is same = now_is ∙ append-nil (living_hints view is.back) ∙ ap (λ l. living_hints view l) (sym was_is)
-    by (hint ∷ front) was_is now_is same =
-        let long : length was ≡ length (hint ∷ front) + length is.back = ap (λ (l : List Hint). length l) was_is ∙ length-append (hint ∷ front) is.back in
-        let turns_is : length is.back ≡ turns = is.turns_is in
-        absurd (omega arith)
 
 -- ---- the last hint is turned: where there is none
 pub turned_none : (view : ViewValue) (hints : List Hint) → last_entry hints ≡ None → hints ≡ turned view hints

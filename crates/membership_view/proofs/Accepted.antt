@@ -19,7 +19,7 @@ use Rattle.membership_view.proofs.Order.{Decides-shares}
 use Rattle.membership_view.proofs.Statuses.{there_from}
 use Rattle.membership_view.proofs.Known.{status_at-made}
 use Rattle.membership_view.proofs.SameEndpoint.{newest_from}
-use Rattle.membership_view.proofs.Stepping.{changes_are_steps}
+use Rattle.membership_view.proofs.Changes.{changes_are_steps}
 use Rattle.silo_address.proofs.Order.{silo_cmp_exact, silo_cmp_total}
 
 -- a silo is another one, or it isn't

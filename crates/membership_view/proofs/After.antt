@@ -16,7 +16,7 @@ use Rattle.membership_view.proofs.Entries.{Equal-from, lookup-changed, lookup-in
 use Rattle.membership_view.proofs.Found.{same_entries}
 use Rattle.membership_view.proofs.Statuses.{status_before_dying}
 use Rattle.membership_view.proofs.SameEndpoint.{found_row, occupant_is}
-use Rattle.membership_view.proofs.Joining.{put_in, new_row, found_occupant}
+use Rattle.membership_view.proofs.Joins.{put_in, new_row, found_occupant}
 use Rattle.silo_address.proofs.Order.{silo_cmp_exact, silo_cmp_total}
 
 -- a silo's status in the view of a version, by its row

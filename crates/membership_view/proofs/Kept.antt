@@ -15,7 +15,7 @@ use Rattle.membership_view.specs.Whole.{IsInTime, IsViews, changes_of}
 use Rattle.membership_view.proofs.Statuses.{not_made, active_is, not_dead_is, changes_leaving, changes_dying}
 use Rattle.membership_view.proofs.Known.{status_at-made}
 use Rattle.membership_view.proofs.ChangedRow.{IsChange, whole-changed, in_time_later}
-use Rattle.membership_view.proofs.Joining.{in_time_dying, whole-joined}
+use Rattle.membership_view.proofs.Joins.{in_time_dying, whole-joined}
 
 -- a join that is accepted: of the newest of its endpoint, with room for its row
 pub record IsJoin (views : ViewsValue) (silo : Silo) (next : ViewsValue) : Type 0 where

@@ -6,14 +6,14 @@ use Rattle.membership_view.specs.View.{ViewValue}
 use Rattle.hash_ring.specs.Places.{PlacesValue}
 use Rattle.hash_ring.specs.Ring.{ring_of}
 use Rattle.range_moves.specs.Arcs.{arcs_of}
-use Rattle.range_moves.specs.declared.Arc.{Arc}
+use Rattle.range_moves.specs.declared.RingArc.{RingArc}
 use Rattle.directory_rules.specs.Cache.{cache_seeing}
 use Rattle.directory_rules.specs.Host.{outstanding, renewed}
 use Rattle.directory_rules.specs.Laws.{IsHandedOver}
 use Rattle.directory_rules.specs.Membership.{is_dead_in}
 use Rattle.directory_rules.specs.Node.{Node}
 use Rattle.directory_rules.specs.Piece.{Piece}
-use Rattle.directory_rules.specs.Sending.{all_requests, all_wants, request_letters}
+use Rattle.directory_rules.specs.Sent.{all_requests, all_wants, request_letters}
 use Rattle.directory_rules.specs.Sight.{pieces_after, sealed, shelf_after}
 use Rattle.directory_rules.specs.Snapshot.{Snapshot}
 use Rattle.directory_rules.specs.Letter.{Letter}
@@ -22,14 +22,14 @@ use Rattle.directory_rules.specs.declared.Effect.TheVariants.{Next, Skip, Nudged
 use Rattle.directory_rules.specs.Step.{Stepped, compared_points, having_nudged, having_seen, new_gatherings, new_recoveries, node_after}
 use Rattle.directory_rules.specs.Step as rule
 use Rattle.directory_rules.specs.Table.{rise_by_grain}
-use Rattle.directory_rules.proofs.Sealing.{all_handed}
-use Rattle.grain_partition.specs.Holding.{ArePieces}
+use Rattle.directory_rules.proofs.Seals.{all_handed}
+use Rattle.grain_partition.specs.Holdings.{ArePieces}
 use Rattle.grain_partition.specs.Seen.{emptied, pieces_seen}
 use Rattle.grain_partition.specs.Sight.{AreOfRings}
 use Rattle.seal_snapshot.specs.Laws.{SealedComesBehind}
 use Rattle.seal_snapshot.specs.Shelf.{AreInOrder}
 use Rattle.node_plans.specs.Node.{HaveRecoveries, IsNode}
-use Rattle.node_plans.specs.Planning.{FitsSight, MayRenew, pieces_by, seen_by}
+use Rattle.node_plans.specs.Plans.{FitsSight, MayRenew, pieces_by, seen_by}
 use Rattle.node_plans.specs.Sender.{ahead, wants_of}
 use Rattle.node_plans.specs.declared.plan.Sight.{Sight}
 use Rattle.node_plans.proofs.Alike.{emptied_want, same_requests, same_wanted}
@@ -78,7 +78,7 @@ module _ (node : Node) (sight : Sight) (fits : FitsSight sight node) where
     }
 
   -- the rule's node
-  pub seen_is : (view : ViewValue) (places : PlacesValue) (arcs : List Arc) → sight.view ≡ view → sight.transition.ring ≡ ring_of view places → sight.transition.arcs ≡ arcs
+  pub seen_is : (view : ViewValue) (places : PlacesValue) (arcs : List RingArc) → sight.view ≡ view → sight.transition.ring ≡ ring_of view places → sight.transition.arcs ≡ arcs
       → seen_by sight node ≡ node_after sight.next node view places arcs
   seen_is view places arcs v r a = λ i. record node {
     view = v i;

@@ -11,7 +11,7 @@ use Rattle.directory_rules.specs.Host.{outstanding, renewed}
 use Rattle.directory_rules.specs.Letter.{Request_letter}
 use Rattle.directory_rules.specs.Node.{Node}
 use Rattle.directory_rules.specs.Piece.{Piece, Holding}
-use Rattle.directory_rules.specs.Sending.{all_requests, hash_of, letter_if_owned, owner_by, request_letters, request_of, wants_by}
+use Rattle.directory_rules.specs.Sent.{all_requests, hash_of, letter_if_owned, owner_by, request_letters, request_of, wants_by}
 use Rattle.directory_rules.specs.Snapshot.{Snapshot}
 use Rattle.grain_partition.specs.Seen.{emptied}
 use Rattle.node_plans.specs.Sender.{bare, wants_of}

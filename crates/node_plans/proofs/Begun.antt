@@ -15,16 +15,16 @@ use Rattle.membership_view.proofs.Entries.{sorted-picked, lookup-picked}
 use Rattle.directory_rules.proofs.Cases.{on_bool}
 use Rattle.directory_rules.specs.declared.PieceState.{PieceState}
 use Rattle.directory_rules.specs.declared.PieceState.TheVariants.{Settled, Awaiting, Recovering}
-use Rattle.directory_rules.specs.Gathering.{Gathering, new_gathering}
+use Rattle.directory_rules.specs.Gatherings.{Gathering, new_gathering}
 use Rattle.directory_rules.specs.Piece.{Piece}
 use Rattle.directory_rules.specs.Recovery.{Recovery, new_recovery}
 use Rattle.directory_rules.specs.Step.{gathering_in, new_gatherings, new_recoveries, recovery_in}
 use Rattle.directory_rules.specs.Table.{rise_by_grain}
 use Rattle.directory_rules.specs.Transfer.{is_recovering}
 use Rattle.grain_partition.proofs.AtTheEnd.{insert_entry-end}
-use Rattle.grain_partition.specs.Holding.{ArePieces}
+use Rattle.grain_partition.specs.Holdings.{ArePieces}
 use Rattle.grain_partition.specs.Seen.{emptied}
-use Rattle.node_plans.specs.Beginning.{is_awaiting}
+use Rattle.node_plans.specs.Beginnings.{is_awaiting}
 use Rattle.node_plans.specs.Node.{HaveRecoveries}
 
 module _ {X : Type 0} (begins : Piece → Option X) where

@@ -15,19 +15,19 @@ use Rattle.membership_view.proofs.Entries.{lookup-insert_entry}
 use Rattle.directory_rules.proofs.Cases.{on_bool}
 use Rattle.directory_rules.specs.declared.Effect.TheVariants as effect
 use Rattle.directory_rules.specs.declared.PieceState.{PieceState}
-use Rattle.directory_rules.specs.Gathering.{Gathering, gathered, new_gathering, with_page}
+use Rattle.directory_rules.specs.Gatherings.{Gathering, gathered, new_gathering, with_page}
 use Rattle.directory_rules.specs.Letter.{Letter, Ask_letter, Done_letter, Query_letter}
 use Rattle.directory_rules.specs.Membership.{members_of}
 use Rattle.directory_rules.specs.Node.{Node}
 use Rattle.directory_rules.specs.Piece.{Piece}
 use Rattle.directory_rules.specs.Recovery.{Recovery, new_recovery}
-use Rattle.directory_rules.specs.Sending.{gathering_of, letter_to}
+use Rattle.directory_rules.specs.Sent.{gathering_of, letter_to}
 use Rattle.directory_rules.specs.Snapshot.{Page}
 use Rattle.directory_rules.specs.Step.{Stepped, silently}
 use Rattle.directory_rules.specs.Table.{Table, is_before_first, rise_by_grain, table_of}
 use Rattle.directory_rules.specs.Transfer.{answer_to, awaits, gathered_by, has_range, is_awaiting_from, is_page_awaited, missing, paged, piece_at, querying, turned_to_recovery, with_gathering, with_settled}
-use Rattle.grain_partition.specs.Holding.{HasPiece}
-use Rattle.node_plans.specs.Planning.{recovering_by}
+use Rattle.grain_partition.specs.Holdings.{HasPiece}
+use Rattle.node_plans.specs.Plans.{recovering_by}
 use Rattle.seal_snapshot.specs.Progress.{progress_of}
 use Rattle.seal_snapshot.specs.declared.progress.Progress.TheVariants.{Complete}
 use Rattle.node_plans.proofs.Pages.{WantsMore, has_all, is_wrong}

@@ -1,9 +1,9 @@
 pub mod Kept
 pub mod Numbers
-mod Taking
+mod TakenReports
 pub mod Reports
-pub mod Absorbing
-pub mod Writing
+pub mod CountedReports
+pub mod Values
 pub mod Pages
 pub mod Gatherings
 pub mod Results

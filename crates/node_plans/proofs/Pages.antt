@@ -1,28 +1,17 @@
 -- What comes of an ask, of a page, and of a snapshot that isn't there.
-use Rattle.std.proofs.Common.{◌≡◌, refl, ap, ◌∙◌, ℕ, List, ◌++◌}
-use Rattle.std.specs.Prelude.{Bool, true, false, cond, not, ◌&&◌, ◌==◌, ◌+◌, ◌<◌, nat_lt, length, Result, Ok, Err}
+use Rattle.std.proofs.Common.{◌≡◌, refl, ap, ℕ, List, ◌++◌}
+use Rattle.std.specs.Prelude.{Bool, true, false, cond, not, ◌&&◌, ◌==◌, ◌+◌, ◌<◌, nat_lt, Result, Ok, Err}
 use Rattle.std.specs.Cmp.Lexicographic.{pointwise}
 use Rattle.silo_address.specs.declared.Entry.{Entry}
-use Rattle.ring_range.specs.Range.{Range, range_eq}
+use Rattle.ring_range.specs.Range.{range_eq}
 use Rattle.ring_range.proofs.Same.{Decides-range}
-use Rattle.directory_rules.specs.Gathering.{Gathering, Gathered, Wants_page, Has_all, Refuses, gathered, is_in_turn, new_gathering, with_page}
-use Rattle.directory_rules.specs.Letter.{Letter}
-use Rattle.directory_rules.specs.Node.{Node}
-use Rattle.directory_rules.specs.Snapshot.{Page, ShelfAnswer, Hands_page, Has_none, Is_behind, digest_of}
-use Rattle.directory_rules.specs.declared.Effect.TheVariants.{Ignored, Refused}
-use Rattle.directory_rules.specs.Step.{silently}
-use Rattle.directory_rules.specs.Transfer.{asked_by, gathered_by, with_gathering}
+use Rattle.directory_rules.specs.Gatherings.{Gathering, Gathered, Wants_page, Has_all, Refuses, gathered, is_in_turn, new_gathering, with_page}
+use Rattle.directory_rules.specs.Snapshot.{Page, digest_of}
 use Rattle.std.proofs.lemmas.Bool.{ltb-true}
 use Rattle.std.proofs.lemmas.Bool.Decides.{Decides-eqb}
 use Rattle.seal_snapshot.specs.Progress.{progress_of}
 use Rattle.seal_snapshot.specs.declared.progress.Progress.{Progress}
 use Rattle.seal_snapshot.specs.declared.progress.Progress.TheVariants.{More, Complete}
-
--- an ask is answered by one letter
-pub asked_once : (answer : ShelfAnswer) (letter : Letter) (range : Range) (node : Node) → length (asked_by answer letter range node).letters ≡ 1
-asked_once (Hands_page page) letter range node = refl
-asked_once Has_none letter range node = refl
-asked_once Is_behind letter range node = refl
 
 -- what comes of a page, by whether it is of the gathering, in its turn, not the last one, and, if it is, of the right digest
 abbrev outcome : (its in_turn further right : Bool) → (gathering more anew : Gathering) → List Entry → Gathered
@@ -100,16 +89,3 @@ pub is_wrong : (g : Gathering) (page : Page) → progress_of (gathered g page) �
 is_wrong g page is =
     let by = wrong_of (is_of g page) (is_in_turn g page) (nat_lt (page.page + 1) page.pages) (is_right g page) g (with_page g page) (new_gathering g.version g.range) (g.entries ++ page.entries) (ap is_701 is) in
     record { is = by.0; its_range = its_range g page by.1 }
-
--- or the page isn't the gathering's, or not in its turn
-ignored_by : (of_it : Gathered) (number : ℕ) (letter : Letter) (range : Range) (node : Node) → (number == 701) ≡ false → progress_of of_it ≡ Err number
-    → gathered_by of_it letter range node ≡ silently node Ignored
-ignored_by (Wants_page g) number letter range node other is = absurd (cc (is))
-ignored_by (Has_all es) number letter range node other is = absurd (cc (is))
-ignored_by (Refuses its g) number letter range node other is =
-    let same : its ≡ number = cc (is) in
-    ap (λ b. cond b (silently (with_gathering node g) (Refused 701)) (silently node Ignored)) (ap (λ (n : ℕ). n == 701) same ∙ other)
-
-pub page_ignored : (g : Gathering) (page : Page) (number : ℕ) (letter : Letter) (range : Range) (node : Node) → (number == 701) ≡ false → progress_of (gathered g page) ≡ Err number
-    → gathered_by (gathered g page) letter range node ≡ silently node Ignored
-page_ignored g page number letter range node other is = ignored_by (gathered g page) number letter range node other is

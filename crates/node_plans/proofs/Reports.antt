@@ -12,7 +12,7 @@ use Rattle.directory_rules.specs.Piece.{Piece}
 use Rattle.directory_rules.specs.declared.Effect.TheVariants.{Ignored}
 use Rattle.directory_rules.specs.Letter.{Letter}
 use Rattle.directory_rules.specs.Recovery.{Recovery, Report, Recovered, Awaits_more, Has_union, Rejects, recovered, with_report}
-use Rattle.directory_rules.specs.Sending.{recovery_of}
+use Rattle.directory_rules.specs.Sent.{recovery_of}
 use Rattle.directory_rules.specs.Step.{silently}
 use Rattle.directory_rules.specs.Node.{Node}
 use Rattle.directory_rules.specs.Transfer.{has_range, is_recovering, is_report_awaited, piece_at, recovered_by, reported}
@@ -20,7 +20,7 @@ use Rattle.std.proofs.lemmas.Map.Lookups.{exact_unsigned}
 use Rattle.membership_view.proofs.Entries.{Equal-from}
 use Rattle.directory_rules.proofs.Cases.{on_bool}
 use Rattle.node_plans.proofs.Kept.{apart_from, other_than_written, written_is_found}
-use Rattle.node_plans.proofs.Taking.{with_taken}
+use Rattle.node_plans.proofs.TakenReports.{with_taken}
 use Rattle.node_plans.specs.Node.{HasRecovery, HaveRecoveries, IsNode}
 
 both : (a b : Bool) → (a && b) ≡ true → (a ≡ true) × (b ≡ true)

@@ -1,11 +1,11 @@
 pub mod Numbers
 pub mod InputModel
 pub mod Follows
-pub mod Planning
+pub mod Plans
 pub mod Node
 pub mod CacheModel
 pub mod Placed
-pub mod Beginning
+pub mod Beginnings
 pub mod Sender
 pub mod Transition
 pub mod TransitionModel

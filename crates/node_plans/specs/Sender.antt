@@ -4,9 +4,9 @@ use Rattle.directory_rules.specs.Cache.{new_cache}
 use Rattle.directory_rules.specs.Letter.{Letter}
 use Rattle.directory_rules.specs.Node.{Node}
 use Rattle.directory_rules.specs.Piece.{Piece}
-use Rattle.directory_rules.specs.Sending.{wants_by}
+use Rattle.directory_rules.specs.Sent.{wants_by}
 use Rattle.node_plans.specs.declared.plan.Sight.{Sight}
-use Rattle.node_plans.specs.declared.sending.Sender.{Sender}
+use Rattle.node_plans.specs.declared.senders.Sender.{Sender}
 
 -- the node without pieces, snapshots and hints: its letters depend on none of them
 abbrev pub bare : Node → Node

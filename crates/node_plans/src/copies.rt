@@ -3,7 +3,7 @@ ghost use Rattle.std.specs.Arc.{arc_value};
 ghost use Rattle.std.specs.Prelude.{◌≡◌, IfOk};
 
 use crate::Transition;
-use crate::caching::copy_of_cache;
+use crate::cache::copy_of_cache;
 use grain_partition::Holding;
 use hash_ring::Ring;
 use host_activations::Host;

@@ -3,11 +3,11 @@
 //! `docs/RULES.md#the-world`.
 #![tactic(auto)]
 
-mod beginning;
-mod caching;
+mod beginnings;
+mod cache;
 mod copies;
 mod effects;
-mod gathering;
+mod gathered;
 mod input;
 mod members;
 mod order;
@@ -15,16 +15,16 @@ mod plan;
 mod recoveries;
 mod refusal;
 mod rings;
-mod seeing;
-mod sending;
+mod senders;
+mod sights;
 mod states;
 mod transition;
 
-pub use beginning::new_waits;
-pub use caching::{forget, hint_in, learn, new_cache, same_caches, see_in_cache, use_hint};
+pub use beginnings::new_waits;
+pub use cache::{forget, hint_in, learn, new_cache, same_caches, see_in_cache, use_hint};
 pub use copies::{copied_own, copied_seen, copied_sight, copied_tables, copied_waits};
 pub use effects::{offer_effect, reply_effect, seen_effect};
-pub use gathering::{gather_among, gather_anew_among, same_gatherings};
+pub use gathered::{gather_among, gather_anew_among, same_gatherings};
 pub use input::Input;
 pub use members::member_count;
 pub use order::{are_all_of, go_on, lie_in, rise_by_grain, table_of};
@@ -32,7 +32,7 @@ pub use plan::{Change, Plan, Sight, list_of};
 pub use recoveries::{same_recoveries, take_report};
 pub use refusal::StepRefusal;
 pub use rings::{advanced, ring_of};
-pub use seeing::see_in_holding;
-pub use sending::Sender;
+pub use senders::Sender;
+pub use sights::see_in_holding;
 pub use states::{is_firm, is_recovering};
 pub use transition::Transition;

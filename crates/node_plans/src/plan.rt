@@ -3,7 +3,7 @@ ghost use Rattle.directory_rules.specs.Cache.{hint_of, in_front};
 ghost use Rattle.directory_rules.specs.Node.{Node as NodeValue};
 ghost use Rattle.directory_rules.specs.Step.{silently};
 ghost use Rattle.directory_rules.specs.declared.Effect.TheVariants.{Cached};
-ghost use Rattle.node_plans.specs.Planning.{changed, step_by};
+ghost use Rattle.node_plans.specs.Plans.{changed, step_by};
 
 use crate::Transition;
 use directory_letters::Letter;

@@ -2,7 +2,7 @@
 ghost use Rattle.std.specs.Prelude.{◌≡◌};
 ghost use Rattle.directory_rules.specs.Host.{is_firm};
 ghost use Rattle.directory_rules.specs.Transfer.{is_recovering};
-ghost use Rattle.node_plans.specs.Beginning.{is_awaiting};
+ghost use Rattle.node_plans.specs.Beginnings.{is_awaiting};
 
 use directory_rules::{Phase, PieceState};
 

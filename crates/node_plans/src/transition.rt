@@ -5,7 +5,7 @@ ghost use Rattle.std.specs.Arc.{arc_value};
 
 use grain_partition::ArcsBySilo;
 use hash_ring::Ring;
-use range_moves::Arc;
+use range_moves::RingArc;
 use std::alloc::{AllocError, Global};
 use std::marker::Model;
 use std::sync;
@@ -33,7 +33,7 @@ impl Model for Transition {
 impl Transition {
     /// The ring, and the arcs from another one to it: it asks that they are the arcs between two rings. Fails only when memory runs
     /// out.
-    pub fn of(alloc: Global, ring: Ring, arcs: Vec<Arc>) -> Result<Transition, AllocError>
+    pub fn of(alloc: Global, ring: Ring, arcs: Vec<RingArc>) -> Result<Transition, AllocError>
         requires { AreOfRings arcs.items }
         ensures { IfOk result (λ transition. transition ≡ record { ring = ring; arcs = arcs.items }) }
     {

@@ -11,7 +11,7 @@ use grain_partition::{ArcsBySilo, Holding, Piece};
 use grain_table::Table;
 use hash_ring::{Hashing, Places, Ring};
 use membership_view::View;
-use range_moves::{Arc, arcs};
+use range_moves::{RingArc, arcs};
 use ring_range::RingRange;
 use seal_snapshot::Snapshot;
 use silo_address::{Entry, SiloAddress};
@@ -197,16 +197,16 @@ fn pieces_are_told_before_a_sight(rt: HostRuntime) {
     );
 }
 
-fn arc(rt: &impl Abort, text: &str, from: &str, to: &str) -> Arc {
-    Arc {
+fn arc(rt: &impl Abort, text: &str, from: &str, to: &str) -> RingArc {
+    RingArc {
         range: range(rt, text),
         from: Some(silo(rt, from)),
         to: Some(silo(rt, to)),
     }
 }
 
-fn try_listed(alloc: Global, arcs: &[Arc]) -> Result<ArcsBySilo, AllocError> {
-    let arcs: Vec<Arc> = arcs.iter().copied().collect(alloc)?;
+fn try_listed(alloc: Global, arcs: &[RingArc]) -> Result<ArcsBySilo, AllocError> {
+    let arcs: Vec<RingArc> = arcs.iter().copied().collect(alloc)?;
     ArcsBySilo::of(alloc, arcs)
 }
 

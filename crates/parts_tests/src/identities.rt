@@ -1,5 +1,5 @@
 use crate::samples::{activation, grain, silo};
-use silo_address::{Entry, GrainId, SiloAddress};
+use silo_address::{ActivationId, Entry, GrainId, SiloAddress};
 
 // The number by which a silo's text is refused, if it is.
 fn silo_refusal(text: &str) -> Option<u16> {
@@ -17,37 +17,61 @@ fn grain_refusal(text: &[u8]) -> Option<u16> {
     }
 }
 
-const SILOS: [(&str, Option<u16>); 14] = [
-    ("0.0.0.0:1@1", None),
-    ("255.255.255.255:65535@2147483647", None),
-    ("", Some(101)),
-    ("10.0.0.1@1", Some(101)),
-    ("10.0.0.1:@1", Some(101)),
-    ("10.0.0.0.1:1@1", Some(101)),
-    ("10.0.0.1@1:1", Some(101)),
-    ("10.0.0.256:0@", Some(101)),
-    ("00.0.0.1:1@1", Some(102)),
-    ("10.0.0.1:1@1 ", Some(102)),
-    ("256.256.256.256:65536@00", Some(102)),
-    ("10.0.0.1:0@1", Some(103)),
-    ("10.0.0.1:1@2147483648", Some(103)),
-    ("10.0.0.1:18446744073709551617@1", Some(103)),
+const NO_SILOS: [(&str, u16); 14] = [
+    ("", 101),
+    ("10.0.0.1@1", 101),
+    ("10.0.0.1:@1", 101),
+    ("10.0.0.0.1:1@1", 101),
+    ("10.0.0.1@1:1", 101),
+    ("10.0.0.256:0@", 101),
+    ("10.0.0.1:1000@01", 102),
+    ("00.0.0.1:1@1", 102),
+    ("10.0.0.1:1@1 ", 102),
+    ("256.256.256.256:65536@00", 102),
+    ("10.0.0.256:1@1", 103),
+    ("10.0.0.1:0@1", 103),
+    ("10.0.0.1:1@2147483648", 103),
+    ("10.0.0.1:18446744073709551617@1", 103),
 ];
 
 #[test]
-fn silo_texts(rt: HostRuntime) {
-    for (text, refusal) in &SILOS {
-        assert!(rt; silo_refusal(*text) == *refusal, "{text}");
+fn silo_refusals(rt: HostRuntime) {
+    for (text, number) in &NO_SILOS {
+        assert!(rt; silo_refusal(*text) == Some(*number), "{text}");
     }
 }
 
+// Texts, and the ip, port and generation that each tells.
+const SILOS: [(&str, [u8; 4], u16, u32); 8] = [
+    ("10.0.0.1:1000@1", [10, 0, 0, 1], 1000, 1),
+    ("10.0.0.2:1000@1", [10, 0, 0, 2], 1000, 1),
+    ("10.0.0.3:1000@1", [10, 0, 0, 3], 1000, 1),
+    ("10.0.0.4:1000@1", [10, 0, 0, 4], 1000, 1),
+    ("10.0.0.1:1000@2", [10, 0, 0, 1], 1000, 2),
+    ("9.0.0.9:70@3", [9, 0, 0, 9], 70, 3),
+    ("0.0.0.0:1@1", [0, 0, 0, 0], 1, 1),
+    (
+        "255.255.255.255:65535@2147483647",
+        [255, 255, 255, 255],
+        65_535,
+        2_147_483_647,
+    ),
+];
+
+// Whether the silo has these parts.
+fn is_silo(silo: &SiloAddress, ip: [u8; 4], port: u16, generation: u32) -> bool {
+    silo.ip() == ip && silo.port() == port && silo.generation() == generation
+}
+
 #[test]
-fn silo_of_parts(rt: HostRuntime) {
-    let one = silo(&rt, "10.0.0.1:1000@7");
-    one.in_range();
-    assert!(rt; one.ip() == [10, 0, 0, 1] && one.port() == 1000 && one.generation() == 7);
-    let text = one.text(rt.alloc()).expect(&rt, "memory");
-    assert!(rt; text.as_str() == "10.0.0.1:1000@7");
+fn silo_texts(rt: HostRuntime) {
+    for (text, ip, port, generation) in &SILOS {
+        let one = silo(&rt, *text);
+        one.in_range();
+        assert!(rt; is_silo(&one, *ip, *port, *generation), "{text}");
+        let printed = one.text(rt.alloc()).expect(&rt, "memory");
+        assert!(rt; printed.as_str() == *text);
+    }
 }
 
 #[test]
@@ -78,10 +102,19 @@ fn grain_texts(rt: HostRuntime) {
     assert!(rt; printed.as_str() == ann.as_str() && ann.as_bytes() == b"user/ann#7".as_slice());
 }
 
-const NO_GRAINS: [(&[u8], u16); 6] = [
+// A kind of 65 bytes and a key of 129 are too long, one byte more than they may have.
+const NO_GRAINS: [(&[u8], u16); 8] = [
     (b"user", 111),
     (b"user/", 111),
     (b"/ann", 111),
+    (
+        b"aaaaaaaaaaaaaaaaaaaaaaaaaaaaaaaaaaaaaaaaaaaaaaaaaaaaaaaaaaaaaaaaa/a",
+        112,
+    ),
+    (
+        b"a/aaaaaaaaaaaaaaaaaaaaaaaaaaaaaaaaaaaaaaaaaaaaaaaaaaaaaaaaaaaaaaaaaaaaaaaaaaaaaaaaaaaaaaaaaaaaaaaaaaaaaaaaaaaaaaaaaaaaaaaaaaaaaaaaa",
+        112,
+    ),
     (b"user/a\x20b", 113),
     (b"user/\x7f", 113),
     (b"\x1f/a", 113),
@@ -115,12 +148,43 @@ fn stated_hashes(rt: HostRuntime) {
     }
 }
 
+// Texts, and the silo and count that each tells.
+const ACTIVATIONS: [(&str, &str, u64); 4] = [
+    ("10.0.0.1:1000@1!1", "10.0.0.1:1000@1", 1),
+    ("10.0.0.2:1000@1!2", "10.0.0.2:1000@1", 2),
+    ("10.0.0.1:1000@1!0", "10.0.0.1:1000@1", 0),
+    (
+        "10.0.0.1:1000@1!18446744073709551615",
+        "10.0.0.1:1000@1",
+        u64::MAX,
+    ),
+];
+
 #[test]
-fn an_activation(rt: HostRuntime) {
-    let text = "10.0.0.1:1000@1!18446744073709551615";
-    let activation = activation(&rt, text);
-    let printed = activation.text(rt.alloc()).expect(&rt, "memory");
-    assert!(rt; printed.as_str() == text && activation.same(&activation.copy()));
+fn activation_texts(rt: HostRuntime) {
+    for (text, on, count) in &ACTIVATIONS {
+        let one = activation(&rt, *text);
+        assert!(rt; one.silo == silo(&rt, *on) && one.count == *count && one.same(&one.copy()));
+        let printed = one.text(rt.alloc()).expect(&rt, "memory");
+        assert!(rt; printed.as_str() == *text);
+    }
+}
+
+// No silo, or no count.
+const NO_ACTIVATIONS: [&str; 6] = [
+    "10.0.0.1:1000@1",
+    "10.0.0.1:1000!1",
+    "10.0.0.1:1000@1!",
+    "10.0.0.1:1000@1!01",
+    "10.0.0.1:1000@1!1!",
+    "10.0.0.1:1000@1!18446744073709551616",
+];
+
+#[test]
+fn activation_refusals(rt: HostRuntime) {
+    for text in &NO_ACTIVATIONS {
+        assert!(rt; ActivationId::parse(text.as_bytes()).is_err(), "{text}");
+    }
 }
 
 #[test]

@@ -6,6 +6,8 @@
 #[cfg(test)]
 mod cache;
 #[cfg(test)]
+mod digits;
+#[cfg(test)]
 mod holdings;
 #[cfg(test)]
 mod hosts;

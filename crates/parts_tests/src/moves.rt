@@ -1,6 +1,6 @@
 use crate::samples::{A, B, C, join_at, no_silos, range, ring_now, silo};
 use hash_ring::Ring;
-use range_moves::{Arc, Move, arcs, laws, moves};
+use range_moves::{Move, RingArc, arcs, laws, moves};
 use silo_address::SiloAddress;
 use std::alloc::Global;
 use std::process::Abort;
@@ -31,10 +31,11 @@ struct Row<'a> {
     old: &'a [(&'a str, &'a [u32])],
     new: &'a [(&'a str, &'a [u32])],
     arcs: &'a [Told<'a>],
+    moves: &'a [Told<'a>],
 }
 
-fn told_arc(rt: &impl Abort, told: &Told<'_>) -> Arc {
-    Arc {
+fn told_arc(rt: &impl Abort, told: &Told<'_>) -> RingArc {
+    RingArc {
         range: range(rt, told.0),
         from: owner(rt, told.1),
         to: owner(rt, told.2),
@@ -50,9 +51,19 @@ fn told_move(rt: &impl Abort, told: &Told<'_>) -> Move {
 }
 
 // Whether these are the arcs.
-fn are_arcs(rt: &impl Abort, found: &[Arc], wanted: &[Told<'_>]) -> bool {
+fn are_arcs(rt: &impl Abort, found: &[RingArc], wanted: &[Told<'_>]) -> bool {
     for (arc, told) in found.iter().zip(wanted) {
         if !arc.same(&told_arc(rt, told)) {
+            return false;
+        }
+    }
+    found.len() == wanted.len()
+}
+
+// Whether these are the moves.
+fn are_moves(rt: &impl Abort, found: &[Move], wanted: &[Told<'_>]) -> bool {
+    for (one, told) in found.iter().zip(wanted) {
+        if !one.same(&told_move(rt, told)) {
             return false;
         }
     }
@@ -63,28 +74,42 @@ fn check_row(rt: &impl Abort, alloc: Global, row: &Row<'_>) {
     let (old, new) = (ring(rt, alloc, row.old), ring(rt, alloc, row.new));
     let found = arcs(alloc, &old, &new).expect(rt, "memory");
     assert!(rt; are_arcs(rt, &found, row.arcs));
+    let moved = moves(alloc, &old, &new).expect(rt, "memory");
+    assert!(rt; are_moves(rt, &moved, row.moves));
 }
 
-// Two rings, and the arcs between them. Those of a silo that joins opposite another one, of the first silo and of the last one
-// are worked out as laws.
-const TABLE: [Row<'static>; 6] = [
+// Two rings, the arcs between them, and which of those change hands.
+const TABLE: [Row<'static>; 7] = [
+    // A silo joins opposite another one.
+    Row {
+        old: &[(A, &[1073741824])],
+        new: &[(A, &[1073741824]), (B, &[3221225472])],
+        arcs: &[
+            ("1073741824+2147483648", A, A),
+            ("3221225472+2147483648", A, B),
+        ],
+        moves: &[("3221225472+2147483648", A, B)],
+    },
     // Nothing changes.
     Row {
         old: &[(A, &[9, 4]), (B, &[8])],
         new: &[(A, &[9, 4]), (B, &[8])],
         arcs: &[("4+4", A, A), ("8+1", B, B), ("9+4294967291", A, A)],
+        moves: &[],
     },
     // A silo has points elsewhere, but owns the same.
     Row {
         old: &[(A, &[1, 2])],
         new: &[(A, &[2, 3, 3])],
         arcs: &[("1+1", A, A), ("2+1", A, A), ("3+4294967294", A, A)],
+        moves: &[],
     },
     // Of two at one place the first by address owns.
     Row {
         old: &[(A, &[10, 20]), (B, &[20, 30])],
         new: &[(B, &[20, 30])],
         arcs: &[("10+10", A, B), ("20+10", A, B), ("30+4294967276", B, B)],
+        moves: &[("10+10", A, B), ("20+10", A, B)],
     },
     // The first place is another silo's than the hashes before it.
     Row {
@@ -95,12 +120,14 @@ const TABLE: [Row<'static>; 6] = [
             ("100+4294967190", A, A),
             ("4294967290+11", B, B),
         ],
+        moves: &[("5+95", B, C)],
     },
     // The lowest place and the highest.
     Row {
         old: &[(A, &[0])],
         new: &[(B, &[4294967295])],
         arcs: &[("0+4294967295", A, B), ("4294967295+1", A, B)],
+        moves: &[("0+4294967295", A, B), ("4294967295+1", A, B)],
     },
     // Places of one ring after those of the other.
     Row {
@@ -112,28 +139,15 @@ const TABLE: [Row<'static>; 6] = [
             ("3+1", B, B),
             ("4+4294967293", B, C),
         ],
+        moves: &[("1+1", A, C), ("2+1", B, C), ("4+4294967293", B, C)],
     },
 ];
 
 #[test]
-fn arcs_between_rings(rt: HostRuntime) {
+fn arcs_and_moves_between_rings(rt: HostRuntime) {
     for row in &TABLE {
         check_row(&rt, rt.alloc(), row);
     }
-}
-
-// What changes hands of the last row.
-#[test]
-fn moves_between_rings(rt: HostRuntime) {
-    let old = ring(&rt, rt.alloc(), &[(A, &[1]), (B, &[2])]);
-    let new = ring(&rt, rt.alloc(), &[(B, &[3]), (C, &[4])]);
-    let found = moves(rt.alloc(), &old, &new).expect(&rt, "memory");
-    let wanted = [
-        told_move(&rt, &("1+1", A, C)),
-        told_move(&rt, &("2+1", B, C)),
-        told_move(&rt, &("4+4294967293", B, C)),
-    ];
-    assert!(rt; found.as_slice() == wanted.as_slice());
 }
 
 #[test]

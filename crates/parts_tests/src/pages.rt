@@ -200,7 +200,7 @@ fn takes(
     page: &Page,
     want: Result<Progress, GatheringError>,
 ) -> bool {
-    gathering.judge(page) == want
+    gathering.progress_with(page) == want
         && (gathering.take(page) == want
             || (gathering.same(before) && gathering.take(page) == want))
 }

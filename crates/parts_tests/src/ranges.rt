@@ -34,7 +34,13 @@ fn inclusions(rt: HostRuntime) {
 }
 
 // Two ranges, and the two parts that they share.
-const MEETINGS: [(&str, &str, &str, &str); 4] = [
+const MEETINGS: [(&str, &str, &str, &str); 5] = [
+    (
+        "0+4000000000",
+        "3000000000+2000000000",
+        "0+705032704",
+        "3000000000+1000000000",
+    ),
     (
         "3000000000+2000000000",
         "0+4000000000",
@@ -55,7 +61,17 @@ fn meetings(rt: HostRuntime) {
 }
 
 // A range, where it is cut, and its parts.
-const CUTS: [(&str, &[u32], &[&str]); 3] = [
+const CUTS: [(&str, &[u32], &[&str]); 5] = [
+    (
+        "3000000000+2000000000",
+        &[0, 3_500_000_000, 1_000_000_000],
+        &[
+            "3000000000+500000000",
+            "3500000000+794967296",
+            "0+705032704",
+        ],
+    ),
+    ("5+4294967296", &[0], &["5+4294967291", "0+5"]),
     ("5+4294967296", &[5, 5], &["5+4294967296"]),
     ("10+5", &[9, 14, 12, 15], &["10+2", "12+2", "14+1"]),
     (
@@ -66,7 +82,7 @@ const CUTS: [(&str, &[u32], &[&str]); 3] = [
 ];
 
 // Whether these are the ranges.
-fn are_ranges(rt: &impl Abort, ranges: &[RingRange], texts: &[&str]) -> bool {
+pub(crate) fn are_ranges(rt: &impl Abort, ranges: &[RingRange], texts: &[&str]) -> bool {
     for (one, text) in ranges.iter().zip(texts) {
         if *one != range(rt, *text) {
             return false;

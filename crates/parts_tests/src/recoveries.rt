@@ -106,7 +106,7 @@ fn reports_are_taken(rt: HostRuntime) {
 
 // Whether a report of such a silo is refused by this number.
 fn is_refused(recovery: &Recovery, report: &Report, number: u16) -> bool {
-    match recovery.judge(report) {
+    match recovery.progress_with(report) {
         Ok(_) => false,
         Err(refusal) => refusal.number() == Some(number),
     }

@@ -1,6 +1,8 @@
-use crate::samples::{A, B, C, grain, join_at, no_silos, ring_now, silo, view};
+use crate::ranges::are_ranges;
+use crate::samples::{A, B, C, grain, join_at, no_silos, range, ring_now, silo, view};
 use hash_ring::{Hashing, Places, Point, Ring, hash_text, laws};
 use membership_view::{View, Views};
+use range_moves::{Move, moves};
 use ring_range::RingRange;
 use silo_address::SiloAddress;
 use std::alloc::Global;
@@ -146,8 +148,9 @@ fn ring_of_two(rt: &impl Abort, alloc: Global, a: &[u32], b: &[u32]) -> Ring {
 const HALF: u32 = 2147483648;
 
 // The places of A and of B, a hash, and the place, silo and index of its owner.
-const OWNERS: [(&[u32], &[u32], u32, u32, &str, usize); 5] = [
+const OWNERS: [(&[u32], &[u32], u32, u32, &str, usize); 6] = [
     (&[0], &[HALF], 2147483647, 0, A, 0),
+    (&[0, HALF], &[HALF], 2147483647, 0, A, 0),
     (&[5], &[HALF], 4, HALF, B, 0),
     (&[0, HALF], &[HALF], HALF, HALF, A, 1),
     (&[9, 3, 9], &[9, 9], 9, 9, A, 0),
@@ -159,6 +162,47 @@ fn owners(rt: HostRuntime) {
     for (a, b, hash, place, text, index) in &OWNERS {
         let owner = ring_of_two(&rt, rt.alloc(), *a, *b).owner(*hash);
         assert!(rt; owner == Some(point(&rt, *place, text, *index)), "{hash}");
+    }
+}
+
+// The places of A and of B.
+type Given<'a> = (&'a [u32], &'a [u32]);
+
+// Them, the points of the ring, and the ranges of A and of B.
+const RINGS: [(Given<'static>, &[(u32, &str, usize)], &[&str], &[&str]); 3] = [
+    (
+        (&[0, HALF], &[HALF]),
+        &[(0, A, 0), (HALF, A, 1), (HALF, B, 0)],
+        &["0+2147483648", "2147483648+2147483648"],
+        &[],
+    ),
+    (
+        (&[1073741824], &[3221225472]),
+        &[(1073741824, A, 0), (3221225472, B, 0)],
+        &["1073741824+2147483648"],
+        &["3221225472+2147483648"],
+    ),
+    (
+        (&[5], &[5]),
+        &[(5, A, 0), (5, B, 0)],
+        &["5+4294967296"],
+        &[],
+    ),
+];
+
+// Whether these are the ranges of the silo.
+fn has_ranges(rt: &impl Abort, alloc: Global, ring: &Ring, text: &str, texts: &[&str]) -> bool {
+    let ranges = ring.ranges_of(alloc, &silo(rt, text)).expect(rt, "memory");
+    are_ranges(rt, &ranges, texts)
+}
+
+#[test]
+fn points_and_ranges(rt: HostRuntime) {
+    for ((a, b), points, of_a, of_b) in &RINGS {
+        let ring = ring_of_two(&rt, rt.alloc(), *a, *b);
+        assert!(rt; are_points(&rt, ring.points(), *points));
+        assert!(rt; has_ranges(&rt, rt.alloc(), &ring, A, *of_a));
+        assert!(rt; has_ranges(&rt, rt.alloc(), &ring, B, *of_b));
     }
 }
 
@@ -176,18 +220,14 @@ fn are_owned(owned: &[(RingRange, SiloAddress)], second: &SiloAddress) -> bool {
     owned.len() == 3 && is_range(&owned[1].0, 20, 3999999980) && owned[1].1 == *second
 }
 
-fn are_ranges(ranges: &[RingRange]) -> bool {
-    ranges.len() == 2 && is_range(&ranges[0], 10, 10) && is_range(&ranges[1], 4000000000, 294967306)
-}
-
 // Of two points at one place the first by silo has the range, and the last range goes round to the first place.
 #[test]
 fn ranges_with_their_owners(rt: HostRuntime) {
     let ring = ring_of_two(&rt, rt.alloc(), &[4000000000, 10], &[20, 10]);
     let owned = ring.owned_ranges(rt.alloc()).expect(&rt, "memory");
     assert!(rt; are_owned(&owned, &silo(&rt, B)));
-    let ranges = ring.ranges_of(rt.alloc(), &silo(&rt, A));
-    assert!(rt; are_ranges(&ranges.expect(&rt, "memory")));
+    let texts = ["10+10", "4000000000+294967306"];
+    assert!(rt; has_ranges(&rt, rt.alloc(), &ring, A, &texts));
 }
 
 // The ring of one view, advanced to the next.
@@ -223,6 +263,41 @@ fn a_ring_advances(rt: HostRuntime) {
     let (views, places) = five_changes(&rt, rt.alloc());
     for version in 1..=5u64 {
         check_ring(&rt, rt.alloc(), &views, &places, version);
+    }
+}
+
+// A version, the points of its ring, and who had the whole circle before and who has it now.
+type Step<'a> = (u64, &'a [(u32, &'a str, usize)], &'a str, &'a str);
+
+// A comes to the place of B, and goes.
+const STEPS: [Step<'static>; 2] = [(2, &[(5, A, 0), (5, B, 0)], B, A), (3, &[(5, B, 0)], A, B)];
+
+// The ring that is advanced to the version, and what changes hands by it.
+fn check_step(
+    rt: &impl Abort,
+    alloc: Global,
+    (views, places): (&Views, &Places),
+    (version, points, from, to): Step<'_>,
+) {
+    let now = view(rt, alloc, views, version);
+    let earlier = view(rt, alloc, views, version.saturating_sub(1));
+    let old = Ring::anew(alloc, &earlier, places).expect(rt, "a ring");
+    let ring = advanced(rt, alloc, &earlier, &now, places);
+    assert!(rt; are_points(rt, ring.points(), points));
+    let moved = [Move {
+        range: range(rt, "5+4294967296"),
+        from: Some(silo(rt, from)),
+        to: silo(rt, to),
+    }];
+    let found = moves(alloc, &old, &ring).expect(rt, "memory");
+    assert!(rt; found.as_slice() == moved.as_slice());
+}
+
+#[test]
+fn moves_of_a_ring_that_advances(rt: HostRuntime) {
+    let (views, places) = five_changes(&rt, rt.alloc());
+    for step in STEPS {
+        check_step(&rt, rt.alloc(), (&views, &places), step);
     }
 }
 

@@ -18,7 +18,7 @@ use Rattle.directory_rules.specs.declared.effect.Effect.TheVariants as effect
 use Rattle.directory_rules.specs.declared.held.Held.{Held}
 use Rattle.directory_rules.specs.declared.reply.Reply.{Reply}
 use Rattle.directory_rules.specs.declared.reply.Reply.TheVariants as reply
-use Rattle.directory_rules.specs.Event.{Saw, Did}
+use Rattle.directory_rules.specs.declared.outcome.Happening.TheVariants.{Saw, Did}
 use Rattle.directory_rules.specs.Host.{Host}
 use Rattle.directory_rules.specs.Letter.{Letter, Body, Request_letter, Reply_letter, Ask_letter, Page_letter, Missing_letter, Done_letter, Query_letter, Report_letter, Behind_letter, Ahead_letter, Offer_letter}
 use Rattle.directory_rules.specs.Piece.{Piece}
@@ -29,7 +29,7 @@ use Rattle.silo_rules.specs.SiloValue.{SiloValue, own_status}
 use Rattle.script_rules.specs.Lines.{happening_words, effect_words, refusal_line}
 use Rattle.script_rules.specs.Show.{held_line, phase_word, seen_words}
 use Rattle.process_rules.specs.LetterText.{letter_line}
-use Rattle.process_rules.specs.LineReading.{Receive, read_silo_line}
+use Rattle.process_rules.specs.ReadLine.{Receive, read_silo_line}
 use Rattle.process_output.specs.Happened.{news_words, counted_words, body_words, delivered_words, is_ignored, received_words}
 use Rattle.process_output.specs.Show.{own_word, state_words, piece_line, show_lines, dump_line}
 use Rattle.process_output.specs.Answer.{printing, unless_dead}

@@ -9,10 +9,10 @@ use Rattle.hash_ring.specs.declared.hashing.Hashing.{Hashing}
 use Rattle.directory_rules.specs.Letter.{Letter}
 use Rattle.silo_rules.specs.Membership.{Change, Join, Leave, Die}
 use Rattle.silo_rules.specs.SiloValue.{SiloValue, own_status}
-use Rattle.silo_rules.specs.Stepping.{receives}
-use Rattle.silo_rules.specs.Telling.{Heard, told}
+use Rattle.silo_rules.specs.Steps.{receives}
+use Rattle.silo_rules.specs.Told.{Heard, told}
 use Rattle.script_rules.specs.Lines.{refusal_line}
-use Rattle.process_rules.specs.LineReading.{Asked, Joined, Leaving, Dead, See, Wake, Close, Offer, Find, Forget, Nudge, Receive, Ping, Show, Dump}
+use Rattle.process_rules.specs.ReadLine.{Asked, Joined, Leaving, Dead, See, Wake, Close, Offer, Find, Forget, Nudge, Receive, Ping, Show, Dump}
 use Rattle.process_output.specs.Happened.{news_words, received_words}
 use Rattle.process_output.specs.Answer.{printing, heard, told_so, stepped, received_so, answered}
 use Rattle.process_output.specs.Show.{dump_line}

@@ -11,9 +11,9 @@ use Rattle.membership_view.specs.View.{ViewValue, status_of}
 use Rattle.membership_view.specs.Views.{status_at}
 use Rattle.membership_view.specs.declared.status.Status.{Status}
 use Rattle.membership_view.specs.declared.status.Status.TheVariants as status
-use Rattle.membership_view.proofs.Staying.{dead_stays_dead}
+use Rattle.membership_view.proofs.Unchanged.{dead_stays_dead}
 use Rattle.directory_rules.specs.declared.effect.Effect.{Effect}
-use Rattle.directory_rules.specs.Event.{Saw, Did}
+use Rattle.directory_rules.specs.declared.outcome.Happening.TheVariants.{Saw, Did}
 use Rattle.directory_rules.specs.Input.{Input, Wakes, Closes, Finds, Forgets, Nudges, Offers}
 use Rattle.directory_rules.specs.Laws.{is_live, ArePeopled}
 use Rattle.directory_rules.specs.Letter.{Letter}
@@ -21,8 +21,8 @@ use Rattle.directory_rules.specs.Settings.{Settings, AreSettings}
 use Rattle.directory_rules.specs.Step.{Stepped}
 use Rattle.silo_rules.specs.Membership.{Change, Join, Leave, Die, Membership, changed}
 use Rattle.silo_rules.specs.SiloValue.{SiloValue, first_silo, own_status}
-use Rattle.silo_rules.specs.Stepping.{does, sees, receives}
-use Rattle.silo_rules.specs.Telling.{Heard, told}
+use Rattle.silo_rules.specs.Steps.{does, sees, receives}
+use Rattle.silo_rules.specs.Told.{Heard, told}
 use Rattle.directory_rules.specs.World.{World}
 use Rattle.directory_rules.proofs.Peopled.{peopled_after}
 use Rattle.membership_view.specs.Whole.{IsViews}
@@ -31,9 +31,9 @@ use Rattle.deployment_headline.specs.Deployment.{Deployment, process_of}
 use Rattle.deployment_headline.specs.Limits.{with_room, process_with_room}
 use Rattle.deployment_headline.specs.Steps as deployment
 use Rattle.deployment_headline.proofs.Lists.{over, lookup-over}
-use Rattle.deployment_headline.proofs.Running.{made_so, processes_are_behind, processes_are_own}
+use Rattle.deployment_headline.proofs.Runs.{made_so, processes_are_behind, processes_are_own}
 use Rattle.deployment_headline.proofs.Worlds.{its_node}
-use Rattle.process_rules.specs.LineReading.{Asked, Joined, Leaving, Dead, See, Wake, Close, Offer, Find, Forget, Nudge, Receive, Ping, Show, Dump}
+use Rattle.process_rules.specs.ReadLine.{Asked, Joined, Leaving, Dead, See, Wake, Close, Offer, Find, Forget, Nudge, Receive, Ping, Show, Dump}
 use Rattle.process_output.specs.Happened.{news_words, received_words}
 use Rattle.process_output.specs.Answer.{printing, unless_dead, heard, told_so, stepped, seen_so, done_so, received_so, answered}
 use Rattle.process_output.specs.Output.{answered_to, said}

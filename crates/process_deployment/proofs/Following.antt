@@ -13,14 +13,14 @@ use Rattle.directory_rules.specs.Headline.{Headline}
 use Rattle.directory_rules.specs.Letter.{Letter}
 use Rattle.directory_rules.specs.Settings.{Settings, AreSettings}
 use Rattle.directory_rules.specs.Settled.{IsFirmOn}
-use Rattle.directory_facts.proofs.Seeing.{seen_keep}
+use Rattle.directory_facts.proofs.SeenRings.{seen_keep}
 use Rattle.silo_rules.specs.Membership.{Change, Join, Leave, Die, Membership, changed}
 use Rattle.silo_rules.specs.SiloValue.{SiloValue, first_silo}
 use Rattle.deployment_headline.specs.Deployment.{Deployment, first_deployment}
 use Rattle.deployment_headline.specs.Steps as deployment
 use Rattle.deployment_headline.specs.Theorems as deployment_theorems
 use Rattle.deployment_headline.proofs.Lists.{over, lookup-over, insert-over, remove-over}
-use Rattle.deployment_headline.proofs.Running.{processes_keep_the_headline}
+use Rattle.deployment_headline.proofs.Runs.{processes_keep_the_headline}
 use Rattle.deployment_headline.proofs.Sound.{Sound, sound_first, keeps}
 use Rattle.process_output.specs.Answer.{Answered}
 use Rattle.process_output.specs.Output.{answered_to, said}

@@ -14,7 +14,7 @@ use Rattle.membership_view.specs.declared.status.Status.TheVariants as status
 use Rattle.hash_ring.specs.declared.hashing.Hashing.{Hashing}
 use Rattle.directory_rules.specs.declared.effect.Effect.{Effect}
 use Rattle.directory_rules.specs.declared.effect.Effect.TheVariants.{Ignored}
-use Rattle.directory_rules.specs.Event.{Saw, Did}
+use Rattle.directory_rules.specs.declared.outcome.Happening.TheVariants.{Saw, Did}
 use Rattle.directory_rules.specs.Input.{Input, Wakes, Closes, Finds, Forgets, Nudges, Offers, Receives, step}
 use Rattle.directory_rules.specs.Letter.{Letter}
 use Rattle.directory_rules.specs.Settings.{Settings}
@@ -23,15 +23,15 @@ use Rattle.silo_rules.specs.declared.news.News.TheVariants.{Known}
 use Rattle.silo_rules.specs.Known.{is_known}
 use Rattle.silo_rules.specs.Membership.{Change, Join, Leave, Die, Membership, changed, replaced_by}
 use Rattle.silo_rules.specs.SiloValue.{SiloValue, own_status, told_of_its_join}
-use Rattle.silo_rules.specs.Stepping.{barred_by, unless_barred, does, sees, receives}
-use Rattle.silo_rules.specs.Telling.{Heard, MakesVersion, heard_by, told, told_again}
+use Rattle.silo_rules.specs.Steps.{barred_by, unless_barred, does, sees, receives}
+use Rattle.silo_rules.specs.Told.{Heard, MakesVersion, heard_by, told, told_again}
 use Rattle.script_rules.specs.Lines.{happening_words, refusal_line}
 use Rattle.deployment_headline.specs.Deployment.{Deployment, process_of}
 use Rattle.deployment_headline.specs.Steps as deployment
 use Rattle.deployment_headline.specs.Calls.{TakesItsSteps}
 use Rattle.deployment_headline.proofs.Called.{calls_are_steps}
 use Rattle.deployment_headline.proofs.Sound.{Sound, its_process}
-use Rattle.process_rules.specs.LineReading.{Asked, Joined, Leaving, Dead, See, Wake, Close, Offer, Find, Forget, Nudge, Receive, Ping, Show, Dump, read_silo_line}
+use Rattle.process_rules.specs.ReadLine.{Asked, Joined, Leaving, Dead, See, Wake, Close, Offer, Find, Forget, Nudge, Receive, Ping, Show, Dump, read_silo_line}
 use Rattle.process_rules.specs.InRange.{IsInRange}
 use Rattle.process_rules.proofs.LinesInRange.{line_in_range}
 use Rattle.process_output.specs.Happened.{news_words, received_words}

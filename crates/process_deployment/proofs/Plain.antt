@@ -11,7 +11,7 @@ use Rattle.silo_rules.specs.Membership.{Change, changed}
 use Rattle.deployment_headline.specs.Deployment.{Deployment}
 use Rattle.deployment_headline.specs.Steps as deployment
 use Rattle.deployment_headline.specs.Theorems as deployment_theorems
-use Rattle.deployment_headline.proofs.Running.{steps_are_plain}
+use Rattle.deployment_headline.proofs.Runs.{steps_are_plain}
 use Rattle.process_output.specs.Output.{answered_to, said}
 use Rattle.process_deployment.specs.Allowed.{MayAsk, IfAsks, May}
 use Rattle.process_deployment.specs.Cluster.{Process, having_read, Cluster, first_cluster, process_at}

@@ -25,7 +25,7 @@ use Rattle.directory_rules.proofs.Cases.{on_bool}
 use Rattle.directory_facts.specs.Named.{IsNamed, AreNamed}
 use Rattle.directory_facts.proofs.Entries.{found_so}
 use Rattle.directory_facts.proofs.NamedTables.{NamesAct}
-use Rattle.directory_facts.proofs.Serving.{serves}
+use Rattle.directory_facts.proofs.Served.{serves}
 use Rattle.process_rules.specs.Told.{IsDigest}
 use Rattle.process_deployment.proofs.SayableDigests.{is_digest}
 use Rattle.process_deployment.proofs.SayableFacts.{Answers}

@@ -22,7 +22,7 @@ use Rattle.directory_rules.specs.Settings.{Settings}
 use Rattle.directory_facts.specs.Named.{IsNamed}
 use Rattle.directory_facts.specs.Own.{IsOwnLetter, SaysOwn}
 use Rattle.directory_facts.proofs.Carried.{Facts}
-use Rattle.directory_facts.proofs.Naming.{NamesBody, Says}
+use Rattle.directory_facts.proofs.Names.{NamesBody, Says}
 use Rattle.directory_facts.proofs.NamedTables.{AllNamed, NamesAct}
 use Rattle.process_rules.specs.Told.{IsDigest, IsActivation, IsEntry, IsAct, IsWhy, IsReply, IsToldBody, IsSayable}
 

@@ -12,7 +12,7 @@ use Rattle.directory_facts.proofs.Reached.{everywhere}
 use Rattle.deployment_headline.specs.Limits.{with_room}
 use Rattle.deployment_headline.specs.Steps.{deployed}
 use Rattle.deployment_headline.proofs.Lists.{over}
-use Rattle.deployment_headline.proofs.Running.{made_so}
+use Rattle.deployment_headline.proofs.Runs.{made_so}
 use Rattle.deployment_headline.proofs.Worlds.{its_letter}
 use Rattle.process_rules.specs.Told.{IsSayable}
 use Rattle.process_deployment.specs.Sayable.{LettersAreSayable, WrittenIsSayable}

@@ -30,15 +30,15 @@ use Rattle.directory_rules.specs.Recovery.{Recovery, new_recovery}
 use Rattle.directory_rules.specs.Host.{Host, entry_of, act_in, held_acts, find_acts, outstanding}
 use Rattle.directory_rules.specs.Letter.{Letter, Body, Request_letter, Query_letter}
 use Rattle.directory_rules.specs.Node.{Node}
-use Rattle.directory_rules.specs.Sending.{letter_to, letter_if_owned, owner_by, hash_of, request_of, request_letters, all_requests, recovery_of, query_letters, wants_by, all_wants}
+use Rattle.directory_rules.specs.Sent.{letter_to, letter_if_owned, owner_by, hash_of, request_of, request_letters, all_requests, recovery_of, query_letters, wants_by, all_wants}
 use Rattle.directory_rules.specs.Settings.{Settings}
 use Rattle.directory_rules.proofs.Cases.{on_bool}
 use Rattle.directory_facts.specs.Named.{IsNamed, AwaitsSilo}
 use Rattle.directory_facts.specs.Seen.{SeesItsVersion}
-use Rattle.directory_facts.proofs.Collecting.{found_or}
+use Rattle.directory_facts.proofs.Collected.{found_or}
 use Rattle.directory_facts.proofs.Entries.{all_put}
-use Rattle.directory_facts.proofs.Naming.{NamesOf, SharedNames, OfSilos, place_silo, ring_silos, owner_named}
-use Rattle.directory_facts.proofs.Seeing.{AreViews}
+use Rattle.directory_facts.proofs.Names.{NamesOf, SharedNames, OfSilos, place_silo, ring_silos, owner_named}
+use Rattle.directory_facts.proofs.SeenRings.{AreViews}
 use Rattle.process_deployment.proofs.SayableFacts.{Asks, Tells, Goes, Replaces, Looks, Sends}
 
 -- ---- who is in a view is a silo

@@ -32,18 +32,18 @@ use Rattle.directory_rules.specs.Recovery.{Report, Recovery, Awaits_more, new_re
 use Rattle.directory_rules.specs.Host.{Host, entry_of, held_of, next_held, with_started, with_closing, with_find, without_find, without_held, confirmed, renewed, renewed_phase, new_number}
 use Rattle.directory_rules.specs.Letter.{Letter, Body, Request_letter, Reply_letter, Page_letter, Missing_letter, Done_letter, Report_letter, Behind_letter, Ahead_letter, Offer_letter}
 use Rattle.directory_rules.specs.Node.{Node, new_node}
-use Rattle.directory_rules.specs.Sending.{recovery_of, all_requests, all_wants}
+use Rattle.directory_rules.specs.Sent.{recovery_of, all_requests, all_wants}
 use Rattle.directory_rules.specs.Step as at
 use Rattle.directory_rules.specs.Transfer as tr
 use Rattle.directory_rules.specs.Input.{Input}
 use Rattle.directory_facts.specs.Named.{IsNamed}
 use Rattle.directory_facts.proofs.Carried.{Facts, Brings, IsSight, Keeps, Both, KeepsBeside, both_keep}
-use Rattle.directory_facts.proofs.Collecting.{found_or}
+use Rattle.directory_facts.proofs.Collected.{found_or}
 use Rattle.directory_facts.proofs.Entries.{same_key, all_put, all_set, all_removed, found_so}
 use Rattle.directory_facts.proofs.NamedTables.{NamesAct}
-use Rattle.directory_facts.proofs.Naming.{NamesBody}
+use Rattle.directory_facts.proofs.Names.{NamesBody}
 use Rattle.directory_facts.proofs.NamesKept.{all_names, names_keep}
-use Rattle.directory_facts.proofs.Stepping.{by_way}
+use Rattle.directory_facts.proofs.EachStep.{by_way}
 use Rattle.directory_facts.proofs.Ways.{Ways}
 use Rattle.process_deployment.proofs.SayableAnswers.{answers, handed_digest, StillAwaits, recovered_awaits}
 use Rattle.process_deployment.proofs.SayableFacts.{Tells, IsOnSilo, Goes, Replaces, Looks, Waits, Sends, sent_facts}

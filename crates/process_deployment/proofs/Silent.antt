@@ -17,7 +17,7 @@ use Rattle.hash_ring.specs.declared.hashing.Hashing.{Hashing}
 use Rattle.directory_rules.specs.Letter.{Letter}
 use Rattle.directory_rules.proofs.Cases.{on_bool}
 use Rattle.script_rules.specs.Script.{is_text, is_remark}
-use Rattle.process_rules.specs.LineReading.{Asked, Grammar, Receive, longest_line, commands, asked_if_known, asked_of_words, read_silo_line}
+use Rattle.process_rules.specs.ReadLine.{Asked, Grammar, Receive, longest_line, commands, asked_if_known, asked_of_words, read_silo_line}
 
 -- a line that isn't read as a letter
 abbrev pub IsSilent : Hashing → List ℕ → Type 0

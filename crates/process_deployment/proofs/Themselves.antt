@@ -5,7 +5,7 @@ use Rattle.std.proofs.lemmas.List.Elements.{All-weaker}
 use Rattle.hash_ring.specs.declared.hashing.Hashing.{Hashing}
 use Rattle.directory_rules.specs.Letter.{Letter}
 use Rattle.deployment_headline.specs.Steps.{deployed}
-use Rattle.process_rules.specs.LineReading.{Asked, Receive}
+use Rattle.process_rules.specs.ReadLine.{Asked, Receive}
 use Rattle.process_rules.specs.Told.{IsSayable}
 use Rattle.process_rules.proofs.LinesSaid.{line_said}
 use Rattle.process_deployment.proofs.Answers.{ReadsAsItself}

@@ -11,8 +11,8 @@ use Rattle.hex.specs.Hex.{encode_with, decode_pairs}
 use Rattle.texts.specs.Words.{line_feed}
 use Rattle.texts.proofs.Decided.{both}
 use Rattle.silo_address.specs.Silo.{IsSilo}
-use Rattle.silo_address.specs.SiloReading.{silo_words, read_silo}
-use Rattle.silo_address.specs.GrainReading.{read_grain}
+use Rattle.silo_address.specs.ReadSilo.{silo_words, read_silo}
+use Rattle.silo_address.specs.ReadGrain.{read_grain}
 use Rattle.silo_address.specs.ActivationText.{read_activation}
 use Rattle.silo_address.specs.StatedHash.{stated_hash}
 use Rattle.silo_address.proofs.SiloLaws.{Decides-is_silo}
@@ -23,8 +23,8 @@ use Rattle.ring_range.specs.Cut.{cut_parts}
 use Rattle.directory_rules.specs.Letter.{Letter}
 use Rattle.directory_rules.specs.Worked.{silo_a, silo_b}
 use Rattle.process_rules.specs.LetterText.{letter_line}
-use Rattle.process_rules.specs.LetterReading.{read_letter}
-use Rattle.process_rules.specs.LineReading.{Receive, read_silo_line}
+use Rattle.process_rules.specs.ReadLetter.{read_letter}
+use Rattle.process_rules.specs.ReadLine.{Receive, read_silo_line}
 use Rattle.process_output.specs.Answer.{answered}
 use Rattle.process_deployment.specs.Allowed.{IsWritten, IsLine, May, MayAll}
 use Rattle.process_deployment.specs.Cluster.{Cluster, all_lines}

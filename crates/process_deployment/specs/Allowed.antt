@@ -5,9 +5,9 @@ use Rattle.silo_address.specs.Silo.{IsSilo}
 use Rattle.directory_rules.specs.Letter.{Letter}
 use Rattle.silo_rules.specs.Membership.{Change, Join, Leave, Die}
 use Rattle.silo_rules.specs.SiloValue.{SiloValue, told_of_its_join}
-use Rattle.silo_rules.specs.Telling.{MakesVersion, told}
+use Rattle.silo_rules.specs.Told.{MakesVersion, told}
 use Rattle.deployment_headline.specs.Steps.{IsChange}
-use Rattle.process_rules.specs.LineReading.{Asked, Joined, Leaving, Dead, See, Wake, Close, Offer, Find, Forget, Nudge, Receive, read_silo_line}
+use Rattle.process_rules.specs.ReadLine.{Asked, Joined, Leaving, Dead, See, Wake, Close, Offer, Find, Forget, Nudge, Receive, read_silo_line}
 use Rattle.process_output.specs.Output.{said}
 use Rattle.process_deployment.specs.Cluster.{Cluster, process_at, all_lines}
 use Rattle.process_deployment.specs.Steps.{Step, Decide, Read, after}

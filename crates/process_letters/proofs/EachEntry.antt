@@ -6,10 +6,10 @@ use Rattle.silo_address.specs.declared.Entry.{Entry}
 use Rattle.ring_range.specs.Range.{Range}
 use Rattle.directory_rules.specs.Letter.{Page_letter, Report_letter}
 use Rattle.script_rules.specs.Script.{number_word, ◌>>=◌}
-use Rattle.process_rules.specs.LetterReading.{Head, letter_of, range_word, digest_word, are_pairs, entries_in, entry_of_words, report_for, a_report, page_for}
+use Rattle.process_rules.specs.ReadLetter.{Head, letter_of, range_word, digest_word, are_pairs, entries_in, entry_of_words, report_for, a_report, page_for}
 use Rattle.process_letters.specs.declared.fault.LineError.{LineError}
 use Rattle.process_letters.specs.declared.fault.LineError.TheVariants.{Fault, OutOfMemory}
-use Rattle.process_letters.specs.Reading.{Fails, Reads}
+use Rattle.process_letters.specs.ReadAs.{Fails, Reads}
 
 -- ---- pairs
 pub pairs_more : (words behind after : List (List ℕ)) (one other : List ℕ) → words ≡ one ∷ behind → behind ≡ other ∷ after → are_pairs words ≡ are_pairs after

@@ -5,13 +5,13 @@ use Rattle.directory_rules.specs.declared.act.Act.TheVariants as act
 use Rattle.directory_rules.specs.declared.letter_kind.LetterKind.{LetterKind}
 use Rattle.directory_rules.specs.declared.letter_kind.LetterKind.TheVariants.{Page, Report}
 use Rattle.directory_rules.specs.Letter.{Letter}
-use Rattle.process_rules.specs.LetterReading.{Head, form_of, a_number_and_an_entry, a_page, a_register, are_pairs, head_of_words, kind_among, kinds, letter_by, page_for, read_letter, request_of}
+use Rattle.process_rules.specs.ReadLetter.{Head, form_of, a_number_and_an_entry, a_page, a_register, are_pairs, head_of_words, kind_among, kinds, letter_by, page_for, read_letter, request_of}
 use Rattle.script_commands.specs.WordCounts.{only_three_words}
 use Rattle.process_letters.specs.Fronts.{Four, four_in, only_four_words}
 use Rattle.process_rules.proofs.FormsAgain.{form_gave}
 use Rattle.process_letters.specs.declared.fault.LineError.{LineError}
 use Rattle.process_letters.specs.declared.fault.LineError.TheVariants.{OutOfMemory}
-use Rattle.process_letters.specs.Reading.{Reads}
+use Rattle.process_letters.specs.ReadAs.{Reads}
 use Rattle.process_letters.specs.Short.{HasEntries, IsShort}
 
 -- a Register that has not four words names no activation that it replaces

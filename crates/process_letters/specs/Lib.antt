@@ -1,5 +1,5 @@
 pub mod FaultNumbers
-pub mod Reading
+pub mod ReadAs
 pub mod Fronts
 pub mod Made
 pub mod Reasons

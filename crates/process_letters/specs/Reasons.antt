@@ -2,7 +2,7 @@
 use Rattle.std.specs.Prelude.{ℕ, List, Result, Ok}
 use Rattle.script_rules.specs.Script.{number_word, ◌>>=◌}
 use Rattle.directory_rules.specs.declared.reply.Why.{Why}
-use Rattle.process_rules.specs.LetterReading as rule
+use Rattle.process_rules.specs.ReadLetter as rule
 use Rattle.directory_rules.specs.declared.reply.Why.TheVariants as why
 use Rattle.process_letters.specs.declared.replies.ReasonName.{ReasonName}
 use Rattle.process_letters.specs.declared.replies.ReasonName.TheVariants as name

@@ -2,8 +2,8 @@
 
 ghost use Rattle.std.specs.Prelude.{◌≡◌};
 ghost use Rattle.texts.specs.Words.{words_in};
-ghost use Rattle.process_rules.specs.LetterReading as rule;
-ghost use Rattle.process_letters.specs.Reading.{Fails, Reads};
+ghost use Rattle.process_rules.specs.ReadLetter as rule;
+ghost use Rattle.process_letters.specs.ReadAs.{Fails, Reads};
 
 use crate::words::entry_of_words;
 use crate::{LineError, LineFault};

@@ -2,8 +2,8 @@
 
 ghost use Rattle.std.specs.Prelude.{◌≡◌};
 ghost use Rattle.directory_letters.specs.LetterModel.{body_of};
-ghost use Rattle.process_rules.specs.LetterReading.{head_of_words, letter_of};
-ghost use Rattle.process_letters.specs.Reading.{head_of, told};
+ghost use Rattle.process_rules.specs.ReadLetter.{head_of_words, letter_of};
+ghost use Rattle.process_letters.specs.ReadAs.{head_of, told};
 
 use crate::LineFault;
 use crate::words::{number_word, silo_word};

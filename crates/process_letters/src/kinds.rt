@@ -1,7 +1,7 @@
 //! The kind whose word it is, by what its letters are about.
 
 ghost use Rattle.std.specs.Prelude.{◌≡◌};
-ghost use Rattle.process_rules.specs.LetterReading.{kind_among, kinds, reply_kinds, request_kinds, transfer_kinds};
+ghost use Rattle.process_rules.specs.ReadLetter.{kind_among, kinds, reply_kinds, request_kinds, transfer_kinds};
 
 use directory_rules::LetterKind;
 

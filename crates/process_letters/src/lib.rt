@@ -6,14 +6,14 @@ mod entries;
 mod fault;
 mod head;
 mod kinds;
-mod reading;
+mod read;
 mod replies;
 mod requests;
 mod transfers;
 mod words;
-mod writing;
+mod write;
 
 pub use fault::{LineError, LineFault};
-pub use reading::read_letter;
+pub use read::read_letter;
 pub use words::{grain_word, number_word, silo_word};
-pub use writing::write_letter;
+pub use write::write_letter;

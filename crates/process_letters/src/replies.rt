@@ -3,8 +3,8 @@
 ghost use Rattle.std.specs.Map.{lookup};
 ghost use Rattle.std.specs.Prelude.{◌≡◌, bytes_eq, option_map};
 ghost use Rattle.texts.specs.Words.{words_in};
-ghost use Rattle.process_rules.specs.LetterReading as rule;
-ghost use Rattle.process_letters.specs.Reading.{head_of, told};
+ghost use Rattle.process_rules.specs.ReadLetter as rule;
+ghost use Rattle.process_letters.specs.ReadAs.{head_of, told};
 ghost use Rattle.process_letters.specs.Reasons.{numbered, reason_of};
 
 use crate::LineFault;

@@ -2,9 +2,9 @@
 
 ghost use Rattle.std.specs.Prelude.{◌≡◌, [], ◌∷◌, None};
 ghost use Rattle.texts.specs.Words.{words_in};
-ghost use Rattle.process_rules.specs.LetterReading as rule;
+ghost use Rattle.process_rules.specs.ReadLetter as rule;
 ghost use Rattle.process_letters.specs.Made.{OfAnEntry};
-ghost use Rattle.process_letters.specs.Reading.{head_of, told};
+ghost use Rattle.process_letters.specs.ReadAs.{head_of, told};
 
 use crate::LineFault;
 use crate::head::Head;

@@ -3,9 +3,9 @@
 ghost use Rattle.std.specs.Prelude.{◌≡◌, true};
 ghost use Rattle.directory_rules.specs.Letter as letters;
 ghost use Rattle.texts.specs.Words.{words_in};
-ghost use Rattle.process_rules.specs.LetterReading as rule;
+ghost use Rattle.process_rules.specs.ReadLetter as rule;
 ghost use Rattle.process_letters.specs.Made.{OfARange};
-ghost use Rattle.process_letters.specs.Reading.{Reads, head_of, told};
+ghost use Rattle.process_letters.specs.ReadAs.{Reads, head_of, told};
 
 use crate::entries::{are_pairs, entries_in};
 use crate::head::Head;

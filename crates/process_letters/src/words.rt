@@ -4,9 +4,9 @@ ghost use Rattle.std.specs.Prelude.{◌≡◌, Ok};
 ghost use Rattle.hex.specs.Hex.{encode_lower};
 ghost use Rattle.texts.specs.Words.{words_in};
 ghost use Rattle.script_rules.specs.Script as script;
-ghost use Rattle.process_rules.specs.LetterReading as rule;
+ghost use Rattle.process_rules.specs.ReadLetter as rule;
 ghost use Rattle.process_letters.specs.Fronts.{four_copied, four_in, four_of, only_four_words};
-ghost use Rattle.process_letters.specs.Reading.{told};
+ghost use Rattle.process_letters.specs.ReadAs.{told};
 
 use crate::LineFault;
 use hex::{FromHex, encode_to_slice};

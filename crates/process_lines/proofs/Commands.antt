@@ -3,7 +3,7 @@ use Rattle.std.proofs.Common.{◌≡◌, refl, ℕ, false, List}
 use Rattle.std.specs.Prelude.{codes, bytes_eq}
 use Rattle.std.specs.Map.{lookup}
 use Rattle.hash_ring.specs.declared.hashing.Hashing.{Hashing}
-use Rattle.process_rules.specs.LineReading.{commands}
+use Rattle.process_rules.specs.ReadLine.{commands}
 use Rattle.process_lines.specs.Known.{other_commands}
 
 -- one that is no join and no letter is among the others

@@ -1,5 +1,5 @@
 -- How what the code was asked for is what the rule was asked for.
-use Rattle.process_rules.specs.LineReading as rule
+use Rattle.process_rules.specs.ReadLine as rule
 use Rattle.process_lines.specs.declared.asked.Asked.{Asked}
 use Rattle.process_lines.specs.declared.asked.Asked.TheVariants.{Joined, Leaving, Dead, See, Wake, Close, Offer, Find, Forget, Nudge, Receive, Ping, Show, Dump}
 

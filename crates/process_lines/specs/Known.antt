@@ -1,6 +1,6 @@
 -- The commands but for a join and a letter, by what they are about: together with these, all that the rule has.
 use Rattle.std.specs.Prelude.{ℕ, List, [], ◌∷◌, ◌++◌, codes}
-use Rattle.process_rules.specs.LineReading.{Grammar}
+use Rattle.process_rules.specs.ReadLine.{Grammar}
 use Rattle.process_lines.specs.Named.{grammar_of}
 use Rattle.process_lines.specs.declared.names.CommandName.TheVariants as name
 

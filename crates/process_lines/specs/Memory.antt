@@ -1,7 +1,7 @@
 -- Lines that take memory to read.
 use Rattle.std.specs.Prelude.{⊤, ℕ, ◌∷◌, Option, Some, Result, Ok, Err}
 use Rattle.directory_rules.specs.Letter.{kind_of}
-use Rattle.process_rules.specs.LineReading.{Asked, Joined, Receive}
+use Rattle.process_rules.specs.ReadLine.{Asked, Joined, Receive}
 use Rattle.process_letters.specs.Short.{IsShort}
 
 -- what is asked for has a list: it is a join with places, or a letter with entries

@@ -1,5 +1,5 @@
 -- What stands behind the name of a command other than a join or a letter.
-use Rattle.process_rules.specs.LineReading as rule
+use Rattle.process_rules.specs.ReadLine as rule
 use Rattle.process_lines.specs.declared.names.CommandName.{CommandName}
 use Rattle.process_lines.specs.declared.names.CommandName.TheVariants as name
 

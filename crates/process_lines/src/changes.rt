@@ -5,9 +5,9 @@ ghost use Rattle.std.specs.Prelude.{◌≡◌, ℕ, IsErrOf, Some, bytes_eq, opt
 ghost use Rattle.silo_address.specs.Silo.{Silo};
 ghost use Rattle.texts.specs.Words.{words_in};
 ghost use Rattle.script_rules.specs.Script.{places_in};
-ghost use Rattle.script_commands.specs.Reading.{HasPlaces};
-ghost use Rattle.process_rules.specs.LineReading as rule;
-ghost use Rattle.process_letters.specs.Reading.{Reads, told};
+ghost use Rattle.script_commands.specs.ReadAs.{HasPlaces};
+ghost use Rattle.process_rules.specs.ReadLine as rule;
+ghost use Rattle.process_letters.specs.ReadAs.{Reads, told};
 ghost use Rattle.process_lines.specs.AskedModel.{asked_of};
 ghost use Rattle.process_lines.specs.Known.{change_commands};
 ghost use Rattle.process_lines.specs.Memory.{WordsNeedMemory};

@@ -4,8 +4,8 @@
 ghost use Rattle.std.specs.Map.{lookup};
 ghost use Rattle.std.specs.Prelude.{◌≡◌, IsErrOf, Some, bytes_eq, option_map};
 ghost use Rattle.texts.specs.Words.{words_in};
-ghost use Rattle.process_rules.specs.LineReading as rule;
-ghost use Rattle.process_letters.specs.Reading.{Reads, told};
+ghost use Rattle.process_rules.specs.ReadLine as rule;
+ghost use Rattle.process_letters.specs.ReadAs.{Reads, told};
 ghost use Rattle.process_lines.specs.AskedModel.{asked_of};
 ghost use Rattle.process_lines.specs.Known.{other_commands};
 ghost use Rattle.process_lines.specs.Memory.{LineNeedsMemory, WordsNeedMemory};

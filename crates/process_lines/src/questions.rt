@@ -3,8 +3,8 @@
 ghost use Rattle.std.specs.Map.{lookup};
 ghost use Rattle.std.specs.Prelude.{◌≡◌, bytes_eq, option_map};
 ghost use Rattle.texts.specs.Words.{words_in};
-ghost use Rattle.process_rules.specs.LineReading as rule;
-ghost use Rattle.process_letters.specs.Reading.{told};
+ghost use Rattle.process_rules.specs.ReadLine as rule;
+ghost use Rattle.process_letters.specs.ReadAs.{told};
 ghost use Rattle.process_lines.specs.AskedModel.{asked_of};
 ghost use Rattle.process_lines.specs.Known.{question_commands};
 ghost use Rattle.process_lines.specs.Named.{grammar_of};

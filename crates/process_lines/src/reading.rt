@@ -1,7 +1,7 @@
 ghost use Rattle.std.specs.Prelude.{◌≡◌, IsErrOf, option_map};
-ghost use Rattle.process_rules.specs.LineReading as rule;
+ghost use Rattle.process_rules.specs.ReadLine as rule;
 ghost use Rattle.process_letters.specs.FaultNumbers.{line_fault_number};
-ghost use Rattle.process_letters.specs.Reading.{Reads};
+ghost use Rattle.process_letters.specs.ReadAs.{Reads};
 ghost use Rattle.process_lines.specs.AskedModel.{asked_of};
 ghost use Rattle.process_lines.specs.Memory.{LineNeedsMemory};
 
@@ -18,7 +18,7 @@ const LONGEST_LINE: usize = 16_777_216;
 /// Reads a line of a silo's process, given without its end, grains being hashed so: what it asks for, nothing, or its first
 /// fault. Memory is taken for the places of a join and the entries of a letter alone, and that it runs out is told only where
 /// the line has no fault. (`docs/RULES.md#lines-of-a-silos-process`)
-#[tactic(auto, unfolding(process_rules::specs::LineReading::read_silo_line))]
+#[tactic(auto, unfolding(process_rules::specs::ReadLine::read_silo_line))]
 pub fn read_line<'a>(
     alloc: Global,
     hashing: Hashing,
@@ -45,7 +45,7 @@ pub fn read_line<'a>(
 
 /// The fault of what stands behind the last line feed, if anything does: that it is too long, else that no end came, so that
 /// it may have been cut. (`docs/RULES.md#lines-of-a-silos-process`)
-#[tactic(auto, unfolding(process_rules::specs::LineReading::unended_fault))]
+#[tactic(auto, unfolding(process_rules::specs::ReadLine::unended_fault))]
 pub fn unended_fault(line: &[u8]) -> Option<LineFault>
     ensures { option_map line_fault_number result ≡ rule.unended_fault line.now }
 {

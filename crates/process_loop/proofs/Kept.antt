@@ -6,7 +6,7 @@ use Rattle.std.proofs.lemmas.List.{length-take-le, take-append-le, take_all}
 use Rattle.hash_ring.specs.declared.hashing.Hashing.{Hashing}
 use Rattle.texts.specs.Words.{carriage_return}
 use Rattle.silo_rules.specs.SiloValue.{SiloValue}
-use Rattle.process_rules.specs.LineReading.{longest_line, read_silo_line, unended_fault}
+use Rattle.process_rules.specs.ReadLine.{longest_line, read_silo_line, unended_fault}
 use Rattle.process_output.specs.Output.{after_last, said}
 use Rattle.process_loop.specs.Progress.{kept, most_kept}
 

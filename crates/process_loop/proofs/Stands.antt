@@ -5,9 +5,9 @@ use Rattle.std.specs.Io.KnownBytes.{Appends, Consumes, IsAtEnd, Keeps}
 use Rattle.std.proofs.KnownBytes.{Appends-trans, Appends-nil, Consumes-trans, Consumes-kept}
 use Rattle.texts.specs.Words.{line_feed, pieces_at}
 use Rattle.silo_rules.specs.SiloValue.{SiloValue}
-use Rattle.process_rules.specs.LineReading.{unended_fault}
+use Rattle.process_rules.specs.ReadLine.{unended_fault}
 use Rattle.script_output.specs.Spaced.{BeginsWith}
-use Rattle.script_loop.specs.Sending.{WritesFront}
+use Rattle.script_loop.specs.Sent.{WritesFront}
 use Rattle.script_loop.specs.Transfers.{HasGot}
 use Rattle.process_output.specs.Output.{after_last, written_on}
 use Rattle.process_loop.specs.declared.stopped.Stopped.{Stopped}

@@ -4,7 +4,7 @@ ghost use Rattle.std.specs.Prelude.{◌≡◌, ◌<◌, ◌≤◌, ◌-◌, ◌+
 ghost use Rattle.memchr.specs.Find.{IsFirstByte, is_byte};
 ghost use Rattle.texts.specs.Words.{line_feed};
 ghost use Rattle.silo_rules.specs.SiloValue.{SiloValue};
-ghost use Rattle.process_rules.specs.LineReading.{unended_fault};
+ghost use Rattle.process_rules.specs.ReadLine.{unended_fault};
 ghost use Rattle.process_output.specs.Output.{after_last};
 
 use crate::step::Step;

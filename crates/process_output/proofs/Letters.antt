@@ -12,7 +12,7 @@ use Rattle.directory_rules.specs.Letter.{Letter}
 use Rattle.silo_rules.specs.SiloValue.{SiloValue}
 use Rattle.script_rules.specs.Script.{is_text}
 use Rattle.process_rules.specs.LetterText.{letter_line}
-use Rattle.process_rules.specs.LineReading.{Asked, Receive, longest_line, read_silo_line}
+use Rattle.process_rules.specs.ReadLine.{Asked, Receive, longest_line, read_silo_line}
 use Rattle.process_rules.specs.Told.{IsNumber, IsTold}
 use Rattle.process_rules.proofs.LineWords.{line_is_text}
 use Rattle.process_rules.proofs.LinesAgain.{line_again}

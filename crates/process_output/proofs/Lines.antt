@@ -2,7 +2,7 @@
 use Rattle.std.proofs.Common.{◌≡◌, ℕ, Bool, true, List, [], ◌∷◌, ◌++◌, Option, Result, Err, ap, ◌∙◌, append-nil}
 use Rattle.texts.specs.Printed.{text_of_lines}
 use Rattle.silo_rules.specs.SiloValue.{SiloValue}
-use Rattle.process_rules.specs.LineReading.{Asked}
+use Rattle.process_rules.specs.ReadLine.{Asked}
 use Rattle.process_output.specs.Answer.{Answered}
 use Rattle.process_output.specs.Output.{answered_to, fault_line, said, unless_ended, after_line, written_on}
 

@@ -5,18 +5,18 @@ use Rattle.silo_address.specs.Silo.{silo_eq}
 use Rattle.membership_view.specs.declared.status.Status.{Status}
 use Rattle.membership_view.specs.declared.status.Status.TheVariants as status
 use Rattle.directory_rules.specs.declared.effect.Effect.{Effect}
-use Rattle.directory_rules.specs.Event.{Saw, Did}
+use Rattle.directory_rules.specs.declared.outcome.Happening.TheVariants.{Saw, Did}
 use Rattle.directory_rules.specs.Input.{Input, Wakes, Closes, Finds, Forgets, Nudges, Offers}
 use Rattle.directory_rules.specs.Letter.{Letter}
 use Rattle.directory_rules.specs.Step.{Stepped}
 use Rattle.silo_rules.specs.declared.news.News.{News}
 use Rattle.silo_rules.specs.Membership.{Change, Join, Leave, Die}
 use Rattle.silo_rules.specs.SiloValue.{SiloValue, own_status}
-use Rattle.silo_rules.specs.Stepping.{does, sees, receives}
-use Rattle.silo_rules.specs.Telling.{Heard, told}
+use Rattle.silo_rules.specs.Steps.{does, sees, receives}
+use Rattle.silo_rules.specs.Told.{Heard, told}
 use Rattle.script_rules.specs.Lines.{happening_words, refusal_line}
 use Rattle.process_rules.specs.LetterText.{letter_line}
-use Rattle.process_rules.specs.LineReading.{Asked, Joined, Leaving, Dead, See, Wake, Close, Offer, Find, Forget, Nudge, Receive, Ping, Show, Dump}
+use Rattle.process_rules.specs.ReadLine.{Asked, Joined, Leaving, Dead, See, Wake, Close, Offer, Find, Forget, Nudge, Receive, Ping, Show, Dump}
 use Rattle.process_output.specs.Happened.{news_words, received_words}
 use Rattle.process_output.specs.Show.{show_lines, dump_line}
 

@@ -13,7 +13,7 @@ use Rattle.directory_rules.specs.declared.effect.Effect.TheVariants as effect
 use Rattle.directory_rules.specs.declared.held.Held.{Held}
 use Rattle.directory_rules.specs.declared.reply.Reply.{Reply}
 use Rattle.directory_rules.specs.declared.reply.Reply.TheVariants as reply
-use Rattle.directory_rules.specs.Event.{Did, Joined, Left, Died}
+use Rattle.directory_rules.specs.declared.outcome.Happening.TheVariants.{Did, Joined, Left, Died}
 use Rattle.directory_rules.specs.Host.{Host, entry_of, asking_under, closing_under}
 use Rattle.directory_rules.specs.Letter.{Letter, Body, Reply_letter, Offer_letter, kind_of}
 use Rattle.silo_rules.specs.declared.news.News.{News}

@@ -9,7 +9,7 @@ ghost use Rattle.directory_rules.specs.Settings.{Settings};
 ghost use Rattle.silo_rules.specs.SiloValue.{SiloValue};
 ghost use Rattle.silo_rules.specs.Whole.{IsWhole};
 ghost use Rattle.process_rules.specs.LetterText.{letter_line};
-ghost use Rattle.process_rules.specs.LineReading.{Asked, Receive, longest_line};
+ghost use Rattle.process_rules.specs.ReadLine.{Asked, Receive, longest_line};
 ghost use Rattle.process_rules.specs.Told.{IsTold};
 ghost use Rattle.process_output.specs.Answer.{answered};
 ghost use Rattle.process_output.specs.Laws.{Begins};

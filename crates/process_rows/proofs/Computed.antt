@@ -3,7 +3,7 @@ use Rattle.std.proofs.Common.{refl, [], ◌∷◌}
 use Rattle.process_rows.specs.Row.{Writes}
 use Rattle.process_rows.specs.FirstSilo as first
 use Rattle.process_rows.specs.SecondSilo as second
-use Rattle.process_rows.specs.Recovering as recovering
+use Rattle.process_rows.specs.Recovery as recovering
 use Rattle.process_rows.specs.MissingSnapshot as missing
 use Rattle.process_rows.specs.Refused as refused
 use Rattle.process_rows.specs.Faults as faults

@@ -2,16 +2,16 @@
 use Rattle.std.specs.Fmt.{digits}
 use Rattle.sha2.specs.Sha256.{sha256, hash_after, compress, rounds, schedule, first_words, digest_bytes}
 use Rattle.hex.specs.Hex.{encode_with, decode_pairs}
-use Rattle.silo_address.specs.SiloReading.{silo_words, read_silo}
-use Rattle.silo_address.specs.GrainReading.{read_grain}
+use Rattle.silo_address.specs.ReadSilo.{silo_words, read_silo}
+use Rattle.silo_address.specs.ReadGrain.{read_grain}
 use Rattle.silo_address.specs.ActivationText.{read_activation}
 use Rattle.silo_address.specs.StatedHash.{stated_hash}
 use Rattle.ring_range.specs.Text.{read_range}
 use Rattle.ring_range.specs.Meet.{meet_of}
 use Rattle.ring_range.specs.Cut.{cut_parts}
 use Rattle.process_rules.specs.LetterText.{letter_line}
-use Rattle.process_rules.specs.LetterReading.{read_letter}
-use Rattle.process_rules.specs.LineReading.{read_silo_line, unended_fault}
+use Rattle.process_rules.specs.ReadLetter.{read_letter}
+use Rattle.process_rules.specs.ReadLine.{read_silo_line, unended_fault}
 use Rattle.process_output.specs.Show.{show_lines, dump_line}
 use Rattle.process_output.specs.Answer.{answered}
 use Rattle.process_output.specs.Output.{written_on}

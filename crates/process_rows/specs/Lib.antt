@@ -1,7 +1,7 @@
 pub mod Row
 pub mod FirstSilo
 pub mod SecondSilo
-pub mod Recovering
+pub mod Recovery
 pub mod MissingSnapshot
 pub mod Refused
 pub mod Faults

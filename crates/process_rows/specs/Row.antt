@@ -3,7 +3,7 @@
 use Rattle.std.specs.Prelude.{◌≡◌, ℕ, List, Ok}
 use Rattle.hash_ring.specs.declared.hashing.Hashing.TheVariants.{Stated}
 use Rattle.silo_address.specs.Silo.{Silo}
-use Rattle.silo_address.specs.SiloReading.{read_silo}
+use Rattle.silo_address.specs.ReadSilo.{read_silo}
 use Rattle.directory_rules.specs.Settings.{Settings, directory_settings}
 use Rattle.process_output.specs.Output.{silo_output}
 

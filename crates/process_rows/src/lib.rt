@@ -4,7 +4,7 @@
 ghost use Rattle.process_rows.specs.Row.{Writes};
 ghost use Rattle.process_rows.specs.FirstSilo as first;
 ghost use Rattle.process_rows.specs.SecondSilo as second;
-ghost use Rattle.process_rows.specs.Recovering as recovering;
+ghost use Rattle.process_rows.specs.Recovery as recovering;
 ghost use Rattle.process_rows.specs.MissingSnapshot as missing;
 ghost use Rattle.process_rows.specs.Refused as refused;
 ghost use Rattle.process_rows.specs.Faults as faults;

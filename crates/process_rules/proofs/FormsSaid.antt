@@ -16,7 +16,7 @@ use Rattle.directory_rules.specs.declared.reply.Reply.TheVariants as reply
 use Rattle.directory_rules.specs.Letter.{Letter, Body, Request_letter, Reply_letter, Ask_letter, Page_letter, Missing_letter, Done_letter, Query_letter, Report_letter, Behind_letter, Ahead_letter, Offer_letter, kind_of, act_kind, reply_kind}
 use Rattle.script_rules.specs.Script.{grain_word, number_word, ◌>>=◌}
 use Rattle.process_rules.specs.LetterText.{entry_words, entries_words, act_words, why_words, reply_words, body_words}
-use Rattle.process_rules.specs.LetterReading.{activation_word, range_word, digest_word, entry_of_words, entries_in, Head, letter_of, request_of, a_number_and_an_entry, a_number, retry_for, a_retry, page_for, a_range, report_for, reply_of, form_of}
+use Rattle.process_rules.specs.ReadLetter.{activation_word, range_word, digest_word, entry_of_words, entries_in, Head, letter_of, request_of, a_number_and_an_entry, a_number, retry_for, a_retry, page_for, a_range, report_for, reply_of, form_of}
 use Rattle.process_rules.specs.Told.{IsEntry, IsAct, IsReply, IsToldBody}
 use Rattle.process_rules.proofs.Chains.{IsSaid, is_said, one_said, two_said, three_said, four_said, six_said}
 use Rattle.process_rules.proofs.WordsAgain.{grain_again, digest_again, pairs_again}

@@ -11,7 +11,7 @@ use Rattle.directory_rules.specs.Letter.{Letter, kind_of}
 use Rattle.script_rules.specs.Lines.{kind_word}
 use Rattle.script_rules.specs.Script.{silo_word, number_word}
 use Rattle.process_rules.specs.LetterText.{body_words, letter_words}
-use Rattle.process_rules.specs.LetterReading.{Head, head_of_words, kinds, kind_among, letter_by, read_letter}
+use Rattle.process_rules.specs.ReadLetter.{Head, head_of_words, kinds, kind_among, letter_by, read_letter}
 use Rattle.process_rules.specs.Told.{IsNumber, IsTold}
 use Rattle.process_rules.proofs.Chains.{three_again, three_gave}
 use Rattle.process_rules.proofs.WordsAgain.{number_again, number_gave, silo_again, silo_gave}

@@ -14,7 +14,7 @@ use Rattle.silo_address.specs.Marks.{dot, colon, at_sign, exclamation_mark}
 use Rattle.silo_address.specs.Silo.{Silo, IsSilo}
 use Rattle.silo_address.specs.SiloText.{Words, AreNumerals, words_text, words_of, silo_text}
 use Rattle.silo_address.proofs.SiloLaws.{words_are_numerals}
-use Rattle.silo_address.specs.GrainReading.{is_visible}
+use Rattle.silo_address.specs.ReadGrain.{is_visible}
 use Rattle.silo_address.proofs.GrainCases.{Decides-all_visible}
 use Rattle.silo_address.specs.Grain.{Grain, IsGrain, IsVisible, grain_text}
 use Rattle.silo_address.specs.declared.ActivationId.{ActivationId}

@@ -8,7 +8,7 @@ use Rattle.hash_ring.specs.declared.hashing.Hashing.{Hashing}
 use Rattle.directory_rules.specs.Letter.{Letter}
 use Rattle.script_rules.specs.Script.{◌>>=◌}
 use Rattle.process_rules.specs.LetterText.{letter_line}
-use Rattle.process_rules.specs.LineReading.{Receive, longest_line, asked_of_words, read_silo_line}
+use Rattle.process_rules.specs.ReadLine.{Receive, longest_line, asked_of_words, read_silo_line}
 use Rattle.process_rules.specs.Told.{IsNumber, IsTold}
 use Rattle.process_rules.proofs.LettersAgain.{again}
 use Rattle.process_rules.proofs.LineWords.{line_is_text, line_words}

@@ -13,8 +13,8 @@ use Rattle.silo_address.specs.Grain.{Grain, IsGrain}
 use Rattle.ring_range.specs.Range.{circle}
 use Rattle.hash_ring.specs.declared.hashing.Hashing.{Hashing}
 use Rattle.script_rules.specs.Script.{silo_word, grain_word, number_word, number_or_fault, hash_word, places_in, is_text, is_remark, ◌>>=◌}
-use Rattle.process_rules.specs.LetterReading.{read_letter}
-use Rattle.process_rules.specs.LineReading.{Asked, Joined, Leaving, Dead, See, Wake, Close, Offer, Find, Forget, Nudge, Receive, Show, Dump, Grammar, no_word, a_word, a_join, a_version_and_a_silo, a_version, a_grain, a_grain_and_a_silo, a_letter, commands, longest_line, asked_if_known, asked_of_words, read_silo_line}
+use Rattle.process_rules.specs.ReadLetter.{read_letter}
+use Rattle.process_rules.specs.ReadLine.{Asked, Joined, Leaving, Dead, See, Wake, Close, Offer, Find, Forget, Nudge, Receive, Show, Dump, Grammar, no_word, a_word, a_join, a_version_and_a_silo, a_version, a_grain, a_grain_and_a_silo, a_letter, commands, longest_line, asked_if_known, asked_of_words, read_silo_line}
 use Rattle.process_rules.specs.Told.{IsNumber, IsTold}
 use Rattle.process_rules.specs.InRange.{IsInRange}
 use Rattle.process_rules.proofs.LettersAgain.{was_told}

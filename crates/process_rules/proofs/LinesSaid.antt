@@ -10,8 +10,8 @@ use Rattle.directory_rules.specs.declared.letter_kind.LetterKind.{LetterKind}
 use Rattle.directory_rules.specs.Letter.{Letter, kind_of}
 use Rattle.script_rules.specs.Script.{silo_word, number_word, is_text, ◌>>=◌}
 use Rattle.process_rules.specs.LetterText.{body_words, letter_line, letter_words}
-use Rattle.process_rules.specs.LetterReading.{head_of_words, letter_by, read_letter}
-use Rattle.process_rules.specs.LineReading.{Receive, longest_line, asked_of_words, read_silo_line}
+use Rattle.process_rules.specs.ReadLetter.{head_of_words, letter_by, read_letter}
+use Rattle.process_rules.specs.ReadLine.{Receive, longest_line, asked_of_words, read_silo_line}
 use Rattle.process_rules.specs.Told.{IsLetterWith}
 use Rattle.process_rules.proofs.Chains.{IsSaid, is_said, three_said}
 use Rattle.process_rules.proofs.WordsAgain.{silo_again}

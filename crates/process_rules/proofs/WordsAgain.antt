@@ -12,11 +12,11 @@ use Rattle.texts.specs.Numeral.{read_number}
 use Rattle.texts.proofs.NumeralLaws.{read_number-decimal, read_number_found}
 use Rattle.silo_address.specs.Silo.{Silo, IsSilo}
 use Rattle.silo_address.specs.SiloText.{silo_text}
-use Rattle.silo_address.specs.SiloReading.{read_silo}
+use Rattle.silo_address.specs.ReadSilo.{read_silo}
 use Rattle.silo_address.specs.declared.SiloError.{SiloError}
 use Rattle.silo_address.proofs.SiloCases.{silo_found, silo_only}
 use Rattle.silo_address.specs.Grain.{Grain, IsGrain, grain_text}
-use Rattle.silo_address.specs.GrainReading.{read_grain}
+use Rattle.silo_address.specs.ReadGrain.{read_grain}
 use Rattle.silo_address.specs.declared.GrainError.{GrainError}
 use Rattle.silo_address.proofs.GrainCases.{grain_clauses, grain_only}
 use Rattle.silo_address.specs.declared.ActivationId.{ActivationId}
@@ -27,10 +27,10 @@ use Rattle.silo_address.proofs.ActivationLaws.{activation_clauses, activation_on
 use Rattle.ring_range.specs.Range.{Range, IsRange}
 use Rattle.ring_range.specs.declared.text.RangeTextError.{RangeTextError}
 use Rattle.ring_range.specs.Text.{range_text, read_range}
-use Rattle.ring_range.proofs.Reading as range_laws
+use Rattle.ring_range.proofs.ReadAgain as range_laws
 use Rattle.script_rules.specs.Script.{silo_word, silo_or_fault, grain_word, grain_or_fault, number_word, number_or_fault}
 use Rattle.process_rules.specs.LetterText.{entries_words}
-use Rattle.process_rules.specs.LetterReading.{activation_word, activation_or_fault, range_word, range_or_fault, digest_word, digest_or_fault, entry_of_words, entries_in, are_pairs}
+use Rattle.process_rules.specs.ReadLetter.{activation_word, activation_or_fault, range_word, range_or_fault, digest_word, digest_or_fault, entry_of_words, entries_in, are_pairs}
 use Rattle.process_rules.specs.Told.{IsNumber, IsActivation, IsEntry, IsDigest}
 use Rattle.process_rules.proofs.Chains.{ok_is, two_again, two_gave}
 

@@ -20,10 +20,10 @@ use Rattle.silo_address.proofs.SiloLaws.{words_are_numerals}
 use Rattle.silo_address.proofs.ActivationLaws.{read_activation-cut}
 use Rattle.ring_range.specs.Range.{Range}
 use Rattle.ring_range.specs.Text.{range_text, start_word, size_word, HasWords}
-use Rattle.ring_range.proofs.Reading.{start_word_is, size_word_is}
+use Rattle.ring_range.proofs.ReadAgain.{start_word_is, size_word_is}
 use Rattle.script_rules.specs.Script.{grain_word, number_or_fault}
 use Rattle.process_rules.specs.LetterText.{entries_words}
-use Rattle.process_rules.specs.LetterReading.{activation_word, activation_or_fault, range_word, entry_of_words, entries_in}
+use Rattle.process_rules.specs.ReadLetter.{activation_word, activation_or_fault, range_word, entry_of_words, entries_in}
 use Rattle.process_rules.specs.Told.{IsEntry}
 use Rattle.process_rules.proofs.Chains.{IsSaid, is_said, two_said}
 use Rattle.process_rules.proofs.WordsAgain.{grain_again, range_gave}

@@ -13,12 +13,12 @@ use Rattle.texts.specs.Numeral.{is_numeral, numeral_value, read_number}
 use Rattle.texts.proofs.Decided.{both}
 use Rattle.silo_address.specs.Silo.{Silo, IsSilo}
 use Rattle.silo_address.specs.SiloText.{Words, silo_of}
-use Rattle.silo_address.specs.SiloReading.{are_numerals, is_silo, silo_by_words, silo_words, read_silo}
+use Rattle.silo_address.specs.ReadSilo.{are_numerals, is_silo, silo_by_words, silo_words, read_silo}
 use Rattle.silo_address.specs.declared.silo.SiloError.{SiloError}
 use Rattle.silo_address.specs.declared.silo.SiloError.TheVariants as silo_fault
 use Rattle.silo_address.proofs.SiloLaws.{Decides-is_silo}
 use Rattle.silo_address.specs.Grain.{Grain, IsGrain, IsVisible}
-use Rattle.silo_address.specs.GrainReading.{grain_at_slash, is_visible, is_cut, is_short_enough, read_grain}
+use Rattle.silo_address.specs.ReadGrain.{grain_at_slash, is_visible, is_cut, is_short_enough, read_grain}
 use Rattle.silo_address.specs.declared.grain.GrainError.{GrainError}
 use Rattle.silo_address.specs.declared.grain.GrainError.TheVariants as grain_fault
 use Rattle.silo_address.proofs.GrainCases.{is_cut_takes, Decides-is_short_enough, Decides-all_visible}
@@ -33,7 +33,7 @@ use Rattle.ring_range.specs.declared.text.RangeTextError.{RangeTextError}
 use Rattle.ring_range.specs.declared.text.RangeTextError.TheVariants as range_fault
 use Rattle.ring_range.specs.Text.{start_word, size_word, has_words, range_by_words, is_range, if_range, read_range}
 use Rattle.script_rules.specs.Script.{silo_word, silo_or_fault, grain_word, grain_or_fault, number_word, number_or_fault}
-use Rattle.process_rules.specs.LetterReading.{activation_word, activation_or_fault, range_word, range_or_fault, digest_word, digest_or_fault, entry_of_words, entries_in}
+use Rattle.process_rules.specs.ReadLetter.{activation_word, activation_or_fault, range_word, range_or_fault, digest_word, digest_or_fault, entry_of_words, entries_in}
 use Rattle.process_rules.specs.Told.{IsNumber, IsActivation, IsEntry, IsDigest}
 use Rattle.process_rules.proofs.Chains.{ok_is, two_gave}
 

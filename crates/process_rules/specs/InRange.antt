@@ -4,7 +4,7 @@ use Rattle.silo_address.specs.Silo.{IsSilo}
 use Rattle.silo_address.specs.Grain.{IsGrain}
 use Rattle.ring_range.specs.Range.{circle}
 use Rattle.hash_ring.specs.declared.hashing.Hashing.{Hashing}
-use Rattle.process_rules.specs.LineReading.{Asked, Joined, Leaving, Dead, See, Wake, Close, Offer, Find, Forget, Nudge, Receive, Ping, Show, Dump}
+use Rattle.process_rules.specs.ReadLine.{Asked, Joined, Leaving, Dead, See, Wake, Close, Offer, Find, Forget, Nudge, Receive, Ping, Show, Dump}
 use Rattle.process_rules.specs.Told.{IsNumber, IsTold}
 
 -- versions are below 2^64, silos and grains are such, places are hashes, and a letter is one that a line can tell

@@ -1,5 +1,5 @@
 pub mod LetterText
-pub mod LetterReading
+pub mod ReadLetter
 pub mod Told
-pub mod LineReading
+pub mod ReadLine
 pub mod InRange

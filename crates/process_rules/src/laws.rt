@@ -5,8 +5,8 @@ ghost use Rattle.texts.specs.Words.{words_in};
 ghost use Rattle.hash_ring.specs.declared.hashing.Hashing.{Hashing};
 ghost use Rattle.directory_rules.specs.Letter.{Letter};
 ghost use Rattle.process_rules.specs.LetterText.{letter_line, letter_words};
-ghost use Rattle.process_rules.specs.LetterReading.{read_letter};
-ghost use Rattle.process_rules.specs.LineReading.{Asked, Receive, longest_line, read_silo_line};
+ghost use Rattle.process_rules.specs.ReadLetter.{read_letter};
+ghost use Rattle.process_rules.specs.ReadLine.{Asked, Receive, longest_line, read_silo_line};
 ghost use Rattle.process_rules.specs.InRange.{IsInRange};
 ghost use Rattle.process_rules.specs.Told.{IsSayable, IsTold};
 

@@ -2,4 +2,4 @@ pub mod Numbers
 pub mod Shown
 pub mod Rule
 pub mod Ends
-pub mod Looking
+pub mod Looks

@@ -2,7 +2,7 @@ ghost use Rattle.std.specs.Prelude.{◌≡◌, ◌≤◌, [], All, IfOk, IfErr, 
 ghost use Rattle.left_right.specs.Sides.{view};
 ghost use Rattle.hash_ring.specs.Owner.{owner_of};
 ghost use Rattle.published_rings.specs.Ends.{IsRouteOf};
-ghost use Rattle.published_rings.specs.Looking.{IsAnswer, IsLook};
+ghost use Rattle.published_rings.specs.Looks.{IsAnswer, IsLook};
 ghost use Rattle.published_rings.specs.Rule.{Begins};
 
 use crate::rule::{Look, RingReader};

@@ -8,7 +8,7 @@ use Rattle.ring_range.specs.Range.{circle, Range, IsRange, EachHash, holds, dist
 use Rattle.ring_range.specs.Cut.{IsInside}
 use Rattle.hash_ring.specs.declared.Point.{Point}
 use Rattle.hash_ring.specs.Point.{IsOnCircle}
-use Rattle.range_moves.specs.declared.arc.Arc.{Arc}
+use Rattle.range_moves.specs.declared.arc.RingArc.{RingArc}
 use Rattle.range_moves.specs.Arcs.{all_places, circle_cut_at, arc_of, arcs_of, HasOwners, AreArcs}
 use Rattle.range_moves.proofs.Lists.{AllPairs-map}
 use Rattle.range_moves.proofs.Owners.{IsClear, same_owner}
@@ -45,13 +45,13 @@ pub arcs_whole : (old new : List Point) → All IsOnCircle old → All IsOnCircl
 arcs_whole old new o n =
     let parts : List Range = circle_cut_at (all_places old new) in
     let whole = parts_whole (all_places old new) (places_on_circle old new o n) in
-    let f : Range → Arc = arc_of old new in
+    let f : Range → RingArc = arc_of old new in
     record {
-      once = λ hash h. fold-map (λ count (arc : Arc). count + cond (holds arc.range hash) 1 0) f 0 parts ∙ whole.once hash h;
-      owners = All-map (λ (arc : Arc). EachHash (λ hash. IsTrue (holds arc.range hash) → HasOwners old new arc hash)) f parts (λ k d lt. part_owners old new o n _ (whole.ranges k d lt) (whole.uncut k d lt));
-      ranges = All-map (λ (arc : Arc). IsRange arc.range) f parts whole.ranges;
-      present = All-map (λ (arc : Arc). 0 < arc.range.size) f parts whole.present;
-      in_order = AllPairs-map (λ (arc later : Arc). arc.range.start < later.range.start) f parts whole.in_order;
-      begins = All-map (λ (arc : Arc). Contains (all_places old new) arc.range.start) f parts whole.begins;
-      uncut = All-map (λ (arc : Arc). All (λ place. ¬ (IsInside arc.range place)) (all_places old new)) f parts whole.uncut;
+      once = λ hash h. fold-map (λ count (arc : RingArc). count + cond (holds arc.range hash) 1 0) f 0 parts ∙ whole.once hash h;
+      owners = All-map (λ (arc : RingArc). EachHash (λ hash. IsTrue (holds arc.range hash) → HasOwners old new arc hash)) f parts (λ k d lt. part_owners old new o n _ (whole.ranges k d lt) (whole.uncut k d lt));
+      ranges = All-map (λ (arc : RingArc). IsRange arc.range) f parts whole.ranges;
+      present = All-map (λ (arc : RingArc). 0 < arc.range.size) f parts whole.present;
+      in_order = AllPairs-map (λ (arc later : RingArc). arc.range.start < later.range.start) f parts whole.in_order;
+      begins = All-map (λ (arc : RingArc). Contains (all_places old new) arc.range.start) f parts whole.begins;
+      uncut = All-map (λ (arc : RingArc). All (λ place. ¬ (IsInside arc.range place)) (all_places old new)) f parts whole.uncut;
     }

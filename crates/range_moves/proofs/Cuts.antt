@@ -10,7 +10,7 @@ use Rattle.ring_range.specs.Cut.{cut_steps, cut_parts, parts_between, IsInside}
 use Rattle.ring_range.proofs.Circle.{distance-lt}
 use Rattle.ring_range.proofs.Steps.{Rises, Rises-below, Each, Each-cut_steps, Rises-cut_steps}
 use Rattle.ring_range.proofs.Parts.{start-part}
-use Rattle.ring_range.proofs.Cutting.{is_cut, ranges}
+use Rattle.ring_range.proofs.Cuts.{is_cut, ranges}
 use Rattle.range_moves.specs.Arcs.{circle_cut_at, arcs_per_hash}
 use Rattle.range_moves.proofs.Lowest.{low_below, low_there}
 

@@ -4,8 +4,8 @@ pub mod OnePlace
 pub mod Lowest
 pub mod Cuts
 pub mod Between
-pub mod Moving
+pub mod MovesOfArcs
 pub mod Sides
 pub mod Nearest
 pub mod Underway
-pub mod Going
+pub mod NextPlace

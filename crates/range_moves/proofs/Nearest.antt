@@ -4,7 +4,7 @@ use Rattle.std.proofs.lemmas.Option.{same_Some}
 use Rattle.hash_ring.specs.declared.Point.{Point}
 use Rattle.hash_ring.specs.Point.{point_cmp}
 use Rattle.hash_ring.proofs.Members.{In}
-use Rattle.hash_ring.proofs.Rising.{Rising}
+use Rattle.hash_ring.proofs.StrictOrder.{Rising}
 use Rattle.range_moves.specs.Walk.{place_ahead, nearer_place}
 use Rattle.range_moves.proofs.Sides.{head_least}
 

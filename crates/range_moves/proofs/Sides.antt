@@ -12,7 +12,7 @@ use Rattle.hash_ring.specs.declared.Point.{Point}
 use Rattle.hash_ring.specs.Point.{IsOnCircle, point_cmp, back}
 use Rattle.hash_ring.specs.Owner.{nearness_cmp, owner_of}
 use Rattle.hash_ring.proofs.Members.{In, In-right, In-either, All-of}
-use Rattle.hash_ring.proofs.Rising.{Rising}
+use Rattle.hash_ring.proofs.StrictOrder.{Rising}
 use Rattle.hash_ring.proofs.Nearness.{nearness_total, nat_upto}
 use Rattle.hash_ring.proofs.Ownership.{IsOwner-from_nearest, owner_from}
 use Rattle.range_moves.specs.Arcs.{owner_silo}
@@ -42,10 +42,6 @@ head_least p ps rising q (inr later) = place_upto p q (rising.0 q later)
 pub rising_rest : (xs ys : List Point) → Rising point_cmp (xs ++ ys) → Rising point_cmp ys
 rising_rest [] ys rising = rising
 rising_rest (x ∷ xs) ys rising = rising_rest xs ys rising.1
-
--- ---- the first of the points at a place owns it
-none_back : (place : ℕ) → back place place ≡ 0
-none_back place = grind (arith, nat_tests)
 
 near_ahead : (at place : ℕ) → at ≤ place → place < circle → nat_cmp (back at at) (back at place) ≡ nat_cmp at place
 near_ahead at place le lt = grind (arith, nat_tests)

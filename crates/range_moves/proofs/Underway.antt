@@ -11,8 +11,8 @@ use Rattle.ring_range.proofs.Steps.{Rises, In as IsStep, Each, Each-cut_steps, I
 use Rattle.hash_ring.specs.declared.Point.{Point}
 use Rattle.hash_ring.specs.Point.{IsOnCircle, point_cmp}
 use Rattle.hash_ring.proofs.Members.{In, In-left, In-right, In-either, All-of, All-from_each, Contains-from_In, In-map}
-use Rattle.hash_ring.proofs.Rising.{Rising}
-use Rattle.range_moves.specs.declared.arc.Arc.{Arc}
+use Rattle.hash_ring.proofs.StrictOrder.{Rising}
+use Rattle.range_moves.specs.declared.arc.RingArc.{RingArc}
 use Rattle.range_moves.specs.Arcs.{owner_silo, all_places, circle_cut_at, arc_of, arcs_of}
 use Rattle.range_moves.specs.Walk.{highest, place_ahead, nearer_place, owner_at, passed}
 use Rattle.range_moves.proofs.Owners.{IsClear, same_owner}
@@ -29,7 +29,7 @@ pub record AreRings (old new : List Point) : Type 0 where
   pub old_on_circle : All IsOnCircle old
   pub new_on_circle : All IsOnCircle new
 
-pub record IsUnderway (old new : List Point) (first start : ℕ) (from to : Option Silo) (old_ahead new_ahead : List Point) (arcs : List Arc) : Type 0 where
+pub record IsUnderway (old new : List Point) (first start : ℕ) (from to : Option Silo) (old_ahead new_ahead : List Point) (arcs : List RingArc) : Type 0 where
   pub first_upto : first ≤ start
   pub on_circle : start < circle
   pub before : IsSide old start from old_ahead

@@ -6,7 +6,7 @@ use Rattle.ring_range.specs.Range.{circle, Range, IsRange, EachHash, holds}
 use Rattle.ring_range.specs.Cut.{cut_parts, IsInside}
 use Rattle.hash_ring.specs.declared.Point.{Point}
 use Rattle.hash_ring.specs.Owner.{owner_of}
-use Rattle.range_moves.specs.declared.arc.Arc.{Arc}
+use Rattle.range_moves.specs.declared.arc.RingArc.{RingArc}
 
 -- the silo that owns a hash; none where there is no point
 abbrev pub owner_silo : List Point → ℕ → Option Silo
@@ -22,11 +22,11 @@ circle_cut_at [] = []
 circle_cut_at (place ∷ places) = cut_parts (record { start = fold min place places; size = circle }) (place ∷ places)
 
 -- a range with those who own its first hash
-abbrev pub arc_of : List Point → List Point → Range → Arc
+abbrev pub arc_of : List Point → List Point → Range → RingArc
 arc_of old new range = record { range = range; from = owner_silo old range.start; to = owner_silo new range.start }
 
 -- the arcs, by start
-abbrev pub arcs_of : List Point → List Point → List Arc
+abbrev pub arcs_of : List Point → List Point → List RingArc
 arcs_of old new = map (arc_of old new) (circle_cut_at (all_places old new))
 
 -- how many arcs a hash is in: one where there is a place, and otherwise none
@@ -35,12 +35,12 @@ arcs_per_hash [] = 0
 arcs_per_hash (place ∷ places) = 1
 
 -- the arc tells who owns the hash before and after
-pub record HasOwners (old new : List Point) (arc : Arc) (hash : ℕ) : Type 0 where
+pub record HasOwners (old new : List Point) (arc : RingArc) (hash : ℕ) : Type 0 where
   pub before : owner_silo old hash ≡ arc.from
   pub after : owner_silo new hash ≡ arc.to
 
 -- what the arcs between two rings are
-pub record AreArcs (old new : List Point) (arcs : List Arc) : Type 0 where
+pub record AreArcs (old new : List Point) (arcs : List RingArc) : Type 0 where
   -- each hash of the circle is in just one arc, where either ring has a place
   pub once : EachHash (λ hash. count_by (λ arc. holds arc.range hash) arcs ≡ arcs_per_hash (all_places old new))
   -- and has the owners that the arc tells

@@ -4,7 +4,7 @@ use Rattle.std.specs.List.{filter_map}
 use Rattle.silo_address.specs.Silo.{Silo, silo_eq}
 use Rattle.ring_range.specs.Range.{Range, IsRange, EachHash, holds}
 use Rattle.hash_ring.specs.declared.Point.{Point}
-use Rattle.range_moves.specs.declared.arc.Arc.{Arc}
+use Rattle.range_moves.specs.declared.arc.RingArc.{RingArc}
 use Rattle.range_moves.specs.declared.arc.Move.{Move}
 use Rattle.range_moves.specs.Arcs.{owner_silo, arcs_of}
 
@@ -19,7 +19,7 @@ move_between range from None = None
 move_between range from (Some to) = if is_silo from to then None else Some (record { range = range; from = from; to = to })
 
 -- the move of an arc, if it moves
-abbrev pub move_of : Arc → Option Move
+abbrev pub move_of : RingArc → Option Move
 move_of arc = move_between arc.range arc.from arc.to
 
 -- the moves, by start

@@ -3,7 +3,7 @@ use Rattle.std.specs.Prelude.{◌≡◌, ℕ, [], ◌∷◌, Option, Some, None}
 use Rattle.silo_address.specs.Silo.{Silo}
 use Rattle.ring_range.specs.Range.{circle}
 use Rattle.hash_ring.specs.declared.Point.{Point}
-use Rattle.range_moves.specs.declared.arc.Arc.{Arc}
+use Rattle.range_moves.specs.declared.arc.RingArc.{RingArc}
 use Rattle.range_moves.specs.declared.arc.Move.{Move}
 use Rattle.range_moves.specs.Arcs.{arcs_of}
 use Rattle.range_moves.specs.Moves.{moves_of}
@@ -17,7 +17,7 @@ silo_b = record { ip = 10 ∷ 0 ∷ 0 ∷ 2 ∷ []; port = 1000; generation = 1 
 abbrev pub point : ℕ → Silo → Point
 point place silo = record { place = place; silo = silo; index = 0 }
 
-abbrev pub arc : ℕ → ℕ → Option Silo → Option Silo → Arc
+abbrev pub arc : ℕ → ℕ → Option Silo → Option Silo → RingArc
 arc start size from to = record { range = record { start = start; size = size }; from = from; to = to }
 
 abbrev pub move : ℕ → ℕ → Option Silo → Silo → Move

@@ -6,7 +6,7 @@ use silo_address::SiloAddress;
 
 /// Hashes that one silo owned before and one owns after, of two rings; `None` where a ring has no point.
 #[derive(Clone, Copy, PartialEq, Eq)]
-pub struct Arc {
+pub struct RingArc {
     /// From one place of the rings to the next.
     pub range: RingRange,
     /// Who owned them before.
@@ -26,9 +26,9 @@ pub struct Move {
     pub to: SiloAddress,
 }
 
-impl Arc {
+impl RingArc {
     /// Whether the two are the same arc.
-    pub fn same(&self, other: &Arc) -> bool
+    pub fn same(&self, other: &RingArc) -> bool
         ensures { IsTrue result ↔ (self.now ≡ other.now) }
     {
         self == other
@@ -50,7 +50,7 @@ impl Arc {
     }
 
     /// The same arc.
-    pub fn copy(&self) -> Arc
+    pub fn copy(&self) -> RingArc
         ensures { result ≡ self.now }
     {
         *self

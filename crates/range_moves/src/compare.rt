@@ -4,7 +4,7 @@ ghost use Rattle.range_moves.specs.Arcs.{arcs_of, AreArcs};
 ghost use Rattle.range_moves.specs.Moves.{moves_of, AreMoves};
 
 use crate::walk::{Side, next_place};
-use crate::{Arc, Move};
+use crate::{Move, RingArc};
 use hash_ring::Ring;
 use ring_range::RingRange;
 use std::alloc::{AllocError, Global};
@@ -16,7 +16,7 @@ const CIRCLE: u64 = 1 << 32;
 /// owner after. Where the rings have one place in all the arc is the full circle; where they have none there is no arc.
 ///
 /// One walk over the points of both. Fails only when memory runs out (`docs/RULES.md#arcs-and-moves`).
-pub fn arcs(alloc: Global, old: &Ring, new: &Ring) -> Result<Vec<Arc>, AllocError>
+pub fn arcs(alloc: Global, old: &Ring, new: &Ring) -> Result<Vec<RingArc>, AllocError>
     ensures exact { IfOk result (λ arcs. arcs.items ≡ arcs_of old.now.points new.now.points) }
     ensures whole { IfOk result (λ arcs. AreArcs old.now.points new.now.points arcs.items) }
 {
@@ -57,10 +57,10 @@ pub fn moves(alloc: Global, old: &Ring, new: &Ring) -> Result<Vec<Move>, AllocEr
 }
 
 // The range with its owner on each side.
-fn arc(range: RingRange, old: &Side<'_>, new: &Side<'_>) -> Arc
+fn arc(range: RingRange, old: &Side<'_>, new: &Side<'_>) -> RingArc
     ensures { result ≡ record { range = range; from = old.now.owner; to = new.now.owner } }
 {
-    Arc {
+    RingArc {
         range,
         from: old.owner,
         to: new.owner,

@@ -8,5 +8,5 @@ mod compare;
 pub mod laws;
 mod walk;
 
-pub use arc::{Arc, Move};
+pub use arc::{Move, RingArc};
 pub use compare::{arcs, moves};

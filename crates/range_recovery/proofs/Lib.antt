@@ -1,7 +1,7 @@
-pub mod Gathering
+pub mod Entries
 pub mod Lists
 pub mod Indexes
 pub mod Marks
 pub mod Reported
 pub mod Told
-pub mod Judging
+pub mod Reports

@@ -6,7 +6,7 @@ use Rattle.std.specs.Ordering.{match_ordering, on}
 use Rattle.std.specs.declared.cmp.Ordering.{Ordering}
 use Rattle.std.specs.declared.cmp.Ordering.TheVariants.{Less}
 use Rattle.hash_ring.proofs.Members.{In, In-map, In-from_map, In-from_filter}
-use Rattle.hash_ring.proofs.Rising.{Rising}
+use Rattle.hash_ring.proofs.StrictOrder.{Rising}
 use Rattle.directory_rules.proofs.Cases.{on_bool}
 
 -- a test that all pass keeps all

@@ -8,7 +8,7 @@ use Rattle.silo_address.specs.Silo.{Silo, silo_cmp, silo_eq}
 use Rattle.silo_address.proofs.Order.{silo_cmp_total}
 use Rattle.silo_address.proofs.Same.{Decides-silo}
 use Rattle.hash_ring.proofs.Members.{In, In-from_place, In-map, In-from_map, In-from_filter}
-use Rattle.hash_ring.proofs.Rising.{Rising, never_itself}
+use Rattle.hash_ring.proofs.StrictOrder.{Rising, never_itself}
 use Rattle.directory_rules.proofs.Cases.{on_bool}
 use Rattle.range_recovery.specs.declared.awaited.Awaited.{Awaited}
 use Rattle.range_recovery.specs.Silos.{awaiting_of, reported_of, silos_of}

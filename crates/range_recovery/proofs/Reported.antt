@@ -9,7 +9,7 @@ use Rattle.silo_address.specs.Silo.{Silo, silo_cmp}
 use Rattle.silo_address.proofs.Order.{silo_cmp_total}
 use Rattle.silo_address.proofs.Same.{Decides-silo}
 use Rattle.hash_ring.proofs.Members.{In, In-from_place, In-from_Contains, Contains-from_In, In-map, In-filter, In-from_map, In-from_filter}
-use Rattle.hash_ring.proofs.Rising.{Rising, Rising-from_sorted, never_itself}
+use Rattle.hash_ring.proofs.StrictOrder.{Rising, Rising-from_sorted, never_itself}
 use Rattle.directory_rules.specs.Recovery.{is_among}
 use Rattle.directory_rules.proofs.Cases.{on_bool}
 use Rattle.range_recovery.specs.contracts.awaited.AwaitedPartialEq as awaited_eq

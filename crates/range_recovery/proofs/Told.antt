@@ -9,7 +9,7 @@ use Rattle.silo_address.specs.Silo.{Silo, silo_cmp}
 use Rattle.silo_address.proofs.Order.{silo_cmp_total}
 use Rattle.membership_view.specs.declared.status.Status.{Status}
 use Rattle.hash_ring.proofs.Members.{In, In-from_Contains}
-use Rattle.hash_ring.proofs.Rising.{Rising, Rising-from_sorted, sorted-from_Rising, same_rising}
+use Rattle.hash_ring.proofs.StrictOrder.{Rising, Rising-from_sorted, sorted-from_Rising, same_rising}
 use Rattle.range_recovery.specs.declared.awaited.Awaited.{Awaited}
 use Rattle.range_recovery.specs.Silos.{AreAwaited, AwaitedValue, IsByAddress, awaiting_of, reported_of, silos_of, has_reported, marked, IsCounted, IsSiloAt}
 use Rattle.range_recovery.proofs.Marks.{with_mark}

@@ -85,7 +85,7 @@ impl Recovery {
 
     /// What would come of the report. Refuses by 751 one of another version or range, then by 752 one of a silo that was never
     /// awaited, then by 753 one of a silo that has reported.
-    pub fn judge(&self, report: &Report) -> Result<Progress, RecoveryError>
+    pub fn progress_with(&self, report: &Report) -> Result<Progress, RecoveryError>
         ensures judged { IfOk result (λ progress. progress_of (recovered self.now report.now) ≡ Ok progress) }
         ensures refused { IfErr result (Refuses self.now report.now) }
     {
@@ -129,7 +129,7 @@ impl Recovery {
         ensures refused { IfErr result (RefusesOrLacksMemory self.old report.now) }
         ensures unchanged { OnErr result (self.new ≡ self.old) }
     {
-        let progress = self.judge(report)?;
+        let progress = self.progress_with(report)?;
         match gather(self.alloc, &mut self.gathered, report.entries()) {
             Ok(()) => {
                 self.silos.mark(&report.silo());

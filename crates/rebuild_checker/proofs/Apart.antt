@@ -1,10 +1,10 @@
 -- Ranges that come one after another have no hash in common.
-use Rattle.std.proofs.Common.{◌≡◌, ℕ, zero, suc, ◌+◌, ◌-◌, ◌<◌, ◌≤◌, Bool, true, false, cond, leb, ltb, List, [], ◌∷◌, length, get_or, map, All, sym, ◌∙◌, arith, subst, inl, inr}
+use Rattle.std.proofs.Common.{◌≡◌, ℕ, zero, suc, ◌+◌, ◌-◌, ◌<◌, ◌≤◌, Bool, true, false, cond, leb, ltb, List, [], ◌∷◌, length, get_or, map, All, sym, ◌∙◌, arith, inl, inr}
 use Rattle.std.specs.List.{count_by}
 use Rattle.std.specs.List.Sorted.{IsNonDecreasing}
 use Rattle.std.proofs.lemmas.Bool.{cases_lt}
 use Rattle.std.proofs.lemmas.Bool.Decides.{nat_tests}
-use Rattle.std.proofs.lemmas.List.{get_or_default, length-map}
+use Rattle.std.proofs.lemmas.List.{length-map}
 use Rattle.std.proofs.lemmas.List.Elements.{All-map}
 use Rattle.std.proofs.lemmas.List.Sorted.{All-permutation, length_permutation}
 use Rattle.std.proofs.lemmas.List.Sums.{sum_by-cons}
@@ -59,23 +59,6 @@ at_most x (y ∷ ys) (suc k) up high =
     let here = one_at_most (leb y x) in
     let rest = at_most x ys k (rest_in_order y ys up) (λ within. high (omega (arith, within))) in
     omega (arith, whole, here, rest)
-
--- ---- One range more comes in turn.
-pub follow_more : (starts ends : List ℕ) (index end start : ℕ) → index < length ends → index + 1 < length starts
-    → end ≡ get_or ends index end → start ≡ get_or starts (index + 1) start → end ≤ start
-    → ((k d : ℕ) → k < index → get_or ends k d ≤ get_or starts (k + 1) d)
-    → (k d : ℕ) → k < index + 1 → get_or ends k d ≤ get_or starts (k + 1) d
-follow_more starts ends index end start in_ends in_starts is_end is_start fits so_far k d low =
-    elim (cases_lt k index) [
-      | inl below ↦ so_far k d below
-      | inr high ↦ let e : index ≡ k = omega (arith, high, low) in subst (λ (n : ℕ). get_or ends n d ≤ get_or starts (n + 1) d) e step
-    ]
-  where
-    step : get_or ends index d ≤ get_or starts (index + 1) d
-    step =
-        let a = get_or_default ends index d end in_ends in
-        let b = get_or_default starts (index + 1) d start in_starts in
-        omega (arith, a, b, is_end, is_start, fits)
 
 -- ---- Each begins on the circle.
 starts_below : (ranges : List Range) → All IsRange ranges → All (λ start. start < circle) (map range_start ranges)

@@ -16,12 +16,12 @@ pub mod Named
 pub mod NoneFailing
 pub mod OneAGrain
 pub mod OwnerFound
-pub mod Passing
+pub mod FirstFailure
 mod Points
 pub mod ReadyNodes
 pub mod RightPieces
 pub mod Rows
-pub mod Telling
+pub mod ReadDumps
 pub mod Tested
 mod ViewRings
 pub mod Walked

@@ -21,7 +21,7 @@ use Rattle.dump_rules.specs.DumpShape.{has_piece_numbers}
 use Rattle.dump_rules.specs.Verdict.{are_distinct, current_pieces, entry_of_held, firm_entries, firm_held, has_entries_inside, is_entry_among, is_firm_phase, is_missing_in, live_nodes, missing_firm}
 use Rattle.rebuild_checker.specs.Named.{IsIndex, Named, entries_named}
 use Rattle.rebuild_checker.specs.Tallies.{count_of}
-use Rattle.rebuild_checker.specs.Lacking.{is_lacking}
+use Rattle.rebuild_checker.specs.MissingFirm.{is_lacking}
 use Rattle.rebuild_checker.specs.Covers.{IsCover, covering}
 use Rattle.rebuild_checker.specs.Lent.{entries_in, held_on, nodes_lent, pieces_lent}
 use Rattle.rebuild_checker.specs.Ready.{is_by_grain}

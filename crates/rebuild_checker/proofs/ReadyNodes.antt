@@ -12,7 +12,7 @@ use Rattle.hash_ring.specs.Point.{point_cmp}
 use Rattle.hash_ring.specs.Ring.{points_of, sorted_ring}
 use Rattle.hash_ring.proofs.Members.{In, In-from_place, In-from_filter, In-map, All-of}
 use Rattle.hash_ring.proofs.Order.{Decides-point, point_cmp_total}
-use Rattle.hash_ring.proofs.Rising.{Rising-inserted, sorted-from_Rising}
+use Rattle.hash_ring.proofs.StrictOrder.{Rising-inserted, sorted-from_Rising}
 use Rattle.dump_rules.specs.Dump.{DumpNode, DumpPiece, DumpValue}
 use Rattle.dump_rules.specs.DumpShape as shape
 use Rattle.dump_rules.specs.DumpShape.{has_entries_if_settled, has_entries_in_order, has_from_if_awaiting, has_known_silos, has_numbers, has_pieces_in_order, has_seen_a_version, has_shape, has_silos_in_order, has_silos_once, holds_activations_once, holds_grains_once, holds_its_own, is_dump, is_node_of, is_piece, is_row_of}

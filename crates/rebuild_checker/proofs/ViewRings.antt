@@ -27,8 +27,8 @@ use Rattle.hash_ring.proofs.Advanced.{active_in, In-active}
 use Rattle.hash_ring.proofs.Members.{In, Contains-from_In, In-map, In-filter, In-from_filter}
 use Rattle.hash_ring.proofs.Order.{point_cmp_total, point_cmp_exact}
 use Rattle.hash_ring.proofs.PointsOfViews.{naming_cmp, naming_cmp_total, points_of-rising}
-use Rattle.hash_ring.proofs.Rising.{Rising, Rising-filter, Rising-inserted, In-all_inserted, In-from_inserted, same_rising}
-use Rattle.hash_ring.proofs.Sorting.{sorted_is_inserted}
+use Rattle.hash_ring.proofs.StrictOrder.{Rising, Rising-filter, Rising-inserted, In-all_inserted, In-from_inserted, same_rising}
+use Rattle.hash_ring.proofs.Sorts.{sorted_is_inserted}
 use Rattle.hash_ring.proofs.WholeSilos.{In-from_points_of, In-points_of}
 use Rattle.dump_rules.specs.Dump.{DumpNode, DumpRow, DumpValue}
 use Rattle.dump_rules.specs.DumpShape.{is_dump}

@@ -1,6 +1,6 @@
 pub mod Covers
 pub mod Faults
-pub mod Lacking
+pub mod MissingFirm
 pub mod Lent
 pub mod Lesser
 pub mod Named

@@ -9,7 +9,7 @@ ghost use Rattle.dump_rules.specs.Verdict as rule;
 ghost use Rattle.rebuild_checker.specs.Covers.{IsCover};
 ghost use Rattle.rebuild_checker.specs.Lent.{entries_in, held_lent, held_on, nodes_lent, pieces_lent};
 ghost use Rattle.rebuild_checker.specs.Named.{IsIndex, named_apart_from, named_cmp};
-ghost use Rattle.rebuild_checker.specs.Lacking.{is_lacking};
+ghost use Rattle.rebuild_checker.specs.MissingFirm.{is_lacking};
 
 use crate::cover::{Cover, cover_of, is_apart, is_lacking};
 use crate::index::{Named, places_of};

@@ -3,6 +3,7 @@
 //! `docs/RULES.md#the-dump-and-the-verdict`.
 #![tactic(auto)]
 
+mod alive;
 mod check_fault;
 mod cover;
 mod current;
@@ -12,11 +13,10 @@ mod firm;
 mod first_fault;
 mod index;
 mod least;
-mod living;
 mod nodes;
 mod owners;
 mod ranges;
-mod reading;
+mod read;
 mod rings;
 mod strangers;
 mod text;
@@ -27,7 +27,7 @@ pub use dump_lists::{
     Dump, Entry, Held, LentGrain, ListedPoint, Node, Phase, Piece, ReadError, Row, State,
 };
 pub use dump_reader::is_dump;
-pub use dump_writer::write_dump;
+pub use dump_writer::{write_dump, write_node};
 pub use first_fault::check;
-pub use reading::read_dump;
+pub use read::read_dump;
 pub use text::verdict_text;

@@ -5,7 +5,7 @@ ghost use Rattle.dump_rules.specs.DumpShape.{is_dump};
 ghost use Rattle.dump_rules.specs.Verdict as rule;
 ghost use Rattle.rebuild_checker.specs.Lent.{nodes_lent};
 
-use crate::living::is_dead;
+use crate::alive::is_dead;
 use dump_lists::{Dump, Node};
 use std::alloc::{AllocError, Global};
 

@@ -8,7 +8,7 @@ ghost use Rattle.dump_rules.specs.Verdict.{first_failing, has_its_ring};
 ghost use Rattle.rebuild_checker.specs.Lent.{nodes_lent};
 ghost use Rattle.rebuild_checker.specs.Rings.{IsRingOfView, all_points, points_by_row, row_points};
 
-use crate::living::is_active;
+use crate::alive::is_active;
 use dump_lists::{Dump, ListedPoint, Node, Row};
 use hash_ring::{Hashing, hash_text};
 use silo_address::SiloAddress;

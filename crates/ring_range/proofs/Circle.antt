@@ -41,13 +41,6 @@ ahead-distance place hash p h = grind (arith, nat_tests)
 pub distance-ahead : (place steps : ℕ) → place < circle → steps < circle → distance place (ahead place steps) ≡ steps
 distance-ahead place steps p s = grind (arith, nat_tests)
 
--- distances from two places to one hash
-pub distance-from_ahead : (place steps hash : ℕ) → place < circle → steps < circle → hash < circle → steps ≤ distance place hash → distance (ahead place steps) hash ≡ distance place hash - steps
-distance-from_ahead place steps hash p s h le = grind (arith, nat_tests)
-
-pub distance-past : (place steps hash : ℕ) → place < circle → steps < circle → hash < circle → distance place hash < steps → distance (ahead place steps) hash ≡ (distance place hash + circle) - steps
-distance-past place steps hash p s h lt = grind (arith, nat_tests)
-
 -- a hash that is so many steps forward
 pub Holds-ahead : (range : Range) (steps : ℕ) → IsRange range → steps < range.size → Holds range (ahead range.start steps)
 Holds-ahead range steps ok lt = (steps, lt, grind (arith, nat_tests))

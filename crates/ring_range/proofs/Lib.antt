@@ -1,8 +1,8 @@
 pub mod Circle
-pub mod Reading
+pub mod ReadAgain
 pub mod Parts
 pub mod Pairs
-pub mod Meeting
+pub mod Meets
 pub mod Steps
-pub mod Cutting
+pub mod Cuts
 pub mod Same

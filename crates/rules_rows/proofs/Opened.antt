@@ -1,8 +1,8 @@
 -- All words that have to be opened for a script to compute.
 use Rattle.std.specs.Fmt.{digits}
 use Rattle.sha2.specs.Sha256.{sha256, hash_after, compress, rounds, schedule, first_words, digest_bytes}
-use Rattle.silo_address.specs.SiloReading.{silo_words, read_silo}
-use Rattle.silo_address.specs.GrainReading.{read_grain}
+use Rattle.silo_address.specs.ReadSilo.{silo_words, read_silo}
+use Rattle.silo_address.specs.ReadGrain.{read_grain}
 use Rattle.silo_address.specs.StatedHash.{stated_hash}
 use Rattle.ring_range.specs.Meet.{meet_of}
 use Rattle.ring_range.specs.Cut.{cut_parts}

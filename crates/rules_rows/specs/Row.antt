@@ -3,7 +3,6 @@
 use Rattle.std.specs.Prelude.{◌≡◌, ℕ, true, List, [], ◌∷◌, codes}
 use Rattle.hash_ring.specs.declared.hashing.Hashing.TheVariants.{Sha256, Stated}
 use Rattle.directory_rules.specs.Settings.{Settings, directory_settings}
-use Rattle.script_rules.specs.Script.{commands}
 use Rattle.dump_rules.specs.Dump.{DumpValue, dump_text}
 use Rattle.dump_rules.specs.DumpShape.{is_dump}
 use Rattle.script_rules.specs.Output.{output_of}
@@ -20,7 +19,7 @@ abbrev pub settings : Settings
 settings = directory_settings Stated 30 1024
 
 abbrev pub PrintsUnder : Settings → Row → Type 0
-PrintsUnder settings row = output_of commands settings row.script ≡ record { text = row.text; status = row.status }
+PrintsUnder settings row = output_of settings row.script ≡ record { text = row.text; status = row.status }
 
 -- the whole script prints this text, and ends with this status
 abbrev pub Prints : Row → Type 0

@@ -6,8 +6,8 @@ use Rattle.std.proofs.lemmas.List.{append-nil, get_or_default, length-append, le
 use Rattle.memchr.specs.Find.{IsFirstByte, is_byte}
 use Rattle.texts.specs.Words.{carriage_return, line_feed}
 use Rattle.std.specs.Prelude.{Contains}
-use Rattle.script_rules.specs.Script.{Grammar, lines_of, longest_line, read_line}
-use Rattle.script_commands.specs.Laws.{BeginsWithFault}
+use Rattle.script_rules.specs.Script.{lines_of, longest_line, read_line}
+use Rattle.script_commands.specs.Laws.{BeginsTooLong, BeginsWithFault}
 use Rattle.script_commands.proofs.Pieces.{pieces_at-cut, pieces_at-front, pieces_at-whole}
 
 -- without a line feed there is one line
@@ -37,14 +37,9 @@ length-strip_last byte bytes =
       | false ↦ omega arith
     ]
 
-read_line-long : (known : List (List ℕ × Grammar)) (line : List ℕ) → longest_line < length line → read_line known line ≡ Err 924
-unfolding read_line
-read_line-long known line long = rw (lt-ltb longest_line (length line) long) refl
-
 -- so many bytes without a line feed begin a line that is too long
-pub begins_too_long : (known : List (List ℕ × Grammar)) (bytes more : List ℕ) → ¬ (Contains bytes line_feed) → longest_line + 1 < length bytes
-    → BeginsWithFault known (lines_of (bytes ++ more)) 924
-begins_too_long known bytes more none long =
+pub begins_too_long : (bytes more : List ℕ) → ¬ (Contains bytes line_feed) → longest_line + 1 < length bytes → BeginsTooLong (lines_of (bytes ++ more))
+begins_too_long bytes more none long =
     let front = pieces_at-front line_feed bytes more (λ k below is. none (k, below, get_or_default bytes k line_feed 0 below ∙ is)) in
     let line = bytes ++ front.0 in
     let whole : length line ≡ length bytes + length front.0 = length-append bytes front.0 in
@@ -52,5 +47,15 @@ begins_too_long known bytes more none long =
       strip_last carriage_return line,
       map (strip_last carriage_return) front.1,
       ap (map (strip_last carriage_return)) front.2,
-      read_line-long known (strip_last carriage_return line) (omega arith),
+      omega arith,
     )
+
+read_line-long : (line : List ℕ) → longest_line < length line → read_line line ≡ Err 924
+unfolding read_line
+read_line-long line long = rw (lt-ltb longest_line (length line) long) refl
+
+-- and that is its fault
+pub begins_with_fault : (bytes more : List ℕ) → ¬ (Contains bytes line_feed) → longest_line + 1 < length bytes → BeginsWithFault (lines_of (bytes ++ more)) 924
+begins_with_fault bytes more none long =
+    let begun = begins_too_long bytes more none long in
+    (begun.0, begun.1, begun.2, read_line-long begun.0 begun.3)

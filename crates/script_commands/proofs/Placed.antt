@@ -1,11 +1,10 @@
 -- The places of a join, read word by word.
 use Rattle.std.proofs.Common.{◌≡◌, ap, ◌∙◌, sym, refl, ℕ, Result, Ok, Err, List, [], ◌∷◌, ◌++◌, append_assoc}
 use Rattle.std.specs.Prelude.{IsOk}
-use Rattle.std.proofs.lemmas.List.{append-nil}
 use Rattle.script_rules.specs.Script.{hash_word, places_in, ◌>>=◌}
 use Rattle.script_commands.specs.declared.error.ReadError.{ReadError}
 use Rattle.script_commands.specs.declared.error.ReadError.TheVariants.{Fault, OutOfMemory}
-use Rattle.script_commands.specs.Reading.{Fails, HasPlaces}
+use Rattle.script_commands.specs.ReadAs.{Fails, HasPlaces}
 
 -- what is read with these places in front
 abbrev pub onto : List ℕ → Result (List ℕ) ℕ → Result (List ℕ) ℕ
@@ -20,10 +19,6 @@ onto_more : (before : List ℕ) (place : ℕ) (read : Result (List ℕ) ℕ) →
 onto_more before place (Ok places) = ap Ok (sym (append_assoc before (place ∷ []) places))
 onto_more before place (Err fault) = refl
 
--- at first no place is read
-pub places_first : (words : List (List ℕ)) → places_in words ≡ onto [] (places_in words)
-places_first words = sym (onto_nil (places_in words))
-
 -- a word that is a place
 pub places_more : (before : List ℕ) (words : List (List ℕ)) (word : List ℕ) (behind : List (List ℕ)) (place : ℕ) → words ≡ word ∷ behind → Ok place ≡ hash_word word
     → onto before (places_in words) ≡ onto (before ++ place ∷ []) (places_in behind)
@@ -31,17 +26,6 @@ places_more before words word behind place split reads =
     ap (λ (ws : List (List ℕ)). onto before (places_in ws)) split
     ∙ ap (λ (read : Result ℕ ℕ). onto before (read >>= λ p. places_in behind >>= λ places. Ok (p ∷ places))) (sym reads)
     ∙ onto_more before place (places_in behind)
-
--- a word with a fault
-pub places_fault : (before : List ℕ) (words : List (List ℕ)) (word : List ℕ) (behind : List (List ℕ)) (fault : ℕ) → words ≡ word ∷ behind → Err fault ≡ hash_word word
-    → onto before (places_in words) ≡ Err fault
-places_fault before words word behind fault split reads =
-    ap (λ (ws : List (List ℕ)). onto before (places_in ws)) split
-    ∙ ap (λ (read : Result ℕ ℕ). onto before (read >>= λ p. places_in behind >>= λ places. Ok (p ∷ places))) (sym reads)
-
--- no word is left
-pub places_end : (before : List ℕ) (words : List (List ℕ)) → words ≡ [] → onto before (places_in words) ≡ Ok before
-places_end before words none = ap (λ (ws : List (List ℕ)). onto before (places_in ws)) none ∙ ap Ok (append-nil before)
 
 -- the words behind decide where the reading of all fails
 pub fails_behind : (error : ReadError) (before : List ℕ) (read : Result (List ℕ) ℕ) → Fails error read → Fails error (onto before read)

@@ -1,6 +1,6 @@
 -- How a command of the code is a command of the rule.
 use Rattle.script_rules.specs.Script as rule
-use Rattle.cluster_events.specs.EventModel.{event_of}
+use Rattle.directory_rules.specs.EventModel.{event_of}
 use Rattle.script_commands.specs.declared.command.Command.{Command}
 use Rattle.script_commands.specs.declared.command.Command.TheVariants.{Happen, Sync, Settle, Owner, Place, Show, Mail, Dump, Check}
 

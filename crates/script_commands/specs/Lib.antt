@@ -1,7 +1,5 @@
 pub mod CommandModel
 pub mod Laws
 pub mod Numbers
-pub mod Known
-pub mod Named
-pub mod Reading
+pub mod ReadAs
 pub mod WordCounts

@@ -1,5 +1,4 @@
-use cluster_events::Event;
-use directory_rules::Policy;
+use directory_rules::{Event, Policy};
 use silo_address::{GrainId, SiloAddress};
 
 /// What a line of a script asks for (`docs/RULES.md#scripts`).

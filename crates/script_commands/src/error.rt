@@ -2,12 +2,9 @@ ghost use Rattle.std.specs.Prelude.{◌≡◌};
 ghost use Rattle.script_commands.specs.Numbers.{script_fault_number};
 ghost use Rattle.script_commands.specs.declared.error.ReadError.TheVariants.{Fault};
 
+use crate::verbs::COMMANDS;
 use silo_address::{GrainError, SiloError};
 use thiserror::Error;
-
-/// What each command is written as.
-const COMMANDS: &str =
-    "join SILO PLACE.., leave SILO, kill SILO, nudge SILO, see SILO VERSION, sync, wake SILO GRAIN, close SILO GRAIN, find SILO GRAIN, forget SILO GRAIN, offer SILO GRAIN SILO, deliver LETTER, lose LETTER, settle, owner HASH, place SILO POLICY GRAIN, show, mail, dump or check";
 
 /// The fault of a line: the first that it has, in the order of `docs/RULES.md#scripts`.
 #[derive(Clone, Copy, Debug, PartialEq, Eq, Error)]

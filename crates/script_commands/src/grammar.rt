@@ -7,7 +7,7 @@ ghost use Rattle.directory_rules.specs.declared.policy.Policy.{Policy};
 ghost use Rattle.directory_rules.specs.Event as rule;
 ghost use Rattle.texts.specs.Words.{words_in};
 ghost use Rattle.script_rules.specs.Script as script;
-ghost use Rattle.script_commands.specs.Reading.{Reads, told};
+ghost use Rattle.script_commands.specs.ReadAs.{Reads, told};
 
 use crate::places::places_in;
 use crate::words::{only_three_words, only_two_words, only_word, split_word};

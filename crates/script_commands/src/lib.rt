@@ -3,22 +3,17 @@
 
 mod command;
 mod error;
-mod grains;
 mod grammar;
-mod known;
 pub mod laws;
-mod letters;
 mod lines;
-mod names;
 mod places;
-mod questions;
-mod reading;
-mod silos;
+mod read;
+mod verbs;
 mod words;
 
 pub use command::Command;
 pub use error::{ReadError, ScriptFault};
 pub use lines::{first_line, without_return};
 pub use places::places_in;
-pub use reading::{is_remark, is_text, read_command};
+pub use read::{is_remark, is_text, read_command};
 pub use words::{only_three_words, only_two_words, only_word, split_word};

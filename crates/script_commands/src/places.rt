@@ -3,7 +3,7 @@
 ghost use Rattle.std.specs.Prelude.{◌≡◌, IsErrOf};
 ghost use Rattle.texts.specs.Words.{words_in};
 ghost use Rattle.script_rules.specs.Script as script;
-ghost use Rattle.script_commands.specs.Reading.{Reads, Fails, HasPlaces};
+ghost use Rattle.script_commands.specs.ReadAs.{Reads, Fails, HasPlaces};
 
 use crate::grammar::hash_word;
 use crate::words::split_word;

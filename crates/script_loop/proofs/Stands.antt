@@ -11,7 +11,7 @@ use Rattle.script_loop.specs.declared.ended.Ended.TheVariants as ended
 use Rattle.script_loop.specs.Endings.{Concludes, Ends, EndsReading, HasRead, IsBegun, most_read}
 use Rattle.script_loop.specs.Lines.{Rule, behind, no_output}
 use Rattle.script_loop.specs.Progress.{EndsStep, HasEnded, HasPlayed, MayCome, Progress, first_progress, to_come}
-use Rattle.script_loop.specs.Sending.{WritesFront}
+use Rattle.script_loop.specs.Sent.{WritesFront}
 use Rattle.script_loop.specs.Transfers.{Fills, HasDrained, HasFilled, HasGot}
 use Rattle.script_loop.specs.Turns.{Stands}
 

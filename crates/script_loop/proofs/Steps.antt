@@ -1,12 +1,8 @@
 -- Steps of a script, over the lines that are to come.
-use Rattle.std.proofs.Common.{◌≡◌, ℕ, ◌+◌, ◌-◌, ◌<◌, ◌≤◌, ◌++◌, Bool, true, false, List, [], ◌∷◌, Option, None, Some, Result, Ok, Err, length, drop, ap, sym, refl, ◌∙◌, append-nil, subst, arith, if◌then◌else◌}
+use Rattle.std.proofs.Common.{◌≡◌, ℕ, ◌+◌, ◌-◌, ◌<◌, ◌≤◌, ◌++◌, List, [], ◌∷◌, Option, None, Some, length, drop, ap, sym, ◌∙◌, append-nil, subst, arith}
 use Rattle.std.proofs.lemmas.List.{drop-drop, length-drop}
-use Rattle.std.proofs.lemmas.Bool.{ltb-true}
-use Rattle.std.specs.Prelude.{eqb, nat_lt}
-use Rattle.std.specs.List.{list_all}
-use Rattle.script_rules.specs.Script.{Command, command_of_words, is_remark, is_text, lines_of, longest_line, read_line}
+use Rattle.script_rules.specs.Script.{lines_of}
 use Rattle.script_rules.specs.Lines.{fault_line}
-use Rattle.texts.specs.Words.{words_in}
 use Rattle.texts.specs.Printed.{Output, text_of_lines}
 use Rattle.script_output.specs.Printed.{printed}
 use Rattle.script_loop.specs.declared.ended.Ended.TheVariants as ended
@@ -60,35 +56,6 @@ pub first_of : (held slice new_held rest line more : List ℕ) → slice ≡ hel
     → lines_of (held ++ more) ≡ line ∷ lines_of (new_held ++ more)
 first_of held slice new_held rest line more is rest_is later =
     ap (λ (bs : List ℕ). lines_of (bs ++ more)) (sym is) ∙ (later ∙ ap (λ (bs : List ℕ). line ∷ lines_of (bs ++ more)) (sym rest_is))
-
--- where no command is known, a line with that fault is too long
-abbrev is_924 : Result (Option Command) ℕ → Bool
-is_924 (Ok command) = false
-is_924 (Err code) = eqb code 924
-
-unlike : false ≡ true → ⊥
-unlike is = cc
-
-of_name : (remark : Bool) → is_924 (if remark then Ok None else Err 921) ≡ true → ⊥
-of_name true is = unlike is
-of_name false is = unlike is
-
-of_no_command : (words : List (List ℕ)) → is_924 (command_of_words [] words) ≡ true → ⊥
-of_no_command [] is = unlike is
-of_no_command (name ∷ words) is = of_name (is_remark name) is
-
-not_text : (text : Bool) (words : List (List ℕ)) → is_924 (if text then command_of_words [] words else Err 925) ≡ true → ⊥
-not_text true words is = of_no_command words is
-not_text false words is = unlike is
-
-long_by : (long : Bool) (line : List ℕ) → nat_lt longest_line (length line) ≡ long
-    → (if long then Err 924 else (if list_all is_text line then command_of_words [] (words_in line) else Err 925)) ≡ Err 924 → longest_line < length line
-long_by true line is fault = ltb-true _ _ is
-long_by false line is fault = absurd (not_text (list_all is_text line) (words_in line) (ap is_924 fault))
-
-pub long_by_fault : (line : List ℕ) → read_line [] line ≡ Err 924 → longest_line < length line
-unfolding read_line
-long_by_fault line is = long_by (nat_lt longest_line (length line)) line refl is
 
 -- the line is told to be too long
 pub long_told : (rule : Rule) (at : ℕ) (start text line : List ℕ) (lines all : List (List ℕ)) (code : ℕ) → rule at (line ∷ lines) ≡ faulty_output at 924 → all ≡ line ∷ lines

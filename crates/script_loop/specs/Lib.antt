@@ -2,6 +2,6 @@ pub mod Calls
 pub mod Endings
 pub mod Lines
 pub mod Progress
-pub mod Sending
+pub mod Sent
 pub mod Transfers
 pub mod Turns

@@ -5,7 +5,7 @@ use Rattle.script_loop.specs.declared.ended.Ended.{Ended}
 use Rattle.script_loop.specs.declared.ended.Ended.TheVariants as ended
 use Rattle.script_loop.specs.Endings.{most_at_once}
 use Rattle.script_loop.specs.Progress.{Progress, work}
-use Rattle.script_loop.specs.Sending.{WritesFront}
+use Rattle.script_loop.specs.Sent.{WritesFront}
 
 -- what waited is written, and nothing else has changed
 pub record HasDrained (old : Progress) (begun : Option (List ℕ)) (new : Progress) (written : Option (List ℕ)) : Type 0 where

@@ -4,18 +4,18 @@
 
 mod ended;
 mod line_player;
-mod playing;
-mod sending;
+mod script_play;
 mod session;
 mod sink;
 mod source;
 mod step;
+mod text_writes;
 mod transfer;
 mod turn;
 
 pub use ended::{Ended, LineFault};
 pub use line_player::LinePlayer;
-pub use playing::play;
-pub use sending::send;
+pub use script_play::play;
 pub use sink::Sink;
 pub use source::Source;
+pub use text_writes::send;

@@ -1,5 +1,5 @@
 pub mod Fronts
-pub mod Spacing
+pub mod SpacedWords
 pub mod Texts
 pub mod SomeWords
-pub mod Writing
+pub mod Pieces

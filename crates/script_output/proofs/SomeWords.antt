@@ -1,7 +1,8 @@
 -- Every outcome has words.
 use Rattle.std.proofs.Common.{ℕ, ◌<◌, List, ◌++◌, length, arith}
 use Rattle.directory_rules.specs.declared.effect.Effect.TheVariants.{Next}
-use Rattle.directory_rules.specs.Event.{Happening, Joined, Left, Died, Saw, Did, Delivered, Lost}
+use Rattle.directory_rules.specs.declared.outcome.Happening.{Happening}
+use Rattle.directory_rules.specs.declared.outcome.Happening.TheVariants.{Joined, Left, Died, Saw, Did, Delivered, Lost}
 use Rattle.script_rules.specs.Lines.{happening_words}
 
 pub happening_has_words : (happening : Happening) (more : List (List ℕ)) → 0 < length (happening_words happening ++ more)

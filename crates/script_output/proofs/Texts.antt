@@ -1,7 +1,7 @@
 -- Texts written part by part.
-use Rattle.std.proofs.Common.{◌≡◌, ℕ, List, [], ◌∷◌, ◌++◌, ◌∙◌, ap, sym, refl, append_assoc, codes}
+use Rattle.std.proofs.Common.{◌≡◌, ℕ, List, [], ◌∷◌, ◌++◌, ◌∙◌, ap, sym, refl, append_assoc, codes, slice_index}
 use Rattle.std.specs.Fmt.{decimal}
-use Rattle.silo_address.specs.Marks.{at_sign, dot, exclamation_mark}
+use Rattle.silo_address.specs.Marks.{at_sign, colon, dot, exclamation_mark}
 use Rattle.silo_address.specs.Silo.{Silo}
 use Rattle.silo_address.specs.SiloText.{silo_text}
 use Rattle.silo_address.specs.ActivationText.{activation_text}
@@ -10,10 +10,14 @@ use Rattle.ring_range.specs.Range.{Range}
 use Rattle.ring_range.specs.Text.{plus_sign, range_text}
 use Rattle.texts.specs.Words.{space}
 use Rattle.script_rules.specs.Lines.{span_text}
-use Rattle.cluster_events.specs.declared.outcome.Span.{Span}
-use Rattle.cluster_events.specs.OutcomeModel.{span_of}
-use Rattle.script_output.specs.Spaced.{ip_text, spaced}
-use Rattle.script_output.proofs.Spacing.{behind_the_mark}
+use Rattle.directory_rules.specs.declared.outcome.Span.{Span}
+use Rattle.script_output.specs.Spaced.{spaced}
+use Rattle.script_output.proofs.SpacedWords.{behind_the_mark}
+
+-- how a silo's text begins: the four bytes of its IP address, and a colon
+abbrev ip_text : List ℕ → List ℕ
+ip_text ip =
+    decimal (slice_index ip 0) ++ dot ∷ (decimal (slice_index ip 1) ++ dot ∷ (decimal (slice_index ip 2) ++ dot ∷ (decimal (slice_index ip 3) ++ colon ∷ [])))
 
 -- the parts of a silo's text, with a mark behind them
 pub silo_parts : (silo : Silo) (mark : ℕ)
@@ -42,7 +46,7 @@ activation_written before silo after activation first second =
 -- a span: its first number, two dots, its last number
 pub span_written : (before first dots after : List ℕ) (span : Span)
     → first ≡ before ++ (decimal span.first ++ dot ∷ []) → dots ≡ first ++ dot ∷ [] → after ≡ dots ++ (decimal span.last ++ space ∷ [])
-    → after ≡ before ++ spaced (span_text (span_of span) ∷ [])
+    → after ≡ before ++ spaced (span_text span ∷ [])
 unfolding spaced
 span_written before first dots after span one two three =
     behind_the_mark before first after (decimal span.first) (dot ∷ (decimal span.last ++ space ∷ [])) dot one

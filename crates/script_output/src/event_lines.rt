@@ -1,15 +1,11 @@
 //! The lines of events, refusals and faults.
 
-#![tactic(auto, using(crate::proofs::Writing::word_by_word))]
+#![tactic(auto, using(crate::proofs::Pieces::word_by_word))]
 
 ghost use Rattle.std.specs.Prelude.{◌≡◌, [], ◌∷◌, ◌++◌, OnOk, OnErr, codes};
 ghost use Rattle.std.specs.Fmt.{decimal};
-ghost use Rattle.std.specs.Option.{option_map};
 ghost use Rattle.silo_address.specs.SiloText.{silo_text};
-ghost use Rattle.directory_rules.specs.Event.{Joined, Saw, Did, Delivered};
 ghost use Rattle.script_rules.specs.Lines.{effect_words, entry_words, fault_line, happening_words, outcome_line, refusal_line, replaced_words, sent_words, subject_words};
-ghost use Rattle.cluster_events.specs.OutcomeModel.{happening_of, outcome_of, span_of};
-ghost use Rattle.script_output.specs.Effects.{second_words};
 ghost use Rattle.script_output.specs.Printed.{printed};
 ghost use Rattle.script_output.specs.Spaced.{spaced, BeginsWith};
 
@@ -18,15 +14,14 @@ use crate::tables::{effect_word, kind_word};
 use crate::words::{
     push_entry, push_grain, push_named, push_number, push_silo, push_span, push_word,
 };
-use cluster_events::{Happening, Outcome, Span};
-use directory_rules::{Effect, LetterKind};
+use directory_rules::{Effect, Happening, Outcome};
 use silo_address::{Entry, SiloAddress};
 use std::alloc::AllocError;
 
 /// Writes the line of an accepted event (`docs/RULES.md#what-a-script-prints`). Fails only when memory runs out.
 #[tactic(auto, using(crate::proofs::SomeWords::happening_has_words), unfolding(script_rules::specs::Lines::outcome_line))]
 pub fn write_outcome(out: &mut Vec<u8>, outcome: &Outcome) -> Result<(), AllocError>
-    ensures written { OnOk result (out.new.items ≡ out.old.items ++ printed (outcome_line (outcome_of outcome.now))) }
+    ensures written { OnOk result (out.new.items ≡ out.old.items ++ printed (outcome_line outcome.now)) }
     ensures unchanged { OnErr result (out.new.items ≡ out.old.items) }
 {
     let start = out.len();
@@ -66,20 +61,11 @@ fn push_fault(out: &mut Vec<u8>, line: u64, fault: u16) -> Result<(), AllocError
 
 /// What happened, and the letters that it sent.
 fn push_outcome(out: &mut Vec<u8>, outcome: &Outcome) -> Result<(), AllocError>
-    ensures written { OnOk result (out.new.items ≡ out.old.items ++ spaced (happening_words (happening_of outcome.now.happening) ++ sent_words (option_map span_of outcome.now.sent))) }
+    ensures written { OnOk result (out.new.items ≡ out.old.items ++ spaced (happening_words outcome.now.happening ++ sent_words outcome.now.sent)) }
     ensures kept { BeginsWith out.old.items out.new.items }
 {
     push_happening(out, &outcome.happening)?;
-    push_sent(out, outcome.sent)?;
-    Ok(())
-}
-
-/// The letters sent, if there are any.
-fn push_sent(out: &mut Vec<u8>, sent: Option<Span>) -> Result<(), AllocError>
-    ensures written { OnOk result (out.new.items ≡ out.old.items ++ spaced (sent_words (option_map span_of sent))) }
-    ensures kept { BeginsWith out.old.items out.new.items }
-{
-    let Some(span) = sent else {
+    let Some(span) = outcome.sent else {
         return Ok(());
     };
     push_word(out, b"sent")?;
@@ -87,9 +73,9 @@ fn push_sent(out: &mut Vec<u8>, sent: Option<Span>) -> Result<(), AllocError>
     Ok(())
 }
 
-/// What happened.
-fn push_happening(out: &mut Vec<u8>, happening: &Happening) -> Result<(), AllocError>
-    ensures written { OnOk result (out.new.items ≡ out.old.items ++ spaced (happening_words (happening_of happening.now))) }
+/// What happened, in words (`docs/RULES.md#what-a-script-prints`). Fails only when memory runs out.
+pub fn push_happening(out: &mut Vec<u8>, happening: &Happening) -> Result<(), AllocError>
+    ensures written { OnOk result (out.new.items ≡ out.old.items ++ spaced (happening_words happening.now)) }
     ensures kept { BeginsWith out.old.items out.new.items }
 {
     match happening {
@@ -97,36 +83,36 @@ fn push_happening(out: &mut Vec<u8>, happening: &Happening) -> Result<(), AllocE
             version,
             silo,
             replaced,
-        } => push_joined(out, *version, silo, *replaced),
+        } => {
+            push_change(out, *version, b"joined", silo)?;
+            push_replaced(out, *replaced)
+        }
         Happening::Left { version, silo } => push_change(out, *version, b"leaving", silo),
         Happening::Died { version, silo } => push_change(out, *version, b"dead", silo),
         Happening::Saw {
             silo,
             version,
             effect,
-        } => push_saw(out, silo, *version, effect),
-        Happening::Did { silo, effect } => push_did(out, silo, effect),
+        } => {
+            push_silo(out, silo)?;
+            push_named(out, b"sees", *version)?;
+            push_effect(out, effect)
+        }
+        Happening::Did { silo, effect } => {
+            push_effect(out, effect)?;
+            push_subject(out, silo, effect)
+        }
         Happening::Delivered {
             number,
             kind,
             effect,
-        } => push_delivered(out, *number, *kind, effect),
+        } => {
+            push_named(out, b"delivered", *number)?;
+            push_word(out, kind_word(*kind))?;
+            push_effect(out, effect)
+        }
         Happening::Lost { number } => push_named(out, b"lost", *number),
     }
-}
-
-fn push_joined(
-    out: &mut Vec<u8>,
-    version: u64,
-    silo: &SiloAddress,
-    replaced: Option<SiloAddress>,
-) -> Result<(), AllocError>
-    ensures written { OnOk result (out.new.items ≡ out.old.items ++ spaced (happening_words (Joined version silo.now replaced))) }
-    ensures kept { BeginsWith out.old.items out.new.items }
-{
-    push_change(out, version, b"joined", silo)?;
-    push_replaced(out, replaced)?;
-    Ok(())
 }
 
 /// The version that a change made, the change in a word, and whose it is.
@@ -158,60 +144,12 @@ fn push_replaced(out: &mut Vec<u8>, replaced: Option<SiloAddress>) -> Result<(),
     Ok(())
 }
 
-fn push_saw(
-    out: &mut Vec<u8>,
-    silo: &SiloAddress,
-    version: u64,
-    effect: &Effect,
-) -> Result<(), AllocError>
-    ensures written { OnOk result (out.new.items ≡ out.old.items ++ spaced (happening_words (Saw silo.now version effect.now))) }
-    ensures kept { BeginsWith out.old.items out.new.items }
-{
-    push_silo(out, silo)?;
-    push_named(out, b"sees", version)?;
-    push_effect(out, effect)?;
-    Ok(())
-}
-
-fn push_did(out: &mut Vec<u8>, silo: &SiloAddress, effect: &Effect) -> Result<(), AllocError>
-    ensures written { OnOk result (out.new.items ≡ out.old.items ++ spaced (happening_words (Did silo.now effect.now))) }
-    ensures kept { BeginsWith out.old.items out.new.items }
-{
-    push_effect(out, effect)?;
-    push_subject(out, silo, effect)?;
-    Ok(())
-}
-
-fn push_delivered(
-    out: &mut Vec<u8>,
-    number: u64,
-    kind: LetterKind,
-    effect: &Effect,
-) -> Result<(), AllocError>
-    ensures written { OnOk result (out.new.items ≡ out.old.items ++ spaced (happening_words (Delivered number kind effect.now))) }
-    ensures kept { BeginsWith out.old.items out.new.items }
-{
-    push_named(out, b"delivered", number)?;
-    push_word(out, kind_word(kind))?;
-    push_effect(out, effect)?;
-    Ok(())
-}
-
-/// The words for an effect.
-fn push_effect(out: &mut Vec<u8>, effect: &Effect) -> Result<(), AllocError>
+/// The words for an effect (`docs/RULES.md#what-a-script-prints`). Fails only when memory runs out.
+pub fn push_effect(out: &mut Vec<u8>, effect: &Effect) -> Result<(), AllocError>
     ensures written { OnOk result (out.new.items ≡ out.old.items ++ spaced (effect_words effect.now)) }
     ensures kept { BeginsWith out.old.items out.new.items }
 {
     push_word(out, effect_word(effect))?;
-    push_second(out, effect)?;
-    Ok(())
-}
-
-/// The second word for an effect, if there is one.
-fn push_second(out: &mut Vec<u8>, effect: &Effect) -> Result<(), AllocError>
-    ensures written { OnOk result (out.new.items ≡ out.old.items ++ spaced (second_words effect.now)) }
-    ensures kept { BeginsWith out.old.items out.new.items }
-{
     match effect {
         Effect::NothingCached(_) => push_word(out, b"cached"),
         Effect::Retry(why) => push_number(out, u64::from(why.number())),

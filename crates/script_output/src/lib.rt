@@ -13,11 +13,12 @@ mod show_lines;
 mod tables;
 mod words;
 
-pub use event_lines::{write_fault, write_outcome, write_refusal};
+pub use event_lines::{push_effect, push_happening, write_fault, write_outcome, write_refusal};
 pub use line::end_line;
 pub use question_lines::{write_letter, write_owner, write_place};
 pub use show_lines::{write_held, write_no_owner, write_range, write_silo, write_version};
-pub use tables::kind_word;
+pub use tables::{kind_word, status_word};
 pub use words::{
-    push_activation, push_grain, push_named, push_number, push_range, push_silo, push_word,
+    push_activation, push_entry, push_grain, push_named, push_number, push_range, push_silo,
+    push_word,
 };

@@ -1,11 +1,11 @@
 //! Texts, each with a mark behind it.
 
-#![tactic(auto, using(crate::proofs::Writing::part_by_part))]
+#![tactic(auto, using(crate::proofs::Pieces::part_by_part))]
 
 ghost use Rattle.std.specs.Prelude.{◌≡◌, [], ◌∷◌, ◌++◌, OnOk};
 ghost use Rattle.std.specs.Fmt.{decimal};
 ghost use Rattle.silo_address.specs.SiloText.{silo_text};
-ghost use Rattle.script_output.specs.Spaced.{ip_text, BeginsWith};
+ghost use Rattle.script_output.specs.Spaced.{BeginsWith};
 
 use itoa::Buffer;
 use silo_address::SiloAddress;
@@ -30,19 +30,6 @@ pub(crate) fn push_marked_number(out: &mut Vec<u8>, number: u64, mark: u8) -> Re
     push_marked(out, digits.format(number).as_bytes(), mark)
 }
 
-/// The four bytes of an IP address, dots between them and a colon behind.
-fn push_ip(out: &mut Vec<u8>, ip: [u8; 4]) -> Result<(), AllocError>
-    ensures written { OnOk result (out.new.items ≡ out.old.items ++ ip_text ip) }
-    ensures kept { BeginsWith out.old.items out.new.items }
-{
-    let [first, second, third, fourth] = ip;
-    push_marked_number(out, u64::from(first), b'.')?;
-    push_marked_number(out, u64::from(second), b'.')?;
-    push_marked_number(out, u64::from(third), b'.')?;
-    push_marked_number(out, u64::from(fourth), b':')?;
-    Ok(())
-}
-
 /// A silo, and a mark behind it.
 pub(crate) fn push_marked_silo(
     out: &mut Vec<u8>,
@@ -52,7 +39,11 @@ pub(crate) fn push_marked_silo(
     ensures written { OnOk result (out.new.items ≡ out.old.items ++ (silo_text silo.now ++ mark ∷ [])) }
     ensures kept { BeginsWith out.old.items out.new.items }
 {
-    push_ip(out, silo.ip())?;
+    let [first, second, third, fourth] = silo.ip();
+    push_marked_number(out, u64::from(first), b'.')?;
+    push_marked_number(out, u64::from(second), b'.')?;
+    push_marked_number(out, u64::from(third), b'.')?;
+    push_marked_number(out, u64::from(fourth), b':')?;
     push_marked_number(out, u64::from(silo.port()), b'@')?;
     push_marked_number(out, u64::from(silo.generation()), mark)?;
     Ok(())

@@ -1,6 +1,6 @@
 //! The lines of `mail`, `owner` and `place`.
 
-#![tactic(auto, using(crate::proofs::Writing::word_by_word))]
+#![tactic(auto, using(crate::proofs::Pieces::word_by_word))]
 
 ghost use Rattle.std.specs.Prelude.{◌≡◌, [], ◌∷◌, ◌++◌, OnOk, OnErr, codes};
 ghost use Rattle.std.specs.Fmt.{decimal};

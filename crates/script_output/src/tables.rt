@@ -78,7 +78,7 @@ pub(crate) fn effect_word(effect: &Effect) -> &'static [u8]
 }
 
 /// The word for a status.
-pub(crate) fn status_word(status: Status) -> &'static [u8]
+pub fn status_word(status: Status) -> &'static [u8]
     ensures { result.now ≡ status_word status }
 {
     match status {

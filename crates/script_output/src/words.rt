@@ -1,6 +1,6 @@
 //! Words of a line on its way: each is written with a space behind it.
 
-#![tactic(auto, using(crate::proofs::Writing::word_by_word))]
+#![tactic(auto, using(crate::proofs::Pieces::word_by_word))]
 
 ghost use Rattle.std.specs.Prelude.{◌≡◌, [], ◌∷◌, ◌++◌, OnOk};
 ghost use Rattle.std.specs.Fmt.{decimal};
@@ -9,11 +9,10 @@ ghost use Rattle.silo_address.specs.Grain.{grain_text};
 ghost use Rattle.silo_address.specs.SiloText.{silo_text};
 ghost use Rattle.ring_range.specs.Text.{range_text};
 ghost use Rattle.script_rules.specs.Lines.{entry_words, span_text};
-ghost use Rattle.cluster_events.specs.OutcomeModel.{span_of};
 ghost use Rattle.script_output.specs.Spaced.{spaced, BeginsWith};
 
 use crate::marked::{push_marked, push_marked_number, push_marked_silo};
-use cluster_events::Span;
+use directory_rules::Span;
 use ring_range::RingRange;
 use silo_address::{ActivationId, Entry, GrainId, SiloAddress};
 use std::alloc::AllocError;
@@ -56,7 +55,7 @@ pub fn push_silo(out: &mut Vec<u8>, silo: &SiloAddress) -> Result<(), AllocError
 }
 
 /// An activation.
-#[tactic(auto, using(crate::proofs::Writing::part_by_part))]
+#[tactic(auto, using(crate::proofs::Pieces::part_by_part))]
 pub fn push_activation(out: &mut Vec<u8>, activation: &ActivationId) -> Result<(), AllocError>
     ensures written { OnOk result (out.new.items ≡ out.old.items ++ spaced (activation_text activation.now ∷ [])) }
     ensures kept { BeginsWith out.old.items out.new.items }
@@ -75,7 +74,7 @@ pub fn push_grain(out: &mut Vec<u8>, grain: &GrainId) -> Result<(), AllocError>
 }
 
 /// An activation and its grain.
-pub(crate) fn push_entry(out: &mut Vec<u8>, entry: &Entry) -> Result<(), AllocError>
+pub fn push_entry(out: &mut Vec<u8>, entry: &Entry) -> Result<(), AllocError>
     ensures written { OnOk result (out.new.items ≡ out.old.items ++ spaced (entry_words entry.now)) }
     ensures kept { BeginsWith out.old.items out.new.items }
 {
@@ -85,9 +84,9 @@ pub(crate) fn push_entry(out: &mut Vec<u8>, entry: &Entry) -> Result<(), AllocEr
 }
 
 /// The first and the last number, two dots between them.
-#[tactic(auto, using(crate::proofs::Writing::part_by_part))]
+#[tactic(auto, using(crate::proofs::Pieces::part_by_part))]
 pub(crate) fn push_span(out: &mut Vec<u8>, span: &Span) -> Result<(), AllocError>
-    ensures written { OnOk result (out.new.items ≡ out.old.items ++ spaced (span_text (span_of span.now) ∷ [])) }
+    ensures written { OnOk result (out.new.items ≡ out.old.items ++ spaced (span_text span.now ∷ [])) }
     ensures kept { BeginsWith out.old.items out.new.items }
 {
     push_marked_number(out, span.first, b'.')?;
@@ -97,7 +96,7 @@ pub(crate) fn push_span(out: &mut Vec<u8>, span: &Span) -> Result<(), AllocError
 }
 
 /// A range: its start, a plus, its size.
-#[tactic(auto, using(crate::proofs::Writing::part_by_part))]
+#[tactic(auto, using(crate::proofs::Pieces::part_by_part))]
 pub fn push_range(out: &mut Vec<u8>, range: &RingRange) -> Result<(), AllocError>
     ensures written { OnOk result (out.new.items ≡ out.old.items ++ spaced (range_text range.now ∷ [])) }
     ensures kept { BeginsWith out.old.items out.new.items }

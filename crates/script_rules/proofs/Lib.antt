@@ -1,1 +1,1 @@
-mod Settling
+mod Settles

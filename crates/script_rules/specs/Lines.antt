@@ -11,7 +11,10 @@ use Rattle.directory_rules.specs.declared.effect.Effect.TheVariants as effect
 use Rattle.directory_rules.specs.declared.letter_kind.LetterKind.{LetterKind}
 use Rattle.directory_rules.specs.declared.letter_kind.LetterKind.TheVariants as kind
 use Rattle.directory_rules.specs.Answer.{why_number}
-use Rattle.directory_rules.specs.Event.{Happening, Joined, Left, Died, Saw, Did, Delivered, Lost, Span, Outcome}
+use Rattle.directory_rules.specs.declared.outcome.Happening.{Happening}
+use Rattle.directory_rules.specs.declared.outcome.Happening.TheVariants.{Joined, Left, Died, Saw, Did, Delivered, Lost}
+use Rattle.directory_rules.specs.declared.outcome.Span.{Span}
+use Rattle.directory_rules.specs.declared.outcome.Outcome.{Outcome}
 use Rattle.texts.specs.Words.{sentence}
 
 -- the word for each kind of letter

@@ -1,9 +1,8 @@
 -- A script played: what each command prints and makes of the world, the text that all of it prints, and the status with
 -- which it ends.
-use Rattle.std.specs.Prelude.{ℕ, zero, suc, ◌+◌, ◌-◌, ◌&&◌, ◌||◌, max, is_some, Bool, false, List, [], ◌∷◌, ◌++◌, map, flat_map, find, codes, if◌then◌else◌, Option, Some, None, Result, Ok, Err}
-use Rattle.std.specs.Option.{option_map, unwrap_or}
+use Rattle.std.specs.Prelude.{ℕ, zero, suc, ◌+◌, ◌-◌, ◌||◌, max, is_some, Bool, false, List, [], ◌∷◌, ◌++◌, map, flat_map, if◌then◌else◌, Option, Some, None, Result, Ok, Err}
+use Rattle.std.specs.Option.{unwrap_or}
 use Rattle.std.specs.List.{range_with_len}
-use Rattle.std.specs.Fmt.{decimal}
 use Rattle.silo_address.specs.Silo.{Silo}
 use Rattle.membership_view.specs.Views.{joining_version}
 use Rattle.directory_rules.specs.Settings.{Settings}
@@ -12,7 +11,7 @@ use Rattle.directory_rules.specs.Node.{Node}
 use Rattle.directory_rules.specs.World.{World, Accepted, first_world}
 use Rattle.directory_rules.specs.Happens.{happens, least_deliverable}
 use Rattle.texts.specs.Printed.{Output, text_of_lines}
-use Rattle.script_rules.specs.Script.{Command, Happen, Sync, Settle, Owner, Place, Show, Mail, Dump, Check, Grammar, lines_of, read_line}
+use Rattle.script_rules.specs.Script.{Command, Happen, Sync, Settle, Owner, Place, Show, Mail, Dump, Check, lines_of, read_line}
 use Rattle.script_rules.specs.Lines.{outcome_line, refusal_line, fault_line}
 use Rattle.script_rules.specs.Show.{show_lines, mail_lines, owner_line, place_line}
 use Rattle.dump_rules.specs.Dump.{dump_of, dump_text}
@@ -116,15 +115,15 @@ line_played (Ok (Some command)) number session next = after_command (performed s
 line_played (Err fault) number session next = record { text = text_of_lines (fault_line number fault ∷ []); status = 2 }
 
 -- lines, the first of which has this number
-unfoldable pub played : List (List ℕ × Grammar) → ℕ → Session → List (List ℕ) → Output
-played known number session [] = record { text = []; status = end_status session }
-played known number session (line ∷ lines) =
-    line_played (read_line known line) number session (λ next. played known (number + 1) next lines)
+unfoldable pub played : ℕ → Session → List (List ℕ) → Output
+played number session [] = record { text = []; status = end_status session }
+played number session (line ∷ lines) =
+    line_played (read_line line) number session (λ next. played (number + 1) next lines)
 
 -- before the first line
 abbrev pub first_session : Settings → Session
 first_session settings = record { world = first_world settings; faulted = false }
 
--- the output of a script, by the commands that are known and the settings
-abbrev pub output_of : List (List ℕ × Grammar) → Settings → List ℕ → Output
-output_of known settings script = played known 1 (first_session settings) (lines_of script)
+-- the output of a script, by the settings
+abbrev pub output_of : Settings → List ℕ → Output
+output_of settings script = played 1 (first_session settings) (lines_of script)

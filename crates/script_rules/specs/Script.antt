@@ -9,9 +9,9 @@ use Rattle.silo_address.specs.declared.SiloError.{SiloError}
 use Rattle.silo_address.specs.declared.GrainError.{GrainError}
 use Rattle.silo_address.specs.Numbers.{silo_error_number, grain_error_number}
 use Rattle.silo_address.specs.Silo.{Silo}
-use Rattle.silo_address.specs.SiloReading.{read_silo}
+use Rattle.silo_address.specs.ReadSilo.{read_silo}
 use Rattle.silo_address.specs.Grain.{Grain}
-use Rattle.silo_address.specs.GrainReading.{read_grain}
+use Rattle.silo_address.specs.ReadGrain.{read_grain}
 use Rattle.directory_rules.specs.declared.policy.Policy.{Policy}
 use Rattle.directory_rules.specs.declared.policy.Policy.TheVariants.{PreferLocal, HashBased, LeastHeld}
 use Rattle.directory_rules.specs.Event.{Event}
@@ -220,13 +220,13 @@ command_if_known (Some grammar) words = do
   Ok (Some command)
 
 -- the command that the words make; none where there is no word or they are a remark
-abbrev pub command_of_words : List (List ℕ × Grammar) → List (List ℕ) → Result (Option Command) ℕ
-command_of_words known [] = Ok None
-command_of_words known (name ∷ words) = if is_remark name then Ok None else command_if_known (lookup (bytes_eq name) known) words
+abbrev pub command_of_words : List (List ℕ) → Result (Option Command) ℕ
+command_of_words [] = Ok None
+command_of_words (name ∷ words) = if is_remark name then Ok None else command_if_known (lookup (bytes_eq name) commands) words
 
--- what a line says, by the commands that are known: a command, nothing, or its first fault. 924 where it is too long, then
--- 925 where a byte isn't text, then 921 where its first word names no known command, then those of the words behind it
-unfoldable pub read_line : List (List ℕ × Grammar) → List ℕ → Result (Option Command) ℕ
-read_line known line =
+-- what a line says: a command, nothing, or its first fault. 924 where it is too long, then 925 where a byte isn't text, then
+-- 921 where its first word names no command, then those of the words behind it
+unfoldable pub read_line : List ℕ → Result (Option Command) ℕ
+read_line line =
     if nat_lt longest_line (length line) then Err 924
-    else (if list_all is_text line then command_of_words known (words_in line) else Err 925)
+    else (if list_all is_text line then command_of_words (words_in line) else Err 925)

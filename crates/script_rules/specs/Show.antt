@@ -7,21 +7,16 @@ use Rattle.silo_address.specs.Grain.{Grain, grain_text}
 use Rattle.silo_address.specs.ActivationText.{activation_text}
 use Rattle.membership_view.specs.declared.status.Status.{Status}
 use Rattle.membership_view.specs.declared.status.Status.TheVariants.{Active, Leaving, Dead}
-use Rattle.membership_view.specs.View.{ViewValue}
-use Rattle.membership_view.specs.Views.{view_at}
-use Rattle.ring_range.specs.Range.{Range, holds}
+use Rattle.ring_range.specs.Range.{Range}
 use Rattle.ring_range.specs.Text.{range_text}
 use Rattle.hash_ring.specs.declared.point.Point.{Point}
-use Rattle.hash_ring.specs.declared.hashing.Hashing.{Hashing}
 use Rattle.hash_ring.specs.Hash.{hash_grain}
 use Rattle.hash_ring.specs.Owner.{owner_of}
-use Rattle.hash_ring.specs.Ring.{sorted_ring}
 use Rattle.hash_ring.specs.Ranges.{range_of, owns_its_place}
 use Rattle.directory_rules.specs.declared.held.Held.{Held}
 use Rattle.directory_rules.specs.declared.held.Phase.{Phase}
 use Rattle.directory_rules.specs.declared.held.Phase.TheVariants.{Asking, Firm, Closing}
 use Rattle.directory_rules.specs.declared.policy.Policy.{Policy}
-use Rattle.directory_rules.specs.Piece.{Piece}
 use Rattle.directory_rules.specs.Letter.{Letter, kind_of}
 use Rattle.directory_rules.specs.Node.{Node}
 use Rattle.directory_rules.specs.World.{World, current_view, current_ring}

@@ -4,23 +4,22 @@ ghost use Rattle.std.specs.Prelude.{◌≡◌, ℕ, ◌+◌, [], codes};
 ghost use Rattle.hash_ring.specs.declared.hashing.Hashing.TheVariants.{Stated};
 ghost use Rattle.directory_rules.specs.Settings.{directory_settings};
 ghost use Rattle.directory_rules.specs.Laws.{IsMail};
-ghost use Rattle.script_rules.specs.Script.{commands};
 ghost use Rattle.script_rules.specs.Output.{Session, output_of, delivered_within, delivered_all};
 
 /// Scripts without an event.
 pub fn scripts_without_events()
-    ensures no_bytes { output_of commands (directory_settings Stated 30 1024) [] ≡ record { text = []; status = 0 } }
-    ensures show_alone { output_of commands (directory_settings Stated 30 1024) (codes "show\n")
+    ensures no_bytes { output_of (directory_settings Stated 30 1024) [] ≡ record { text = []; status = 0 } }
+    ensures show_alone { output_of (directory_settings Stated 30 1024) (codes "show\n")
         ≡ record { text = codes "version 0\nno owner\n"; status = 0 } }
-    ensures unknown_command { output_of commands (directory_settings Stated 30 1024) (codes "jion A")
+    ensures unknown_command { output_of (directory_settings Stated 30 1024) (codes "jion A")
         ≡ record { text = codes "line 1 fault 921\n"; status = 2 } }
-    ensures word_count { output_of commands (directory_settings Stated 30 1024) (codes "see 10.0.0.1:1000@1\n")
+    ensures word_count { output_of (directory_settings Stated 30 1024) (codes "see 10.0.0.1:1000@1\n")
         ≡ record { text = codes "line 1 fault 922\n"; status = 2 } }
-    ensures not_a_number { output_of commands (directory_settings Stated 30 1024) (codes "deliver 01\n")
+    ensures not_a_number { output_of (directory_settings Stated 30 1024) (codes "deliver 01\n")
         ≡ record { text = codes "line 1 fault 923\n"; status = 2 } }
-    ensures not_text { output_of commands (directory_settings Stated 30 1024) (codes "show\t\n")
+    ensures not_text { output_of (directory_settings Stated 30 1024) (codes "show\t\n")
         ≡ record { text = codes "line 1 fault 925\n"; status = 2 } }
-    ensures unknown_policy { output_of commands (directory_settings Stated 30 1024) (codes "place 10.0.0.1:1000@1 best user/a\n")
+    ensures unknown_policy { output_of (directory_settings Stated 30 1024) (codes "place 10.0.0.1:1000@1 best user/a\n")
         ≡ record { text = codes "line 1 fault 926\n"; status = 2 } }
 {}
 

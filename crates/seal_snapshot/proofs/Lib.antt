@@ -1,6 +1,6 @@
-pub mod Taking
+pub mod Hashed
 pub mod Order
-pub mod Finding
+pub mod Searches
 pub mod Pages
-pub mod Joining
-pub mod Sealing
+pub mod InOrder
+pub mod Seals

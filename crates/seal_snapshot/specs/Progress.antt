@@ -1,6 +1,6 @@
 -- What comes of a page, as its taker is told.
 use Rattle.std.specs.Prelude.{◌≡◌, ℕ, Result, Ok, Err, IsSomeAnd, IsOk, MatchOption}
-use Rattle.directory_rules.specs.Gathering.{Gathering, Gathered, Wants_page, Has_all, Refuses}
+use Rattle.directory_rules.specs.Gatherings.{Gathering, Gathered, Wants_page, Has_all, Refuses}
 use Rattle.seal_snapshot.specs.declared.error.GatheringError.{GatheringError}
 use Rattle.seal_snapshot.specs.declared.progress.Progress.{Progress}
 use Rattle.seal_snapshot.specs.declared.progress.Progress.TheVariants.{More, Complete}

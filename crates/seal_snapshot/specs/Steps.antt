@@ -2,7 +2,7 @@
 use Rattle.std.specs.Prelude.{◌≡◌, ◌==◌, ◌&&◌, Bool, true, false}
 use Rattle.ring_range.specs.Range.{range_eq}
 use Rattle.directory_rules.specs.Snapshot.{Page}
-use Rattle.directory_rules.specs.Gathering.{Gathering, is_in_turn}
+use Rattle.directory_rules.specs.Gatherings.{Gathering, is_in_turn}
 use Rattle.seal_snapshot.specs.declared.error.GatheringError.{GatheringError}
 use Rattle.seal_snapshot.specs.declared.error.GatheringError.TheVariants as fault
 

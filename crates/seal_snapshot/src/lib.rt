@@ -3,7 +3,7 @@
 #![tactic(auto)]
 
 mod error;
-mod gathering;
+mod gatherings;
 pub mod laws;
 mod lines;
 mod page;
@@ -14,7 +14,7 @@ mod snapshot;
 mod whole;
 
 pub use error::GatheringError;
-pub use gathering::Gathering;
+pub use gatherings::Gathering;
 pub use page::Page;
 pub use progress::Progress;
 pub use shelf::Shelf;

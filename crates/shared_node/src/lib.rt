@@ -3,7 +3,7 @@
 #![tactic(auto)]
 
 ghost use Rattle.std.specs.Prelude.{◌≡◌, ◌↔◌, IfOk, IsTrue, MatchResult, OnErr, OnOk};
-ghost use Rattle.directory_node.specs.Planning.{Fits, changed};
+ghost use Rattle.directory_node.specs.Plans.{Fits, changed};
 
 use directory_node::{Change, Node};
 use std::alloc::{AllocError, AllocFailed, Global};

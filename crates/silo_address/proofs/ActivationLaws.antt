@@ -17,7 +17,7 @@ use Rattle.silo_address.specs.Marks.{exclamation_mark, dot, colon, at_sign}
 use Rattle.texts.specs.Numeral.{IsNumeral, read_number}
 use Rattle.silo_address.specs.Silo.{Silo, IsSilo}
 use Rattle.silo_address.specs.SiloText.{Words, AreNumerals, words_text, words_of, silo_text}
-use Rattle.silo_address.specs.SiloReading.{read_silo}
+use Rattle.silo_address.specs.ReadSilo.{read_silo}
 use Rattle.silo_address.specs.ActivationText.{activation_text, is_exclamation_mark, activation_of, read_activation}
 use Rattle.texts.proofs.Cuts.{IsCutAt, position-cut, before_first-cut, after_first-cut}
 use Rattle.texts.proofs.NumeralLaws.{read_number-decimal, read_number_found}

@@ -11,7 +11,7 @@ use Rattle.silo_address.specs.declared.grain.GrainError.{GrainError}
 use Rattle.silo_address.specs.declared.grain.GrainError.TheVariants.{Shape, TooLong, Byte}
 use Rattle.silo_address.specs.Marks.{slash}
 use Rattle.silo_address.specs.Grain.{Grain, IsCutAtFirstSlash, IsCutInto, HasGrainShape, IsShortEnough, IsVisible, IsGrain, grain_text}
-use Rattle.silo_address.specs.GrainReading.{is_slash, grain_at_slash, is_visible, is_cut, is_short_enough, grain_within, read_grain}
+use Rattle.silo_address.specs.ReadGrain.{is_slash, grain_at_slash, is_visible, is_cut, is_short_enough, grain_within, read_grain}
 use Rattle.texts.proofs.Cuts.{IsCutAt, position-cut, before_first-cut, after_first-cut, front_fails}
 use Rattle.texts.proofs.Decided.{both, decided, false_from_not}
 

@@ -8,7 +8,7 @@ use Rattle.std.proofs.Math.Seq.{take-append_seam}
 use Rattle.silo_address.specs.declared.grain.GrainId.TheInside.{Inside}
 use Rattle.silo_address.specs.Grain.{IsGrain, IsShortEnough, IsVisible}
 use Rattle.silo_address.specs.GrainFields.{HoldsGrain, grain_in, fields_of}
-use Rattle.silo_address.specs.GrainReading.{is_cut, is_slash, grain_at_slash, grain_within}
+use Rattle.silo_address.specs.ReadGrain.{is_cut, is_slash, grain_at_slash, grain_within}
 use Rattle.silo_address.proofs.GrainCases.{is_cut_takes, within_grain}
 use Rattle.texts.proofs.Decided.{both}
 

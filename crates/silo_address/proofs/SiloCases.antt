@@ -5,7 +5,7 @@ use Rattle.silo_address.specs.declared.silo.SiloError.{SiloError}
 use Rattle.silo_address.specs.declared.silo.SiloError.TheVariants.{Shape, NotANumber, OutOfRange}
 use Rattle.silo_address.specs.Silo.{Silo, IsSilo}
 use Rattle.silo_address.specs.SiloText.{Words, HasWords, HasSiloShape, AreNumerals, words_text, words_of, silo_of, silo_text}
-use Rattle.silo_address.specs.SiloReading.{silo_words, silo_by_words, read_silo}
+use Rattle.silo_address.specs.ReadSilo.{silo_words, silo_by_words, read_silo}
 use Rattle.texts.proofs.Decided.{decided}
 use Rattle.silo_address.proofs.SiloLaws.{Decides-are_numerals, Decides-is_silo, silo_by_words_other, silo_by_words_large, silo_by_words_silo, read_silo_words, read_silo_none, silo_words_takes, silo_words_again, has_no_words, words_in_some, words_are_numerals, each_is_word, silo_of-words_of, words_of-silo_of}
 

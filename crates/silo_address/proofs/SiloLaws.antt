@@ -15,7 +15,7 @@ use Rattle.silo_address.specs.Marks.{dot, colon, at_sign}
 use Rattle.texts.specs.Numeral.{IsNumeral}
 use Rattle.silo_address.specs.Silo.{Silo, IsSilo}
 use Rattle.silo_address.specs.SiloText.{Words, EachWord, IsWord, HasWords, AreNumerals, is_mark, words_text, words_of, silo_of}
-use Rattle.silo_address.specs.SiloReading.{word_before, only_word, silo_words, are_numerals, is_silo, silo_by_words, read_silo}
+use Rattle.silo_address.specs.ReadSilo.{word_before, only_word, silo_words, are_numerals, is_silo, silo_by_words, read_silo}
 use Rattle.texts.proofs.Cuts.{IsCutAt, position-cut, before_first-cut, after_first-cut, front_fails}
 use Rattle.texts.proofs.Decided.{both, false_from_not}
 use Rattle.texts.proofs.NumeralLaws.{Decides-is_numeral, decimal-numeral_value, numeral_value-decimal, decimal_is_numeral}

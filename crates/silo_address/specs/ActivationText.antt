@@ -11,7 +11,7 @@ use Rattle.silo_address.specs.Marks.{exclamation_mark}
 use Rattle.texts.specs.Numeral.{read_number}
 use Rattle.silo_address.specs.Silo.{Silo}
 use Rattle.silo_address.specs.SiloText.{silo_text}
-use Rattle.silo_address.specs.SiloReading.{read_silo}
+use Rattle.silo_address.specs.ReadSilo.{read_silo}
 
 -- an activation's one spelling
 abbrev pub activation_text : ActivationId → List ℕ

@@ -2,7 +2,7 @@ pub mod Marks
 pub mod Chain
 pub mod Silo
 pub mod SiloText
-pub mod SiloReading
+pub mod ReadSilo
 pub mod WordsModel
 pub mod FrontNumber
 pub mod Grain
@@ -11,5 +11,5 @@ pub mod GrainLaws
 pub mod Activation
 pub mod ActivationText
 pub mod StatedHash
-pub mod GrainReading
+pub mod ReadGrain
 pub mod Numbers

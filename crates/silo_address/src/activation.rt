@@ -3,7 +3,7 @@ ghost use Rattle.silo_address.specs.ActivationText.{activation_of, activation_te
 ghost use Rattle.silo_address.specs.Marks.{exclamation_mark};
 ghost use Rattle.texts.specs.Numeral.{read_number};
 ghost use Rattle.silo_address.specs.Silo.{IsSilo};
-ghost use Rattle.silo_address.specs.SiloReading.{read_silo};
+ghost use Rattle.silo_address.specs.ReadSilo.{read_silo};
 
 use crate::{NumberError, SiloAddress, SiloError};
 use std::alloc::{AllocError, Global};

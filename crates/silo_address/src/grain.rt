@@ -11,7 +11,7 @@ ghost use Rattle.silo_address.specs.Marks.{number_sign};
 ghost use Rattle.silo_address.specs.StatedHash.{stated_hash};
 ghost use Rattle.silo_address.specs.Numbers.{grain_error_number};
 ghost use Rattle.silo_address.specs.Grain.{Grain, HasGrainShape, IsCutInto, IsGrain, IsShortEnough, IsVisible, grain_cmp, grain_eq, grain_text};
-ghost use Rattle.silo_address.specs.GrainReading.{grain_within, is_cut, is_slash, read_grain};
+ghost use Rattle.silo_address.specs.ReadGrain.{grain_within, is_cut, is_slash, read_grain};
 
 use std::alloc::{AllocError, Global};
 use std::cmp::Ordering;

@@ -4,11 +4,11 @@ ghost use Rattle.std.specs.Prelude.{◌≡◌, ◌<◌, ◌^◌, ◌≤◌, ◌+
 ghost use Rattle.std.specs.Fmt.{decimal};
 ghost use Rattle.silo_address.specs.ActivationText.{activation_text, read_activation};
 ghost use Rattle.silo_address.specs.Grain.{Grain, IsGrain, grain_text};
-ghost use Rattle.silo_address.specs.GrainReading.{read_grain};
+ghost use Rattle.silo_address.specs.ReadGrain.{read_grain};
 ghost use Rattle.silo_address.specs.Marks.{number_sign};
 ghost use Rattle.texts.specs.Numeral.{read_number};
 ghost use Rattle.silo_address.specs.Silo.{IsSilo, Silo};
-ghost use Rattle.silo_address.specs.SiloReading.{read_silo};
+ghost use Rattle.silo_address.specs.ReadSilo.{read_silo};
 ghost use Rattle.silo_address.specs.SiloText.{silo_text};
 ghost use Rattle.silo_address.specs.StatedHash.{stated_hash};
 

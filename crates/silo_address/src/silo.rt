@@ -2,7 +2,7 @@ ghost use Rattle.std.specs.Option.{SomeIff};
 ghost use Rattle.std.specs.Prelude.{◌≡◌, ◌↔◌, Some, Err, IfOk, IsErrOf, IsTrue, string_bytes};
 ghost use Rattle.silo_address.specs.Numbers.{silo_error_number};
 ghost use Rattle.silo_address.specs.Silo.{IsSameEndpoint, IsSilo, Silo};
-ghost use Rattle.silo_address.specs.SiloReading.{read_silo};
+ghost use Rattle.silo_address.specs.ReadSilo.{read_silo};
 ghost use Rattle.silo_address.specs.SiloText.{AreNumerals, HasSiloShape, HasWords, Words, silo_of, silo_text};
 
 use crate::spelled::spelled;

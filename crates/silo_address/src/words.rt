@@ -5,7 +5,7 @@ ghost use Rattle.std.specs.Prelude.{◌≡◌, ◌↔◌, ◌≤◌, IsTrue, len
 ghost use Rattle.std.specs.List.{position_or_len};
 ghost use Rattle.texts.specs.Numeral.{IsNumeral, numeral_value};
 ghost use Rattle.silo_address.specs.SiloText.{AreNumerals, is_mark};
-ghost use Rattle.silo_address.specs.SiloReading.{only_word, silo_words, word_before};
+ghost use Rattle.silo_address.specs.ReadSilo.{only_word, silo_words, word_before};
 ghost use Rattle.silo_address.specs.WordsModel.{cut_view, slice_view, words_view};
 
 use texts::is_numeral;
@@ -21,7 +21,7 @@ pub(crate) struct SiloWords<'a> {
 }
 
 /// The words of a text `w.w.w.w:w@w`, each of one byte or more, none of them `.`, `:` or `@`.
-#[tactic(auto, unfolding(crate::specs::SiloReading::silo_words))]
+#[tactic(auto, unfolding(crate::specs::ReadSilo::silo_words))]
 pub(crate) fn words(text: &[u8]) -> Option<SiloWords<'_>>
     ensures { option_map words_view result ≡ silo_words text.now }
 {

@@ -28,9 +28,9 @@ use Rattle.silo_rules.specs.Known.{is_known}
 use Rattle.silo_rules.specs.Laws.{StaysWhole, IsOf, FollowsTheRule, ChangesAreEvents, joined_by, membership_of}
 use Rattle.silo_rules.specs.Membership.{Change, Join, Leave, Die, Membership, changed, joined, placed, replaced_by, with_places, with_views}
 use Rattle.silo_rules.specs.SiloValue.{SiloValue, own_status, told_of_its_join}
-use Rattle.silo_rules.specs.Stepping.{barred, barred_by, unless_barred, does, is_seeable, receives, seen, sees, sight_of}
-use Rattle.silo_rules.specs.Taking.{IsNoSight}
-use Rattle.silo_rules.specs.Telling.{Heard, heard_by, told}
+use Rattle.silo_rules.specs.Steps.{barred, barred_by, unless_barred, does, is_seeable, receives, seen, sees, sight_of}
+use Rattle.silo_rules.specs.NodeInputs.{IsNoSight}
+use Rattle.silo_rules.specs.Told.{Heard, heard_by, told}
 use Rattle.silo_rules.specs.Whole.{IsWhole}
 use Rattle.silo_rules.proofs.Whole.{change_whole, first_whole, input_whole, sight_whole}
 

@@ -5,7 +5,7 @@ use Rattle.directory_rules.specs.Node.{Node}
 use Rattle.directory_rules.specs.Step.{Stepped}
 use Rattle.directory_rules.specs.Input.{Input, step}
 use Rattle.directory_facts.proofs.Ways.{Ways}
-use Rattle.directory_facts.proofs.Stepping.{by_way}
+use Rattle.directory_facts.proofs.EachStep.{by_way}
 
 -- the node after a step has the settings and the silo of the one before
 pub record StaysOwn (node after : Node) : Type 0 where

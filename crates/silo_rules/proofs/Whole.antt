@@ -6,7 +6,7 @@ use Rattle.silo_address.specs.Silo.{Silo}
 use Rattle.membership_view.specs.Views.{ViewsValue, view_at, joining_version}
 use Rattle.membership_view.specs.Changes as change
 use Rattle.membership_view.specs.Laws.{Accepts}
-use Rattle.membership_view.proofs.Staying.{versions_rise, views_stay}
+use Rattle.membership_view.proofs.Unchanged.{versions_rise, views_stay}
 use Rattle.hash_ring.specs.Places.{PlacesValue, after_add}
 use Rattle.hash_ring.specs.Ring.{ring_of}
 use Rattle.hash_ring.proofs.Lawful.{ring_stays}
@@ -16,12 +16,12 @@ use Rattle.directory_rules.specs.Step.{Stepped}
 use Rattle.directory_rules.specs.Input.{Input, Sees, Wakes, Closes, Finds, Forgets, Nudges, Offers, Receives, step}
 use Rattle.directory_facts.specs.Seen.{SeesItsVersion}
 use Rattle.directory_facts.proofs.Carried.{Brings}
-use Rattle.directory_facts.proofs.Placing.{added_view}
-use Rattle.directory_facts.proofs.Seeing.{AreViews, seen_facts, seen_keep}
+use Rattle.directory_facts.proofs.Places.{added_view}
+use Rattle.directory_facts.proofs.SeenRings.{AreViews, seen_facts, seen_keep}
 use Rattle.silo_rules.specs.Membership.{Change, Join, Leave, Die, Membership, changed, joined, placed, with_places, with_views, first_membership}
 use Rattle.silo_rules.specs.SiloValue.{SiloValue, first_silo}
-use Rattle.silo_rules.specs.Stepping.{sight_of}
-use Rattle.silo_rules.specs.Taking.{IsNoSight}
+use Rattle.silo_rules.specs.Steps.{sight_of}
+use Rattle.silo_rules.specs.NodeInputs.{IsNoSight}
 use Rattle.silo_rules.specs.Whole.{AreWhole, IsWhole}
 use Rattle.silo_rules.proofs.Own.{stays_own}
 

@@ -10,9 +10,9 @@ use Rattle.directory_rules.specs.Step.{Stepped}
 use Rattle.directory_rules.specs.World.{World, Accepted}
 use Rattle.silo_rules.specs.Membership.{Change, Join, Leave, Die, Membership, changed}
 use Rattle.silo_rules.specs.SiloValue.{SiloValue, first_silo, own_status, told_of_its_join}
-use Rattle.silo_rules.specs.Stepping.{does, sees, receives}
-use Rattle.silo_rules.specs.Taking.{IsNoSight}
-use Rattle.silo_rules.specs.Telling.{Heard, told}
+use Rattle.silo_rules.specs.Steps.{does, sees, receives}
+use Rattle.silo_rules.specs.NodeInputs.{IsNoSight}
+use Rattle.silo_rules.specs.Told.{Heard, told}
 use Rattle.silo_rules.specs.Whole.{IsWhole}
 
 -- a silo begins so, and whatever it is told, asked or sent leaves it so

@@ -1,8 +1,8 @@
 pub mod Membership
 pub mod Known
-pub mod Telling
+pub mod Told
 pub mod SiloValue
 pub mod Whole
-pub mod Stepping
-pub mod Taking
+pub mod Steps
+pub mod NodeInputs
 pub mod Laws

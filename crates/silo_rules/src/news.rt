@@ -1,5 +1,5 @@
 ghost use Rattle.std.specs.Prelude.{◌≡◌};
-ghost use Rattle.silo_rules.specs.Telling.{news_of};
+ghost use Rattle.silo_rules.specs.Told.{news_of};
 
 use silo_address::SiloAddress;
 

@@ -7,7 +7,7 @@ use Rattle.worker_crossing.proofs.Names.{silo_crosses}
 use Rattle.worker_crossing.proofs.Sites.{causes_cross, shared_site_sends}
 use Rattle.std.specs.declared.sync.ledger.Ledger as ledger
 use Rattle.value_marks.specs.declared.mark.Names as names
-use Rattle.silo_threads.specs.contracts.starting.Desk as desk
+use Rattle.silo_threads.specs.contracts.start.Desk as desk
 
 module _ (T G : RattleType) (l : ledger.Ghosts T.Denot) (g : names.Ghosts T.Denot) where
   pub desk_sends : IsSend T → IsSend G → IsSync G → IsSend (desk.the_row T G l g)

@@ -1,4 +1,4 @@
 pub mod Desks
-pub mod Receiving
+pub mod PostedEvents
 pub mod Rings
 pub mod Tallies

@@ -1,4 +1,4 @@
 pub mod Cluster
-pub mod Receiving
-pub mod Following
+pub mod Replies
+pub mod Followed
 pub mod Tallied

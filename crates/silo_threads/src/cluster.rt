@@ -2,8 +2,8 @@ ghost use Rattle.std.specs.Prelude.{◌≡◌, ◌+◌, ◌⊎◌, ◌↔◌, �
 ghost use Rattle.directory_rules.specs.Happens.{least_deliverable};
 ghost use Rattle.silo_threads.specs.Cluster.{first_cluster};
 
-use crate::publishing::newest;
-use crate::starting::Worker;
+use crate::publication::newest;
+use crate::start::Worker;
 use cluster_board::Board;
 use crossbeam_channel::{Receiver, Sender, bounded};
 use directory_rules::Settings;

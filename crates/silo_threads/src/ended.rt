@@ -1,8 +1,8 @@
 ghost use Rattle.std.specs.Prelude.{◌≡◌, IfErr, IfOk, OnOk, length};
 ghost use Rattle.directory_rules.specs.Headline.{Headline};
-ghost use Rattle.cluster_journal.specs.Agreeing.{Agree};
+ghost use Rattle.cluster_journal.specs.Agreement.{Agree};
 ghost use Rattle.cluster_journal.specs.Journal.{IsJournaled};
-ghost use Rattle.compared_receipts.specs.Closing.{Declines};
+ghost use Rattle.compared_receipts.specs.Comparison.{Declines};
 
 use cluster_board::Board;
 use cluster_journal::Receipt;

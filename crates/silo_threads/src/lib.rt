@@ -2,15 +2,15 @@
 #![tactic(auto)]
 
 mod cluster;
+mod end;
 mod ended;
-mod ending;
 mod fault;
-mod publishing;
-mod running;
-mod starting;
-mod syncing;
+mod publication;
+mod run;
+mod start;
+mod sync;
 
 pub use cluster::{Cluster, MOST_WORKERS, PARTS};
 pub use ended::Ended;
 pub use fault::{EndFault, Lack};
-pub use running::Ran;
+pub use run::Ran;

@@ -1,11 +1,11 @@
 -- What the threads of a cluster are told of its board. Others post and commit beside each of them, and which world the board has is known
 -- under its lock alone: it is always one that events have made.
-use Rattle.std.specs.Prelude.{◌≡◌, ◌+◌, ℕ, List, Ok, length}
+use Rattle.std.specs.Prelude.{◌≡◌, ◌+◌, List, Ok, length}
 use Rattle.directory_rules.specs.Event.{Event}
 use Rattle.directory_rules.specs.Happens.{happens}
 use Rattle.directory_rules.specs.Settings.{Settings}
 use Rattle.directory_rules.specs.World.{World}
-use Rattle.directory_core.specs.Applying.{accepted_as}
+use Rattle.directory_core.specs.Applied.{accepted_as}
 use Rattle.cluster_journal.specs.Entry.{EntryValue}
 use Rattle.cluster_journal.specs.Journal.{IsJournaled}
 use Rattle.cluster_journal.specs.declared.entry.Receipt.{Receipt}

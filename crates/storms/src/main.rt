@@ -3,7 +3,7 @@
 #![tactic(auto)]
 
 use anyhow::{Result, bail};
-use console_play::play_to_new_cluster;
+use console_command::play_to_new_cluster;
 use hash_ring::Hashing;
 use script_loop::Ended;
 use std::fs::File;

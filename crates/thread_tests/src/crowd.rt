@@ -1,16 +1,17 @@
 //! Four silos whose workers deliver while a driver goes on posting and readers route.
-ghost use Rattle.std.specs.Prelude.{◌≡◌, ◌<◌};
+ghost use Rattle.std.specs.Prelude.{◌≡◌, ◌<◌, ◌≤◌};
 ghost use Rattle.silo_threads.specs.declared.cluster.TheConstants.{PARTS};
 
 use crate::driver::{Driver, grain, join, silo};
+use crate::readers::Watchers;
 use crate::replay::tells;
-use crate::watching::Watchers;
-use cluster_events::Event;
+use directory_rules::Event;
 use shared_node::SharedNode;
 use silo_address::{GrainId, SiloAddress};
 use silo_threads::PARTS;
 use silo_workers::OpenGate;
 use std::alloc::Global;
+use std::env;
 use std::marker::Brand;
 use std::process::Abort;
 use std::sync::Wait;
@@ -18,7 +19,45 @@ use std::sync::ledger::{Blank, Ledger};
 use std::thread::Threads;
 use value_marks::{Blocks, Names};
 
-const READERS: usize = 4;
+/// How much is posted.
+#[derive(Clone, Copy)]
+enum Size {
+    Small,
+    Medium,
+    Large,
+}
+
+impl Size {
+    // How many events are posted.
+    fn events(self) -> u32 {
+        match self {
+            Size::Small => 100,
+            Size::Medium => 1_000,
+            Size::Large => 100_000,
+        }
+    }
+
+    // One of how many kills a silo, and another one starts one. No more than 256 may ever join.
+    fn odds(self) -> u64
+        ensures { 0 < result }
+    {
+        match self {
+            Size::Small | Size::Medium => 64,
+            Size::Large => 1_024,
+        }
+    }
+
+    // How many readers route.
+    fn readers(self) -> usize
+        ensures some { 0 < result }
+        ensures most { result ≤ 64 }
+    {
+        match self {
+            Size::Small | Size::Medium => 4,
+            Size::Large => 64,
+        }
+    }
+}
 
 // Numbers that come one after the other, as if by chance.
 #[derive(Drop)]
@@ -46,6 +85,7 @@ struct Crowd<L: Ledger + Names> {
     driver: Driver<L, OpenGate>,
     starts: [u32; 4],
     dice: Dice,
+    size: Size,
 }
 
 impl<L: Ledger + Names + Send + 'static> Crowd<L> {
@@ -64,7 +104,7 @@ impl<L: Ledger + Names + Send + 'static> Crowd<L> {
         rt: &R,
         watchers: &mut Watchers,
     ) {
-        for _reader in 0..READERS {
+        for _reader in 0..self.size.readers() {
             let reader = self.driver.cluster.reader().expect(rt, "a reader");
             watchers.start(rt, reader);
         }
@@ -82,6 +122,7 @@ impl<L: Ledger + Names + Send + 'static> Crowd<L> {
             driver,
             starts: _,
             dice: _,
+            size: _,
         } = self;
         driver.cluster.settle(rt);
         let met = watchers.end(rt);
@@ -110,7 +151,7 @@ impl<L: Ledger + Names + Send + 'static> Crowd<L> {
     fn post<R: Threads + Wait + Abort + Copy + Drop + Send + 'static>(&mut self, rt: &R) {
         let place = self.dice.throw(4) as usize;
         let silo = self.silo(rt, place);
-        let event = match self.dice.throw(64) {
+        let event = match self.dice.throw(self.size.odds()) {
             0 => Event::Kill { silo },
             1 => return self.start(rt, place),
             choice => self.event_of_grain(rt, silo, choice),
@@ -143,7 +184,7 @@ impl<L: Ledger + Names + Send + 'static> Crowd<L> {
 fn four_silos<
     L: Ledger + Names + Send + 'static,
     R: Threads + Wait + Abort + Copy + Drop + Send + 'static,
->(rt: &R, alloc: Global, tokens: (Blank, Blocks<SharedNode>), events: u32) -> bool
+>(rt: &R, alloc: Global, tokens: (Blank, Blocks<SharedNode>), size: Size) -> bool
     requires name { tokens.0.name ≡ L.name }
     requires parts { tokens.0.parts ≡ L.parts }
     requires enough { tokens.0.parts ≡ PARTS }
@@ -152,12 +193,13 @@ fn four_silos<
     let mut watchers = Watchers::new(rt, alloc);
     let mut crowd: Crowd<L> = Crowd {
         alloc,
-        driver: Driver::new(rt, alloc, tokens, OpenGate, READERS),
+        driver: Driver::new(rt, alloc, tokens, OpenGate, size.readers()),
         starts: [0; 4],
         dice: Dice { state: 1 },
+        size,
     };
     crowd.begin(rt, &mut watchers);
-    for _event in 0..events {
+    for _event in 0..size.events() {
         crowd.post(rt);
     }
     crowd.end(rt, watchers)
@@ -166,18 +208,23 @@ fn four_silos<
 fn holds<R: Threads + Wait + Abort + Copy + Drop + Send + 'static>(
     rt: &R,
     alloc: Global,
-    events: u32,
+    size: Size,
 ) -> bool {
-    let blocks = Blocks::new(alloc, 64).expect(rt, "memory");
-    four_silos::<Brand, R>(rt, alloc, (Blank::new(PARTS), blocks), events)
+    let blocks = Blocks::new(alloc, 1_024).expect(rt, "memory");
+    four_silos::<Brand, R>(rt, alloc, (Blank::new(PARTS), blocks), size)
 }
 
 #[test]
 fn four_workers_receipts_stand(rt: HostRuntime) {
-    assert!(&rt; holds(&rt, rt.alloc(), 100));
+    assert!(&rt; holds(&rt, rt.alloc(), Size::Small));
 }
 
+// Outside the gate `tools/crowd` asks for 100,000 events and 64 readers, by a word of the environment.
 #[test]
 fn a_thousand_events_beside_workers_and_readers(rt: HostRuntime) {
-    assert!(&rt; holds(&rt, rt.alloc(), 1_000));
+    let size = match env::var(&rt, "CROWD") {
+        Ok(_) => Size::Large,
+        Err(_) => Size::Medium,
+    };
+    assert!(&rt; holds(&rt, rt.alloc(), size));
 }

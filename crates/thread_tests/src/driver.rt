@@ -3,9 +3,8 @@ ghost use Rattle.std.specs.Prelude.{◌≡◌, ◌+◌, ◌<◌, ◌≤◌};
 ghost use Rattle.silo_threads.specs.declared.cluster.TheConstants.{PARTS};
 
 use cluster_board::Board;
-use cluster_events::Event;
 use cluster_journal::Receipt;
-use directory_rules::Settings;
+use directory_rules::{Event, Settings};
 use hash_ring::Hashing;
 use shared_node::SharedNode;
 use silo_address::{GrainId, SiloAddress};

@@ -9,8 +9,8 @@ mod driver;
 #[cfg(test)]
 mod gate;
 #[cfg(test)]
+mod readers;
+#[cfg(test)]
 mod replay;
 #[cfg(test)]
 mod scripts;
-#[cfg(test)]
-mod watching;

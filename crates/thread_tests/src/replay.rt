@@ -4,7 +4,6 @@ use directory_core::World;
 use letter_mail::MailedLetter;
 use rebuild_checker::{check, write_dump};
 use std::alloc::{AllocError, Global};
-use world_dump::{dump, is_right};
 
 /// Whether the journal's events tell its outcomes again, and leave the same world, whose dump is right.
 pub(crate) fn tells(alloc: Global, journal: &[Entry], left: &World) -> Result<bool, AllocError> {
@@ -59,7 +58,6 @@ fn is_same_letter(one: Option<MailedLetter>, other: Option<MailedLetter>) -> boo
 
 // Whether the two have one dump, members and all, and it is right.
 fn have_right_dump(alloc: Global, one: &World, other: &World) -> Result<bool, AllocError> {
-    is_right(one);
-    let (its, others) = (dump(alloc, one)?, dump(alloc, other)?);
+    let (its, others) = (one.dump(alloc)?, other.dump(alloc)?);
     Ok(check(alloc, &its).is_ok() && write_dump(alloc, &its)? == write_dump(alloc, &others)?)
 }

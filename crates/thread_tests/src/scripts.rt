@@ -2,7 +2,7 @@
 
 ghost use Rattle.std.specs.Prelude.{Some};
 
-use console_command::{Carried, carry_out, end_threads};
+use console_command::{Run, end_threads, run_words};
 use console_threads::{MARK_BLOCKS, play_on_threads};
 use silo_threads::PARTS;
 use std::alloc::Global;
@@ -154,9 +154,9 @@ fn comes<R: Threads + Wait + Copy + Drop + Send + 'static>(
     let Ok(blocks) = Slots::new(alloc, MARK_BLOCKS) else {
         return false;
     };
-    let exit = match carry_out(alloc, &WORDS, &mut source, &mut output, &mut errors) {
-        Carried::Ended(exit) => exit,
-        Carried::OnThreads(settings) => {
+    let exit = match run_words(alloc, &WORDS, &mut source, &mut output, &mut errors) {
+        Run::Ended(exit) => exit,
+        Run::OnThreads(settings) => {
             let ended = play_on_threads::<Brand, R, _, _, _>(
                 rt,
                 alloc,

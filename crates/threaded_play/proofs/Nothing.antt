@@ -1,6 +1,5 @@
 -- Where nothing is written and nothing is told.
-use Rattle.std.proofs.Common.{◌≡◌, ℕ, true, List, [], Option, None, Some, refl}
-use Rattle.std.specs.Prelude.{IfSome}
+use Rattle.std.proofs.Common.{ℕ, true, List, [], Option, None, Some, refl}
 use Rattle.std.specs.Io.KnownBytes.{Keeps}
 use Rattle.std.proofs.KnownBytes.{Appends-nil}
 use Rattle.script_loop.specs.Calls.{wrote_all}
@@ -12,11 +11,6 @@ use Rattle.threaded_play.specs.declared.ended.ThreadsEnded.TheVariants.{Played, 
 pub kept : (known : Option (List ℕ)) → Keeps known known
 kept None = tt
 kept (Some bytes) = refl
-
--- whatever the script is, they are
-pub kept_by_any : (script known : Option (List ℕ)) → IfSome script (λ _. Keeps known known)
-kept_by_any None known = tt
-kept_by_any (Some script) known = kept known
 
 -- workers tell nothing
 pub nothing_told : {E : Type 0} (writes : E → List ℕ → Option ℕ → E → Type 0) (contents : E → Option (List ℕ)) (result : ThreadsEnded) (same : E) → TellsCauses writes contents result same same

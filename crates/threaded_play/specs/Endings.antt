@@ -5,11 +5,11 @@ use Rattle.directory_rules.specs.Settings.{Settings}
 use Rattle.script_rules.specs.Script.{lines_of}
 use Rattle.script_loop.specs.Calls.{ReadsInTurn, WritesText}
 use Rattle.script_loop.specs.Endings as play
-use Rattle.script_loop.specs.Sending.{Sends, WritesFront}
+use Rattle.script_loop.specs.Sent.{Sends, WritesFront}
 use Rattle.script_loop.specs.declared.ended.Ended.{Ended}
 use Rattle.script_loop.specs.declared.ended.Ended.TheVariants as ended
 use Rattle.threaded_play.specs.Faults.{faults_alone}
-use Rattle.threaded_play.specs.Printing.{IsPrinted, TellsWorld}
+use Rattle.threaded_play.specs.Printed.{IsPrinted, TellsWorld}
 use Rattle.threaded_play.specs.declared.ended.ThreadsEnded.{ThreadsEnded}
 use Rattle.threaded_play.specs.declared.ended.ThreadsEnded.TheVariants.{Played, ReceiptDiffers, Lacking}
 

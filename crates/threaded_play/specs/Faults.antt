@@ -3,7 +3,6 @@ use Rattle.std.specs.Prelude.{◌≡◌, ℕ, ◌+◌, ◌<◌, List, [], ◌∷
 use Rattle.std.proofs.lemmas.Bool.{lt-ltb}
 use Rattle.script_rules.specs.Script.{Command, longest_line, read_line}
 use Rattle.texts.specs.Printed.{Output}
-use Rattle.script_commands.specs.Known.{known_commands}
 use Rattle.script_loop.specs.Lines.{faulty_output, no_output}
 
 -- what one line prints, by its number from 1, and what comes next
@@ -11,10 +10,10 @@ abbrev pub line_told : Result (Option Command) ℕ → ℕ → Output → Output
 line_told (Ok command) number next = next
 line_told (Err fault) number next = faulty_output number fault
 
--- lines of known commands, the first of which has this number
+-- lines, the first of which has this number
 unfoldable pub faults_alone : (number : ℕ) → (lines : List (List ℕ)) → Output
 faults_alone number [] = no_output
-faults_alone number (line ∷ lines) = line_told (read_line known_commands line) number (faults_alone (number + 1) lines)
+faults_alone number (line ∷ lines) = line_told (read_line line) number (faults_alone (number + 1) lines)
 
 -- no line prints nothing
 pub nothing_is_wrong : (number : ℕ) → faults_alone number [] ≡ no_output

@@ -1,3 +1,3 @@
 pub mod Faults
-pub mod Printing
+pub mod Printed
 pub mod Endings

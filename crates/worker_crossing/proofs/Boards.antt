@@ -8,7 +8,7 @@ use denote.Param.Send.{IsSend, AllSend, struct_send, enum_send, recorded_send, v
 use Rattle.core.proofs.ledger.Sent.{book_send}
 use Rattle.std.proofs.Crossing as crossing
 use Rattle.std.proofs.MapsCrossing as maps
-use Rattle.value_marks.proofs.Crossing as marking
+use Rattle.value_marks.proofs.Send as marking
 use Rattle.worker_crossing.proofs.Parts.{number64, truth}
 use Rattle.worker_crossing.proofs.Holders.{heap_field_crosses}
 use Rattle.worker_crossing.proofs.Names.{silo_crosses}

@@ -5,10 +5,10 @@ use Rattle.worker_crossing.proofs.Holders.{optional, boxed, listed}
 use Rattle.worker_crossing.proofs.Names.{silo_crosses, grain_crosses}
 use Rattle.worker_crossing.proofs.Letters.{why_crosses, effect_crosses, kind_crosses}
 use Rattle.silo_address.specs.contracts.silo.SiloAddress as silo
-use Rattle.cluster_events.specs.contracts.event.Event as event
-use Rattle.cluster_events.specs.contracts.outcome.Happening as happening
-use Rattle.cluster_events.specs.contracts.outcome.Span as span
-use Rattle.cluster_events.specs.contracts.outcome.Outcome as outcome
+use Rattle.directory_rules.specs.contracts.event.Event as event
+use Rattle.directory_rules.specs.contracts.outcome.Happening as happening
+use Rattle.directory_rules.specs.contracts.outcome.Span as span
+use Rattle.directory_rules.specs.contracts.outcome.Outcome as outcome
 use Rattle.cluster_journal.specs.contracts.short.ShortEffect as short_effect
 use Rattle.cluster_journal.specs.contracts.short.Delivery as delivery
 use Rattle.cluster_journal.specs.contracts.entry.Whole as whole

@@ -10,7 +10,7 @@ use Rattle.silo_address.specs.contracts.activation.ActivationId as activation
 use Rattle.silo_address.specs.contracts.entry.Entry as entry
 use Rattle.ring_range.specs.contracts.range.RingRange as range
 use Rattle.ring_range.specs.contracts.range.RingRange.TheInside as range_inside
-use Rattle.range_moves.specs.contracts.arc.Arc as arc
+use Rattle.range_moves.specs.contracts.arc.RingArc as arc
 
 pub silo_crosses : Crosses silo.the_row
 silo_crosses = inverted silo_inside.the_type _ _ silo.the_inverse silo.the_view silo.the_invariant (array u8 4 byte, (number16, (number32, tt)))

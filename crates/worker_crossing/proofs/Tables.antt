@@ -10,7 +10,7 @@ use Rattle.std.specs.contracts.boxed.BoxedSlice as key
 use Rattle.sha2.specs.contracts.Sha256 as hasher
 use Rattle.sha2.specs.contracts.block256.Core256 as digest
 use Rattle.silo_address.specs.contracts.entry.Entry as entry
-use Rattle.range_moves.specs.contracts.arc.Arc as arc
+use Rattle.range_moves.specs.contracts.arc.RingArc as arc
 use Rattle.directory_rules.specs.contracts.piece_state.PieceState as state
 use Rattle.grain_table.specs.contracts.hashed_map.HashedMap as hashed_map
 use Rattle.grain_table.specs.contracts.hashed_map.HashedMap.TheInside as hashed_map_inside
@@ -30,16 +30,16 @@ use Rattle.seal_snapshot.specs.contracts.page.Page.TheInside as page_inside
 use Rattle.seal_snapshot.specs.contracts.shelf.Shelf as shelf
 use Rattle.seal_snapshot.specs.contracts.shelf.Shelf.TheInside as shelf_inside
 use Rattle.seal_snapshot.specs.contracts.whole.Whole as whole
-use Rattle.seal_snapshot.specs.contracts.gathering.Gathering as gathering
-use Rattle.seal_snapshot.specs.contracts.gathering.Gathering.TheInside as gathering_inside
+use Rattle.seal_snapshot.specs.contracts.gatherings.Gathering as gathering
+use Rattle.seal_snapshot.specs.contracts.gatherings.Gathering.TheInside as gathering_inside
 use Rattle.grain_partition.specs.contracts.own_arcs.OwnArcs as own_arcs
 use Rattle.grain_partition.specs.contracts.own_arcs.OwnArcs.TheInside as own_arcs_inside
 use Rattle.grain_partition.specs.contracts.by_silo.ArcsBySilo as by_silo
 use Rattle.grain_partition.specs.contracts.by_silo.ArcsBySilo.TheInside as by_silo_inside
 use Rattle.grain_partition.specs.contracts.piece.Piece as piece
 use Rattle.grain_partition.specs.contracts.piece.Piece.TheInside as piece_inside
-use Rattle.grain_partition.specs.contracts.holding.Holding as holding
-use Rattle.grain_partition.specs.contracts.holding.Holding.TheInside as holding_inside
+use Rattle.grain_partition.specs.contracts.holdings.Holding as holding
+use Rattle.grain_partition.specs.contracts.holdings.Holding.TheInside as holding_inside
 
 -- ---- tables
 key_crosses : Crosses (key.the_row u8 Heap.the_row ghosts)

@@ -3,9 +3,8 @@
 use crate::board::rounds::{FILLED, Keeper, Played};
 use crate::cluster::sum_of_world;
 use crate::fault::Fault;
-use cluster_events::Event;
 use directory_core::World;
-use directory_rules::Settings;
+use directory_rules::{Event, Settings};
 
 #[derive(Drop)]
 struct Plain {

@@ -3,7 +3,7 @@
 use crate::fault::Fault;
 use crate::naming::{Order, STRIDE, places, silo};
 use crate::stopwatch::{Stopwatch, now};
-use cluster_events::Event;
+use directory_rules::Event;
 use silo_address::{GrainId, SiloAddress};
 use std::alloc::Global;
 

@@ -7,7 +7,7 @@ use crate::fault::Fault;
 use crate::parts::COUNT;
 use grain_partition::ArcsBySilo;
 use membership_view::View;
-use range_moves::{Arc, arcs};
+use range_moves::{RingArc, arcs};
 use silo_address::SiloAddress;
 
 /// From one point of the first silo to its next one, where it has thirty.
@@ -62,7 +62,7 @@ fn sight_of(cluster: &Cluster) -> Result<Sight, Fault>
 }
 
 // The arcs from the ring of version 1 to that of version 2.
-fn arcs_of_sight(cluster: &Cluster) -> Result<Vec<Arc>, Fault>
+fn arcs_of_sight(cluster: &Cluster) -> Result<Vec<RingArc>, Fault>
     ensures { IfOk result (λ arcs. AreOfRings arcs.items) }
 {
     let old = cluster.ring(1)?;

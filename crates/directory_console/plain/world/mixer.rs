@@ -1,9 +1,9 @@
-//! Maps whose keys are the world's own numbers.
+//! Maps with a hasher that is quick, and doesn't resist those who choose keys to meet.
 
 use std::collections::HashMap;
 use std::hash::{BuildHasherDefault, Hasher};
 
-/// Mixes a word by one multiplication.
+/// Mixes a word by one multiplication, and bytes eight at a time.
 #[derive(Default)]
 pub struct Mixer(u64);
 
@@ -11,8 +11,10 @@ pub type Map<K, V> = HashMap<K, V, BuildHasherDefault<Mixer>>;
 
 impl Hasher for Mixer {
     fn write(&mut self, bytes: &[u8]) {
-        for byte in bytes {
-            self.write_u64((*byte).into());
+        for some in bytes.chunks(8) {
+            let mut word = [0; 8];
+            word[..some.len()].copy_from_slice(some);
+            self.write_u64(u64::from_le_bytes(word));
         }
     }
 

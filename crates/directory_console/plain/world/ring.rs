@@ -194,7 +194,7 @@ impl Rings {
     /// The ring of a version: the one in use, or one made of that of the version before, if that is in use, or of the nearest one
     /// that the caller has.
     pub fn at(&mut self, version: Version, views: &Views, near: &Ring, near_version: Version) -> Rc<Ring> {
-        let at = usize::from(version);
+        let at = version as usize;
         if self.by_version.len() <= at {
             self.by_version.resize_with(at + 1, Weak::new);
         }

@@ -1,6 +1,7 @@
 use clap::error::ErrorKind;
-use command_line::{Line, LineError, Options, read_line};
+use console_command::{Line, LineError, Options, read_line};
 use hash_ring::Hashing;
+use silo_address::SiloAddress;
 use std::alloc::Global;
 
 const fn options(hashing: Hashing, points: usize, cache: usize) -> Options {
@@ -11,11 +12,12 @@ const fn options(hashing: Hashing, points: usize, cache: usize) -> Options {
     }
 }
 
-// What a line reads as, or of which kind its refusal is.
+// What a line reads as, or of which kind its refusal is; that of a silo that is none is a value's.
 fn answer(alloc: Global, words: &[&str]) -> Result<Line, ErrorKind> {
     match read_line(alloc, words) {
         Ok(line) => Ok(line),
         Err(LineError::Usage(error)) => Err(error.kind()),
+        Err(LineError::NoSilo(_)) => Err(ErrorKind::InvalidValue),
         Err(LineError::OutOfMemory) => Err(ErrorKind::OutOfMemory),
     }
 }
@@ -95,7 +97,26 @@ fn lines_of_other_commands(rt: HostRuntime) {
     assert!(rt; answer(rt.alloc(), &["g", "check"]) == Ok(Line::Check));
 }
 
-const REFUSED: [(&'static [&'static str], ErrorKind); 43] = [
+// The address of a silo stands before its options or behind them.
+#[test]
+fn lines_of_a_silo(rt: HostRuntime) {
+    let text = "10.0.0.1:1000@1";
+    let silo = SiloAddress::parse(text.as_bytes()).expect(&rt, "a silo");
+    let chosen = options(Hashing::Stated, 30, 6);
+    let before = ["g", "silo", text, "--hashing=stated", "--cache", "6"];
+    let behind = ["g", "silo", "--hashing=stated", "--cache", "6", text];
+    assert!(rt; answer(rt.alloc(), &before) == Ok(Line::Silo(silo, chosen)));
+    assert!(rt; answer(rt.alloc(), &behind) == Ok(Line::Silo(silo, chosen)));
+}
+
+const REFUSED: [(&'static [&'static str], ErrorKind); 47] = [
+    (&["g", "silo"], ErrorKind::MissingRequiredArgument),
+    (&["g", "silo", "10.0.0.1"], ErrorKind::InvalidValue),
+    (&["g", "silo", ""], ErrorKind::InvalidValue),
+    (
+        &["g", "silo", "10.0.0.1:1000@1", "10.0.0.2:1000@1"],
+        ErrorKind::UnknownArgument,
+    ),
     (&[], ErrorKind::MissingSubcommand),
     (&["g"], ErrorKind::MissingSubcommand),
     (&["g", "run"], ErrorKind::InvalidSubcommand),

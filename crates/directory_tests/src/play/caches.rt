@@ -2,7 +2,7 @@
 
 use crate::play::rows::{Row, check_row};
 
-const CACHE_AND_FORGET: Row = Row {
+pub(crate) const CACHE_AND_FORGET: Row = Row {
     script: "join 10.0.0.1:1000@1 0
 see 10.0.0.1:1000@1 1
 settle

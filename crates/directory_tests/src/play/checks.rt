@@ -2,7 +2,7 @@
 
 use crate::fakes::NarrowWriter;
 use crate::play::command_lines::ends_with;
-use console_command::carry_out;
+use console_command::run_words;
 use std::alloc::Global;
 use std::process::Abort;
 
@@ -95,7 +95,7 @@ fn check_judged(rt: &impl Abort, alloc: Global, (dump, line, status): Judged) {
     let mut source = dump.as_bytes();
     let mut output = NarrowWriter::new(alloc, 1000);
     let mut errors = NarrowWriter::new(alloc, 1000);
-    let carried = carry_out(alloc, &words, &mut source, &mut output, &mut errors);
+    let carried = run_words(alloc, &words, &mut source, &mut output, &mut errors);
     assert!(rt; ends_with(carried, status));
     assert!(rt; output.taken.as_slice() == line.as_bytes());
     assert!(rt; errors.taken.is_empty());

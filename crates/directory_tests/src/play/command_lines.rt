@@ -1,7 +1,7 @@
 //! Command lines carried out, from their words to the exit.
 
 use crate::fakes::{BrokenReader, NarrowWriter};
-use console_command::{Carried, Exit, carry_out, carry_out_nothing, end_threads};
+use console_command::{Exit, Run, end_threads, run_without_words, run_words};
 use directory_rules::Settings;
 use hash_ring::Hashing;
 use script_loop::Ended;
@@ -16,10 +16,10 @@ const PLAY: [&str; 2] = ["g", "play"];
 type Course<'a> = (u8, &'a str, &'a str);
 
 // Whether it was carried out, and the program ends with that status.
-pub(crate) fn ends_with(carried: Carried, status: u8) -> bool {
+pub(crate) fn ends_with(carried: Run, status: u8) -> bool {
     match carried {
-        Carried::Ended(exit) => exit.status() == status,
-        Carried::OnThreads(_) => false,
+        Run::Ended(exit) => exit.status() == status,
+        Run::OnThreads(_) => false,
     }
 }
 
@@ -33,7 +33,7 @@ fn check_course(
 ) {
     let mut output = NarrowWriter::new(alloc, printed_room);
     let mut errors = NarrowWriter::new(alloc, told_room);
-    let carried = carry_out(alloc, words, &mut script, &mut output, &mut errors);
+    let carried = run_words(alloc, words, &mut script, &mut output, &mut errors);
     assert!(rt; ends_with(carried, status));
     assert!(rt; output.taken.as_slice() == printed.as_bytes());
     assert!(rt; errors.taken.as_slice() == told.as_bytes());
@@ -74,6 +74,34 @@ For more information, try '--help'.
     ];
     for (words, script, course) in table {
         check_course(&rt, rt.alloc(), (words, script), (1000, 1000), course);
+    }
+}
+
+// A silo's process, up to its death, and up to the end of its input; and an address that is none.
+#[test]
+fn courses_of_a_silo(rt: HostRuntime) {
+    let silo: [&str; 5] = ["g", "silo", "10.0.0.1:1000@1", "--hashing", "stated"];
+    let no_silo: [&str; 3] = ["g", "silo", "10.0.0.1"];
+    let lives = "joined 1 10.0.0.1:1000@1 0
+ping x
+nothing
+dead 2 10.0.0.1:1000@1
+ping y
+";
+    let died = "view 1 joined 10.0.0.1:1000@1
+pong x
+fault 921
+view 2 dead 10.0.0.1:1000@1
+dead
+";
+    let refused = "error: ADDR is no silo: a silo is written a.b.c.d:port@generation\n";
+    let table: [(&[&str], &[u8], Course<'static>); 3] = [
+        (&silo, lives.as_bytes(), (0, died, "")),
+        (&silo, b"ping x\r\nping y", (0, "pong x\nfault 931\n", "")),
+        (&no_silo, b"ping x\n", (4, "", refused)),
+    ];
+    for (words, input, course) in table {
+        check_course(&rt, rt.alloc(), (words, input), (1000, 1000), course);
     }
 }
 
@@ -170,21 +198,21 @@ fn writers_that_fail(rt: HostRuntime) {
 fn an_input_that_fails(rt: HostRuntime) {
     let mut printed = Vec::new(rt.alloc());
     let mut told = Vec::new(rt.alloc());
-    let carried = carry_out(
+    let carried = run_words(
         rt.alloc(),
         &PLAY,
         &mut BrokenReader,
         &mut printed,
         &mut told,
     );
-    assert!(rt; carried == Carried::Ended(Exit::Played(Ended::Broken)));
+    assert!(rt; carried == Run::Ended(Exit::Played(Ended::Broken)));
     assert!(rt; printed.is_empty());
 }
 
 #[test]
 fn without_words(rt: HostRuntime) {
     let mut told = Vec::new(rt.alloc());
-    assert!(rt; carry_out_nothing(ErrorKind::InvalidData, &mut told) == Exit::Refused);
+    assert!(rt; run_without_words(ErrorKind::InvalidData, &mut told) == Exit::Refused);
     let text = b"error: a word of the command line is not UTF-8\n";
     assert!(rt; told.as_slice() == text.as_slice());
 }
@@ -196,9 +224,9 @@ fn on_threads(rt: HostRuntime) {
     let mut told = Vec::new(rt.alloc());
     let words = ["g", "threads", "--points", "3"];
     let mut script = b"show\n".as_slice();
-    let carried = carry_out(rt.alloc(), &words, &mut script, &mut printed, &mut told);
+    let carried = run_words(rt.alloc(), &words, &mut script, &mut printed, &mut told);
     let settings = Settings::of_directory(Hashing::Sha256, 3, 1024).expect(&rt, "3 points");
-    assert!(rt; carried == Carried::OnThreads(settings));
+    assert!(rt; carried == Run::OnThreads(settings));
     assert!(rt; printed.is_empty() && told.is_empty() && script.len() == 5);
     let exit = end_threads(rt.alloc(), ThreadsEnded::ReceiptDiffers, &mut told);
     assert!(rt; exit.status() == 1);

@@ -1,7 +1,7 @@
 //! How plays begin and end: the numbers of points and of hints, and faults.
 
 use crate::play::plays::{check_play, check_prints};
-use console_play::play_to_new_cluster;
+use console_command::play_to_new_cluster;
 use hash_ring::Hashing;
 use std::alloc::Global;
 use std::process::Abort;

@@ -1,6 +1,6 @@
 //! The mail's limit met in a play, where one letter may ever be sent.
 
-use console_play::play;
+use console_command::play;
 use directory_core::World;
 use directory_rules::Settings;
 use hash_ring::Hashing;

@@ -2,7 +2,7 @@
 
 use crate::play::rows::{Row, check_row};
 
-const NO_OWNER: Row = Row {
+pub(crate) const NO_OWNER: Row = Row {
     script: "join 10.0.0.1:1000@1 0
 see 10.0.0.1:1000@1 1
 settle
@@ -42,7 +42,7 @@ delivered 10 report complete
     status: 0,
 };
 
-const NO_OWNER_ONE_ENTRY: Row = Row {
+pub(crate) const NO_OWNER_ONE_ENTRY: Row = Row {
     script: "join 10.0.0.1:1000@1 0
 see 10.0.0.1:1000@1 1
 settle
@@ -88,7 +88,7 @@ range 0+4294967296 10.0.0.2:1000@1 settled entries 1
     status: 0,
 };
 
-const PLACE: Row = Row {
+pub(crate) const PLACE: Row = Row {
     script: "join 10.0.0.1:1000@1 0
 see 10.0.0.1:1000@1 1
 settle

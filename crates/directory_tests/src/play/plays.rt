@@ -1,7 +1,8 @@
 //! Plays of whole scripts from one slice to one buffer.
 
-use console_play::play_to_new_cluster;
+use console_command::play_to_new_cluster;
 use hash_ring::Hashing;
+use script_loop::Ended;
 use std::alloc::Global;
 use std::process::Abort;
 
@@ -18,6 +19,14 @@ pub(crate) fn check_play(
     let ended = play_to_new_cluster(alloc, hashing, points, 1024, &mut reader, &mut written);
     assert!(rt; written.as_slice() == text);
     assert!(rt; ended.expect(rt, "1 to 128 points").status() == status);
+}
+
+// How a script with stated places ends, and what it prints.
+pub(crate) fn played(rt: &impl Abort, alloc: Global, script: &[u8]) -> (Ended, Vec<u8>) {
+    let mut reader = script;
+    let mut written = Vec::new(alloc);
+    let ended = play_to_new_cluster(alloc, Hashing::Stated, 30, 1024, &mut reader, &mut written);
+    (ended.expect(rt, "1 to 128 points"), written)
 }
 
 // Plays a script with stated places, which need no number of points.

@@ -2,7 +2,7 @@
 
 use crate::play::rows::{Row, check_row};
 
-const TWO_SILOS: Row = Row {
+pub(crate) const TWO_SILOS: Row = Row {
     script: "join 10.0.0.1:1000@1 0
 see 10.0.0.1:1000@1 1
 settle

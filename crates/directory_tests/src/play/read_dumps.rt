@@ -4,24 +4,24 @@ use std::alloc::Global;
 use std::process::Abort;
 
 /// One silo, which has all hashes.
-const ONE: &str =
+pub(crate) const ONE: &str =
     "{\"current\":1,\"hashing\":\"stated\",\"nodes\":[{\"held\":[],\"pieces\":[{\"entries\":[],\"from\":\"\",\"range\":\"0+4294967296\",\"state\":\"settled\"}],\"ring\":[[0,\"10.0.0.1:1000@1\",0]],\"seen\":1,\"silo\":\"10.0.0.1:1000@1\"}],\"points\":30,\"rows\":[{\"dead\":0,\"joined\":1,\"left\":0,\"places\":[0],\"silo\":\"10.0.0.1:1000@1\"}]}";
 
 /// Two silos, and a grain that is firm on both.
-const TWO: &str =
+pub(crate) const TWO: &str =
     "{\"current\":2,\"hashing\":\"stated\",\"nodes\":[{\"held\":[{\"activation\":\"10.0.0.1:1000@1!1\",\"grain\":\"user/z#1\",\"phase\":\"firm\"}],\"pieces\":[{\"entries\":[[\"user/z#1\",\"10.0.0.1:1000@1!1\"]],\"from\":\"\",\"range\":\"0+2147483648\",\"state\":\"settled\"}],\"ring\":[[0,\"10.0.0.1:1000@1\",0],[2147483648,\"10.0.0.2:1000@1\",0]],\"seen\":2,\"silo\":\"10.0.0.1:1000@1\"},{\"held\":[{\"activation\":\"10.0.0.2:1000@1!1\",\"grain\":\"user/z#1\",\"phase\":\"firm\"}],\"pieces\":[{\"entries\":[],\"from\":\"\",\"range\":\"2147483648+2147483648\",\"state\":\"settled\"}],\"ring\":[[0,\"10.0.0.1:1000@1\",0],[2147483648,\"10.0.0.2:1000@1\",0]],\"seen\":2,\"silo\":\"10.0.0.2:1000@1\"}],\"points\":30,\"rows\":[{\"dead\":0,\"joined\":1,\"left\":0,\"places\":[0],\"silo\":\"10.0.0.1:1000@1\"},{\"dead\":0,\"joined\":2,\"left\":0,\"places\":[2147483648],\"silo\":\"10.0.0.2:1000@1\"}]}";
 
 /// A grain whose key has a quotation mark.
-const QUOTED: &str =
+pub(crate) const QUOTED: &str =
     "{\"current\":1,\"hashing\":\"stated\",\"nodes\":[{\"held\":[],\"pieces\":[{\"entries\":[[\"user/\\\"z#1\",\"10.0.0.1:1000@1!1\"]],\"from\":\"\",\"range\":\"0+4294967296\",\"state\":\"settled\"}],\"ring\":[[0,\"10.0.0.1:1000@1\",0]],\"seen\":1,\"silo\":\"10.0.0.1:1000@1\"}],\"points\":30,\"rows\":[{\"dead\":0,\"joined\":1,\"left\":0,\"places\":[0],\"silo\":\"10.0.0.1:1000@1\"}]}";
 
 /// Points are hashed.
-const HASHED: &str =
+pub(crate) const HASHED: &str =
     "{\"current\":1,\"hashing\":\"stated\",\"nodes\":[{\"held\":[],\"pieces\":[{\"entries\":[],\"from\":\"\",\"range\":\"0+4294967296\",\"state\":\"settled\"}],\"ring\":[[0,\"10.0.0.1:1000@1\",0]],\"seen\":1,\"silo\":\"10.0.0.1:1000@1\"}],\"points\":30,\"rows\":[{\"dead\":0,\"joined\":1,\"left\":0,\"places\":[0],\"silo\":\"10.0.0.1:1000@1\"}]}";
 
 // The number by which the bytes are refused.
-fn refusal(rt: &impl Abort, alloc: Global, text: &str) -> Option<u16> {
-    match read_dump(alloc, text.as_bytes()) {
+fn refusal(alloc: Global, text: &[u8]) -> Option<u16> {
+    match read_dump(alloc, text) {
         Ok(_) => None,
         Err(error) => error.number(),
     }
@@ -57,7 +57,27 @@ fn refusals(rt: HostRuntime) {
         ("", Some(971)),
     ];
     for (text, number) in table {
-        assert!(rt; refusal(&rt, rt.alloc(), text) == number, "{text}");
+        assert!(rt; refusal(rt.alloc(), text.as_bytes()) == number, "{text}");
+    }
+}
+
+// Whether each beginning of the text, which isn't all of it, is no value.
+fn beginnings_are_refused(alloc: Global, text: &[u8]) -> bool {
+    for length in 0..text.len() {
+        if refusal(alloc, &text[..length]) != Some(971) {
+            return false;
+        }
+    }
+    true
+}
+
+#[test]
+fn beginnings(rt: HostRuntime) {
+    for text in [ONE, TWO, QUOTED, HASHED, CODED] {
+        assert!(rt;
+            beginnings_are_refused(rt.alloc(), text.as_bytes()),
+            "{text}"
+        );
     }
 }
 
@@ -76,11 +96,11 @@ fn written_otherwise(rt: HostRuntime) {
 }
 
 /// That of one silo, the members of each object in the opposite order.
-const OTHER_ORDER: &str =
+pub(crate) const OTHER_ORDER: &str =
     "{\"rows\":[{\"silo\":\"10.0.0.1:1000@1\",\"places\":[0],\"left\":0,\"joined\":1,\"dead\":0}],\"points\":30,\"nodes\":[{\"silo\":\"10.0.0.1:1000@1\",\"seen\":1,\"ring\":[[0,\"10.0.0.1:1000@1\",0]],\"pieces\":[{\"state\":\"settled\",\"range\":\"0+4294967296\",\"from\":\"\",\"entries\":[]}],\"held\":[]}],\"hashing\":\"stated\",\"current\":1}";
 
 /// That of one silo, the members of each object in yet another order, with blanks, and with bytes told by their codes.
-const CODED: &str =
+pub(crate) const CODED: &str =
     "{ \"rows\": [{\"silo\": \"10.0.0.1\\u003a1000@1\", \"joined\": 1, \"l\\u0065ft\": 0, \"dead\": 0, \"places\": [0]}], \"current\": 1, \"hashing\": \"\\u0073tate\\u0064\", \"points\": 30, \"nodes\": [{\"silo\": \"10.0.0.1:1000@1\", \"seen\": 1, \"held\": [], \"ring\": [[0, \"10.0.0.1:1000\\u00401\", 0]], \"pieces\": [{\"range\": \"0\\u002B4294967296\", \"st\\u0061te\": \"settled\", \"from\": \"\", \"entries\": []}]}] }";
 
 /// That of one silo, with a member twice, of which the last one counts.
@@ -96,11 +116,11 @@ const TOO_LARGE: &str =
     "{\"current\":1,\"hashing\":\"stated\",\"nodes\":[{\"held\":[],\"pieces\":[{\"entries\":[],\"from\":\"\",\"range\":\"0+4294967296\",\"state\":\"settled\"}],\"ring\":[[0,\"10.0.0.1:1000@1\",0]],\"seen\":1,\"silo\":\"10.0.0.1:1000@1\"}],\"points\":1e999,\"points\":30,\"rows\":[{\"dead\":0,\"joined\":1,\"left\":0,\"places\":[0],\"silo\":\"10.0.0.1:1000@1\"}]}";
 
 /// It lacks its last brace.
-const CUT: &str =
+pub(crate) const CUT: &str =
     "{\"current\":1,\"hashing\":\"stated\",\"nodes\":[{\"held\":[],\"pieces\":[{\"entries\":[],\"from\":\"\",\"range\":\"0+4294967296\",\"state\":\"settled\"}],\"ring\":[[0,\"10.0.0.1:1000@1\",0]],\"seen\":1,\"silo\":\"10.0.0.1:1000@1\"}],\"points\":30,\"rows\":[{\"dead\":0,\"joined\":1,\"left\":0,\"places\":[0],\"silo\":\"10.0.0.1:1000@1\"}]";
 
 /// A member that no dump has.
-const MORE_MEMBERS: &str =
+pub(crate) const MORE_MEMBERS: &str =
     "{\"current\":1,\"hashing\":\"stated\",\"nodes\":[{\"held\":[],\"pieces\":[{\"entries\":[],\"from\":\"\",\"range\":\"0+4294967296\",\"state\":\"settled\"}],\"ring\":[[0,\"10.0.0.1:1000@1\",0]],\"seen\":1,\"silo\":\"10.0.0.1:1000@1\"}],\"extra\":0,\"points\":30,\"rows\":[{\"dead\":0,\"joined\":1,\"left\":0,\"places\":[0],\"silo\":\"10.0.0.1:1000@1\"}]}";
 
 /// A number with a sign.
@@ -108,5 +128,5 @@ const SIGN: &str =
     "{\"current\":1,\"hashing\":\"stated\",\"nodes\":[{\"held\":[],\"pieces\":[{\"entries\":[],\"from\":\"\",\"range\":\"0+4294967296\",\"state\":\"settled\"}],\"ring\":[[0,\"10.0.0.1:1000@1\",0]],\"seen\":-1,\"silo\":\"10.0.0.1:1000@1\"}],\"points\":30,\"rows\":[{\"dead\":0,\"joined\":1,\"left\":0,\"places\":[0],\"silo\":\"10.0.0.1:1000@1\"}]}";
 
 /// A silo has seen a version that isn't made.
-const UNMADE_VERSION: &str =
+pub(crate) const UNMADE_VERSION: &str =
     "{\"current\":1,\"hashing\":\"stated\",\"nodes\":[{\"held\":[],\"pieces\":[{\"entries\":[],\"from\":\"\",\"range\":\"0+4294967296\",\"state\":\"settled\"}],\"ring\":[[0,\"10.0.0.1:1000@1\",0]],\"seen\":2,\"silo\":\"10.0.0.1:1000@1\"}],\"points\":30,\"rows\":[{\"dead\":0,\"joined\":1,\"left\":0,\"places\":[0],\"silo\":\"10.0.0.1:1000@1\"}]}";

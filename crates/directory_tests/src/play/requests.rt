@@ -61,7 +61,7 @@ delivered 7 retry ignored
     status: 0,
 };
 
-const OLD_NUMBER_NO_ENTRY: Row = Row {
+pub(crate) const OLD_NUMBER_NO_ENTRY: Row = Row {
     script: "join 10.0.0.1:1000@1 0
 see 10.0.0.1:1000@1 1
 settle

@@ -1,25 +1,34 @@
-//! Worked scripts as events of a world, up to the first line that is neither an event nor a settle: what the events tell, one by one
-//! and in one run, is what the script prints. Any one refusal of an allocation leaves the tests true, since what is refused memory
-//! has changed nothing, and is asked again: `rt try --test --fail-alloc N` refuses each test its Nth allocation.
+//! Worked scripts as events of a world: what the events tell, one by one and in one run, is what the script prints of them. An event
+//! that is refused memory leaves the world's dump as it was, and tells the same when it happens again. So any one refusal of an
+//! allocation leaves the tests true: `tools/refuse-tests directory_tests` refuses each in turn, as `rt try --test --fail-alloc N` does
+//! the Nth.
 
+use crate::play::caches::CACHE_AND_FORGET;
+use crate::play::dumps::OFFER_TO_A_LAGGING_SILO;
+use crate::play::memory::{is_played, notice};
 use crate::play::offers::{OFFER, OFFER_AFTER_DEREGISTER, OFFER_HELD};
+use crate::play::owners::{NO_OWNER, NO_OWNER_ONE_ENTRY, PLACE};
 use crate::play::pages::TWO_PAGES;
 use crate::play::ranges::{
-    FIND_MEETS_TRANSFER, NO_REPORT_OF_A_SKIPPED_VERSION, REPLY_OF_AN_OLDER_VIEW, VIEW_OVERTAKES,
+    FIND_MEETS_TRANSFER, NO_REPORT_OF_A_SKIPPED_VERSION, REPLY_OF_AN_OLDER_VIEW, TWO_SILOS,
+    VIEW_OVERTAKES,
 };
 use crate::play::recoveries::{KEPT_SKIP, RECOVERY, SKIP_THEN_LATE_LETTERS};
-use crate::play::requests::{LOST_LETTER, OLD_NUMBER, TWO_WAKES};
+use crate::play::requests::{LOST_LETTER, OLD_NUMBER, OLD_NUMBER_NO_ENTRY, TWO_WAKES};
 use crate::play::rows::{ONE_SILO, Row};
-use cluster_events::{Event, Outcome};
+use crate::play::syncs::{
+    LEAVE, NEWER_GENERATION, ONE_PLACE_SHARED, ONE_PLACE_SHARED_RANGE, TWO_ASKS,
+};
 use directory_core::{EventRefusal, Told, World};
-use directory_rules::Settings;
+use directory_rules::{Event, Outcome, Settings};
 use hash_ring::Hashing;
+use rebuild_checker::write_dump;
 use script_commands::{Command, first_line, read_command};
 use script_output::{write_outcome, write_refusal};
 use std::alloc::{AllocError, Global};
 use std::process::Abort;
 
-/// As many lines as a script has at most here, and as many letters as a settle delivers.
+/// As many lines as a script or what it prints has at most here, and as many events as a settle or a sync makes.
 const MOST: usize = 1000;
 
 // The world before the first event.
@@ -29,39 +38,51 @@ fn empty(rt: &impl Abort, alloc: Global) -> World {
 }
 
 // What the line asks for.
-fn command(rt: &impl Abort, alloc: Global, line: &[u8]) -> Option<Command> {
+fn command(rt: &(impl Abort + Eprint), alloc: Global, line: &[u8]) -> Option<Command> {
     match read_command(alloc, line) {
         Ok(command) => command,
-        Err(_) => read_command(alloc, line).expect(rt, "no fault"),
+        Err(_) => {
+            notice(rt, "a line");
+            read_command(alloc, line).expect(rt, "no fault")
+        }
     }
 }
 
 // What was told is written behind what was told before.
-fn write(rt: &impl Abort, out: &mut Vec<u8>, told: &Result<Outcome, EventRefusal>) {
+fn try_write(
+    rt: &impl Abort,
+    out: &mut Vec<u8>,
+    told: &Result<Outcome, EventRefusal>,
+) -> Result<(), AllocError> {
     match told {
-        Ok(outcome) => {
-            if write_outcome(out, outcome).is_err() {
-                write_outcome(out, outcome).expect(rt, "memory");
-            }
-        }
-        Err(refusal) => {
-            let number = refusal.number().expect(rt, "a numbered refusal");
-            if write_refusal(out, number).is_err() {
-                write_refusal(out, number).expect(rt, "memory");
-            }
-        }
+        Ok(outcome) => write_outcome(out, outcome),
+        Err(refusal) => write_refusal(out, refusal.number().expect(rt, "a numbered refusal")),
     }
 }
 
-// The event happens. Where it is refused memory, nothing has changed, and it happens then.
-fn apply(rt: &impl Abort, world: &mut World, event: &Event) -> Result<Outcome, EventRefusal> {
-    let (accepted, sent) = (world.accepted(), world.sent());
-    let told = world.apply(event);
-    if told != Err(EventRefusal::OutOfMemory) {
-        return told;
+fn write(rt: &(impl Abort + Eprint), out: &mut Vec<u8>, told: &Result<Outcome, EventRefusal>) {
+    if try_write(rt, out, told).is_err() {
+        notice(rt, "a text");
+        try_write(rt, out, told).expect(rt, "memory");
     }
-    assert!(rt; world.accepted() == accepted && world.sent() == sent);
-    world.apply(event)
+}
+
+// The text of the world's dump.
+fn dump_text(rt: &impl Abort, alloc: Global, world: &World) -> Vec<u8> {
+    let dump = world.dump(alloc).expect(rt, "memory");
+    write_dump(alloc, &dump).expect(rt, "memory")
+}
+
+// Whether the world is as these events leave one: its dump, and how many events and letters there were.
+fn is_after(rt: &impl Abort, alloc: Global, world: &World, events: &[Event]) -> bool {
+    let mut other = empty(rt, alloc);
+    let told = other.run(alloc, events).expect(rt, "memory");
+    let is_same = told.len() == events.len()
+        && world.accepted() == other.accepted()
+        && world.sent() == other.sent()
+        && dump_text(rt, alloc, world) == dump_text(rt, alloc, &other);
+    drop(other);
+    is_same
 }
 
 // A script on its way: its world, the events so far, and what they told.
@@ -72,39 +93,81 @@ struct Story {
     out: Vec<u8>,
 }
 
+// The event happens. Where it is refused memory, all is as the events before it left it, and it happens then.
+fn apply(
+    rt: &(impl Abort + Eprint),
+    alloc: Global,
+    story: &mut Story,
+    event: &Event,
+) -> Result<Outcome, EventRefusal> {
+    let told = story.world.apply(event);
+    if told != Err(EventRefusal::OutOfMemory) {
+        return told;
+    }
+    notice(rt, "an event");
+    assert!(rt; is_after(rt, alloc, &story.world, &story.events));
+    story.world.apply(event)
+}
+
 // The event happens, is told and kept.
-fn happen(rt: &impl Abort, story: &mut Story, event: Event) {
-    let told = apply(rt, &mut story.world, &event);
+fn happen(rt: &(impl Abort + Eprint), alloc: Global, story: &mut Story, event: Event) {
+    let told = apply(rt, alloc, story, &event);
     write(rt, &mut story.out, &told);
     if story.events.reserve(1).is_err() {
+        notice(rt, "a list");
         story.events.reserve(1).expect(rt, "memory");
     }
     story.events.push(event).expect(rt, "room");
 }
 
 // Letters come as long as any may.
-fn settle(rt: &impl Abort, story: &mut Story) {
+fn settle(rt: &(impl Abort + Eprint), alloc: Global, story: &mut Story) {
     for _ in 0..MOST {
         let Some(number) = story.world.least_deliverable() else {
             return;
         };
-        happen(rt, story, Event::Deliver { number });
+        happen(rt, alloc, story, Event::Deliver { number });
     }
 }
 
-// The line is played: whether it is an event, a settle, or nothing at all.
-fn play_line(rt: &impl Abort, alloc: Global, story: &mut Story, line: &[u8]) -> bool {
+// What the first silo by address sees next that hasn't seen the current view.
+fn next_sight(world: &World) -> Option<Event> {
+    for (silo, node) in world.nodes() {
+        let seen = node.node().view().version();
+        if seen < world.current() {
+            let joined = world.views().joined_at(silo).unwrap_or(0);
+            let version = u64::max(seen.saturating_add(1), joined);
+            return Some(Event::See {
+                silo: *silo,
+                version,
+            });
+        }
+    }
+    None
+}
+
+// All silos see what they haven't.
+fn sync(rt: &(impl Abort + Eprint), alloc: Global, story: &mut Story) {
+    for _ in 0..MOST {
+        let Some(event) = next_sight(&story.world) else {
+            return;
+        };
+        happen(rt, alloc, story, event);
+    }
+}
+
+// The line is played; what it asks about the cluster is passed over.
+fn play_line(rt: &(impl Abort + Eprint), alloc: Global, story: &mut Story, line: &[u8]) {
     match command(rt, alloc, line) {
-        Some(Command::Happen(event)) => happen(rt, story, event),
-        Some(Command::Settle) => settle(rt, story),
-        Some(_) => return false,
-        None => {}
+        Some(Command::Happen(event)) => happen(rt, alloc, story, event),
+        Some(Command::Settle) => settle(rt, alloc, story),
+        Some(Command::Sync) => sync(rt, alloc, story),
+        _ => {}
     }
-    true
 }
 
-// The script's lines are played up to the first question.
-fn play(rt: &impl Abort, alloc: Global, script: &[u8]) -> Story {
+// The script's lines are played.
+fn play(rt: &(impl Abort + Eprint), alloc: Global, script: &[u8]) -> Story {
     let mut story = Story {
         world: empty(rt, alloc),
         events: Vec::new(alloc),
@@ -115,12 +178,56 @@ fn play(rt: &impl Abort, alloc: Global, script: &[u8]) -> Story {
         let Some((line, behind)) = first_line(rest) else {
             break;
         };
-        if !play_line(rt, alloc, &mut story, line) {
-            break;
-        }
+        play_line(rt, alloc, &mut story, line);
         rest = behind;
     }
     story
+}
+
+// How the lines begin that events print; one begins with the address of a silo.
+const BEGINNINGS: [&[u8]; 13] = [
+    b"10.",
+    b"view ",
+    b"started ",
+    b"closing ",
+    b"offered ",
+    b"cached ",
+    b"finding ",
+    b"forgot ",
+    b"nothing cached ",
+    b"nudged ",
+    b"delivered ",
+    b"lost ",
+    b"refused ",
+];
+
+// Whether an event prints such a line.
+fn is_of_an_event(line: &[u8]) -> bool {
+    for beginning in BEGINNINGS {
+        if line.starts_with(beginning) {
+            return true;
+        }
+    }
+    false
+}
+
+// Whether the events, which told this, told what the script prints of them.
+fn are_told(out: &[u8], told: &[u8]) -> bool {
+    let mut rest = out;
+    let mut left = told;
+    for _ in 0..MOST {
+        let Some((line, behind)) = first_line(rest) else {
+            break;
+        };
+        if is_of_an_event(line) {
+            match first_line(left) {
+                Some((next, after)) if next == line => left = after,
+                _ => return false,
+            }
+        }
+        rest = behind;
+    }
+    left.is_empty()
 }
 
 // What a run of the events tells, in a world of its own.
@@ -132,59 +239,96 @@ fn try_run(rt: &impl Abort, alloc: Global, events: &[Event]) -> Result<Vec<Told>
 }
 
 // The same, which is asked again where it was refused memory.
-fn run(rt: &impl Abort, alloc: Global, events: &[Event]) -> Vec<Told> {
+fn run(rt: &(impl Abort + Eprint), alloc: Global, events: &[Event]) -> Vec<Told> {
     match try_run(rt, alloc, events) {
         Ok(told) => told,
-        Err(_) => try_run(rt, alloc, events).expect(rt, "memory"),
+        Err(_) => {
+            notice(rt, "a run");
+            try_run(rt, alloc, events).expect(rt, "memory")
+        }
     }
 }
 
-// The row's events tell what the row prints, one by one, and in one run.
-fn check_run(rt: &impl Abort, alloc: Global, row: Row) {
+// The row's events tell what the row prints of them, one by one, and in one run; and all of it is played.
+fn check_run(rt: &(impl Abort + Eprint), alloc: Global, row: Row) {
     let story = play(rt, alloc, row.script.as_bytes());
-    assert!(rt; !story.out.is_empty() && row.out.as_bytes().starts_with(&story.out));
+    assert!(rt; !story.out.is_empty() && are_told(row.out.as_bytes(), &story.out));
     let mut out = Vec::new(alloc);
     for told in &run(rt, alloc, &story.events) {
         write(rt, &mut out, told.result());
     }
     assert!(rt; out == story.out);
     drop(story);
+    assert!(rt; is_played(rt, alloc, row));
+}
+
+fn check_runs(rt: &(impl Abort + Eprint), alloc: Global, rows: &[Row]) {
+    for row in rows {
+        check_run(rt, alloc, *row);
+    }
 }
 
 #[test]
 fn ranges(rt: HostRuntime) {
-    for row in [
+    let rows = [
+        TWO_SILOS,
         FIND_MEETS_TRANSFER,
         NO_REPORT_OF_A_SKIPPED_VERSION,
         REPLY_OF_AN_OLDER_VIEW,
         VIEW_OVERTAKES,
-    ] {
-        check_run(&rt, rt.alloc(), row);
-    }
+    ];
+    check_runs(&rt, rt.alloc(), &rows);
 }
 
 #[test]
 fn recoveries(rt: HostRuntime) {
-    for row in [KEPT_SKIP, RECOVERY, SKIP_THEN_LATE_LETTERS] {
-        check_run(&rt, rt.alloc(), row);
-    }
+    let rows = [KEPT_SKIP, RECOVERY, SKIP_THEN_LATE_LETTERS];
+    check_runs(&rt, rt.alloc(), &rows);
 }
 
 #[test]
 fn requests(rt: HostRuntime) {
-    for row in [ONE_SILO, LOST_LETTER, OLD_NUMBER, TWO_WAKES] {
-        check_run(&rt, rt.alloc(), row);
-    }
+    let rows = [
+        ONE_SILO,
+        LOST_LETTER,
+        OLD_NUMBER,
+        OLD_NUMBER_NO_ENTRY,
+        TWO_WAKES,
+        CACHE_AND_FORGET,
+    ];
+    check_runs(&rt, rt.alloc(), &rows);
 }
 
 #[test]
 fn offers(rt: HostRuntime) {
-    for row in [OFFER, OFFER_AFTER_DEREGISTER, OFFER_HELD] {
-        check_run(&rt, rt.alloc(), row);
-    }
+    let rows = [
+        OFFER,
+        OFFER_AFTER_DEREGISTER,
+        OFFER_HELD,
+        OFFER_TO_A_LAGGING_SILO,
+    ];
+    check_runs(&rt, rt.alloc(), &rows);
+}
+
+#[test]
+fn syncs(rt: HostRuntime) {
+    let rows = [
+        TWO_ASKS,
+        ONE_PLACE_SHARED,
+        ONE_PLACE_SHARED_RANGE,
+        LEAVE,
+        NEWER_GENERATION,
+    ];
+    check_runs(&rt, rt.alloc(), &rows);
+}
+
+#[test]
+fn owners(rt: HostRuntime) {
+    let rows = [NO_OWNER, NO_OWNER_ONE_ENTRY, PLACE];
+    check_runs(&rt, rt.alloc(), &rows);
 }
 
 #[test]
 fn two_pages(rt: HostRuntime) {
-    check_run(&rt, rt.alloc(), TWO_PAGES);
+    check_runs(&rt, rt.alloc(), &[TWO_PAGES]);
 }

@@ -2,7 +2,7 @@
 
 use crate::play::rows::{Row, check_row};
 
-const TWO_ASKS: Row = Row {
+pub(crate) const TWO_ASKS: Row = Row {
     script: "join 10.0.0.1:1000@1 0
 see 10.0.0.1:1000@1 1
 settle
@@ -42,7 +42,7 @@ owner 4294967295 10.0.0.3:1000@1 1
     status: 0,
 };
 
-const ONE_PLACE_SHARED: Row = Row {
+pub(crate) const ONE_PLACE_SHARED: Row = Row {
     script: "join 10.0.0.1:1000@1 0 2147483648
 see 10.0.0.1:1000@1 1
 settle
@@ -75,7 +75,7 @@ owner 3000000000 10.0.0.2:1000@1 0
     status: 0,
 };
 
-const ONE_PLACE_SHARED_RANGE: Row = Row {
+pub(crate) const ONE_PLACE_SHARED_RANGE: Row = Row {
     script: "join 10.0.0.1:1000@1 0 2147483648
 see 10.0.0.1:1000@1 1
 settle
@@ -113,7 +113,7 @@ range 2147483648+4294967296 10.0.0.2:1000@1 settled entries 0
     status: 0,
 };
 
-const LEAVE: Row = Row {
+pub(crate) const LEAVE: Row = Row {
     script: "join 10.0.0.1:1000@1 0
 see 10.0.0.1:1000@1 1
 settle
@@ -152,7 +152,7 @@ refused 804
     status: 0,
 };
 
-const NEWER_GENERATION: Row = Row {
+pub(crate) const NEWER_GENERATION: Row = Row {
     script: "join 10.0.0.1:1000@1 0
 see 10.0.0.1:1000@1 1
 settle

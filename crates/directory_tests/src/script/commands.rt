@@ -1,5 +1,5 @@
 //! Lines of a script, read as commands.
-use cluster_events::Event;
+use directory_rules::Event;
 use script_commands::{Command, ReadError, ScriptFault, first_line, read_command, without_return};
 use silo_address::{GrainError, SiloError};
 use std::alloc::Global;

@@ -1,6 +1,5 @@
 //! The lines that a script prints.
-use cluster_events::{Happening, Outcome, Span};
-use directory_rules::{Effect, Held, LetterKind, Phase, Why};
+use directory_rules::{Effect, Happening, Held, LetterKind, Outcome, Phase, Span, Why};
 use hash_ring::Point;
 use membership_view::Status;
 use ring_range::RingRange;

@@ -3,12 +3,12 @@ ghost use Rattle.std.specs.Prelude.{◌≡◌, filter, not};
 ghost use Rattle.directory_rules.specs.Membership.{is_dead_in};
 ghost use Rattle.hash_ring.specs.Hash.{hash_grain};
 ghost use Rattle.ring_range.specs.Range.{holds};
-ghost use Rattle.silo_address.specs.GrainReading.{read_grain};
+ghost use Rattle.silo_address.specs.ReadGrain.{read_grain};
 ghost use Rattle.grain_table.specs.KeyBytes.{is_read_as};
 
 use super::HashedMap;
 use super::key_bytes::{hash_in, text_in};
-use crate::living::is_dead_in;
+use crate::alive::is_dead_in;
 use hash_ring::Hashing;
 use membership_view::View;
 use ring_range::RingRange;

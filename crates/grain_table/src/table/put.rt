@@ -10,9 +10,9 @@ ghost use Rattle.grain_table.specs.Hashed.{AreHashed, IsKeyOf, entry_under};
 ghost use Rattle.grain_table.specs.Stretch.{is_between};
 
 use super::Table;
+use crate::alive::is_dead_in;
 use crate::hashed_grain::{HashedGrain, key_of};
 use crate::hashed_map::{CIRCLE, HashedMap};
-use crate::living::is_dead_in;
 use hash_ring::Hashing;
 use membership_view::View;
 use ring_range::RingRange;

@@ -7,9 +7,9 @@ ghost use Rattle.std.specs.Ordering.{nat_cmp};
 
 use super::Host;
 use super::replies::find_under;
+use crate::Activations;
 use crate::asked::{Asked, number_in};
 use directory_rules::Phase;
-use held_activations::Activations;
 use silo_address::GrainId;
 use std::collections::BTreeMap;
 

@@ -11,9 +11,9 @@ ghost use Rattle.host_activations.specs.declared.host.Host.TheInside.{Inside};
 
 use super::Host;
 use super::telling::acts_in;
+use crate::Activations;
 use crate::asked::Asked;
 use directory_rules::{Act, Phase};
-use held_activations::Activations;
 use silo_address::GrainId;
 use std::alloc::{AllocError, Global};
 use std::collections::BTreeMap;

@@ -1,4 +1,7 @@
 ghost use Rattle.std.specs.Prelude.{◌≡◌, ◌↔◌, if◌then◌else◌, Bool, IfSome, IsTrue, None, Some, find, option_and_then};
+ghost use Rattle.std.specs.BTreeMap.{is_at};
+ghost use Rattle.std.specs.Map.{lookup};
+ghost use Rattle.std.specs.Ordering.{nat_cmp};
 ghost use Rattle.directory_rules.specs.declared.Phase.{Phase as PhaseSeen};
 ghost use Rattle.host_activations.specs.Numbers.{number_in};
 ghost use Rattle.directory_rules.specs.Host.{asking_under, closing_under, is_finding, is_outstanding};
@@ -53,6 +56,13 @@ impl Host {
         ensures { result ≡ is_outstanding self.now number }
     {
         self.outstanding.contains_key(&number)
+    }
+
+    /// The grain for which the find of the number asks; `None` where no find has the number.
+    pub fn finding_under(&self, number: u64) -> Option<GrainId>
+        ensures { result ≡ lookup (is_at (nat_cmp number)) self.now.finds }
+    {
+        find_under(&self.outstanding, number)
     }
 
     /// Whether a find of the number is outstanding.

@@ -4,7 +4,7 @@ ghost use Rattle.std.specs.Map.{keys_of};
 ghost use Rattle.std.specs.Ordering.{nat_cmp};
 ghost use Rattle.std.specs.Prelude.{◌≡◌, ◌↔◌, IsTrue, IfOk};
 ghost use Rattle.directory_rules.specs.Laws.{AreNumbered};
-ghost use Rattle.held_activations.specs.Begun.{IsNext};
+ghost use Rattle.host_activations.specs.Begun.{IsNext};
 ghost use Rattle.silo_address.specs.Grain.{grain_eq};
 
 use super::Host;

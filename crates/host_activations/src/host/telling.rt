@@ -5,9 +5,9 @@ ghost use Rattle.host_activations.specs.Acts.{act_for, acts_in};
 
 use super::Host;
 use crate::asked::Asked;
+use crate::{Activations, entry_on};
 use directory_rules::{Act, Held, Phase};
 use hash_ring::Hashing;
-use held_activations::{Activations, entry_on};
 use ring_range::RingRange;
 use silo_address::{Entry, GrainId, SiloAddress};
 use std::alloc::{AllocError, Global};

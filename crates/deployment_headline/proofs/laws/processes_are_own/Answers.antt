@@ -1,4 +1,4 @@
-use Rattle.deployment_headline.proofs.Running.{processes_are_own}
+use Rattle.deployment_headline.proofs.Runs.{processes_are_own}
 use Rattle.deployment_headline.proofs.laws.processes_are_own.Goals as goal
 
 pub returns : goal.returns

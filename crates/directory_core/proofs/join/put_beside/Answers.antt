@@ -5,7 +5,7 @@ use Rattle.silo_address.specs.Silo.{Silo, silo_cmp}
 use Rattle.silo_address.proofs.Order.{silo_cmp_total}
 use Rattle.membership_view.specs.Changes.{occupant}
 use Rattle.directory_rules.specs.Node.{Node}
-use Rattle.directory_core.specs.Joining.{nodes_without}
+use Rattle.directory_core.specs.Join.{nodes_without}
 use Rattle.directory_core.proofs.Entries.{taken_back}
 use Rattle.directory_core.proofs.Kept.{no_node, nodes_put}
 use Rattle.directory_core.proofs.join.put_beside.Goals as goal

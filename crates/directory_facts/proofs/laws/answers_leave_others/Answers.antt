@@ -1,4 +1,4 @@
-use Rattle.directory_facts.proofs.Leaving.{answers_leave_others}
+use Rattle.directory_facts.proofs.Answers.{answers_leave_others}
 use Rattle.directory_facts.proofs.laws.answers_leave_others.Goals as goal
 
 pub returns : goal.returns

@@ -1,4 +1,4 @@
-use Rattle.directory_headline.proofs.Ending.{refined_after}
+use Rattle.directory_headline.proofs.Theorems.{refined_after}
 use Rattle.directory_headline.proofs.laws.events_are_actions.Goals as goal
 
 pub returns : goal.returns

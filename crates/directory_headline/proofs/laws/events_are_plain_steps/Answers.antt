@@ -1,4 +1,4 @@
-use Rattle.directory_headline.proofs.Ending.{plain_after}
+use Rattle.directory_headline.proofs.Theorems.{plain_after}
 use Rattle.directory_headline.proofs.laws.events_are_plain_steps.Goals as goal
 
 pub returns : goal.returns

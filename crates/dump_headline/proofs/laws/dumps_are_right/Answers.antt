@@ -1,4 +1,4 @@
-use Rattle.dump_headline.proofs.Ending.{rightly_told}
+use Rattle.dump_headline.proofs.Theorem.{rightly_told}
 use Rattle.dump_headline.proofs.laws.dumps_are_right.Goals as goal
 
 pub returns : goal.returns

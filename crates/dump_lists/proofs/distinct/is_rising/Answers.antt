@@ -1,7 +1,7 @@
 use Rattle.std.proofs.Common.{rules}
 use Rattle.std.specs.Ordering.{is_lt}
 use Rattle.std.proofs.lemmas.List.Sorted.{answers_always}
-use Rattle.dump_lists.proofs.Rising.{rising_told}
+use Rattle.dump_lists.proofs.StrictRise.{rising_told}
 use Rattle.dump_lists.proofs.distinct.is_rising.Goals as goal
 
 pub returns : goal.returns

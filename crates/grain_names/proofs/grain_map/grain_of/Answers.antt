@@ -1,6 +1,6 @@
 use Rattle.std.proofs.Common.{◌∙◌}
 use Rattle.std.specs.Box.{boxed_str_bytes}
-use Rattle.silo_address.specs.GrainReading.{grain_at_slash}
+use Rattle.silo_address.specs.ReadGrain.{grain_at_slash}
 use Rattle.grain_names.proofs.grain_map.grain_of.Goals as goal
 
 pub unreachable-requires : goal.unreachable-requires

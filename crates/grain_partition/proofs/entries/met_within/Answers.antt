@@ -7,9 +7,9 @@ use Rattle.directory_rules.specs.Piece.{Piece}
 use Rattle.directory_rules.specs.Sight.{was_settled}
 use Rattle.directory_rules.specs.Table.{entries_of, with_entry}
 use Rattle.grain_table.specs.Table.{TableValue}
-use Rattle.grain_partition.proofs.Gathering.{IsGathered, gathered_all, gathered_more, gathered_none, has_piece, less_behind, settles_at}
+use Rattle.grain_partition.proofs.EntriesByWalk.{IsGathered, gathered_all, gathered_more, gathered_none, has_piece, less_behind, settles_at}
 use Rattle.grain_partition.proofs.SettledHashes.{with_has}
-use Rattle.grain_partition.proofs.Walking.{part_behind, settled-behind}
+use Rattle.grain_partition.proofs.Walks.{part_behind, settled-behind}
 use Rattle.grain_partition.proofs.entries.met_within.Goals as goal
 
 pub walk-init : goal.walk-init

@@ -1,6 +1,6 @@
 use Rattle.std.proofs.Common.{◌≡◌, true}
 use Rattle.directory_rules.specs.Sight.{was_settled}
-use Rattle.grain_partition.proofs.Gathering.{IsGathered}
+use Rattle.grain_partition.proofs.EntriesByWalk.{IsGathered}
 use Rattle.grain_partition.proofs.entries.met_within.Given as goal
 
 -- what is there so far, and the rest is settled

@@ -1,5 +1,5 @@
 use Rattle.std.proofs.lemmas.List.Sorted.{IsPermutation-trans}
-use Rattle.grain_partition.proofs.Listing.{listed_sorted}
+use Rattle.grain_partition.proofs.ListsByWalk.{listed_sorted}
 use Rattle.grain_partition.proofs.listed.listed.Goals as goal
 
 pub returns : goal.returns

@@ -6,10 +6,10 @@ use Rattle.directory_rules.specs.Answer.{piece_with}
 use Rattle.directory_rules.specs.Piece.{Piece}
 use Rattle.directory_rules.specs.Sight.{is_kept, was_settled}
 use Rattle.directory_rules.specs.Table.{Table, entries_of, with_entry}
-use Rattle.grain_partition.proofs.Gathering.{has_piece, less_behind, settles_at}
-use Rattle.grain_partition.proofs.Listing.{AreListed, listed_all, listed_more, listed_none}
+use Rattle.grain_partition.proofs.EntriesByWalk.{has_piece, less_behind, settles_at}
+use Rattle.grain_partition.proofs.ListsByWalk.{AreListed, listed_all, listed_more, listed_none}
 use Rattle.grain_partition.proofs.SettledHashes.{with_has}
-use Rattle.grain_partition.proofs.Walking.{part_behind, settled-behind}
+use Rattle.grain_partition.proofs.Walks.{part_behind, settled-behind}
 use Rattle.grain_partition.proofs.listed.met_listed.Goals as goal
 
 pub walk-init : goal.walk-init

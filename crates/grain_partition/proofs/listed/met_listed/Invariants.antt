@@ -1,6 +1,6 @@
 use Rattle.std.proofs.Common.{◌≡◌, true}
 use Rattle.directory_rules.specs.Sight.{was_settled}
-use Rattle.grain_partition.proofs.Listing.{AreListed}
+use Rattle.grain_partition.proofs.ListsByWalk.{AreListed}
 use Rattle.grain_partition.proofs.listed.met_listed.Given as goal
 
 -- what is listed so far, and the rest is settled

@@ -1,6 +1,6 @@
 use Rattle.std.proofs.Common.{◌≡◌, [], ◌++◌, drop, append-nil, sym, ap, subst, ◌∙◌}
 use Rattle.std.proofs.lemmas.List.{drop_all}
-use Rattle.grain_partition.specs.Holding.{ArePieces}
+use Rattle.grain_partition.specs.Holdings.{ArePieces}
 use Rattle.grain_partition.proofs.Foreseen.{is_owned, piece_seen, same_range, seen_are, seen_keep, told}
 use Rattle.grain_partition.proofs.FromArcs.{made}
 use Rattle.grain_partition.proofs.Sighted.{one_more}

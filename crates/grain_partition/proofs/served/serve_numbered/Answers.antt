@@ -1,6 +1,6 @@
 use Rattle.std.proofs.Common.{◌∙◌, ap}
 use Rattle.directory_rules.specs.declared.Request.{Request}
-use Rattle.grain_partition.specs.Serving.{number_before}
+use Rattle.grain_partition.specs.Served.{number_before}
 use Rattle.grain_partition.proofs.Undone.{number_again}
 use Rattle.grain_partition.proofs.served.serve_numbered.Goals as goal
 

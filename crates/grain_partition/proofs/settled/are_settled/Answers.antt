@@ -3,7 +3,7 @@ use Rattle.ring_range.specs.Range.{Range}
 use Rattle.directory_rules.specs.Laws.{lies_settled}
 use Rattle.directory_rules.specs.Sight.{was_settled}
 use Rattle.grain_partition.specs.Search.{SettlesAt}
-use Rattle.grain_partition.proofs.Walking.{settled-nothing, unsettled-first, settled-behind}
+use Rattle.grain_partition.proofs.Walks.{settled-nothing, unsettled-first, settled-behind}
 use Rattle.grain_partition.proofs.settled.are_settled.Goals as goal
 
 pub returns-in_default : goal.returns-in_default

@@ -1,7 +1,7 @@
 use Rattle.std.proofs.Common.{arith, sym, ◌∙◌}
 use Rattle.std.proofs.lemmas.Grind.{common_steps}
 use Rattle.directory_rules.specs.Sight.{is_owner}
-use Rattle.grain_partition.specs.Staying.{piece_made}
+use Rattle.grain_partition.specs.Kept.{piece_made}
 use Rattle.grain_partition.proofs.Sighted.{made_range, one_more}
 use Rattle.grain_partition.proofs.sight.pieces_made.Goals as goal
 

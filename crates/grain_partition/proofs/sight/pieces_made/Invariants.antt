@@ -1,5 +1,5 @@
 use Rattle.std.proofs.Common.{◌≡◌, ◌++◌, drop}
-use Rattle.grain_partition.specs.Staying.{pieces_made}
+use Rattle.grain_partition.specs.Kept.{pieces_made}
 use Rattle.grain_partition.proofs.sight.pieces_made.Given as goal
 
 -- the pieces so far, and then those of the arcs to come

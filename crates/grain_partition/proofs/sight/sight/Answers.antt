@@ -1,6 +1,6 @@
 use Rattle.std.proofs.Common.{sym, ap, ◌∙◌}
 use Rattle.std.specs.Prelude.{fold}
-use Rattle.grain_partition.specs.Staying.{pieces_made, with_staying}
+use Rattle.grain_partition.specs.Kept.{pieces_made, with_staying}
 use Rattle.grain_partition.proofs.StayedPieces.{stayed_are_after}
 use Rattle.grain_partition.proofs.sight.sight.Goals as goal
 

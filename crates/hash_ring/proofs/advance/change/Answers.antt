@@ -8,8 +8,8 @@ use Rattle.hash_ring.specs.Point.{point_cmp}
 use Rattle.hash_ring.specs.Places.{PlacesValue}
 use Rattle.hash_ring.specs.Ring.{is_active_in, new_silos, silo_points, sorted_points}
 use Rattle.hash_ring.proofs.Order.{point_cmp_total, point_cmp_exact}
-use Rattle.hash_ring.proofs.Merging.{sorted_first_from}
-use Rattle.hash_ring.proofs.Rising.{Rising-inserted, sorted-from_Rising}
+use Rattle.hash_ring.proofs.Merges.{sorted_first_from}
+use Rattle.hash_ring.proofs.StrictOrder.{Rising-inserted, sorted-from_Rising}
 use Rattle.membership_view.specs.View.{ViewValue}
 use Rattle.hash_ring.proofs.WholeSilos.{some_silos}
 use Rattle.hash_ring.proofs.advance.change.Goals as goal

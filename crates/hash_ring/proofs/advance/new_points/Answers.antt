@@ -4,7 +4,7 @@ use Rattle.std.specs.List.Sorted.{IsPermutation}
 use Rattle.hash_ring.specs.declared.point.Point.{Point}
 use Rattle.hash_ring.specs.Ring.{RingValue, new_silos, silo_points}
 use Rattle.hash_ring.proofs.Order.{point_cmp_total, point_cmp_exact}
-use Rattle.hash_ring.proofs.Sorting.{sorted_is_inserted}
+use Rattle.hash_ring.proofs.Sorts.{sorted_is_inserted}
 use Rattle.hash_ring.proofs.PointsOfViews.{naming_cmp_total, new_points-rising}
 use Rattle.hash_ring.proofs.NewPoints.{new_in, new_in_new, new_in_other, new_in_all, new_in_end, some_new}
 use Rattle.hash_ring.proofs.advance.new_points.Goals as goal

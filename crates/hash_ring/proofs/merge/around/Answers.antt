@@ -2,7 +2,7 @@ use Rattle.std.proofs.Common.{◌+◌, ◌-◌, List, length, take, drop, sym, s
 use Rattle.std.proofs.lemmas.List.{length-drop, take_all}
 use Rattle.hash_ring.specs.declared.point.Point.{Point}
 use Rattle.hash_ring.specs.Merge.{IsPutBetween}
-use Rattle.hash_ring.proofs.Merging.{around_found, around_missing}
+use Rattle.hash_ring.proofs.Merges.{around_found, around_missing}
 use Rattle.hash_ring.proofs.merge.around.Goals as goal
 
 pub returns-in-Ok-clause-between : goal.returns-in-Ok-clause-between

@@ -1,6 +1,6 @@
 use Rattle.std.proofs.Common.{◌+◌, ◌++◌, sym, subst, ap, ◌∙◌, arith}
 use Rattle.hash_ring.proofs.Order.{point_cmp_total}
-use Rattle.hash_ring.proofs.Merging.{Precedes, one_more_put, Precedes-one_more, rest_in_order, each_lower}
+use Rattle.hash_ring.proofs.Merges.{Precedes, one_more_put, Precedes-one_more, rest_in_order, each_lower}
 use Rattle.hash_ring.proofs.merge.merge.Goals as goal
 
 pub push_up_to-rest-requires-clause-in_order : goal.push_up_to-rest-requires-clause-in_order

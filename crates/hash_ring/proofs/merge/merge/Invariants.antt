@@ -2,7 +2,7 @@ use Rattle.std.proofs.Common.{◌≡◌, ◌+◌, ◌≤◌, ◌++◌, fold, tak
 use Rattle.std.specs.BTreeSet.{insert_key}
 use Rattle.hash_ring.specs.Point.{point_cmp}
 use Rattle.hash_ring.proofs.Order.{point_cmp_total}
-use Rattle.hash_ring.proofs.Merging.{Precedes}
+use Rattle.hash_ring.proofs.Merges.{Precedes}
 use Rattle.hash_ring.proofs.merge.merge.Given as goal
 
 abbrev pub invariant-loop-point : goal.invariant-loop-point

@@ -3,7 +3,7 @@ use Rattle.std.specs.List.Sorted.{IsPermutation}
 use Rattle.hash_ring.specs.declared.point.Point.{Point}
 use Rattle.hash_ring.specs.Ring.{points_of}
 use Rattle.hash_ring.proofs.Order.{point_cmp_total, point_cmp_exact}
-use Rattle.hash_ring.proofs.Sorting.{sorted_is_inserted}
+use Rattle.hash_ring.proofs.Sorts.{sorted_is_inserted}
 use Rattle.hash_ring.proofs.PointsOfViews.{naming_cmp_total, points_of-rising}
 use Rattle.hash_ring.proofs.PlacesKept.{IsRing-anew}
 use Rattle.hash_ring.proofs.ring.sorted_points.Goals as goal

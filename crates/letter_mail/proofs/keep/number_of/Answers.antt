@@ -1,5 +1,5 @@
 use Rattle.std.proofs.Common.{[], ◌∷◌}
-use Rattle.letter_mail.proofs.Growing.{keys_put}
+use Rattle.letter_mail.proofs.GrainNumbers.{keys_put}
 use Rattle.letter_mail.proofs.keep.number_of.Goals as goal
 
 pub returns-clause-grown : goal.returns-clause-grown

@@ -5,7 +5,7 @@ use Rattle.std.proofs.lemmas.List.{append_assoc}
 use Rattle.silo_address.specs.Grain.{grain_eq}
 use Rattle.silo_address.specs.contracts.grain.GrainIdEq.TheImpl.Laws.{laws-law}
 use Rattle.lookup_cache.proofs.Rounds.{Hint}
-use Rattle.lookup_cache.proofs.Turning.{put_before}
+use Rattle.lookup_cache.proofs.LastPair.{put_before}
 use Rattle.lookup_cache.proofs.hints.copy_of.Goals as goal
 
 pub loop-grain-preserved : goal.loop-grain-preserved

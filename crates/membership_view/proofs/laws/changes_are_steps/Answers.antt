@@ -1,5 +1,5 @@
-use Rattle.membership_view.proofs.Staying.{versions_rise, views_stay, views_are_kept, views_start}
-use Rattle.membership_view.proofs.Stepping.{changes_are_steps}
+use Rattle.membership_view.proofs.Unchanged.{versions_rise, views_stay, views_are_kept, views_start}
+use Rattle.membership_view.proofs.Changes.{changes_are_steps}
 use Rattle.membership_view.proofs.laws.changes_are_steps.Goals as goal
 
 pub returns-clause-rises : goal.returns-clause-rises

@@ -1,4 +1,4 @@
-use Rattle.membership_view.proofs.Looking.{newest_is, occupant_law}
+use Rattle.membership_view.proofs.Searches.{newest_is, occupant_law}
 use Rattle.membership_view.proofs.laws.joins_look_for.Goals as goal
 
 pub returns-clause-newest : goal.returns-clause-newest

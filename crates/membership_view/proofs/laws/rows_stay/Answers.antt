@@ -1,4 +1,4 @@
-use Rattle.membership_view.proofs.Staying.{first_is_empty, joined_from, rows_stay, dead_stays_dead}
+use Rattle.membership_view.proofs.Unchanged.{first_is_empty, joined_from, rows_stay, dead_stays_dead}
 use Rattle.membership_view.proofs.laws.rows_stay.Goals as goal
 
 pub returns-clause-first : goal.returns-clause-first

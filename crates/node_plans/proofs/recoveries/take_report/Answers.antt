@@ -6,7 +6,7 @@ use Rattle.std.proofs.lemmas.Map.Steps.{set_value_same}
 use Rattle.ring_range.specs.Range.{Range}
 use Rattle.directory_rules.specs.Recovery.{Recovery}
 use Rattle.range_recovery.specs.Progress.{RefusesOrLacksMemory}
-use Rattle.node_plans.proofs.Taking.{refused_is}
+use Rattle.node_plans.proofs.TakenReports.{refused_is}
 use Rattle.node_plans.proofs.recoveries.take_report.Goals as goal
 
 pub returns-in-Err-WrongVersion : goal.returns-in-Err-WrongVersion

@@ -1,6 +1,6 @@
 use Rattle.std.proofs.Common.{◌≡◌, length}
 use Rattle.texts.specs.Words.{words_in}
-use Rattle.process_rules.specs.LetterReading.{are_pairs}
+use Rattle.process_rules.specs.ReadLetter.{are_pairs}
 use Rattle.process_letters.proofs.entries.are_pairs.Given as goal
 
 abbrev pub invariant-words : goal.invariant-words

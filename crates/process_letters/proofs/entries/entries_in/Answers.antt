@@ -1,7 +1,7 @@
 use Rattle.std.proofs.Common.{◌≡◌, ap, sym, ◌∙◌, ◌++◌, ◌∷◌, [], List, rules}
 use Rattle.texts.specs.Words.{words_in}
 use Rattle.silo_address.specs.declared.Entry.{Entry}
-use Rattle.process_rules.specs.LetterReading.{entries_in}
+use Rattle.process_rules.specs.ReadLetter.{entries_in}
 use Rattle.process_letters.proofs.EachEntry.{onto, entries_more}
 use Rattle.process_letters.proofs.entries.entries_in.Goals as goal
 

@@ -1,6 +1,6 @@
 use Rattle.std.proofs.Common.{◌≡◌, length}
 use Rattle.texts.specs.Words.{words_in}
-use Rattle.process_rules.specs.LetterReading.{entries_in}
+use Rattle.process_rules.specs.ReadLetter.{entries_in}
 use Rattle.process_letters.proofs.EachEntry.{onto}
 use Rattle.process_letters.proofs.entries.entries_in.Given as goal
 

@@ -1,7 +1,7 @@
 use Rattle.std.proofs.Common.{◌≡◌, List, length}
 use Rattle.silo_address.specs.declared.Entry.{Entry}
 use Rattle.texts.specs.Words.{words_in}
-use Rattle.process_rules.specs.LetterReading.{entries_in}
+use Rattle.process_rules.specs.ReadLetter.{entries_in}
 use Rattle.process_letters.proofs.EachEntry.{onto}
 use Rattle.process_letters.proofs.entries.without_memory.Given as goal
 

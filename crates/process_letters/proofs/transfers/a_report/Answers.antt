@@ -1,7 +1,7 @@
 use Rattle.std.proofs.Common.{ap, sym, rules}
 use Rattle.texts.specs.Words.{words_in}
-use Rattle.process_rules.specs.LetterReading.{a_report}
-use Rattle.process_letters.specs.Reading.{head_of, told}
+use Rattle.process_rules.specs.ReadLetter.{a_report}
+use Rattle.process_letters.specs.ReadAs.{head_of, told}
 use Rattle.process_letters.proofs.EachEntry.{handed_on, report_fails}
 use Rattle.process_letters.proofs.transfers.a_report.Goals as goal
 

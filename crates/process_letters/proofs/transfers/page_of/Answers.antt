@@ -1,7 +1,7 @@
 use Rattle.std.proofs.Common.{ap, sym, true}
 use Rattle.texts.specs.Words.{words_in}
-use Rattle.process_rules.specs.LetterReading.{page_for}
-use Rattle.process_letters.specs.Reading.{head_of, told}
+use Rattle.process_rules.specs.ReadLetter.{page_for}
+use Rattle.process_letters.specs.ReadAs.{head_of, told}
 use Rattle.process_letters.proofs.EachEntry.{handed_on, page_fails}
 use Rattle.process_letters.proofs.transfers.page_of.Goals as goal
 

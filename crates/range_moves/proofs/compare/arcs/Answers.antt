@@ -2,13 +2,13 @@
 use Rattle.std.proofs.Common.{◌≡◌, ◌∙◌, Some, None, List, sym, subst}
 use Rattle.hash_ring.specs.Point.{point_cmp}
 use Rattle.hash_ring.specs.Ring.{RingValue, IsRing}
-use Rattle.hash_ring.proofs.Rising.{Rising-from_sorted}
-use Rattle.range_moves.specs.declared.arc.Arc.{Arc}
+use Rattle.hash_ring.proofs.StrictOrder.{Rising-from_sorted}
+use Rattle.range_moves.specs.declared.arc.RingArc.{RingArc}
 use Rattle.range_moves.specs.Arcs.{arcs_of, AreArcs}
 use Rattle.range_moves.specs.Walk.{nearer_place, place_ahead}
 use Rattle.range_moves.proofs.Between.{arcs_whole}
 use Rattle.range_moves.proofs.Underway.{AreRings, underway_first}
-use Rattle.range_moves.proofs.Going.{underway_next, underway_end, next_beyond, fewer}
+use Rattle.range_moves.proofs.NextPlace.{underway_next, underway_end, next_beyond, fewer}
 use Rattle.range_moves.proofs.compare.arcs.Goals as goal
 
 are_rings : (old new : RingValue) → IsRing old → IsRing new → AreRings old.points new.points
@@ -55,4 +55,4 @@ returns-clause-exact c =
 pub returns-clause-whole : goal.returns-clause-whole
 returns-clause-whole c =
     let exact : c.push-2.new.self.items ≡ arcs_of c.args.old.now.points c.args.new.now.points = returns-clause-exact c in
-    subst (λ (arcs : List Arc). AreArcs c.args.old.now.points c.args.new.now.points arcs) (sym exact) (arcs_whole c.args.old.now.points c.args.new.now.points c.whole.ensures.on_circle c.whole-2.ensures.on_circle)
+    subst (λ (arcs : List RingArc). AreArcs c.args.old.now.points c.args.new.now.points arcs) (sym exact) (arcs_whole c.args.old.now.points c.args.new.now.points c.whole.ensures.on_circle c.whole-2.ensures.on_circle)

@@ -6,7 +6,7 @@ use Rattle.std.proofs.lemmas.Result.{IfOk-weaker}
 use Rattle.range_moves.specs.declared.arc.Move.{Move}
 use Rattle.range_moves.specs.Arcs.{arcs_of}
 use Rattle.range_moves.specs.Moves.{move_of, AreMoves}
-use Rattle.range_moves.proofs.Moving.{moves_whole}
+use Rattle.range_moves.proofs.MovesOfArcs.{moves_whole}
 use Rattle.range_moves.proofs.compare.moves.Goals as goal
 
 pub returns-clause-exact : goal.returns-clause-exact

@@ -1,5 +1,5 @@
 -- The moves are what they are said to be.
-use Rattle.range_moves.proofs.Moving.{moves_whole}
+use Rattle.range_moves.proofs.MovesOfArcs.{moves_whole}
 use Rattle.range_moves.proofs.laws.moves_are_whole.Goals as goal
 
 pub returns : goal.returns

@@ -3,7 +3,7 @@ use Rattle.std.specs.Result.{is_ok}
 use Rattle.directory_rules.specs.Table.{without_grain}
 use Rattle.grain_table.specs.Table.{TableValue}
 use Rattle.range_recovery.specs.Gathered.{without_grains}
-use Rattle.range_recovery.proofs.Gathering.{new_taken, old_stays, without_grains-push}
+use Rattle.range_recovery.proofs.Entries.{new_taken, old_stays, without_grains-push}
 use Rattle.range_recovery.proofs.gather.gather_one.Goals as goal
 
 pub returns-clause-noted : goal.returns-clause-noted

@@ -1,6 +1,6 @@
 use Rattle.std.proofs.Common.{◌∙◌, ap, sym}
 use Rattle.range_recovery.specs.Gathered.{without_grains}
-use Rattle.range_recovery.proofs.Gathering.{without_grains-push}
+use Rattle.range_recovery.proofs.Entries.{without_grains-push}
 use Rattle.grain_table.specs.Table.{TableValue}
 use Rattle.range_recovery.proofs.gather.take_out.Goals as goal
 

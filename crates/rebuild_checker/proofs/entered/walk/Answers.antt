@@ -5,7 +5,7 @@ use Rattle.dump_rules.specs.Dump.{DumpHeld, DumpValue}
 use Rattle.dump_rules.specs.Verdict.{entry_of_held, is_firm_phase}
 use Rattle.rebuild_checker.specs.Lent.{held_on}
 use Rattle.rebuild_checker.specs.Named.{named_apart_from}
-use Rattle.rebuild_checker.specs.Lacking.{is_lacking}
+use Rattle.rebuild_checker.specs.MissingFirm.{is_lacking}
 use Rattle.rebuild_checker.proofs.Kept.{kept_lent}
 use Rattle.rebuild_checker.proofs.Missing.{lacking_told, missing_told}
 use Rattle.rebuild_checker.proofs.RightPieces.{current_right, current_ranges}

@@ -8,7 +8,7 @@ use Rattle.dump_rules.specs.Verdict.{entry_of_held}
 use Rattle.rebuild_checker.specs.Covers.{covering}
 use Rattle.rebuild_checker.specs.Lent.{held_lent}
 use Rattle.rebuild_checker.specs.Named.{Named}
-use Rattle.rebuild_checker.specs.Lacking.{is_lacking}
+use Rattle.rebuild_checker.specs.MissingFirm.{is_lacking}
 use Rattle.rebuild_checker.proofs.Kept.{kept_more, left_more}
 use Rattle.rebuild_checker.proofs.Named.{parted_bound, times_told}
 use Rattle.rebuild_checker.proofs.Walked.{passed_all, passed_more}

@@ -2,7 +2,7 @@ use Rattle.std.proofs.Common.{◌≡◌, ◌++◌, map, filter, take, drop}
 use Rattle.dump_rules.specs.Verdict.{entry_of_held}
 use Rattle.rebuild_checker.specs.Lent.{held_lent}
 use Rattle.rebuild_checker.specs.Named.{named_apart_from}
-use Rattle.rebuild_checker.specs.Lacking.{is_lacking}
+use Rattle.rebuild_checker.specs.MissingFirm.{is_lacking}
 use Rattle.rebuild_checker.proofs.entered.walk_along.Given as goal
 
 abbrev pub invariant-loop-held : goal.invariant-loop-held

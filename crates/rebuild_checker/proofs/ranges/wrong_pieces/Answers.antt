@@ -3,7 +3,7 @@ use Rattle.std.specs.Prelude.{Some}
 use Rattle.std.specs.Borrow.{Bor}
 use Rattle.dump_rules.specs.Dump.{DumpNode}
 use Rattle.dump_rules.specs.Verdict.{first_failing, has_right_pieces}
-use Rattle.rebuild_checker.proofs.Passing.{fails_here, none_fails}
+use Rattle.rebuild_checker.proofs.FirstFailure.{fails_here, none_fails}
 use Rattle.rebuild_checker.proofs.ReadyNodes.{is_ready}
 use Rattle.rebuild_checker.proofs.ranges.wrong_pieces.Goals as goal
 

@@ -4,7 +4,7 @@ use Rattle.std.specs.Borrow.{Bor}
 use Rattle.dump_rules.specs.Dump.{DumpNode, DumpValue}
 use Rattle.dump_rules.specs.Verdict.{has_its_ring}
 use Rattle.rebuild_checker.proofs.Tested.{passes_more}
-use Rattle.rebuild_checker.proofs.Passing.{fails_here, none_fails}
+use Rattle.rebuild_checker.proofs.FirstFailure.{fails_here, none_fails}
 use Rattle.rebuild_checker.proofs.ViewRings.{ring_told}
 use Rattle.rebuild_checker.proofs.rings.first_wrong.Goals as goal
 

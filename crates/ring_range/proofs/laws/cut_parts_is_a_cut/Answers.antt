@@ -1,4 +1,4 @@
-use Rattle.ring_range.proofs.Cutting.{is_cut, ranges}
+use Rattle.ring_range.proofs.Cuts.{is_cut, ranges}
 use Rattle.ring_range.proofs.laws.cut_parts_is_a_cut.Goals as goal
 
 pub returns-clause-cut : goal.returns-clause-cut

@@ -1,4 +1,4 @@
-use Rattle.ring_range.proofs.Meeting.{common, apart, fewest, nearer_first, absent, ranges, held}
+use Rattle.ring_range.proofs.Meets.{common, apart, fewest, nearer_first, absent, ranges, held}
 use Rattle.ring_range.proofs.laws.meet_of_is_the_meet.Goals as goal
 
 pub returns-clause-common : goal.returns-clause-common

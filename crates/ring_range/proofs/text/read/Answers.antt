@@ -1,7 +1,7 @@
 -- The reading by its two words, once there are two.
 use Rattle.std.proofs.Common.{◌∙◌, sym, refl}
 use Rattle.ring_range.specs.Text.{if_range}
-use Rattle.ring_range.proofs.Reading.{read_range-words}
+use Rattle.ring_range.proofs.ReadAgain.{read_range-words}
 use Rattle.ring_range.proofs.text.read.Goals as goal
 
 pub returns-then-not-are_numerals : goal.returns-then-not-are_numerals

@@ -3,7 +3,7 @@ use Rattle.texts.specs.Words.{words_in}
 use Rattle.script_rules.specs.Script.{places_in}
 use Rattle.script_commands.specs.declared.error.ReadError.{ReadError}
 use Rattle.script_commands.specs.declared.error.ReadError.TheVariants.{OutOfMemory}
-use Rattle.script_commands.specs.Reading.{Fails, HasPlaces}
+use Rattle.script_commands.specs.ReadAs.{Fails, HasPlaces}
 use Rattle.script_commands.proofs.Placed.{has_places, places_more}
 use Rattle.script_commands.proofs.places.places_in.Goals as goal
 

@@ -2,7 +2,7 @@ use Rattle.std.proofs.Common.{ap, sym, ◌∙◌, ◌++◌}
 use Rattle.script_rules.specs.Lines.{replaced_words}
 use Rattle.script_output.specs.Spaced.{spaced}
 use Rattle.script_output.proofs.Fronts.{begins_with_the_first}
-use Rattle.script_output.proofs.Spacing.{then_spaced}
+use Rattle.script_output.proofs.SpacedWords.{then_spaced}
 use Rattle.script_output.proofs.event_lines.push_replaced.Goals as goal
 
 pub returns-in_err-push_silo-clause-kept : goal.returns-in_err-push_silo-clause-kept

@@ -1,6 +1,6 @@
 use Rattle.std.proofs.Common.{◌++◌, [], ◌∷◌, ◌∙◌, append_assoc}
 use Rattle.texts.specs.Words.{line_feed, sentence, space}
-use Rattle.script_output.proofs.Spacing.{sentence_and_space}
+use Rattle.script_output.proofs.SpacedWords.{sentence_and_space}
 use Rattle.script_output.proofs.line.end_line.Goals as goal
 
 pub returns-clause-ended : goal.returns-clause-ended

@@ -1,5 +1,5 @@
 use Rattle.script_output.proofs.Fronts.{begins_with_the_first}
-use Rattle.script_output.proofs.Spacing.{then_spaced}
+use Rattle.script_output.proofs.SpacedWords.{then_spaced}
 use Rattle.script_output.proofs.question_lines.push_place.Goals as goal
 
 pub returns-in_err-push_grain-clause-kept : goal.returns-in_err-push_grain-clause-kept

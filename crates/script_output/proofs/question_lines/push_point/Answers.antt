@@ -2,7 +2,7 @@ use Rattle.std.proofs.Common.{ap, sym, ◌∙◌, ◌++◌}
 use Rattle.script_rules.specs.Show.{owner_words}
 use Rattle.script_output.specs.Spaced.{spaced}
 use Rattle.script_output.proofs.Fronts.{begins_with_the_first}
-use Rattle.script_output.proofs.Spacing.{then_spaced}
+use Rattle.script_output.proofs.SpacedWords.{then_spaced}
 use Rattle.script_output.proofs.question_lines.push_point.Goals as goal
 
 pub returns-in_err-push_number-clause-kept : goal.returns-in_err-push_number-clause-kept

@@ -2,7 +2,7 @@ use Rattle.std.proofs.Common.{ap, sym, ◌∙◌, ◌++◌}
 use Rattle.script_output.specs.Shown.{words_of_figures}
 use Rattle.script_output.specs.Spaced.{spaced}
 use Rattle.script_output.proofs.Fronts.{begins_with_the_first}
-use Rattle.script_output.proofs.Spacing.{then_spaced}
+use Rattle.script_output.proofs.SpacedWords.{then_spaced}
 use Rattle.script_output.proofs.show_lines.push_figures.Goals as goal
 
 pub returns-in_err-push_named-2-clause-kept : goal.returns-in_err-push_named-2-clause-kept

@@ -1,7 +1,7 @@
 use Rattle.std.proofs.Common.{ap, ◌∙◌, ◌++◌, ◌∷◌, []}
 use Rattle.script_output.specs.Spaced.{spaced}
 use Rattle.script_output.proofs.Fronts.{begins_with_the_first}
-use Rattle.script_output.proofs.Spacing.{then_spaced}
+use Rattle.script_output.proofs.SpacedWords.{then_spaced}
 use Rattle.script_output.proofs.show_lines.push_held.Goals as goal
 
 pub returns-in_err-push_activation-clause-kept : goal.returns-in_err-push_activation-clause-kept

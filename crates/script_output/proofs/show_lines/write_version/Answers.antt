@@ -1,5 +1,5 @@
 use Rattle.std.proofs.Common.{arith}
-use Rattle.script_output.proofs.Writing.{word_by_word}
+use Rattle.script_output.proofs.Pieces.{word_by_word}
 use Rattle.script_output.proofs.show_lines.write_version.Goals as goal
 
 pub returns-clause-written : goal.returns-clause-written

@@ -3,8 +3,8 @@ use Rattle.script_rules.proofs.laws.scripts_without_events.Goals as goal
 use Rattle.script_rules.specs.Output as output
 use Rattle.script_rules.specs.Script as script
 use Rattle.script_rules.specs.Show as show
-use Rattle.silo_address.specs.SiloReading as silo
-use Rattle.silo_address.specs.GrainReading as grain
+use Rattle.silo_address.specs.ReadSilo as silo
+use Rattle.silo_address.specs.ReadGrain as grain
 use Rattle.std.specs.Fmt.{digits}
 
 pub returns : goal.returns

@@ -1,4 +1,4 @@
-use Rattle.seal_snapshot.proofs.Taking.{activation_parts, takes_as, takes_both}
+use Rattle.seal_snapshot.proofs.Hashed.{activation_parts, takes_as, takes_both}
 use Rattle.seal_snapshot.proofs.lines.take_activation.Goals as goal
 
 pub returns : goal.returns

@@ -1,7 +1,7 @@
 use Rattle.std.proofs.Common.{sym}
 use Rattle.directory_rules.specs.Snapshot.{digest_line}
 use Rattle.seal_snapshot.proofs.Pages.{lines_more}
-use Rattle.seal_snapshot.proofs.Taking.{takes_as, takes_both}
+use Rattle.seal_snapshot.proofs.Hashed.{takes_as, takes_both}
 use Rattle.seal_snapshot.proofs.lines.take_entries.Goals as goal
 
 pub loop-entry-preserved : goal.loop-entry-preserved

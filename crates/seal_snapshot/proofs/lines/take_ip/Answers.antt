@@ -1,4 +1,4 @@
-use Rattle.seal_snapshot.proofs.Taking.{ip_parts, takes_as, takes_both}
+use Rattle.seal_snapshot.proofs.Hashed.{ip_parts, takes_as, takes_both}
 use Rattle.seal_snapshot.proofs.lines.take_ip.Goals as goal
 
 pub returns : goal.returns

@@ -1,7 +1,7 @@
 use Rattle.std.proofs.Common.{◌++◌, ◌∷◌, [], ◌∙◌, ap}
 use Rattle.std.specs.Fmt.{decimal}
 use Rattle.seal_snapshot.specs.Lines.{ip_text}
-use Rattle.seal_snapshot.proofs.Taking.{silo_parts, takes_as, takes_both}
+use Rattle.seal_snapshot.proofs.Hashed.{silo_parts, takes_as, takes_both}
 use Rattle.seal_snapshot.proofs.lines.take_silo.Goals as goal
 
 pub returns : goal.returns

@@ -2,7 +2,7 @@ use Rattle.std.proofs.Common.{◌≡◌, ◌∙◌, ◌-◌, ap, sym, refl, true
 use Rattle.std.proofs.lemmas.List.{get_or_default}
 use Rattle.directory_rules.specs.Snapshot.{Snapshot}
 use Rattle.seal_snapshot.specs.Shelf.{comes_before}
-use Rattle.seal_snapshot.proofs.Joining.{in_order-from_next}
+use Rattle.seal_snapshot.proofs.InOrder.{in_order-from_next}
 use Rattle.seal_snapshot.proofs.Order.{ordered_at}
 use Rattle.seal_snapshot.proofs.shelf.are_in_order.Goals as goal
 

@@ -1,5 +1,5 @@
 use Rattle.std.proofs.Common.{refl}
-use Rattle.silo_address.specs.GrainReading.{read_grain}
+use Rattle.silo_address.specs.ReadGrain.{read_grain}
 use Rattle.silo_address.proofs.laws.grain_readings.Goals as goal
 
 pub returns : goal.returns

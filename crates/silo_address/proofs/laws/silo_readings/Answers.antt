@@ -1,5 +1,5 @@
 use Rattle.std.proofs.Common.{refl}
-use Rattle.silo_address.specs.SiloReading.{read_silo, silo_words}
+use Rattle.silo_address.specs.ReadSilo.{read_silo, silo_words}
 use Rattle.silo_address.proofs.laws.silo_readings.Goals as goal
 
 pub returns : goal.returns

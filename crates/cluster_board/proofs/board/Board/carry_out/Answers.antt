@@ -2,7 +2,7 @@ use Rattle.std.proofs.Common.{◌≡◌, sym, subst, ap, ◌∙◌}
 use Rattle.directory_rules.specs.Event.{Deliver}
 use Rattle.cluster_journal.specs.Entry.{EntryValue}
 use Rattle.cluster_board.specs.Board.{BoardValue}
-use Rattle.cluster_board.specs.Committing.{IsTaken}
+use Rattle.cluster_board.specs.Commits.{IsTaken}
 use Rattle.cluster_board.specs.Work.{Work}
 use Rattle.cluster_board.proofs.Boards.{delivered, with_fewer}
 use Rattle.cluster_board.proofs.board.Board.carry_out.Goals as goal

@@ -2,7 +2,7 @@ use Rattle.std.proofs.Common.{◌≡◌, Some, sym, subst, ap, ◌∙◌}
 use Rattle.directory_rules.specs.Node.{Node}
 use Rattle.directory_rules.specs.Happens.{node_of}
 use Rattle.cluster_board.specs.Board.{BoardValue}
-use Rattle.cluster_board.specs.Lending.{IsWorkOf}
+use Rattle.cluster_board.specs.Due.{IsWorkOf}
 use Rattle.cluster_board.proofs.Lent.{letter_there, work_of}
 use Rattle.cluster_board.proofs.board.Board.lend.Goals as goal
 

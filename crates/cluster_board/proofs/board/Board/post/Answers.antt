@@ -1,9 +1,5 @@
-use Rattle.std.proofs.Common.{◌≡◌, Ok, sym, subst, ap, ◌∙◌, ◌+◌, length, arith, refl}
-use Rattle.cluster_events.specs.EventModel.{event_of}
-use Rattle.cluster_events.specs.OutcomeModel.{outcome_of}
-use Rattle.directory_rules.specs.World.{World}
-use Rattle.directory_rules.specs.Happens.{happens}
-use Rattle.cluster_board.specs.Whole.{IsBoard}
+use Rattle.std.proofs.Common.{◌≡◌, ap, ◌∙◌}
+use Rattle.directory_rules.specs.EventModel.{event_of}
 use Rattle.cluster_board.proofs.Boards.{entered, with_fewer}
 use Rattle.cluster_board.proofs.board.Board.post.Goals as goal
 

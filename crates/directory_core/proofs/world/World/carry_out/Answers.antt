@@ -1,7 +1,7 @@
 use Rattle.std.proofs.Common.{◌∙◌, ap}
 use Rattle.directory_rules.specs.World.{World}
 use Rattle.directory_rules.specs.Happens.{node_of}
-use Rattle.directory_node.specs.Planning.{changed}
+use Rattle.directory_node.specs.Plans.{changed}
 use Rattle.directory_core.specs.WorldModel.{world_of}
 use Rattle.directory_core.proofs.Kept.{found_of, kept_step}
 use Rattle.directory_core.proofs.world.World.carry_out.Goals as goal

@@ -3,20 +3,19 @@ use Rattle.std.specs.Option.{option_map}
 use Rattle.std.proofs.lemmas.Option.{same_Some}
 use Rattle.silo_address.specs.Silo.{Silo}
 use Rattle.directory_rules.specs.declared.LetterKind.{LetterKind}
-use Rattle.directory_rules.specs.Event.{Delivered}
+use Rattle.directory_rules.specs.declared.outcome.Happening.TheVariants.{Delivered}
 use Rattle.directory_rules.specs.Letter.{Letter, kind_of}
 use Rattle.directory_rules.specs.Node.{Node}
 use Rattle.directory_rules.specs.Step.{Stepped}
 use Rattle.directory_rules.specs.World.{World}
 use Rattle.directory_rules.specs.Mail.{has_room_for, letter_of, span_of, with_delivered}
 use Rattle.directory_rules.specs.Happens.{deliver, node_of}
-use Rattle.cluster_events.specs.OutcomeModel.{span_of as code_span}
 use Rattle.directory_node.specs.Follows.{RefusesBy}
 use Rattle.letter_mail.specs.MailedModel.{letter_seen}
 use Rattle.letter_mail.specs.declared.MailedLetter.{MailedLetter}
-use Rattle.directory_node.specs.Planning.{changed}
-use Rattle.directory_core.specs.Applying.{IsOkOfUse}
-use Rattle.directory_core.specs.Stepping.{after_step}
+use Rattle.directory_node.specs.Plans.{changed}
+use Rattle.directory_core.specs.Applied.{IsOkOfUse}
+use Rattle.directory_core.specs.Steps.{after_step}
 use Rattle.directory_core.specs.Whole.{IsWorld}
 use Rattle.directory_core.proofs.Happenings.{delivered_told, delivery_refused, leaves_delivered}
 use Rattle.directory_core.proofs.Idle.{of_use}
@@ -50,17 +49,17 @@ returns-in-Ok-receive-clause-told c =
     let letters = c.in-Ok.plan.letters.items in
     let after = changed c.in-Ok.plan.change node in
     let room : has_room_for c.args.self.now c.deref.result.now ≡ true = grind arith in
-    delivered_told c.args.self.now c.args.number letter node after letters c.in-Ok.plan.effect (option_map code_span c.span_of-sent.result) (sym c.letter-found.ensures ∙ ap (λ (m : Option MailedLetter). option_map letter_seen m) c.in-Some.is ∙ ap (λ (l : Letter). Some l) (sym c.letter-letter.ensures))
+    delivered_told c.args.self.now c.args.number letter node after letters c.in-Ok.plan.effect c.span_of-sent.result (sym c.letter-found.ensures ∙ ap (λ (m : Option MailedLetter). option_map letter_seen m) c.in-Some.is ∙ ap (λ (l : Letter). Some l) (sym c.letter-letter.ensures))
     (ap (λ (s : Silo). node_of c.args.self.now s) (sym c.to-to.ensures) ∙ sym c.in-Some-node.ensures)
     (sym c.in-Ok.ensures.planned)
     (ap (λ (l : List Letter). has_room_for c.args.self.now l) (sym c.deref.ensures.value) ∙ room)
     (c.span_of-sent.ensures ∙ ap (λ (l : List Letter). span_of c.args.self.now l) c.deref-2.ensures.value)
     ∙ ap (λ (k : LetterKind). Ok (record {
-      outcome = record { happening = Delivered c.args.number k c.in-Ok.plan.effect; sent = option_map code_span c.span_of-sent.result };
+      outcome = record { happening = Delivered c.args.number k c.in-Ok.plan.effect; sent = c.span_of-sent.result };
       world = after_step (with_delivered c.args.self.now c.args.number letter) letter.to after letters;
     })) (sym c.kind-kind.ensures)
     ∙ ap (λ (w : World). Ok (record {
-      outcome = record { happening = Delivered c.args.number c.kind-kind.result c.in-Ok.plan.effect; sent = option_map code_span c.span_of-sent.result };
+      outcome = record { happening = Delivered c.args.number c.kind-kind.result c.in-Ok.plan.effect; sent = c.span_of-sent.result };
       world = w;
     })) (ap (λ (s : Silo). after_step (with_delivered c.args.self.now c.args.number letter) s after letters) (sym c.to-to.ensures)
     ∙ sym (c.in-Ok-receive.ensures.made letter node (sym c.letter-found.ensures ∙ ap (λ (m : Option MailedLetter). option_map letter_seen m) c.in-Some.is ∙ ap (λ (l : Letter). Some l) (sym c.letter-letter.ensures)) (sym c.in-Some-node.ensures)))

@@ -1,8 +1,8 @@
 use Rattle.directory_rules.specs.Event.{Deliver}
-use Rattle.directory_core.specs.Applying.{IsOkOfUse}
-use Rattle.directory_core.specs.Delivering.{undelivered_plan_number}
+use Rattle.directory_core.specs.Applied.{IsOkOfUse}
+use Rattle.directory_core.specs.Delivery.{undelivered_plan_number}
 use Rattle.directory_core.proofs.Made.{further, plain_of_all}
-use Rattle.directory_core.proofs.Running.{moves_by, told_plainly}
+use Rattle.directory_core.proofs.Runs.{moves_by, told_plainly}
 use Rattle.directory_core.proofs.world.World.deliver_by.Goals as goal
 
 pub follow_by-told-requires-clause-leaves : goal.follow_by-told-requires-clause-leaves

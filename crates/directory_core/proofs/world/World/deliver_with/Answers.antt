@@ -1,8 +1,8 @@
 use Rattle.directory_rules.specs.Event.{Deliver}
-use Rattle.directory_core.specs.Applying.{IsOkOfUse}
-use Rattle.directory_core.specs.Delivering.{undelivered_number}
+use Rattle.directory_core.specs.Applied.{IsOkOfUse}
+use Rattle.directory_core.specs.Delivery.{undelivered_number}
 use Rattle.directory_core.proofs.Made.{further, plain_of_all}
-use Rattle.directory_core.proofs.Running.{moves_by, told_plainly}
+use Rattle.directory_core.proofs.Runs.{moves_by, told_plainly}
 use Rattle.directory_core.proofs.world.World.deliver_with.Goals as goal
 
 pub follow_with-told-requires-clause-leaves : goal.follow_with-told-requires-clause-leaves

@@ -1,5 +1,5 @@
 use Rattle.std.proofs.Common.{rules}
-use Rattle.directory_core.proofs.Running.{on_err}
+use Rattle.directory_core.proofs.Runs.{on_err}
 use Rattle.directory_core.proofs.world.World.owner.Goals as goal
 
 pub returns-clause-owner : goal.returns-clause-owner

@@ -1,6 +1,6 @@
 use Rattle.std.proofs.Common.{IsSome, refl, sym, ◌∙◌, ap, subst}
 use Rattle.std.specs.Prelude.{None, Ok}
-use Rattle.directory_rules.specs.Event.{Delivered}
+use Rattle.directory_rules.specs.declared.outcome.Happening.TheVariants.{Delivered}
 use Rattle.directory_rules.specs.World.{World}
 use Rattle.directory_core.proofs.Idle.{passed_leaves, passed_told}
 use Rattle.directory_core.proofs.Made.{peopled}

@@ -1,10 +1,10 @@
 use Rattle.std.proofs.Common.{List, map, refl, ◌∙◌, ap, subst, take_all}
-use Rattle.cluster_events.specs.declared.Event.{Event}
-use Rattle.cluster_events.specs.EventModel.{event_of}
+use Rattle.directory_rules.specs.declared.Event.{Event}
+use Rattle.directory_rules.specs.EventModel.{event_of}
 use Rattle.directory_rules.specs.Happens.{happens}
 use Rattle.directory_rules.specs.Run.{run, told_of}
-use Rattle.directory_core.specs.Moving.{AllMovePlainly}
-use Rattle.directory_core.proofs.Running.{further_plainly, further_told, further_world, none_plainly, none_told, none_world, on_err, stopped_at}
+use Rattle.directory_core.specs.PlainSteps.{AllMovePlainly}
+use Rattle.directory_core.proofs.Runs.{further_plainly, further_told, further_world, none_plainly, none_told, none_world, on_err, stopped_at}
 use Rattle.directory_core.proofs.world.World.run.Goals as goal
 
 pub loop-event-init : goal.loop-event-init

@@ -1,7 +1,7 @@
 use Rattle.std.proofs.Common.{◌≡◌, map, take}
-use Rattle.cluster_events.specs.EventModel.{event_of}
+use Rattle.directory_rules.specs.EventModel.{event_of}
 use Rattle.directory_rules.specs.Run.{run}
-use Rattle.directory_core.specs.Moving.{AllMovePlainly}
+use Rattle.directory_core.specs.PlainSteps.{AllMovePlainly}
 use Rattle.directory_core.proofs.world.World.run.Given as goal
 
 abbrev pub invariant-loop-event : goal.invariant-loop-event

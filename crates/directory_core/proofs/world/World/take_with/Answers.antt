@@ -1,16 +1,14 @@
 use Rattle.std.proofs.Common.{◌≡◌, true, List, Ok, Some, refl, sym, ◌∙◌, ap, subst, arith}
-use Rattle.std.specs.Option.{option_map}
 use Rattle.std.proofs.lemmas.Option.{same_Some}
 use Rattle.silo_address.specs.Silo.{Silo}
 use Rattle.directory_rules.specs.declared.LetterKind.{LetterKind}
-use Rattle.directory_rules.specs.Event.{Delivered}
+use Rattle.directory_rules.specs.declared.outcome.Happening.TheVariants.{Delivered}
 use Rattle.directory_rules.specs.Letter.{Letter, kind_of}
 use Rattle.directory_rules.specs.Step.{Stepped}
 use Rattle.directory_rules.specs.World.{World}
 use Rattle.directory_rules.specs.Mail.{has_room_for, letter_of, span_of, with_delivered}
-use Rattle.cluster_events.specs.OutcomeModel.{span_of as code_span}
-use Rattle.directory_core.specs.Applying.{IsOkOfUse}
-use Rattle.directory_core.specs.Stepping.{after_step}
+use Rattle.directory_core.specs.Applied.{IsOkOfUse}
+use Rattle.directory_core.specs.Steps.{after_step}
 use Rattle.directory_core.specs.Whole.{IsWorld}
 use Rattle.directory_core.proofs.Happenings.{delivered_told, leaves_delivered, stepped_as}
 use Rattle.directory_core.proofs.Idle.{of_use}
@@ -36,7 +34,7 @@ returns-in-Ok-clause-told c =
     let after = c.args.stepped.node in
     let letters = c.args.stepped.letters.items in
     let effect = c.args.stepped.effect in
-    let sent = option_map code_span c.span_of.result in
+    let sent = c.span_of.result in
     let room : has_room_for world c.deref.result.now ≡ true = grind arith in
     let found : letter_of world c.args.number ≡ Some c.letter-letter.result.now = sym c.in-Some.ensures ∙ ap (λ (x : Letter). Some x) (sym c.letter-letter.ensures) in
     let same : c.letter-letter.result.now ≡ step.letter = same_Some c.letter-letter.result.now step.letter (sym found ∙ step.mailed) in

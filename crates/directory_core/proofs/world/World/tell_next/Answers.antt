@@ -1,5 +1,5 @@
-use Rattle.cluster_events.specs.EventModel.{event_of}
-use Rattle.directory_core.proofs.Running.{moves_by}
+use Rattle.directory_rules.specs.EventModel.{event_of}
+use Rattle.directory_core.proofs.Runs.{moves_by}
 use Rattle.directory_core.proofs.world.World.tell_next.Goals as goal
 
 pub returns-in_err-this-clause-plain : goal.returns-in_err-this-clause-plain

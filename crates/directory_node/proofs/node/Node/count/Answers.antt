@@ -7,7 +7,7 @@ use Rattle.directory_rules.specs.Recovery.{Recovery}
 use Rattle.directory_rules.specs.Node.{Node}
 use Rattle.directory_rules.specs.Transfer.{with_settled}
 use Rattle.directory_node.specs.NodeModel.{node_of}
-use Rattle.node_plans.proofs.Absorbing.{Takes, counted, kept_by_taking, left_by_more, left_by_union, takes_by}
+use Rattle.node_plans.proofs.CountedReports.{Takes, counted, kept_by_taking, left_by_more, left_by_union, takes_by}
 use Rattle.node_plans.proofs.Reports.{recovers_in}
 use Rattle.directory_node.proofs.node.Node.count.Goals as goal
 

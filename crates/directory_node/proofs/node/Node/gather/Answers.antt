@@ -4,12 +4,12 @@ use Rattle.std.specs.Option.{unwrap_or}
 use Rattle.std.specs.Map.{lookup}
 use Rattle.std.specs.BTreeMap.{insert_entry, is_at}
 use Rattle.std.specs.Ordering.{nat_cmp}
-use Rattle.directory_rules.specs.Gathering.{Gathering, gathered, new_gathering, with_page}
+use Rattle.directory_rules.specs.Gatherings.{Gathering, gathered, new_gathering, with_page}
 use Rattle.directory_rules.specs.Node.{Node}
 use Rattle.directory_rules.specs.Table.{rise_by_grain}
 use Rattle.seal_snapshot.specs.Progress.{progress_of}
-use Rattle.node_plans.specs.Planning.{GoesOn}
-use Rattle.node_plans.proofs.Writing.{all_put}
+use Rattle.node_plans.specs.Plans.{GoesOn}
+use Rattle.node_plans.proofs.Values.{all_put}
 use Rattle.directory_node.proofs.node.Node.gather.Goals as goal
 
 pub gather_among-requires : goal.gather_among-requires

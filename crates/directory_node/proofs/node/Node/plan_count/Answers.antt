@@ -7,7 +7,7 @@ use Rattle.std.specs.Ordering.{nat_cmp}
 use Rattle.ring_range.specs.Range.{Range}
 use Rattle.directory_rules.specs.Node.{Node}
 use Rattle.directory_rules.specs.Recovery.{Recovery, new_recovery, recovered}
-use Rattle.directory_rules.specs.Sending.{recovery_of}
+use Rattle.directory_rules.specs.Sent.{recovery_of}
 use Rattle.range_recovery.specs.Progress.{progress_of}
 use Rattle.directory_node.specs.NodeModel.{node_of}
 use Rattle.node_plans.proofs.Reports.{recovers_in, its_recovery}

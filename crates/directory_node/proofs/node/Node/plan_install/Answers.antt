@@ -5,8 +5,8 @@ use Rattle.directory_rules.specs.declared.Effect.TheVariants.{Installed}
 use Rattle.directory_rules.specs.Letter.{Done_letter}
 use Rattle.directory_rules.specs.Table.{table_of}
 use Rattle.directory_rules.specs.Transfer.{answer_to, gathered_by, with_settled}
-use Rattle.grain_partition.specs.Holding.{HasPiece}
-use Rattle.node_plans.specs.Planning.{Fits}
+use Rattle.grain_partition.specs.Holdings.{HasPiece}
+use Rattle.node_plans.specs.Plans.{Fits}
 use Rattle.node_plans.specs.declared.plan.Change.{Change}
 use Rattle.node_plans.proofs.Gatherings.{installed}
 use Rattle.node_plans.proofs.Pages.{has_all}

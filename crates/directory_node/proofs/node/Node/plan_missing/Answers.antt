@@ -4,9 +4,9 @@ use Rattle.directory_rules.specs.declared.Effect.TheVariants.{Recovering}
 use Rattle.directory_rules.specs.Letter.{Query_letter}
 use Rattle.directory_rules.specs.Node.{Node}
 use Rattle.directory_rules.specs.Recovery.{new_recovery}
-use Rattle.directory_rules.specs.Sending.{letter_to}
+use Rattle.directory_rules.specs.Sent.{letter_to}
 use Rattle.directory_rules.specs.Transfer.{awaits}
-use Rattle.node_plans.specs.Planning.{recovering_by}
+use Rattle.node_plans.specs.Plans.{recovering_by}
 use Rattle.node_plans.proofs.Gatherings.{missing_count, missing_is}
 use Rattle.node_plans.proofs.Results.{on_err}
 use Rattle.directory_node.proofs.Ignored.{missing_heeded}

@@ -1,9 +1,9 @@
 use Rattle.std.proofs.Common.{arith, ◌≡◌, ◌+◌, refl, sym, ap, ◌∙◌, length, ◌∷◌, []}
 use Rattle.std.proofs.lemmas.Result.{IfOk-weaker}
 use Rattle.directory_rules.specs.declared.Effect.TheVariants as effect
-use Rattle.directory_rules.specs.Gathering.{with_page}
+use Rattle.directory_rules.specs.Gatherings.{with_page}
 use Rattle.directory_rules.specs.Letter.{Ask_letter}
-use Rattle.directory_rules.specs.Sending.{gathering_of, letter_to}
+use Rattle.directory_rules.specs.Sent.{gathering_of, letter_to}
 use Rattle.directory_rules.specs.Step.{Stepped}
 use Rattle.directory_rules.specs.Transfer.{with_gathering}
 use Rattle.node_plans.proofs.Gatherings.{more_planned}

@@ -3,7 +3,7 @@ use Rattle.std.specs.Prelude.{cond, flat_map}
 use Rattle.range_moves.specs.Arcs.{arcs_of}
 use Rattle.hash_ring.specs.Ring.{RingValue, ring_of}
 use Rattle.directory_rules.specs.Host.{outstanding, renewed}
-use Rattle.directory_rules.specs.Sending.{request_letters}
+use Rattle.directory_rules.specs.Sent.{request_letters}
 use Rattle.directory_rules.specs.Sight.{is_next}
 use Rattle.directory_rules.specs.Step.{compared_points}
 use Rattle.directory_rules.specs.declared.Effect.TheVariants.{Next, Skip}

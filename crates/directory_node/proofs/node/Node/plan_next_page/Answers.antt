@@ -3,15 +3,15 @@ use Rattle.std.specs.Prelude.{Ok, Err}
 use Rattle.std.proofs.lemmas.Result.{IfOk-weaker}
 use Rattle.ring_range.specs.Range.{Range}
 use Rattle.directory_rules.specs.declared.Effect.TheVariants.{Refused}
-use Rattle.directory_rules.specs.Gathering.{Gathering, gathered, new_gathering}
-use Rattle.directory_rules.specs.Sending.{gathering_of}
+use Rattle.directory_rules.specs.Gatherings.{Gathering, gathered, new_gathering}
+use Rattle.directory_rules.specs.Sent.{gathering_of}
 use Rattle.directory_rules.specs.Step.{Stepped}
 use Rattle.directory_rules.specs.Table.{rise_by_grain}
 use Rattle.directory_rules.specs.Transfer.{gathered_by, with_gathering}
 use Rattle.seal_snapshot.specs.Progress.{IsRefused, progress_of}
 use Rattle.seal_snapshot.specs.declared.error.GatheringError.{GatheringError}
 use Rattle.seal_snapshot.specs.declared.progress.Progress.{Progress}
-use Rattle.node_plans.specs.Planning.{Fits}
+use Rattle.node_plans.specs.Plans.{Fits}
 use Rattle.node_plans.specs.declared.plan.Change.{Change}
 use Rattle.node_plans.proofs.Gatherings.{anew_planned, counts, paged_ignored, paged_is}
 use Rattle.node_plans.proofs.Results.{on_err}

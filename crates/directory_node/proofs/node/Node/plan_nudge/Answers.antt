@@ -1,7 +1,7 @@
 use Rattle.std.proofs.Common.{◌≡◌, true, cond, not, length, Ok, Err, sym, ◌∙◌, ap}
 use Rattle.directory_rules.specs.Host.{has_numbers, outstanding, renewed}
 use Rattle.directory_rules.specs.Step.{Stepped, having_nudged}
-use Rattle.directory_node.specs.Lacking.{is_quiet}
+use Rattle.directory_node.specs.Memory.{is_quiet}
 use Rattle.directory_node.proofs.Quiet.{quiet_nudge}
 use Rattle.directory_node.proofs.node.Node.plan_nudge.Goals as goal
 

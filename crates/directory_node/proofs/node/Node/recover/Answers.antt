@@ -5,12 +5,12 @@ use Rattle.std.specs.Ordering.{nat_cmp}
 use Rattle.ring_range.specs.Range.{Range}
 use Rattle.directory_rules.specs.Answer.{with_piece}
 use Rattle.directory_rules.specs.Piece.{Piece, Holding}
-use Rattle.directory_rules.specs.Gathering.{Gathering}
+use Rattle.directory_rules.specs.Gatherings.{Gathering}
 use Rattle.directory_rules.specs.Table.{rise_by_grain}
 use Rattle.directory_rules.specs.declared.PieceState.TheVariants.{Recovering}
 use Rattle.node_plans.specs.Node.{HaveRecoveries}
 use Rattle.node_plans.proofs.Kept.{recovering_puts}
-use Rattle.node_plans.proofs.Writing.{all_but_one}
+use Rattle.node_plans.proofs.Values.{all_but_one}
 use Rattle.directory_node.proofs.node.Node.recover.Goals as goal
 
 -- the piece has its recovery

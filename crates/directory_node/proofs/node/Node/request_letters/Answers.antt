@@ -3,7 +3,7 @@ use Rattle.std.specs.Prelude.{OnErr}
 use Rattle.std.proofs.lemmas.Result.{IfOk-weaker}
 use Rattle.directory_rules.specs.Letter.{Letter}
 use Rattle.directory_rules.specs.Node.{Node}
-use Rattle.directory_rules.specs.Sending.{request_letters}
+use Rattle.directory_rules.specs.Sent.{request_letters}
 use Rattle.node_plans.proofs.Alike.{bare_request}
 use Rattle.directory_node.proofs.node.Node.request_letters.Goals as goal
 

@@ -3,11 +3,11 @@ use Rattle.directory_rules.specs.Host.{has_numbers, outstanding}
 use Rattle.directory_rules.specs.Node.{Node}
 use Rattle.directory_rules.specs.Piece.{Holding}
 use Rattle.directory_rules.specs.Sight.{pieces_after}
-use Rattle.grain_partition.specs.Holding.{ArePieces}
+use Rattle.grain_partition.specs.Holdings.{ArePieces}
 use Rattle.host_activations.specs.Renewal.{renewal_of}
 use Rattle.node_plans.specs.Node.{IsNode}
 use Rattle.directory_node.specs.NodeModel.{node_of}
-use Rattle.node_plans.specs.Planning.{FitsSight, seen_by}
+use Rattle.node_plans.specs.Plans.{FitsSight, seen_by}
 use Rattle.node_plans.proofs.Numbers.{numbers_fit}
 use Rattle.node_plans.proofs.AfterSight.{behind, seen_keeps}
 use Rattle.directory_node.proofs.node.Node.see.Goals as goal

@@ -1,7 +1,7 @@
 use Rattle.std.proofs.Common.{◌≡◌, refl, sym, subst, ap, ◌∙◌, ℕ}
 use Rattle.std.specs.Prelude.{All, true}
 use Rattle.std.specs.Map.{remove_entry}
-use Rattle.directory_rules.specs.Gathering.{Gathering}
+use Rattle.directory_rules.specs.Gatherings.{Gathering}
 use Rattle.directory_rules.specs.Table.{rise_by_grain}
 use Rattle.std.specs.BTreeMap.{is_at}
 use Rattle.std.specs.Ordering.{nat_cmp}
@@ -10,7 +10,7 @@ use Rattle.directory_rules.specs.Piece.{Piece, Holding}
 use Rattle.directory_rules.specs.declared.PieceState.TheVariants.{Settled}
 use Rattle.node_plans.specs.Node.{HaveRecoveries}
 use Rattle.node_plans.proofs.Kept.{settled_removes}
-use Rattle.node_plans.proofs.Writing.{all_but_one}
+use Rattle.node_plans.proofs.Values.{all_but_one}
 use Rattle.directory_node.proofs.node.Node.settle_recovered.Goals as goal
 
 -- a settled piece needs no recovery

@@ -4,7 +4,7 @@ use Rattle.grain_partition.specs.Seen.{pieces_seen}
 use Rattle.grain_partition.specs.Sight.{AreOfRings}
 use Rattle.node_plans.specs.Transition.{TransitionValue}
 use Rattle.std.proofs.lemmas.Result.{IfOk-weaker}
-use Rattle.node_plans.specs.Planning.{FitsSight}
+use Rattle.node_plans.specs.Plans.{FitsSight}
 use Rattle.node_plans.specs.declared.plan.Sight.{Sight}
 use Rattle.node_plans.proofs.AfterSight.{fits_if}
 use Rattle.directory_node.proofs.node.Node.sight.Goals as goal

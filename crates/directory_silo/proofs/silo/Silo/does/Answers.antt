@@ -1,5 +1,5 @@
 use Rattle.directory_node.specs.InputModel.{input_of}
-use Rattle.directory_node.specs.Planning.{step_by}
+use Rattle.directory_node.specs.Plans.{step_by}
 use Rattle.directory_silo.specs.SiloModel.{silo_of}
 use Rattle.silo_rules.proofs.Whole.{input_kept}
 use Rattle.directory_silo.proofs.silo.Silo.does.Goals as goal

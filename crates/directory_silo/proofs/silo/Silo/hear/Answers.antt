@@ -5,13 +5,13 @@ use Rattle.directory_rules.specs.Input.{Receives}
 use Rattle.directory_rules.specs.Letter.{kind_of}
 use Rattle.directory_rules.specs.Receive.{received}
 use Rattle.directory_rules.specs.Step.{Stepped}
-use Rattle.directory_node.specs.Lacking.{IsIdle}
-use Rattle.directory_node.specs.Planning.{changed, step_by}
+use Rattle.directory_node.specs.Memory.{IsIdle}
+use Rattle.directory_node.specs.Plans.{changed, step_by}
 use Rattle.directory_silo.specs.SiloModel.{silo_of}
 use Rattle.silo_rules.specs.SiloValue.{SiloValue}
-use Rattle.silo_rules.specs.Stepping.{unless_barred}
-use Rattle.directory_silo.specs.Heeding.{IsHeeded}
-use Rattle.directory_silo.proofs.Passing.{idle_stays, taken_so}
+use Rattle.silo_rules.specs.Steps.{unless_barred}
+use Rattle.directory_silo.specs.Heeded.{IsHeeded}
+use Rattle.directory_silo.proofs.UnchangedNodes.{idle_stays, taken_so}
 use Rattle.silo_rules.proofs.Whole.{input_kept}
 use Rattle.directory_silo.proofs.silo.Silo.hear.Goals as goal
 

@@ -1,8 +1,8 @@
 use Rattle.std.proofs.Common.{◌≡◌, true, subst}
-use Rattle.directory_node.specs.Lacking.{is_quiet}
-use Rattle.directory_node.specs.Planning.{changed, step_by}
+use Rattle.directory_node.specs.Memory.{is_quiet}
+use Rattle.directory_node.specs.Plans.{changed, step_by}
 use Rattle.silo_rules.specs.SiloValue.{SiloValue}
-use Rattle.directory_silo.proofs.Passing.{quiet_stays}
+use Rattle.directory_silo.proofs.UnchangedNodes.{quiet_stays}
 use Rattle.directory_silo.proofs.silo.Silo.nudge.Goals as goal
 
 pub pass-requires : goal.pass-requires

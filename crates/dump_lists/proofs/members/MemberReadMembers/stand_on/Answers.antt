@@ -1,5 +1,5 @@
 use Rattle.dump_lists.specs.MemberNames.{text_of_name}
-use Rattle.dump_lists.proofs.Standing.{others_stand}
+use Rattle.dump_lists.proofs.MembersSoFar.{others_stand}
 use Rattle.dump_lists.proofs.members.MemberReadMembers.stand_on.Goals as goal
 
 pub returns : goal.returns

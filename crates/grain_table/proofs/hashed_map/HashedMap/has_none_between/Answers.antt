@@ -1,5 +1,5 @@
 use Rattle.grain_table.specs.Stretch.{is_between}
-use Rattle.grain_table.proofs.Lying.{told_by_first}
+use Rattle.grain_table.proofs.Outside.{told_by_first}
 use Rattle.grain_table.proofs.hashed_map.HashedMap.has_none_between.Goals as goal
 
 pub returns-in-Ok : goal.returns-in-Ok

@@ -5,7 +5,7 @@ use Rattle.std.proofs.lemmas.Map.Made.{filter_same_pairs}
 use Rattle.ring_range.specs.Range.{holds}
 use Rattle.hash_ring.specs.Hash.{hash_grain}
 use Rattle.silo_address.specs.Grain.{Grain}
-use Rattle.silo_address.specs.GrainReading.{grain_at_slash, read_grain}
+use Rattle.silo_address.specs.ReadGrain.{grain_at_slash, read_grain}
 use Rattle.silo_address.proofs.GrainCases.{grain_only}
 use Rattle.grain_table.specs.Hashed.{Hashed}
 use Rattle.grain_table.specs.KeyBytes.{AreKeyBytes, hashed_in, is_read_as}

@@ -1,5 +1,5 @@
 use Rattle.std.proofs.Common.{◌≡◌, ◌∙◌, drop}
-use Rattle.silo_address.specs.GrainReading.{grain_at_slash}
+use Rattle.silo_address.specs.ReadGrain.{grain_at_slash}
 use Rattle.grain_table.proofs.hashed_map.key_bytes.key_in.Goals as goal
 
 pub unreachable-requires : goal.unreachable-requires

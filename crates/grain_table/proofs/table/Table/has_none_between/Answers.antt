@@ -6,7 +6,7 @@ use Rattle.hash_ring.specs.Hash.{hash_grain}
 use Rattle.directory_rules.specs.Table.{entries_of}
 use Rattle.grain_table.specs.Stretch.{is_between}
 use Rattle.grain_table.specs.Table.{TableValue}
-use Rattle.grain_table.proofs.Lying.{each_by_grain, none_in_nothing, none_there}
+use Rattle.grain_table.proofs.Outside.{each_by_grain, none_in_nothing, none_there}
 use Rattle.grain_table.proofs.table.Table.has_none_between.Goals as goal
 
 pub returns-then-first-end : goal.returns-then-first-end

@@ -2,7 +2,7 @@ use Rattle.std.proofs.Common.{◌∙◌, ap, subst}
 use Rattle.std.specs.List.Sorted.{IsPermutation}
 use Rattle.directory_rules.specs.Table.{entries_of}
 use Rattle.grain_table.specs.Table.{TableValue}
-use Rattle.grain_table.proofs.Sorting.{sorted_by_grain}
+use Rattle.grain_table.proofs.Sorted.{sorted_by_grain}
 use Rattle.grain_table.proofs.table.Table.in_order.Goals as goal
 
 pub returns : goal.returns

@@ -8,7 +8,7 @@ use Rattle.grain_table.specs.Table.{TableValue}
 use Rattle.grain_table.proofs.ByGrain.{by_grain_is_table}
 use Rattle.grain_table.proofs.Ends.{within_before}
 use Rattle.grain_table.proofs.Filters.{all_passed}
-use Rattle.grain_table.proofs.Lying.{all_lie}
+use Rattle.grain_table.proofs.Outside.{all_lie}
 use Rattle.grain_table.proofs.table.Table.keep_under_hashes.Goals as goal
 
 pub returns-then-lies_under_hashes : goal.returns-then-lies_under_hashes

@@ -2,7 +2,7 @@ use Rattle.std.proofs.Common.{◌≡◌, ◌∙◌, ap, sym, subst}
 use Rattle.std.specs.List.{AllByRecursion}
 use Rattle.grain_table.specs.Table.{TableValue}
 use Rattle.grain_table.proofs.ByGrain.{by_grain_is_table}
-use Rattle.grain_table.proofs.Lying.{all_lie}
+use Rattle.grain_table.proofs.Outside.{all_lie}
 use Rattle.grain_table.proofs.table.Table.keep_within.Goals as goal
 
 pub returns-then-lies_in : goal.returns-then-lies_in

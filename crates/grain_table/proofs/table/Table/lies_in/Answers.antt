@@ -3,7 +3,7 @@ use Rattle.ring_range.specs.Range.{holds}
 use Rattle.hash_ring.specs.Hash.{hash_grain}
 use Rattle.directory_rules.specs.Table.{entries_of, lie_in}
 use Rattle.grain_table.specs.Table.{TableValue}
-use Rattle.grain_table.proofs.Lying.{each_grain}
+use Rattle.grain_table.proofs.Outside.{each_grain}
 use Rattle.grain_table.proofs.table.Table.lies_in.Goals as goal
 
 pub returns-then-same : goal.returns-then-same

@@ -2,7 +2,7 @@ use Rattle.std.proofs.Common.{arith, ◌≡◌, ◌∙◌, ◌+◌, ◌-◌, ap,
 use Rattle.std.specs.Prelude.{◌&&◌}
 use Rattle.ring_range.specs.Range.{circle}
 use Rattle.directory_rules.specs.Table.{entries_of}
-use Rattle.grain_table.proofs.Lying.{none, one_outside, two_outside}
+use Rattle.grain_table.proofs.Outside.{none, one_outside, two_outside}
 use Rattle.grain_table.proofs.table.Table.lies_under_hashes.Goals as goal
 
 pub returns-then-end-gt-CIRCLE : goal.returns-then-end-gt-CIRCLE

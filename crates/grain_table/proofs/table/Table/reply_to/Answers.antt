@@ -1,6 +1,6 @@
 use Rattle.std.proofs.Common.{sym, ◌∙◌, ap, []}
 use Rattle.directory_rules.specs.Answer.{registered_over, turned}
-use Rattle.grain_table.proofs.Turning.{registered_reply}
+use Rattle.grain_table.proofs.Registers.{registered_reply}
 use Rattle.grain_table.proofs.table.Table.reply_to.Goals as goal
 
 pub returns-in-Register : goal.returns-in-Register

@@ -7,7 +7,7 @@ use Rattle.hash_ring.specs.Point.{point_cmp, IsOnCircle}
 use Rattle.hash_ring.specs.Ranges.{CoverOwned}
 use Rattle.hash_ring.specs.Ring.{RingValue}
 use Rattle.hash_ring.specs.Search.{PlacesRise}
-use Rattle.hash_ring.proofs.Covering.{cover_if}
+use Rattle.hash_ring.proofs.OwnRanges.{cover_if}
 use Rattle.hash_ring.proofs.OwnerSearch.{places_rise}
 use Rattle.hash_ring.proofs.ring.Ring.ranges_of.Goals as goal
 

@@ -2,7 +2,7 @@ use Rattle.std.proofs.Common.{◌≡◌, sym, ap, subst, ◌∙◌, ◌+◌, Som
 use Rattle.std.specs.Prelude.{IsSomeAnd, IfSome, IsTrue}
 use Rattle.directory_rules.specs.Host.{Host, held_of, is_firm, with_closing}
 use Rattle.directory_rules.specs.declared.Phase.TheVariants.{Closing}
-use Rattle.held_activations.specs.Activations.{ActivationsValue}
+use Rattle.host_activations.specs.Activations.{ActivationsValue}
 use Rattle.host_activations.specs.HostModel.{host_of}
 use Rattle.host_activations.proofs.Fields.{meant}
 use Rattle.host_activations.proofs.Beginnings.{closing_is, closing_means}

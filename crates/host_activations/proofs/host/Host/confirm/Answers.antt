@@ -2,7 +2,7 @@ use Rattle.std.proofs.Common.{◌≡◌, sym, ap, subst, ◌∙◌, None}
 use Rattle.std.specs.Prelude.{MatchOption}
 use Rattle.directory_rules.specs.Host.{Host, confirmed}
 use Rattle.directory_rules.specs.declared.Phase.TheVariants.{Firm}
-use Rattle.held_activations.specs.Activations.{ActivationsValue}
+use Rattle.host_activations.specs.Activations.{ActivationsValue}
 use Rattle.host_activations.proofs.Fields.{meant}
 use Rattle.host_activations.proofs.Endings.{confirmed_is, confirmed_means, there}
 use Rattle.host_activations.proofs.Setting.{set_there, set_to}

@@ -1,5 +1,5 @@
 use Rattle.std.proofs.Common.{ap, ◌∙◌}
-use Rattle.held_activations.specs.Activations.{ActivationsValue}
+use Rattle.host_activations.specs.Activations.{ActivationsValue}
 use Rattle.host_activations.proofs.Endings.{ended_is, ended_means, freed, without_number}
 use Rattle.host_activations.proofs.Fields.{meant}
 use Rattle.host_activations.proofs.host.Host.end.Goals as goal

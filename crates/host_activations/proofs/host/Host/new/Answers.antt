@@ -1,5 +1,5 @@
 use Rattle.std.proofs.Common.{ap}
-use Rattle.held_activations.specs.Activations.{ActivationsValue}
+use Rattle.host_activations.specs.Activations.{ActivationsValue}
 use Rattle.host_activations.proofs.Beginnings.{nothing_is}
 use Rattle.host_activations.proofs.host.Host.new.Goals as goal
 

@@ -1,6 +1,6 @@
 use Rattle.std.proofs.Common.{◌≡◌, refl, ◌∙◌, ◌+◌}
 use Rattle.host_activations.proofs.Fields.{meant}
-use Rattle.host_activations.proofs.Renewing.{now, renewal_is, renewed_is, renewed_means}
+use Rattle.host_activations.proofs.Renewals.{now, renewal_is, renewed_is, renewed_means}
 use Rattle.host_activations.proofs.host.Host.renew.Goals as goal
 
 pub invariant_of-self : goal.invariant_of-self

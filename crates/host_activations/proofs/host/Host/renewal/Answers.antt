@@ -1,5 +1,5 @@
 use Rattle.std.proofs.Common.{sym, ◌∙◌}
-use Rattle.host_activations.proofs.Renewing.{enough, renewal_is}
+use Rattle.host_activations.proofs.Renewals.{enough, renewal_is}
 use Rattle.host_activations.proofs.host.Host.renewal.Goals as goal
 
 pub renumbered-requires : goal.renumbered-requires

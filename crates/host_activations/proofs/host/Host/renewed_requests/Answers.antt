@@ -1,7 +1,7 @@
 use Rattle.std.proofs.Common.{ap, subst, ◌≡◌, ◌∙◌}
 use Rattle.std.specs.Prelude.{IfOk}
 use Rattle.host_activations.specs.Acts.{acts_in}
-use Rattle.host_activations.proofs.Renewing.{renewal_is, requests_are}
+use Rattle.host_activations.proofs.Renewals.{renewal_is, requests_are}
 use Rattle.host_activations.proofs.host.Host.renewed_requests.Goals as goal
 
 pub returns : goal.returns

@@ -1,7 +1,7 @@
 use Rattle.std.proofs.Common.{ap, subst, ◌≡◌, ◌∙◌}
 use Rattle.std.specs.Prelude.{IfOk}
 use Rattle.directory_rules.specs.Host.{outstanding}
-use Rattle.host_activations.proofs.Outstanding.{acts_are}
+use Rattle.host_activations.proofs.OutstandingActs.{acts_are}
 use Rattle.host_activations.proofs.host.Host.requests.Goals as goal
 
 pub returns : goal.returns

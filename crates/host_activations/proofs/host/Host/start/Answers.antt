@@ -3,10 +3,10 @@ use Rattle.std.specs.Map.{remove_entry}
 use Rattle.std.specs.BTreeMap.{is_at}
 use Rattle.std.specs.Ordering.{nat_cmp}
 use Rattle.host_activations.specs.declared.asked.Asked.TheVariants.{Activation}
-use Rattle.held_activations.specs.Activations.{ActivationsValue}
+use Rattle.host_activations.specs.Activations.{ActivationsValue}
 use Rattle.host_activations.proofs.Beginnings.{not_started_is, not_started_means, started_is, started_means}
 use Rattle.host_activations.proofs.Fields.{meant}
-use Rattle.host_activations.proofs.Kept.{free}
+use Rattle.host_activations.proofs.HostKept.{free}
 use Rattle.host_activations.proofs.Setting.{put_back}
 use Rattle.host_activations.proofs.host.Host.start.Goals as goal
 

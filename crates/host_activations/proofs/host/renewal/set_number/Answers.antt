@@ -3,8 +3,8 @@ use Rattle.std.specs.Map.{set_value}
 use Rattle.std.specs.BTreeMap.{is_at}
 use Rattle.silo_address.specs.Grain.{grain_cmp}
 use Rattle.directory_rules.specs.declared.Phase.{Phase}
-use Rattle.held_activations.specs.Activations.{ActivationsValue}
-use Rattle.host_activations.proofs.Renumbering.{set_none, set_some}
+use Rattle.host_activations.specs.Activations.{ActivationsValue}
+use Rattle.host_activations.proofs.NewNumbers.{set_none, set_some}
 use Rattle.host_activations.proofs.Setting.{set_there}
 use Rattle.host_activations.proofs.host.renewal.set_number.Goals as goal
 

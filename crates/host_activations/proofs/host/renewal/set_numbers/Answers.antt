@@ -1,7 +1,7 @@
 use Rattle.std.proofs.Common.{◌≡◌, sym, ap, ◌∙◌, ◌∷◌}
 use Rattle.host_activations.specs.declared.asked.Asked.{Asked}
-use Rattle.host_activations.proofs.Renewing.{held_is}
-use Rattle.host_activations.proofs.Renumbering.{set_is, with_find, with_number, with_numbers}
+use Rattle.host_activations.proofs.Renewals.{held_is}
+use Rattle.host_activations.proofs.NewNumbers.{set_is, with_find, with_number, with_numbers}
 use Rattle.host_activations.proofs.host.renewal.set_numbers.Goals as goal
 
 pub loop-number-preserved : goal.loop-number-preserved

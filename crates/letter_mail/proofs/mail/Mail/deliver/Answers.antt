@@ -3,7 +3,7 @@ use Rattle.std.specs.Map.{keys_of}
 use Rattle.letter_mail.specs.declared.slots.Slot.{Slot}
 use Rattle.letter_mail.specs.Slots.{AreKept}
 use Rattle.letter_mail.specs.Mail.{MailValue, letter_in, with_stale}
-use Rattle.letter_mail.proofs.Growing.{are_set, is_at_index, some_slot, still_slot}
+use Rattle.letter_mail.proofs.GrainNumbers.{are_set, is_at_index, some_slot, still_slot}
 use Rattle.letter_mail.proofs.Posted.{delivered_is, was_sent}
 use Rattle.letter_mail.proofs.mail.Mail.deliver.Goals as goal
 

@@ -3,7 +3,7 @@ use Rattle.std.specs.Map.{keys_of}
 use Rattle.letter_mail.specs.declared.slots.Slot.{Slot}
 use Rattle.letter_mail.specs.Slots.{AreKept}
 use Rattle.letter_mail.specs.Mail.{MailValue, letter_in, with_lost}
-use Rattle.letter_mail.proofs.Growing.{are_set, some_slot}
+use Rattle.letter_mail.proofs.GrainNumbers.{are_set, some_slot}
 use Rattle.letter_mail.proofs.Posted.{lost_is, was_sent}
 use Rattle.letter_mail.proofs.mail.Mail.lose.Goals as goal
 

@@ -1,7 +1,7 @@
 use Rattle.std.proofs.Common.{rules, ◌≡◌, ◌-◌, length, ◌∙◌, ap}
 use Rattle.std.specs.Map.{keys_of}
 use Rattle.letter_mail.specs.Mail.{MailValue, with_posted}
-use Rattle.letter_mail.proofs.Growing.{mail_undone}
+use Rattle.letter_mail.proofs.GrainNumbers.{mail_undone}
 use Rattle.letter_mail.proofs.mail.Mail.post.Goals as goal
 
 pub returns-in-Ok-clause-posted : goal.returns-in-Ok-clause-posted

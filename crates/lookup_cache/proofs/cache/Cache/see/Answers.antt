@@ -1,7 +1,7 @@
 use Rattle.std.proofs.Common.{◌∙◌, ap, sym}
 use Rattle.directory_rules.specs.Cache.{Cache, cache_seeing}
 use Rattle.lookup_cache.proofs.Caches.{cached, seen}
-use Rattle.lookup_cache.proofs.Living.{all_living}
+use Rattle.lookup_cache.proofs.NoneDead.{all_living}
 use Rattle.lookup_cache.proofs.cache.Cache.see.Goals as goal
 
 pub returns-then-not-has_dead : goal.returns-then-not-has_dead

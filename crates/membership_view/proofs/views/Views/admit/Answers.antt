@@ -2,7 +2,7 @@ use Rattle.std.proofs.Common.{◌≡◌, ◌≤◌, ◌<◌, true, length, sym, 
 use Rattle.membership_view.specs.Changes.{is_newest}
 use Rattle.membership_view.specs.Views.{ViewsValue}
 use Rattle.membership_view.proofs.Kept.{small}
-use Rattle.membership_view.proofs.Joining.{whole-joined}
+use Rattle.membership_view.proofs.Joins.{whole-joined}
 use Rattle.membership_view.proofs.views.Views.admit.Goals as goal
 
 pub overflow_add-version : goal.overflow_add-version

@@ -1,6 +1,6 @@
 use Rattle.std.proofs.Common.{◌≡◌, ◌++◌, ◌<◌, ◌≤◌, Option, ℕ, arith, length, subst, sym}
 use Rattle.std.specs.Prelude.{OnOk}
-use Rattle.process_rules.specs.LineReading.{longest_line}
+use Rattle.process_rules.specs.ReadLine.{longest_line}
 use Rattle.process_output.specs.Output.{after_last}
 use Rattle.process_loop.proofs.Kept.{unended_cut, unended_nothing, unended_too_long}
 use Rattle.process_loop.proofs.session.Session.tell_unended.Goals as goal

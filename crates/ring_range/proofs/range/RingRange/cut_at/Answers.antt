@@ -3,7 +3,7 @@ use Rattle.std.proofs.Common.{◌≡◌, ℕ, ◌<◌, List, ◌∙◌, ap, refl
 use Rattle.ring_range.specs.Range.{Range, IsRange}
 use Rattle.ring_range.specs.Cut.{cut_steps, cut_parts, IsCut}
 use Rattle.ring_range.proofs.Steps.{Rises, Rises-below, Rises-cut_steps}
-use Rattle.ring_range.proofs.Cutting.{is_cut, places_below}
+use Rattle.ring_range.proofs.Cuts.{is_cut, places_below}
 use Rattle.ring_range.proofs.range.RingRange.cut_at.Goals as goal
 
 pub loop-step-init : goal.loop-step-init

@@ -2,7 +2,7 @@
 use Rattle.std.proofs.Common.{List, subst, sym}
 use Rattle.ring_range.specs.Range.{Range}
 use Rattle.ring_range.specs.Meet.{AreCommon, AreApart, AreFewest, AreNearerFirst, AreAbsentAtStart}
-use Rattle.ring_range.proofs.Meeting.{common, apart, fewest, nearer_first, absent}
+use Rattle.ring_range.proofs.Meets.{common, apart, fewest, nearer_first, absent}
 use Rattle.ring_range.proofs.range.RingRange.meet.Goals as goal
 
 pub returns-clause-common : goal.returns-clause-common

@@ -1,6 +1,6 @@
 -- What is read is what is written.
 use Rattle.std.proofs.Common.{◌∙◌}
-use Rattle.ring_range.proofs.Reading.{shape_fault, number_fault, range_fault, IfOk-found, only}
+use Rattle.ring_range.proofs.ReadAgain.{shape_fault, number_fault, range_fault, IfOk-found, only}
 use Rattle.ring_range.proofs.range.RingRange.parse.Goals as goal
 
 pub returns-clause-found : goal.returns-clause-found

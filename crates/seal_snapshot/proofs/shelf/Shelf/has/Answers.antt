@@ -1,5 +1,5 @@
 use Rattle.std.proofs.Common.{sym}
-use Rattle.seal_snapshot.proofs.Finding.{has_at, has_none}
+use Rattle.seal_snapshot.proofs.Searches.{has_at, has_none}
 use Rattle.seal_snapshot.proofs.shelf.Shelf.has.Goals as goal
 
 pub returns-in-Some : goal.returns-in-Some

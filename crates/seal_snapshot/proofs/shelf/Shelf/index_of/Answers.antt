@@ -3,7 +3,7 @@ use Rattle.std.specs.List.Sorted.{IsPartitionPoint}
 use Rattle.std.proofs.lemmas.List.{get_or_default}
 use Rattle.directory_rules.specs.Snapshot.{Snapshot, is_snapshot}
 use Rattle.seal_snapshot.specs.Shelf.{AreInOrder, is_before}
-use Rattle.seal_snapshot.proofs.Finding.{nobody_there}
+use Rattle.seal_snapshot.proofs.Searches.{nobody_there}
 use Rattle.seal_snapshot.proofs.shelf.Shelf.index_of.Goals as goal
 
 pub returns-then-not-is_for-clause-absent : goal.returns-then-not-is_for-clause-absent

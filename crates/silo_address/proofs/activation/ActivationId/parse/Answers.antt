@@ -2,7 +2,7 @@ use Rattle.std.proofs.Common.{◌<◌, ◌≤◌, ◌+◌, ap, sym, ◌∙◌, l
 use Rattle.std.specs.List.{position_or_len}
 use Rattle.silo_address.specs.ActivationText.{activation_of, is_exclamation_mark}
 use Rattle.texts.specs.Numeral.{read_number}
-use Rattle.silo_address.specs.SiloReading.{read_silo}
+use Rattle.silo_address.specs.ReadSilo.{read_silo}
 use Rattle.silo_address.proofs.ActivationLaws.{activation_clauses, read_activation-cut, read_activation-whole}
 use Rattle.texts.proofs.Cuts.{rest_from}
 use Rattle.silo_address.proofs.activation.ActivationId.parse.Goals as goal

@@ -1,7 +1,7 @@
 use Rattle.std.proofs.Common.{subst}
 use Rattle.silo_workers.specs.Moments.{Moment}
 use Rattle.silo_threads.specs.Cluster.{ClusterValue}
-use Rattle.silo_threads.specs.Following.{HasPublished}
+use Rattle.silo_threads.specs.Followed.{HasPublished}
 use Rattle.silo_threads.proofs.Rings.{published_at}
 use Rattle.silo_threads.proofs.cluster.Cluster.publish_newest.Goals as goal
 

@@ -1,3 +1,0 @@
-pub mod EventModel
-pub mod OutcomeModel
-pub mod Copying

@@ -1,0 +1,57 @@
+ghost use Rattle.std.specs.Prelude.{◌≡◌, ◌↔◌, All, AllPairs, IfOk, IsTrue, false, length, replicate};
+ghost use Rattle.std.specs.Option.{option_copied};
+ghost use Rattle.cluster_journal.specs.Agreement.{Agree, HaveTwoNumbers, Stands};
+ghost use Rattle.cluster_journal.specs.Journal.{entry_at};
+
+use crate::{Entry, Receipt};
+use std::alloc::{AllocError, Global};
+
+/// Whether the receipts are just those of the journal: each one's event and outcome are the journal's at its number, no two have
+/// one number, and there are as many as entries. One look at each. Fails only when memory runs out, of which it takes a byte an entry.
+pub fn agree(alloc: Global, journal: &[Entry], receipts: &[Receipt]) -> Result<bool, AllocError>
+    ensures { IfOk result (λ agree. IsTrue agree ↔ Agree journal.now receipts.now) }
+{
+    if receipts.len() != journal.len() {
+        return Ok(false);
+    }
+    let mut given = vec![in alloc; false; journal.len()]?;
+    Ok(stand_apart(journal, receipts, &mut given))
+}
+
+// Whether each receipt stands in the journal, and no two have one number: an entry is marked as given once its receipt has come.
+fn stand_apart(journal: &[Entry], receipts: &[Receipt], given: &mut [bool]) -> bool
+    requires { given.old ≡ replicate (length journal.now) false }
+    ensures { IsTrue result ↔ (All (Stands journal.now) receipts.now × AllPairs HaveTwoNumbers receipts.now) }
+{
+    for receipt in receipts {
+        if !stands(journal, receipt) {
+            return false;
+        }
+        let index = (receipt.number - 1) as usize;
+        if given[index] {
+            return false;
+        }
+        given[index] = true;
+    }
+    true
+}
+
+// Whether the receipt's entry is the journal's at its number.
+fn stands(journal: &[Entry], receipt: &Receipt) -> bool
+    ensures { IsTrue result ↔ Stands journal.now receipt.now }
+{
+    match entry_at(journal, receipt.number) {
+        Some(entry) => entry.same(&receipt.entry),
+        None => false,
+    }
+}
+
+// The entry of that number, if there is one.
+fn entry_at(journal: &[Entry], number: u64) -> Option<&Entry>
+    ensures { option_copied result ≡ entry_at journal.now number }
+{
+    if number == 0 {
+        return None;
+    }
+    journal.get((number - 1) as usize)
+}

@@ -1,6 +1,0 @@
-mod Accepted
-mod NumberRows
-mod Numbers
-mod Refused
-mod Stops
-mod Walks

@@ -1,5 +1,0 @@
-use Rattle.std.proofs.Common.{rules}
-use Rattle.command_line.proofs.error.LineError.is_request.Goals as goal
-
-pub returns-in-DisplayHelp : goal.returns-in-DisplayHelp
-returns-in-DisplayHelp c = search rules

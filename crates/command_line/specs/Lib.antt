@@ -1,3 +1,0 @@
-pub mod Command
-pub mod Line
-pub mod Refusal

@@ -1,0 +1,21 @@
+ghost use Rattle.std.specs.Prelude.{IfErr, OnOk};
+ghost use Rattle.cluster_journal.specs.Agreement.{Agree};
+ghost use Rattle.compared_receipts.specs.Comparison.{Declines};
+
+use crate::CloseRefusal;
+use cluster_journal::{Entry, Receipt, agree};
+use std::alloc::Global;
+
+/// Compares receipts with a journal. Refused by 953 where a receipt's event and outcome aren't the journal's at its number, two
+/// receipts have one number, or there aren't as many receipts as entries. It takes a byte an entry, and one look at each receipt
+/// (`docs/RULES.md#the-board`).
+pub fn compare(alloc: Global, journal: &[Entry], receipts: &[Receipt]) -> Result<(), CloseRefusal>
+    ensures agree { OnOk result (Agree journal.now receipts.now) }
+    ensures declined { IfErr result (λ refusal. Declines journal.now receipts.now refusal) }
+{
+    if agree(alloc, journal, receipts)? {
+        Ok(())
+    } else {
+        Err(CloseRefusal::ReceiptDiffers)
+    }
+}

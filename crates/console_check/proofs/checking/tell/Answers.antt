@@ -1,5 +1,0 @@
-use Rattle.std.proofs.Common.{rules}
-use Rattle.console_check.proofs.checking.tell.Goals as goal
-
-pub returns : goal.returns
-returns g c = search rules

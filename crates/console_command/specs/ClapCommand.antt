@@ -1,0 +1,84 @@
+-- The command of the program, as clap reads it: its subcommands and their options.
+use Rattle.std.specs.Prelude.{◌≡◌, List, [], ◌∷◌, Some, codes, pos, true}
+use Rattle.clap.specs.Walk.{Rule, Text, texts}
+use Rattle.clap.specs.Simple.{App, new_app, new_rule, on_top, with_rule, with_subcommand}
+use Rattle.clap.specs.declared.builder.action.ArgAction.TheVariants.{Set}
+use Rattle.clap.specs.declared.builder.value_parser.ValueParser.{ValueParser}
+use Rattle.clap.specs.declared.builder.value_parser.ValueParser.TheVariants as parser
+use Rattle.std.specs.Borrow.{Bor}
+
+-- a list of names, as code refers to it
+abbrev pub NameList : Type 0
+NameList = Bor (List (Bor Text))
+
+-- the names of the ways of hashing
+abbrev pub hashing_names : List Text
+hashing_names = codes "sha256" ∷ codes "stated" ∷ []
+
+-- an option `--NAME VALUE` with a default
+abbrev pub option_rule : Text → ValueParser → Text → Rule
+option_rule name values default = record (new_rule name) {
+  long = Some name;
+  action = Some Set;
+  parser = Some values;
+  value_names = 1;
+  defaults = default ∷ [];
+}
+
+-- `--hashing`: one of the names, `sha256` if it is left out
+abbrev pub hashing_rule : NameList → Rule
+hashing_rule names = option_rule (codes "hashing") (parser.Names names) (codes "sha256")
+
+-- `--points`: a number from 1 to 128, 30 if it is left out
+abbrev pub points_rule : Rule
+points_rule = option_rule (codes "points") (parser.Signed (pos 1) (pos 128)) (codes "30")
+
+-- `--cache`: a number from 1 to 65536, 1024 if it is left out
+abbrev pub cache_rule : Rule
+cache_rule = option_rule (codes "cache") (parser.Signed (pos 1) (pos 65536)) (codes "1024")
+
+-- `NAME [--hashing HASHING] [--points N] [--cache N]`, which plays a script
+abbrev pub player_app : Text → NameList → App
+player_app name names =
+    with_rule (with_rule (with_rule (new_app name) (hashing_rule names)) points_rule) cache_rule
+
+-- `play`, with these options
+abbrev pub play_app : NameList → App
+play_app names = player_app (codes "play") names
+
+-- `threads`, with the same options
+abbrev pub threads_app : NameList → App
+threads_app names = player_app (codes "threads") names
+
+-- `check`, without options
+abbrev pub check_app : App
+check_app = new_app (codes "check")
+
+-- a silo's address, which stands without a name
+abbrev pub address_rule : Rule
+address_rule = record (new_rule (codes "ADDR")) { action = Some Set; required = true }
+
+-- `silo ADDR [--hashing HASHING] [--points N] [--cache N]`
+abbrev pub silo_app : NameList → App
+silo_app names =
+    with_rule (with_rule (with_rule (with_rule (new_app (codes "silo")) address_rule) (hashing_rule names)) points_rule) cache_rule
+
+-- the program's name, and that it tells its version; a subcommand has to follow
+abbrev pub bare_app : App
+bare_app = on_top (λ shape. record shape { subcommand_required = true; has_version = true }) (new_app (codes "grain-directory"))
+
+-- the commands that play a script
+abbrev pub players_app : NameList → App
+players_app names = with_subcommand (with_subcommand bare_app (play_app names).top) (threads_app names).top
+
+-- the commands that have options
+abbrev pub options_app : NameList → App
+options_app names = with_subcommand (players_app names) (silo_app names).top
+
+-- the whole command: one more `with_subcommand` for each subcommand
+abbrev pub app : NameList → App
+app names = with_subcommand (options_app names) check_app.top
+
+-- what holds of the command, whose names stand where some reference of the code points
+abbrev pub OfCommand : (App → Type 0) → Type 0
+OfCommand P = (names : NameList) × (texts names.now ≡ hashing_names) × P (app names)

@@ -1,0 +1,120 @@
+-- What an accepted command line asks for, as a function of what clap read.
+use Rattle.std.specs.Prelude.{◌≡◌, ◌≤◌, ◌&&◌, ℕ, nat_lt, List, [], length, Option, Some, None, Result, Ok, Err, option_and_then, unwrap_or, codes, ⊤, if◌then◌else◌}
+use Rattle.std.specs.Option.{option_map_or}
+use Rattle.std.specs.Char.{digit_value}
+use Rattle.std.specs.List.{list_all}
+use Rattle.std.specs.Str.{bytes_eq}
+use Rattle.std.specs.Str.Parse.{digits_value, without_leading_plus}
+use Rattle.clap.specs.Walk.{Row, Text, first_of, one_of}
+use Rattle.clap.specs.Simple.{App, subcommand_of}
+use Rattle.clap.specs.Faults.{fault_of}
+use Rattle.clap.specs.Kinds.{IsAmong}
+use Rattle.clap.specs.Values.{kind_of}
+use Rattle.clap.specs.declared.error.kind.ErrorKind.{ErrorKind}
+use Rattle.hash_ring.specs.declared.hashing.Hashing.{Hashing}
+use Rattle.hash_ring.specs.declared.hashing.Hashing.TheVariants.{Sha256, Stated}
+use Rattle.console_command.specs.declared.command_line.Line.{Line}
+use Rattle.silo_address.specs.Silo.{Silo as SiloValue}
+use Rattle.silo_address.specs.ReadSilo.{read_silo}
+use Rattle.silo_address.specs.declared.silo.SiloError.{SiloError}
+use Rattle.console_command.specs.declared.command_line.Line.TheVariants.{Play, Threads, Check, Silo}
+use Rattle.console_command.specs.declared.command_line.Options.{Options}
+use Rattle.console_command.specs.declared.line_error.LineError.{LineError}
+use Rattle.console_command.specs.declared.line_error.LineError.TheVariants as error
+use Rattle.console_command.specs.ClapCommand.{OfCommand}
+use Rattle.console_command.specs.LineRefusal.{IsRequest}
+
+-- the way of hashing of a name
+abbrev pub hashing_named : Text → Hashing
+hashing_named name = if bytes_eq name (codes "stated") then Stated else Sha256
+
+-- the way of hashing that the matches of a subcommand give
+abbrev pub hashing_of : List Row → Hashing
+hashing_of rows = option_map_or hashing_named (first_of (codes "hashing") rows) Sha256
+
+-- the number below 2^32 that a text says by its decimal digits, which may stand behind a `+`; 0 where it says none
+abbrev pub number_or_zero : Text → ℕ
+number_or_zero text =
+    let digits = without_leading_plus text in
+    if nat_lt 0 (length digits) && list_all (λ digit. nat_lt (digit_value digit) 10) digits && nat_lt (digits_value 10 digits) 4294967296
+    then digits_value 10 digits else 0
+
+-- the number that the matches of a subcommand give for an option; clap puts the default where the option is left out
+abbrev pub number_of : Text → List Row → ℕ
+number_of option rows = option_map_or number_or_zero (one_of option rows) 0
+
+-- what the options choose that the matches of a subcommand give
+abbrev pub options_in : List Row → Options
+options_in rows = record {
+  hashing = hashing_of rows;
+  points = number_of (codes "points") rows;
+  cache = number_of (codes "cache") rows;
+}
+
+-- the process of a silo, if it is one
+abbrev pub process_of : Result SiloValue SiloError → Options → Result Line SiloError
+process_of (Ok silo) options = Ok (Silo silo options)
+process_of (Err error) options = Err error
+
+-- what should name the silo, by the matches of a subcommand; clap asks for it, so it is never left out
+abbrev pub silo_text_in : List Row → Text
+silo_text_in rows = unwrap_or (first_of (codes "ADDR") rows) []
+
+-- the process of the silo that the matches of a subcommand name
+abbrev pub silo_in : List Row → Result Line SiloError
+silo_in rows = process_of (read_silo (silo_text_in rows)) (options_in rows)
+
+-- the line that a subcommand with its matches asks for, or why its silo is none: a row for each subcommand
+abbrev pub line_in : Text × List Row → Option (Result Line SiloError)
+line_in (name, rows) =
+    if bytes_eq name (codes "play") then Some (Ok (Play (options_in rows)))
+    else if bytes_eq name (codes "threads") then Some (Ok (Threads (options_in rows)))
+    else if bytes_eq name (codes "check") then Some (Ok Check)
+    else if bytes_eq name (codes "silo") then Some (silo_in rows) else None
+
+-- the line that clap reads from the words
+abbrev pub line_of : App → List Text → Option (Result Line SiloError)
+line_of command words = option_and_then line_in (subcommand_of command words)
+
+-- clap finds no fault in the words, and reads that from them; the words begin with the program's name
+abbrev pub Say : List Text → Result Line SiloError → Type 0
+Say words read = OfCommand (λ command. (line_of command words ≡ Some read) × (fault_of command words ≡ []))
+
+-- they ask for that line
+abbrev pub AskFor : List Text → Line → Type 0
+AskFor words line = Say words (Ok line)
+
+-- they ask for the process of a silo, and name it by a text that is none
+abbrev pub NameNoSilo : List Text → SiloError → Type 0
+NameNoSilo words error = Say words (Err error)
+
+-- clap finds a fault of that kind in the words; a request for help or for the version is one
+abbrev pub HaveFault : List Text → ErrorKind → Type 0
+HaveFault words kind = OfCommand (λ command. IsAmong kind (fault_of command words))
+
+-- the words ask for help or for the version
+abbrev pub AskToBeTold : List Text → Type 0
+AskToBeTold words = (kind : ErrorKind) × IsRequest kind × HaveFault words kind
+
+-- an accepted line is what the words ask for; a refusal has one of their faults, or the silo that they name is none, or memory ran out
+abbrev pub Reads : List Text → Result Line LineError → Type 0
+Reads words (Ok line) = AskFor words line
+Reads words (Err (error.Usage e)) = HaveFault words (kind_of e)
+Reads words (Err (error.NoSilo e)) = NameNoSilo words e
+Reads words (Err error.OutOfMemory) = ⊤
+
+-- the points are as many as a silo may have, and the hints as many as a cache may keep
+abbrev pub AreInRange : Options → Type 0
+AreInRange options = (1 ≤ options.points) × (options.points ≤ 128) × (1 ≤ options.cache) × (options.cache ≤ 65536)
+
+-- the options of the line are in their ranges
+abbrev pub IsInRange : Line → Type 0
+IsInRange (Play options) = AreInRange options
+IsInRange (Threads options) = AreInRange options
+IsInRange Check = ⊤
+IsInRange (Silo silo options) = AreInRange options
+
+-- so they are where a line is read
+abbrev pub AreReadInRange : Result Line SiloError → Type 0
+AreReadInRange (Ok line) = IsInRange line
+AreReadInRange (Err error) = ⊤

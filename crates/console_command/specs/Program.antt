@@ -1,0 +1,77 @@
+-- What the program does with the words of its command line.
+use Rattle.std.specs.Prelude.{◌≡◌, ℕ, ◌<◌, List, length, Option, IfSome}
+use Rattle.std.specs.Io.KnownBytes.{Appends}
+use Rattle.clap.specs.Walk.{Text}
+use Rattle.clap.specs.declared.error.kind.ErrorKind.{ErrorKind}
+use Rattle.directory_rules.specs.Settings.{Settings, directory_settings}
+use Rattle.directory_rules.specs.World.{first_world}
+use Rattle.script_loop.specs.Endings.{Ends}
+use Rattle.script_loop.specs.Sent.{WritesFront}
+use Rattle.script_loop.specs.declared.ended.Ended.{Ended}
+use Rattle.silo_address.specs.Silo.{Silo as SiloValue}
+use Rattle.silo_rules.specs.SiloValue.{first_silo}
+use Rattle.process_output.specs.Output.{silo_output}
+use Rattle.process_loop.specs.Endings.{Stops}
+use Rattle.process_loop.specs.declared.stopped.Stopped.{Stopped}
+use Rattle.console_command.specs.SiloPlay.{WritesOutput, process_settings}
+use Rattle.console_command.specs.Play.{lines_played}
+use Rattle.console_command.specs.Checks.{Checks}
+use Rattle.console_command.specs.declared.checked.Checked.{Checked}
+use Rattle.silo_address.specs.declared.silo.SiloError.{SiloError}
+use Rattle.console_command.specs.CommandLine.{AskFor, AskToBeTold, HaveFault, NameNoSilo}
+use Rattle.console_command.specs.LineRefusal.{IsRequest}
+use Rattle.console_command.specs.declared.command_line.Line.TheVariants.{Play, Check, Silo}
+use Rattle.console_command.specs.declared.command_line.Options.{Options}
+use Rattle.console_command.specs.declared.exit.Exit.{Exit}
+use Rattle.console_command.specs.declared.exit.Exit.TheVariants.{Played, Threaded, Checked as CheckedDump, Silo as SiloStopped, Answered, AnswerBroken, Refused, OutOfMemory}
+
+-- what the source has left, and what the sink of the output has
+pub record Streams : Type 0 where
+  pub rest : Option (List ℕ)
+  pub output : Option (List ℕ)
+
+-- the settings that the options choose
+abbrev pub chosen_settings : Options → Settings
+chosen_settings options = directory_settings options.hashing options.points options.cache
+
+-- the source's script is played to a new cluster, with those settings
+abbrev pub Plays : Options → (old new : Streams) → Ended → Type 0
+Plays options old new ended = IfSome old.rest (λ script.
+    Ends script (lines_played (first_world (chosen_settings options)) 1) new.rest old.output new.output ended)
+
+-- the settings that the options choose for a silo's process
+abbrev pub chosen_process_settings : Options → Settings
+chosen_process_settings options = process_settings options.hashing options.points options.cache
+
+-- the source's lines are those of the silo's process, with those settings, and are answered
+pub record PlaysSilo (silo : SiloValue) (options : Options) (old new : Streams) (stopped : Stopped) : Type 0 where
+  pub writes : IfSome old.rest (λ input. WritesOutput (silo_output (chosen_process_settings options) silo input) old.output new.output stopped)
+  pub stops : IfSome old.rest (λ input. Stops input (first_silo (chosen_process_settings options) silo) new.rest old.output new.output stopped)
+
+-- the source's dump is judged
+abbrev pub ChecksDump : (old new : Streams) → Checked → Type 0
+ChecksDump old new checked = IfSome old.rest (λ dump. Checks dump new.rest old.output new.output checked)
+
+-- nothing is read, and a text that is not empty is written to the output
+abbrev pub Prints : (old new : Streams) → Type 0
+Prints old new = (new.rest ≡ old.rest) × ((text : List ℕ) × (0 < length text) × Appends old.output new.output text)
+
+-- or a beginning of it
+abbrev pub PrintsFront : (old new : Streams) → Type 0
+PrintsFront old new = (new.rest ≡ old.rest) × ((text : List ℕ) × (0 < length text) × WritesFront text old.output new.output)
+
+-- the words are a mistake: clap finds a fault in them, or the silo that they name is none
+pub data AreMistaken (words : List Text) : Type 0 where
+  by_fault : (kind : ErrorKind) → HaveFault words kind → (¬ (IsRequest kind)) → AreMistaken words
+  by_name : (error : SiloError) → NameNoSilo words error → AreMistaken words
+
+-- what the words ask for is done; where they are a mistake, or memory runs out, nothing is read and nothing written to the output
+abbrev pub Does : (words : List Text) → (old new : Streams) → Exit → Type 0
+Does words old new (Played ended) = (options : Options) × AskFor words (Play options) × Plays options old new ended
+Does words old new (Threaded ended) = ⊥
+Does words old new (CheckedDump checked) = AskFor words Check × ChecksDump old new checked
+Does words old new (SiloStopped stopped) = (silo : SiloValue) × (options : Options) × AskFor words (Silo silo options) × PlaysSilo silo options old new stopped
+Does words old new Answered = AskToBeTold words × Prints old new
+Does words old new AnswerBroken = AskToBeTold words × PrintsFront old new
+Does words old new Refused = AreMistaken words × (new ≡ old)
+Does words old new OutOfMemory = new ≡ old

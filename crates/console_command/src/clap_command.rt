@@ -1,0 +1,148 @@
+ghost use Rattle.std.specs.Prelude.{◌≡◌, IfOk, false};
+ghost use Rattle.clap.specs.Walk.{rule_of};
+ghost use Rattle.clap.specs.Simple.{app_of};
+ghost use Rattle.clap.specs.declared.builder.command.Command.TheViews.{out-Command};
+ghost use Rattle.console_command.specs.ClapCommand.{OfCommand, address_rule, check_app, option_rule, options_app, player_app, players_app, points_rule, cache_rule, hashing_rule, silo_app};
+
+use clap::builder::ValueParser;
+use clap::{Arg, ArgAction, Command, value_parser};
+use std::alloc::{AllocError, Global};
+
+/// The program's version.
+const VERSION: &str = "0.1.0";
+
+/// What help says of the commands that play a script.
+const PLAY: &str = "Play a cluster's script, read from standard input";
+
+const THREADS: &str = "Play a cluster's script with a thread per silo, read from standard input";
+
+/// What help says of the command that is a silo's process.
+const SILO: &str = "Be one silo's process: lines of standard input are answered on standard output";
+
+static HASHINGS: [&str; 2] = ["sha256", "stated"];
+
+/// The whole command: a call of `subcommand` for each subcommand.
+pub(crate) fn grain_directory<'a>(alloc: Global) -> Result<Command<'a>, AllocError>
+    ensures { IfOk result (λ c. OfCommand (λ command. app_of c ≡ command)) }
+{
+    with_options(alloc, HASHINGS.as_slice())?.subcommand(check(alloc))
+}
+
+// The command with those of its subcommands that have options.
+fn with_options<'a>(alloc: Global, hashings: &'a [&'a str]) -> Result<Command<'a>, AllocError>
+    ensures { IfOk result (λ c. app_of c ≡ options_app hashings.entry) }
+{
+    with_players(alloc, hashings)?.subcommand(silo(alloc, hashings)?)
+}
+
+// The command with those of its subcommands that play a script.
+fn with_players<'a>(alloc: Global, hashings: &'a [&'a str]) -> Result<Command<'a>, AllocError>
+    ensures { IfOk result (λ c. app_of c ≡ players_app hashings.entry) }
+{
+    Command::new(alloc, "grain-directory")
+        .about(
+            "A directory of grains on a cluster of silos, played from a script, or one silo of it",
+        )
+        .version(VERSION)
+        .bin_name("grain-directory")?
+        .subcommand_required(true)
+        .subcommand(player(alloc, "play", PLAY, hashings)?)?
+        .subcommand(player(alloc, "threads", THREADS, hashings)?)
+}
+
+// `NAME [--hashing HASHING] [--points N] [--cache N]`, which plays a script.
+fn player<'a>(
+    alloc: Global,
+    name: &'a str,
+    about: &'a str,
+    hashings: &'a [&'a str],
+) -> Result<Command<'a>, AllocError>
+    ensures app { IfOk result (λ c. app_of c ≡ player_app name.entry.now hashings.entry) }
+    ensures local { IfOk result (λ c. (out-Command c).has_globals ≡ false) }
+{
+    Command::new(alloc, name)
+        .about(about)
+        .arg(hashing(alloc, hashings))?
+        .arg(points(alloc))?
+        .arg(cache(alloc))
+}
+
+// `silo ADDR [--hashing HASHING] [--points N] [--cache N]`, which is a silo's process.
+fn silo<'a>(alloc: Global, hashings: &'a [&'a str]) -> Result<Command<'a>, AllocError>
+    ensures app { IfOk result (λ c. app_of c ≡ silo_app hashings.entry) }
+    ensures local { IfOk result (λ c. (out-Command c).has_globals ≡ false) }
+{
+    Command::new(alloc, "silo")
+        .about(SILO)
+        .arg(address(alloc))?
+        .arg(hashing(alloc, hashings))?
+        .arg(points(alloc))?
+        .arg(cache(alloc))
+}
+
+fn address<'a>(alloc: Global) -> Arg<'a>
+    ensures rule { rule_of result ≡ address_rule }
+    ensures local { result.global ≡ false }
+{
+    Arg::new(alloc, "ADDR")
+        .required(true)
+        .action(ArgAction::Set)
+        .help("The silo: a.b.c.d:port@generation")
+}
+
+// `check`.
+fn check<'a>(alloc: Global) -> Command<'a>
+    ensures app { app_of result ≡ check_app }
+    ensures local { (out-Command result).has_globals ≡ false }
+{
+    Command::new(alloc, "check").about("Judge the dump of a cluster, read from standard input")
+}
+
+fn hashing<'a>(alloc: Global, hashings: &'a [&'a str]) -> Arg<'a>
+    ensures rule { rule_of result ≡ hashing_rule hashings.entry }
+    ensures local { result.global ≡ false }
+{
+    let names = ValueParser::Names(hashings);
+    option(alloc, "hashing", "HASHING", names, "sha256").help(
+        "How points and grains are hashed: by their texts, or as the script states",
+    )
+}
+
+fn points<'a>(alloc: Global) -> Arg<'a>
+    ensures rule { rule_of result ≡ points_rule }
+    ensures local { result.global ≡ false }
+{
+    let numbers = value_parser!(u32).range(1..=128);
+    option(alloc, "points", "POINTS", numbers, "30").help(
+        "How many points a silo has under sha256, from 1 to 128",
+    )
+}
+
+fn cache<'a>(alloc: Global) -> Arg<'a>
+    ensures rule { rule_of result ≡ cache_rule }
+    ensures local { result.global ≡ false }
+{
+    let numbers = value_parser!(u32).range(1..=65536);
+    option(alloc, "cache", "CACHE", numbers, "1024").help(
+        "How many hints a silo's cache keeps, from 1 to 65536",
+    )
+}
+
+// An option `--NAME VALUE` with a default; help shows the value as `shown`.
+fn option<'a>(
+    alloc: Global,
+    name: &'a str,
+    shown: &'a str,
+    values: ValueParser<'a>,
+    default: &'a str,
+) -> Arg<'a>
+    ensures rule { rule_of result ≡ option_rule name.entry.now values.entry default.entry.now }
+    ensures local { result.global ≡ false }
+{
+    Arg::new(alloc, name)
+        .long(name)
+        .value_name(shown)
+        .action(ArgAction::Set)
+        .value_parser(values)
+        .default_value(default)
+}

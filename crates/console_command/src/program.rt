@@ -1,0 +1,221 @@
+//! From the words of the command line to the exit.
+
+ghost use Rattle.std.specs.Prelude.{◌≡◌, List, ℕ, Option, Err, map};
+ghost use Rattle.clap.specs.Walk.{Text};
+ghost use Rattle.console_command.specs.CommandLine.{AreInRange, AskFor, AskToBeTold, IsInRange, Reads};
+ghost use Rattle.script_loop.specs.Endings as play;
+ghost use Rattle.silo_address.specs.Silo.{Silo};
+ghost use Rattle.threaded_play.specs.Endings.{IsSent};
+ghost use Rattle.console_command.specs.Exits.{WritesAnswer, exit_without_words};
+ghost use Rattle.process_loop.specs.Endings as process;
+ghost use Rattle.console_command.specs.Program.{Does, Plays, PlaysSilo, chosen_settings};
+ghost use Rattle.console_command.specs.Errors.{IsTold, told_without_words};
+ghost use Rattle.console_command.specs.Outcome.{Carries, CarriesByCalls, CarriesTold};
+
+use crate::errors::{
+    tell, tell_check, tell_end, tell_failed_call, tell_no_memory, tell_silo, tell_threads, words_or,
+};
+use crate::{Exit, Line, LineError, Options, judge, play_new_silo, play_to_new_cluster, read_line};
+use directory_rules::Settings;
+use process_loop::Stopped;
+use script_loop::{Ended, Sink, Source, send};
+use silo_address::SiloAddress;
+use std::alloc::Global;
+use std::convert::AsStr;
+use std::io::ErrorKind;
+use threaded_play::ThreadsEnded;
+
+/// What is printed where clap has no words for an answer.
+const NAME: &str = "grain-directory\n";
+
+/// What is told where clap has no words for a mistake.
+const MISTAKE: &str = "error: the command line is a mistake\n";
+
+/// What became of a command line.
+#[derive(Clone, Copy, PartialEq, Eq)]
+pub enum Run {
+    /// It was carried out, and so the program ends.
+    Ended(Exit),
+    /// The script is to be played with a thread per silo, to a new cluster of these settings. Nothing is read and nothing written yet;
+    /// whoever has threads plays it, and tells the end to `end_threads`.
+    OnThreads(Settings),
+}
+
+/// Does what the words of a command line ask for, the program's name first: plays the script that comes from the source, judges the
+/// dump that does, is the process of the silo whose lines come from it, or prints help or the version. What is wrong with the words, and what ends the script or the reading of the dump
+/// too early, is told to the sink of errors. A script that is to be played with a thread per silo is left to the caller.
+pub fn run_words<S: AsStr, R: Source, W: Sink, E: Sink>(
+    alloc: Global,
+    words: &[S],
+    source: &mut R,
+    output: &mut W,
+    errors: &mut E,
+) -> Run
+    ensures does { Carries (map S.text words.now)
+        (record { rest = R.remaining source.old; output = W.contents output.old })
+        (record { rest = R.remaining source.new; output = W.contents output.new }) result }
+    ensures calls { CarriesByCalls R.reads W.writes (source.old, output.old) (source.new, output.new) result }
+    ensures told { CarriesTold E.writes E.contents errors.old errors.new result }
+{
+    match read_line(alloc, words) {
+        Ok(line) => run_line(alloc, line, source, output, errors),
+        Err(error) => Run::Ended(explain(alloc, &error, output, errors)),
+    }
+}
+
+// Does what an accepted line asks for.
+fn run_line<R: Source, W: Sink, E: Sink>(
+    alloc: Global,
+    line: Line,
+    source: &mut R,
+    output: &mut W,
+    errors: &mut E,
+) -> Run
+    requires { IsInRange line }
+    ensures does { (words : List Text) → AskFor words line → Carries words
+        (record { rest = R.remaining source.old; output = W.contents output.old })
+        (record { rest = R.remaining source.new; output = W.contents output.new }) result }
+    ensures calls { CarriesByCalls R.reads W.writes (source.old, output.old) (source.new, output.new) result }
+    ensures told { CarriesTold E.writes E.contents errors.old errors.new result }
+{
+    match line {
+        Line::Play(options) => {
+            let ended = play(alloc, options, source, output);
+            tell_end(alloc, ended, errors);
+            Run::Ended(Exit::Played(ended))
+        }
+        Line::Threads(options) => Run::OnThreads(chosen_settings(options)),
+        Line::Check => {
+            let checked = judge(alloc, source, output);
+            tell_check(checked, errors);
+            Run::Ended(Exit::Checked(checked))
+        }
+        Line::Silo(silo, options) => {
+            let stopped = play_silo(alloc, silo, options, source, output);
+            tell_silo(stopped, errors);
+            Run::Ended(Exit::Silo(stopped))
+        }
+    }
+}
+
+/// Tells how a script ended that was played with a thread per silo, and how so the program ends.
+pub fn end_threads<E: Sink>(alloc: Global, ended: ThreadsEnded, errors: &mut E) -> Exit
+    ensures exit { result ≡ Exit.Threaded ended }
+    ensures told { IsTold E.writes E.contents (Exit.Threaded ended) errors.old errors.new }
+{
+    tell_threads(alloc, ended, errors);
+    Exit::Threaded(ended)
+}
+
+fn play<R: Source, W: Sink>(
+    alloc: Global,
+    options: Options,
+    source: &mut R,
+    output: &mut W,
+) -> Ended
+    requires { AreInRange options }
+    ensures plays { Plays options
+        (record { rest = R.remaining source.old; output = W.contents output.old })
+        (record { rest = R.remaining source.new; output = W.contents output.new }) result }
+    ensures calls { play.MakesCalls R.reads W.writes (source.old, output.old) (source.new, output.new) result }
+{
+    let Options {
+        hashing,
+        points,
+        cache,
+    } = options;
+    match play_to_new_cluster(alloc, hashing, points, cache, source, output) {
+        Some(ended) => ended,
+        None => unreachable!(),
+    }
+}
+
+fn play_silo<R: Source, W: Sink>(
+    alloc: Global,
+    silo: SiloAddress,
+    options: Options,
+    source: &mut R,
+    output: &mut W,
+) -> Stopped
+    requires { AreInRange options }
+    ensures plays { PlaysSilo silo options
+        (record { rest = R.remaining source.old; output = W.contents output.old })
+        (record { rest = R.remaining source.new; output = W.contents output.new }) result }
+    ensures calls { process.MakesCalls R.reads W.writes (source.old, output.old) (source.new, output.new) result }
+{
+    let Options {
+        hashing,
+        points,
+        cache,
+    } = options;
+    match play_new_silo(alloc, silo, hashing, points, cache, source, output) {
+        Some(stopped) => stopped,
+        None => unreachable!(),
+    }
+}
+
+// The settings that the options choose.
+fn chosen_settings(options: Options) -> Settings
+    requires { AreInRange options }
+    ensures { result ≡ chosen_settings options }
+{
+    match Settings::of_directory(options.hashing, options.points, options.cache) {
+        Some(settings) => settings,
+        None => unreachable!(),
+    }
+}
+
+// Prints the help or the version that the words ask for, or tells what is wrong with them.
+fn explain<W: Sink, E: Sink>(
+    alloc: Global,
+    error: &LineError,
+    output: &mut W,
+    errors: &mut E,
+) -> Exit
+    ensures does { (words : List Text) → Reads words (Err error.now) → (rest : Option (List ℕ)) → Does words
+        (record { rest = rest; output = W.contents output.old })
+        (record { rest = rest; output = W.contents output.new }) result }
+    ensures calls { WritesAnswer W.writes output.old output.new result }
+    ensures told { IsTold E.writes E.contents result errors.old errors.new }
+{
+    if let LineError::OutOfMemory = error {
+        return tell_no_memory(errors);
+    }
+    let Ok(text) = error.to_string(alloc) else {
+        return tell_no_memory(errors);
+    };
+    if error.is_request() {
+        return answer(text.as_str(), output, errors);
+    }
+    let text = words_or(text.as_str(), MISTAKE);
+    tell(errors, text.as_bytes());
+    Exit::Refused
+}
+
+// Prints what the words ask for.
+fn answer<W: Sink, E: Sink>(text: &str, output: &mut W, errors: &mut E) -> Exit
+    ensures does { (words : List Text) → AskToBeTold words → (rest : Option (List ℕ)) → Does words
+        (record { rest = rest; output = W.contents output.old })
+        (record { rest = rest; output = W.contents output.new }) result }
+    ensures calls { WritesAnswer W.writes output.old output.new result }
+    ensures told { IsTold E.writes E.contents result errors.old errors.new }
+{
+    let text = words_or(text, NAME);
+    if send(output, text.as_bytes()) {
+        return Exit::Answered;
+    }
+    tell_failed_call(errors);
+    Exit::AnswerBroken
+}
+
+/// Tells that the words of the command line can't be had: memory ran out, or one of them isn't text.
+pub fn run_without_words<E: Sink>(kind: ErrorKind, errors: &mut E) -> Exit
+    ensures exit { result ≡ exit_without_words kind }
+    ensures told { IsSent E.writes E.contents (told_without_words kind) errors.old errors.new }
+{
+    if let ErrorKind::OutOfMemory = kind {
+        return tell_no_memory(errors);
+    }
+    tell(errors, b"error: a word of the command line is not UTF-8\n");
+    Exit::Refused
+}

@@ -1,0 +1,72 @@
+//! Processes of silos.
+
+ghost use Rattle.std.specs.Prelude.{◌≡◌, ◌≤◌, ◌↔◌, IfSome, IsSome, MatchOption};
+ghost use Rattle.silo_rules.specs.SiloValue.{first_silo};
+ghost use Rattle.process_output.specs.Output.{silo_output};
+ghost use Rattle.process_loop.specs.Endings.{MakesCalls, Stops};
+ghost use Rattle.console_command.specs.SiloPlay.{WritesOutput, process_settings};
+
+use crate::silo_player::Player;
+use directory_rules::Settings;
+use directory_silo::Silo;
+use hash_ring::Hashing;
+use process_loop::Stopped;
+use script_loop::{Sink, Source};
+use silo_address::SiloAddress;
+use std::alloc::Global;
+
+/// How many silos may ever join a deployment.
+const MOST_SILOS: usize = 65_536;
+
+/// Plays the process of a new silo, under a way of hashing, with a number of points, 1 to 128, and of hints that its cache keeps, 0 to
+/// 65536: `None` where one of them is out of its range, and nothing is read or written. Its lines come from the reader up to its end,
+/// or up to the one by which the silo is dead, and what is answered goes to the writer (`docs/RULES.md#lines-of-a-silos-process`).
+pub fn play_new_silo<R: Source, W: Sink>(
+    alloc: Global,
+    silo: SiloAddress,
+    hashing: Hashing,
+    points: usize,
+    cache: usize,
+    reader: &mut R,
+    writer: &mut W,
+) -> Option<Stopped>
+    ensures in_range { IsSome result ↔ ((1 ≤ points) × (points ≤ 128) × (cache ≤ 65536)) }
+
+    // What is written of the output, which is the rule's.
+    ensures writes { IfSome result (λ stopped. IfSome (R.remaining reader.old) (λ input.
+        WritesOutput (silo_output (process_settings hashing points cache) silo input) (W.contents writer.old) (W.contents writer.new) stopped)) }
+    ensures stops { IfSome result (λ stopped. IfSome (R.remaining reader.old) (λ input.
+        Stops input (first_silo (process_settings hashing points cache) silo)
+        (R.remaining reader.new) (W.contents writer.old) (W.contents writer.new) stopped)) }
+    ensures calls { MatchOption result ((reader.new ≡ reader.old) × (writer.new ≡ writer.old))
+        (MakesCalls R.reads W.writes (reader.old, writer.old) (reader.new, writer.new)) }
+{
+    let settings = process_settings(hashing, points, cache)?;
+    Some(play(alloc, settings, silo, reader, writer))
+}
+
+// A directory's settings, but that more silos may ever join.
+fn process_settings(hashing: Hashing, points: usize, cache: usize) -> Option<Settings>
+    ensures exact { IfSome result (λ settings. settings ≡ process_settings hashing points cache) }
+    ensures in_range { IsSome result ↔ ((1 ≤ points) × (points ≤ 128) × (cache ≤ 65536)) }
+{
+    Settings::of_directory(hashing, points, cache)?.with_silos(MOST_SILOS)
+}
+
+// Plays the process of a silo that was told nothing yet, as `process_loop::play` does.
+fn play<R: Source, W: Sink>(
+    alloc: Global,
+    settings: Settings,
+    silo: SiloAddress,
+    reader: &mut R,
+    writer: &mut W,
+) -> Stopped
+    ensures stops { IfSome (R.remaining reader.old) (λ input.
+        Stops input (first_silo settings silo) (R.remaining reader.new) (W.contents writer.old) (W.contents writer.new) result) }
+    ensures calls { MakesCalls R.reads W.writes (reader.old, writer.old) (reader.new, writer.new) result }
+{
+    let Ok(silo) = Silo::new(alloc, settings, silo) else {
+        return Stopped::OutOfMemory;
+    };
+    process_loop::play(alloc, &mut Player { silo }, reader, writer)
+}

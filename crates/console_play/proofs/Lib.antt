@@ -1,9 +1,0 @@
-mod Counted
-pub mod Judged
-pub mod Lines
-mod LinesPlayed
-mod Mailed
-mod Results
-mod Rows
-mod Sights
-mod Turns

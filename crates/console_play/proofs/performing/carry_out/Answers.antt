@@ -1,7 +1,0 @@
-use Rattle.std.proofs.Common.{rules}
-use Rattle.script_rules.specs.Output.{performed}
-use Rattle.console_play.proofs.performing.carry_out.Goals as goal
-
-pub returns-in-Owner-clause-performed : goal.returns-in-Owner-clause-performed
-unfolding performed
-returns-in-Owner-clause-performed c = search rules

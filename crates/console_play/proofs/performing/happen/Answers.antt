@@ -1,5 +1,0 @@
-use Rattle.console_play.proofs.Turns.{alone}
-use Rattle.console_play.proofs.performing.happen.Goals as goal
-
-pub returns-clause-performed : goal.returns-clause-performed
-returns-clause-performed c = alone _ _ _ _ c.in_ok-take_turn.field-0 c.in_ok-take_turn.ensures.taken

@@ -1,3 +1,0 @@
-pub mod Performing
-pub mod Playing
-pub mod Telling

@@ -1,0 +1,55 @@
+-- What comes of a play on threads once these are joined.
+use Rattle.std.specs.Prelude.{◌≡◌, ◌⊎◌, ℕ, Bool, true, false, List, [], Option, Some, ⊤}
+use Rattle.directory_rules.specs.Settings.{Settings}
+use Rattle.directory_rules.specs.World.{World}
+use Rattle.cluster_journal.specs.Entry.{EntryValue}
+use Rattle.cluster_journal.specs.Journal.{IsJournaled}
+use Rattle.script_loop.specs.Calls.{WritesText}
+use Rattle.script_loop.specs.Endings as play
+use Rattle.script_loop.specs.Sent.{Sends}
+use Rattle.script_loop.specs.declared.ended.Ended.{Ended}
+use Rattle.script_loop.specs.declared.ended.Ended.TheVariants as ended
+use Rattle.threaded_play.specs.Endings.{Ends, WritesSome}
+use Rattle.threaded_play.specs.Faults.{faults_alone}
+use Rattle.threaded_play.specs.Printed.{TellsWorld}
+use Rattle.threaded_play.specs.declared.ended.ThreadsEnded.{ThreadsEnded}
+use Rattle.threaded_play.specs.declared.ended.ThreadsEnded.TheVariants.{Played}
+use Rattle.console_threads.specs.Held.{is_read_well}
+
+-- the cluster wasn't closed
+abbrev pub IsUnclosed : ThreadsEnded → Type 0
+IsUnclosed (Played end) = ⊥
+IsUnclosed other = ⊤
+
+-- the script's lines end so, and print that text by themselves
+abbrev pub LinesEnd : (script : List ℕ) → (rest : Option (List ℕ)) → (text : List ℕ) → Ended → Type 0
+LinesEnd script rest text end = play.Ends script (faults_alone 1) rest (Some []) (Some text) end
+
+-- the text tells the world, under whatever settings its journal made it
+abbrev pub Tells : List EntryValue → World → (text : List ℕ) → Type 0
+Tells journal world text = (settings : Settings) → IsJournaled settings journal world → TellsWorld settings text
+
+-- so a script ends, whatever it was, whose lines end so and print that text, and whose cluster came to that world
+abbrev pub EndsBy : List EntryValue → World → (text : List ℕ) → Ended → (begun written : Option (List ℕ)) → ThreadsEnded → Type 0
+EndsBy journal world text end begun written result =
+    (settings : Settings) (script : List ℕ) (rest : Option (List ℕ)) → IsJournaled settings journal world → LinesEnd script rest text end
+    → Ends settings script rest begun written result
+
+-- the ending once its text was sent, by whether all of it was taken
+abbrev pub sent_ending : Ended → (whole : Bool) → ThreadsEnded
+sent_ending end true = Played end
+sent_ending end false = Played ended.Broken
+
+-- the text was sent, and so it ends
+abbrev pub IsWritten : {W : Type 0} → (writes : W → List ℕ → Option ℕ → W → Type 0) → (contents : W → Option (List ℕ)) → (text : List ℕ) → Ended → (old new : W) → ThreadsEnded → Type 0
+IsWritten writes contents text end old new result =
+    (whole : Bool) × (result ≡ sent_ending end whole) × Sends text (contents old) (contents new) whole × WritesText writes text old new whole
+
+-- the writes by which it ends so: of one text, or none
+abbrev pub WritesOnce : {W : Type 0} → (writes : W → List ℕ → Option ℕ → W → Type 0) → (old new : W) → Ended → ThreadsEnded → Type 0
+WritesOnce writes old new end (Played ended.Broken) =
+    ((is_read_well end ≡ false) × (new ≡ old)) ⊎ ((is_read_well end ≡ true) × WritesSome writes old new false)
+WritesOnce writes old new end (Played ended.Played) = (is_read_well end ≡ true) × WritesSome writes old new true
+WritesOnce writes old new end (Played (ended.Faulted fault)) = (is_read_well end ≡ true) × WritesSome writes old new true
+WritesOnce writes old new end (Played other) = (is_read_well end ≡ true) × (new ≡ old)
+WritesOnce writes old new end other = new ≡ old

@@ -1,0 +1,98 @@
+ghost use Rattle.std.specs.Prelude.{◌≡◌, IfErr, IfOk, IfSome, MatchResult};
+ghost use Rattle.cluster_journal.specs.Journal.{IsJournaled};
+ghost use Rattle.console_threads.specs.Endings.{IsUnclosed};
+ghost use Rattle.threaded_play.specs.Endings.{Ends, MakesCalls, TellsCauses};
+
+use crate::driver::Driver;
+use crate::lines::play_lines;
+use crate::print::print;
+use crate::script::Script;
+use cluster_board::Board;
+use directory_rules::Settings;
+use script_commands::Command;
+use script_loop::{Sink, Source};
+use shared_node::SharedNode;
+use silo_threads::{Cluster, PARTS};
+use silo_workers::OpenGate;
+use std::alloc::Global;
+use std::sync::Wait;
+use std::sync::ledger::{Blank, Ledger};
+use std::thread::Threads;
+use threaded_play::ThreadsEnded;
+use value_marks::{Blocks, Names};
+
+/// How many blocks of marks a cluster may use: enough for a mark at each event.
+pub const MARK_BLOCKS: usize = 1024;
+
+/// Plays a script to a new cluster of these settings with a thread per silo: once it is read,
+/// this thread posts its events, and workers deliver the letters. All threads are joined, and then it is written what the script comes to: the line of its first fault; or how
+/// many events there were, the verdict on the cluster and the whole directory. Nothing is where something lacks or receipts differ.
+/// Why workers gave up goes to the errors (`docs/RULES.md#threads`).
+pub fn play_on_threads<
+    L: Ledger + Names + Send + 'static,
+    H: Threads + Wait + Copy + Drop + Send + 'static,
+    R: Source,
+    W: Sink,
+    E: Sink,
+>(
+    rt: &H,
+    alloc: Global,
+    settings: Settings,
+    tokens: (Blank, Blocks<SharedNode>),
+    reader: &mut R,
+    writer: &mut W,
+    errors: &mut E,
+) -> ThreadsEnded
+    requires name { tokens.0.name ≡ L.name }
+    requires parts { tokens.0.parts ≡ L.parts }
+    requires whole { L.parts ≡ PARTS }
+    requires names { tokens.1 ≡ L.names }
+    ensures ends { IfSome (R.remaining reader.old) (λ script.
+        Ends settings script (R.remaining reader.new) (W.contents writer.old) (W.contents writer.new) result) }
+    ensures calls { MakesCalls R.reads W.writes (reader.old, writer.old) (reader.new, writer.new) result }
+    ensures told { TellsCauses E.writes E.contents result errors.old errors.new }
+{
+    let mut script = Script {
+        commands: Vec::new(alloc),
+    };
+    let lines = play_lines(alloc, &mut script, reader);
+    let closed = run::<L, H, E>(rt, alloc, settings, tokens, &script.commands, errors);
+    let Ok(lines) = lines else {
+        return ThreadsEnded::Lacking;
+    };
+    match closed {
+        Ok(board) => print(alloc, &lines, &board, writer),
+        Err(unclosed) => unclosed,
+    }
+}
+
+// Has the commands carried out by a new cluster, and closes it.
+fn run<
+    L: Ledger + Names + Send + 'static,
+    H: Threads + Wait + Copy + Drop + Send + 'static,
+    E: Sink,
+>(
+    rt: &H,
+    alloc: Global,
+    settings: Settings,
+    tokens: (Blank, Blocks<SharedNode>),
+    commands: &[Command],
+    errors: &mut E,
+) -> Result<Board<L>, ThreadsEnded>
+    requires name { tokens.0.name ≡ L.name }
+    requires parts { tokens.0.parts ≡ L.parts }
+    requires whole { L.parts ≡ PARTS }
+    requires names { tokens.1 ≡ L.names }
+    ensures journaled { IfOk result (λ board. IsJournaled settings board.journal board.world) }
+    ensures unclosed { IfErr result IsUnclosed }
+    ensures told { MatchResult result (λ _. errors.new ≡ errors.old) (λ ended. TellsCauses E.writes E.contents ended errors.old errors.new) }
+{
+    match Cluster::<L, OpenGate>::new(rt, alloc, settings, tokens, OpenGate, 1) {
+        Ok((cluster, share)) => {
+            let mut driver = Driver::new(alloc, cluster, share);
+            driver.drive(rt, commands);
+            driver.close(rt, alloc, settings, errors)
+        }
+        Err(_) => Err(ThreadsEnded::Lacking),
+    }
+}

@@ -1,0 +1,71 @@
+//! What a script comes to is printed, once its cluster is closed.
+
+ghost use Rattle.std.specs.Prelude.{◌≡◌, IfOk};
+ghost use Rattle.console_threads.specs.Endings.{EndsBy, IsWritten, Tells, WritesOnce};
+
+use crate::lines::Lines;
+use cluster_board::Board;
+use console_command::{show, tell_verdict};
+use script_loop::{Ended, Sink, send};
+use std::alloc::{AllocError, Global};
+use std::sync::ledger::Ledger;
+use threaded_play::ThreadsEnded;
+use value_marks::Names;
+
+/// Prints what there is to print: the line of the fault, or without one what the cluster came to.
+pub(crate) fn print<L: Ledger + Names, W: Sink>(
+    alloc: Global,
+    lines: &Lines,
+    board: &Board<L>,
+    writer: &mut W,
+) -> ThreadsEnded
+    ensures ends { EndsBy board.now.journal board.now.world lines.now.text.items lines.now.ended (W.contents writer.old) (W.contents writer.new) result }
+    ensures once { WritesOnce W.writes writer.old writer.new lines.now.ended result }
+{
+    match lines.ended {
+        Ended::Played => print_world(alloc, &lines.text, board, writer),
+        Ended::Faulted(_) => write(lines.ended, &lines.text, writer),
+        Ended::TooLong => ThreadsEnded::Played(Ended::TooLong),
+        Ended::OutOfMemory => ThreadsEnded::Lacking,
+        Ended::Broken => ThreadsEnded::Played(Ended::Broken),
+    }
+}
+
+// Prints what the cluster came to, behind lines that printed nothing.
+fn print_world<L: Ledger + Names, W: Sink>(
+    alloc: Global,
+    printed: &[u8],
+    board: &Board<L>,
+    writer: &mut W,
+) -> ThreadsEnded
+    ensures ends { EndsBy board.now.journal board.now.world printed.now Ended.Played (W.contents writer.old) (W.contents writer.new) result }
+    ensures once { WritesOnce W.writes writer.old writer.new Ended.Played result }
+{
+    match world_text(alloc, board) {
+        Ok(text) => write(Ended::Played, &text, writer),
+        Err(_) => ThreadsEnded::Lacking,
+    }
+}
+
+// Writes the text with which a script ends so; it is broken where a write fails.
+fn write<W: Sink>(ended: Ended, text: &[u8], writer: &mut W) -> ThreadsEnded
+    ensures { IsWritten W.writes W.contents text.now ended writer.old writer.new result }
+{
+    if send(writer, text) {
+        ThreadsEnded::Played(ended)
+    } else {
+        ThreadsEnded::Played(Ended::Broken)
+    }
+}
+
+// How many events there were, the verdict, and the whole directory.
+fn world_text<L: Ledger + Names>(alloc: Global, board: &Board<L>) -> Result<Vec<u8>, AllocError>
+    ensures { IfOk result (λ text. Tells board.now.journal board.now.world text.items) }
+{
+    let count = board.journal().len();
+    let mut text = Vec::new(alloc);
+    text.extend_from_slice(format!(in alloc; "journal {count}\n")?.as_bytes())?;
+    tell_verdict(alloc, board.world(), &mut text)?;
+    show(alloc, board.world(), &mut text)?;
+    Ok(text)
+}

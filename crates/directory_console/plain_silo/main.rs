@@ -1,0 +1,132 @@
+//! What `grain-directory silo` does, in plain Rust written for speed: a silo's process, which reads the same lines and answers the same
+//! byte for byte, whatever comes. The circle, the words and the output are those of the plain cluster (`../plain`); a silo by itself
+//! keeps names as texts and addresses, since letters may name any, and forgets them with what they stood for. It shares no code with the
+//! proved program: it was written by the rules (`docs/RULES.md`). Left out is 805, since no process lives to its numbers, and what comes
+//! of memory that runs out. Built by `rustc --edition 2021 -O`; `tools/bench silo` runs both and prints the ratios.
+
+mod cache;
+mod changes;
+mod commands;
+mod host;
+mod identities;
+mod letters;
+#[path = "../plain/world/mixer.rs"]
+mod mixer;
+#[path = "../plain/output.rs"]
+mod output;
+mod pieces;
+mod process;
+mod reading;
+mod requests;
+#[path = "../plain/world/ring.rs"]
+#[allow(dead_code)]
+mod ring;
+#[path = "../../benches/plain/sha256.rs"]
+mod sha256;
+mod show;
+mod sight;
+mod text;
+mod transfers;
+mod views;
+#[path = "../plain/world/words.rs"]
+mod words;
+
+use identities::Address;
+use process::{Process, Settings};
+use reading::LONGEST_LINE;
+use std::io::{self, BufRead, Read, Write};
+use std::process::ExitCode;
+
+/// How many bytes are read at once, and after how many that were printed some are written.
+const READ_AT_ONCE: usize = 65_536;
+const WRITTEN_AT: usize = 65_536;
+
+/// Of a line that is kept between two reads so many bytes tell that it is too long, whatever comes.
+const MOST_KEPT: usize = LONGEST_LINE + 2;
+
+/// Answers lines until what is read ends or the silo is dead. All that the lines read so far print is written before more is read.
+fn play(process: &mut Process) -> io::Result<()> {
+    let (mut reader, mut writer) = (io::stdin().lock(), io::stdout().lock());
+    let mut bytes = vec![0; READ_AT_ONCE];
+    let mut kept = Vec::new();
+    loop {
+        let read = reader.read(&mut bytes)?;
+        if read == 0 {
+            process.take_rest(&kept);
+            return write_out(process, &mut writer);
+        }
+        let mut rest = &bytes[..read];
+        while !rest.is_empty() && !process.is_dead {
+            let before = rest;
+            let length = rest.skip_until(b'\n')?;
+            match before[..length].strip_suffix(b"\n") {
+                Some(end) if kept.is_empty() => process.take_line(end),
+                Some(end) => {
+                    keep(&mut kept, end);
+                    process.take_line(&kept);
+                    kept.clear();
+                }
+                None => keep(&mut kept, &before[..length]),
+            }
+            if process.out.0.len() >= WRITTEN_AT {
+                write_out(process, &mut writer)?;
+            }
+        }
+        write_out(process, &mut writer)?;
+        if process.is_dead {
+            return Ok(());
+        }
+    }
+}
+
+fn keep(kept: &mut Vec<u8>, bytes: &[u8]) {
+    let room = MOST_KEPT - kept.len();
+    kept.extend_from_slice(&bytes[..bytes.len().min(room)]);
+}
+
+fn write_out(process: &mut Process, writer: &mut impl Write) -> io::Result<()> {
+    writer.write_all(&process.out.0)?;
+    process.out.0.clear();
+    writer.flush()
+}
+
+/// What the words choose, if they are known: `silo ADDR [--hashing sha256|stated] [--points N] [--cache N]`, the options before the
+/// address or behind it, each once at most.
+fn chosen(words: &[String]) -> Option<(Address, Settings)> {
+    let (mut hashing, mut points, mut cache, mut address) = (None, None, None, None);
+    let (first, words) = words.split_first()?;
+    let mut words = words.iter().flat_map(|word| word.splitn(2, '='));
+    while let Some(word) = words.next() {
+        let is_first = match word {
+            "--hashing" => hashing.replace(words.next()?).is_none(),
+            "--points" => points.replace(words.next()?).is_none(),
+            "--cache" => cache.replace(words.next()?).is_none(),
+            word => address.replace(word).is_none(),
+        };
+        if !is_first {
+            return None;
+        }
+    }
+    let hashing = hashing.unwrap_or("sha256");
+    let number = |word: Option<&str>, absent: u64| word.map_or(Some(absent), |word| word.parse().ok());
+    let points = number(points, 30).filter(|points| (1..=128).contains(points))?;
+    let cache = number(cache, 1024).filter(|cache| (1..=65_536).contains(cache))?;
+    let is_known = first == "silo" && ["sha256", "stated"].contains(&hashing);
+    let settings = Settings { is_stated: hashing == "stated", points, cache: cache as usize };
+    Address::read(address?.as_bytes()).ok().filter(|_| is_known).map(|address| (address, settings))
+}
+
+fn main() -> ExitCode {
+    let words: Vec<String> = std::env::args().skip(1).collect();
+    let Some((address, settings)) = chosen(&words) else {
+        eprintln!("usage: silo ADDR [--hashing sha256|stated] [--points N] [--cache N]");
+        return ExitCode::from(4);
+    };
+    match play(&mut Process::new(address, settings)) {
+        Ok(()) => ExitCode::SUCCESS,
+        Err(error) => {
+            eprintln!("{error}");
+            ExitCode::from(5)
+        }
+    }
+}

@@ -1,0 +1,90 @@
+-- What a node sends: requests to owners, and what its unsettled pieces want of other silos.
+use Rattle.std.specs.Prelude.{ℕ, List, [], ◌∷◌, Option, Some, None, map, flat_map}
+use Rattle.std.specs.Option.{unwrap_or}
+use Rattle.std.specs.Ordering.{nat_cmp}
+use Rattle.std.specs.Map.{lookup}
+use Rattle.std.specs.BTreeMap.{is_at}
+use Rattle.silo_address.specs.Silo.{Silo}
+use Rattle.silo_address.specs.Grain.{Grain}
+use Rattle.ring_range.specs.Range.{Range}
+use Rattle.hash_ring.specs.Hash.{hash_grain}
+use Rattle.range_moves.specs.Arcs.{owner_silo}
+use Rattle.directory_rules.specs.declared.act.Act.{Act}
+use Rattle.directory_rules.specs.declared.act.Act.TheVariants.{Register, Deregister, Find}
+use Rattle.directory_rules.specs.declared.act.Request.{Request}
+use Rattle.directory_rules.specs.declared.piece_state.PieceState.{PieceState}
+use Rattle.directory_rules.specs.declared.piece_state.PieceState.TheVariants.{Settled, Awaiting, Recovering}
+use Rattle.directory_rules.specs.Gatherings.{Gathering, new_gathering}
+use Rattle.directory_rules.specs.Recovery.{Recovery, new_recovery}
+use Rattle.directory_rules.specs.Host.{outstanding}
+use Rattle.directory_rules.specs.Letter.{Body, Request_letter, Ask_letter, Query_letter, Letter}
+use Rattle.directory_rules.specs.Node.{Node}
+
+-- a letter of the node, of the version that it has seen
+abbrev pub letter_to : Silo → Node → Body → Letter
+letter_to silo node body = record { from = node.host.silo; to = silo; version = node.view.version; body = body }
+
+-- the grain that an act is about
+abbrev pub grain_of : Act → Grain
+grain_of (Register entry previous) = entry.grain
+grain_of (Deregister entry) = entry.grain
+grain_of (Find grain) = grain
+
+-- the hash of the grain that an act is about
+abbrev pub hash_of : Node → Act → ℕ
+hash_of node act = hash_grain node.settings.hashing (grain_of act)
+
+-- the request of that number, for the owner of its hash
+abbrev pub request_of : Node → (number : ℕ) → Act → Request
+request_of node number act = record {
+  sender = node.host.silo;
+  version = node.view.version;
+  number = number;
+  hash = hash_of node act;
+  act = act;
+}
+
+-- the silo that owns the hash, by the ring of the view that the node has seen
+abbrev pub owner_by : Node → (hash : ℕ) → Option Silo
+owner_by node hash = owner_silo node.ring.points hash
+
+-- a letter to the owner, if there is one
+abbrev pub letter_if_owned : Option Silo → Node → Body → List Letter
+letter_if_owned None node body = []
+letter_if_owned (Some owner) node body = letter_to owner node body ∷ []
+
+-- the request's letter to the owner of its hash; where nobody owns it there is none
+abbrev pub request_letters : Node → (number : ℕ) → Act → List Letter
+request_letters node number act = letter_if_owned (owner_by node (hash_of node act)) node (Request_letter (request_of node number act))
+
+-- the letters of all outstanding requests, by number
+abbrev pub all_requests : Node → List Letter
+all_requests node = flat_map (λ e. request_letters node e.0 e.1) (outstanding node.host)
+
+-- what has been gathered for the piece, and what has been reported for it
+abbrev pub gathering_of : Node → Range → Gathering
+gathering_of node range =
+    unwrap_or (lookup (is_at (nat_cmp range.start)) node.gatherings) (new_gathering node.view.version range)
+
+-- what has been reported for the piece
+abbrev pub recovery_of : Node → Range → Recovery
+recovery_of node range =
+    unwrap_or (lookup (is_at (nat_cmp range.start)) node.recoveries) (new_recovery node.view range)
+
+-- the ask for the next page of a piece's snapshot
+abbrev pub ask_letters : Node → Range → (from : Silo) → List Letter
+ask_letters node range from = letter_to from node (Ask_letter range (gathering_of node range).next) ∷ []
+
+-- a query to each silo whose report for the piece is missing, by address
+abbrev pub query_letters : Node → Range → List Letter
+query_letters node range = map (λ silo. letter_to silo node (Query_letter range)) (recovery_of node range).awaiting
+
+-- by the piece's state: a settled one wants nothing
+abbrev pub wants_by : PieceState → Node → Range → List Letter
+wants_by Settled node range = []
+wants_by (Awaiting from) node range = ask_letters node range from
+wants_by Recovering node range = query_letters node range
+
+-- what the unsettled pieces want, piece by piece
+abbrev pub all_wants : Node → List Letter
+all_wants node = flat_map (λ e. wants_by e.1.state node e.1.range) node.holding.pieces

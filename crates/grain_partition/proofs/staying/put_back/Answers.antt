@@ -1,5 +1,0 @@
-use Rattle.std.proofs.Common.{rules}
-use Rattle.grain_partition.proofs.staying.put_back.Goals as goal
-
-pub returns-then-covers : goal.returns-then-covers
-returns-then-covers c = search rules

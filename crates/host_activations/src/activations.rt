@@ -1,0 +1,239 @@
+ghost use Rattle.std.specs.BTreeMap.{is_at};
+ghost use Rattle.std.specs.List.{IsDistinct};
+ghost use Rattle.std.specs.Map.{keys_of, lookup, remove_entry, set_value};
+ghost use Rattle.std.specs.Prelude.{⊤, ◌≡◌, ◌+◌, ◌≤◌, ◌^◌, ◌++◌, [], ◌∷◌, if◌then◌else◌, None, Some, IfOk, IsSome, MatchOption, OnOk, OnErr, length, slice_get};
+ghost use Rattle.directory_rules.specs.declared.Phase.TheVariants.{Asking};
+ghost use Rattle.silo_address.specs.Grain.{Grain, grain_cmp, grain_eq};
+ghost use Rattle.host_activations.specs.Begun.{IsNext};
+ghost use Rattle.host_activations.specs.ByHash.{AreByHash, hashed_count_cmp, key_of};
+
+mod firm;
+mod order;
+mod same;
+
+use crate::by_hash::{ByHash, HashedCount, key_of};
+use crate::kept::{Kept, held_at, held_of};
+use directory_rules::{Held, Phase, Settings};
+pub use firm::entry_on;
+use grain_names::GrainMap;
+use hash_ring::Hashing;
+use silo_address::{ActivationId, GrainId};
+use std::alloc::{AllocError, Global};
+use std::collections::BTreeMap;
+use std::marker::Model;
+
+/// The activations of a host, one a grain, each with its count, which rises from activation to activation. One is found by its
+/// grain at once, and one that ends leaves its room to the one that stands last, so that the others stay where they are. Beside
+/// them stand their indices in order of hash, so that those of a range are found without a look at the others. Whoever asks for
+/// all of them gets them in the order in which they began (`docs/RULES.md#phases`).
+#[derive(Drop)]
+pub struct Activations {
+    next_count: u64,
+    map: GrainMap<Kept>,
+    hashing: Hashing,
+    by_hash: ByHash,
+}
+
+impl Model for Activations {
+    ghost use Rattle.host_activations.specs.Activations.{ActivationsValue};
+
+    ghost Value = { ActivationsValue };
+
+    ghost use Rattle.host_activations.specs.ByHash.{AreKept};
+    ghost use Rattle.host_activations.specs.InOrder.{in_order};
+
+    ghost view = { λ a. record { next_count = a.next_count; entries = in_order a.map } };
+
+    ghost invariant = { λ a. AreKept a.hashing a.next_count a.map a.by_hash.entries };
+}
+
+impl Activations {
+    /// No activations; the first one will have the count 1. Those of a range of hashes are found fast where grains are hashed as the
+    /// settings have it; no answer depends on it.
+    pub fn new(alloc: Global, settings: &Settings) -> Activations
+        ensures { result ≡ record { next_count = 1; entries = [] } }
+    {
+        Activations {
+            next_count: 1,
+            map: GrainMap::new(alloc),
+            hashing: settings.hashing(),
+            by_hash: BTreeMap::new(alloc),
+        }
+    }
+
+    /// The count of the next activation, from 1 to 2^60 + 1; the last one is past all counts.
+    pub fn next_count(&self) -> u64
+        ensures { result ≡ self.now.next_count }
+    {
+        self.next_count
+    }
+
+    /// How many activations there are.
+    pub fn len(&self) -> usize
+        ensures { result ≡ length self.now.entries }
+    {
+        self.map.len()
+    }
+
+    /// The grain's activation.
+    pub fn get(&self, grain: &GrainId) -> Option<Held>
+        ensures { result ≡ lookup (is_at (grain_cmp grain.now)) self.now.entries }
+    {
+        let (_, held) = held_of(&self.map, grain)?;
+        Some(held)
+    }
+
+    /// An activation begins, with the next count, and asks to be entered under the number, in the place of a previous one if one
+    /// is named. Fails only when memory runs out.
+    pub fn begin(
+        &mut self,
+        grain: GrainId,
+        number: u64,
+        previous: Option<ActivationId>,
+    ) -> Result<(), AllocError>
+        requires new { lookup (is_at (grain_cmp grain)) self.old.entries ≡ None }
+        requires count { self.old.next_count ≤ 2 ^ 60 }
+        ensures begun { OnOk result (self.new ≡ record {
+          next_count = self.old.next_count + 1;
+          entries = self.old.entries ++ (grain, record { count = self.old.next_count; phase = Asking number; previous = previous }) ∷ [];
+        }) }
+        ensures unchanged { OnErr result (self.new ≡ self.old) }
+    {
+        let key = HashedCount {
+            hash: self.hashing.hash_grain(&grain),
+            count: self.next_count,
+        };
+        let asking = Phase::Asking(number);
+        put_in(
+            &mut self.map,
+            &mut self.by_hash,
+            key,
+            &grain,
+            asking,
+            previous,
+        )?;
+        self.map.apart();
+        self.next_count += 1;
+        Ok(())
+    }
+
+    /// The grain's activation is in this phase, and in the place of this previous one, from now on. Where there is none, nothing
+    /// changes.
+    pub fn set(&mut self, grain: &GrainId, phase: Phase, previous: Option<ActivationId>)
+        ensures { MatchOption (lookup (is_at (grain_cmp grain.now)) self.old.entries) (self.new ≡ self.old)
+            (λ held. self.new ≡ record self.old { entries = set_value (is_at (grain_cmp grain.now)) self.old.entries (record held { phase = phase; previous = previous }) }) }
+    {
+        write(&mut self.map, grain, phase, previous);
+    }
+
+    /// The grain's activation goes. Where there is none, nothing changes.
+    pub fn end(&mut self, grain: &GrainId)
+        ensures { self.new ≡ record self.old { entries = remove_entry (is_at (grain_cmp grain.now)) self.old.entries } }
+    {
+        take_out(self.hashing, &mut self.map, &mut self.by_hash, grain);
+        self.map.apart();
+    }
+
+    /// A law: each grain has one activation, and the next count is one that may be the next.
+    pub fn whole(&self)
+        ensures grains { IsDistinct grain_eq (keys_of self.now.entries) }
+        ensures count { IsNext self.now.next_count }
+    {
+        let _next_count = self.next_count;
+    }
+
+    /// Equal activations. Fails only when memory runs out.
+    pub fn copy(&self) -> Result<Activations, AllocError>
+        ensures { IfOk result (λ activations. activations ≡ self.now) }
+    {
+        let map = self.map.copy()?;
+        let by_hash = self.by_hash.clone()?;
+        Ok(Activations {
+            next_count: self.next_count,
+            map,
+            hashing: self.hashing,
+            by_hash,
+        })
+    }
+}
+
+// What is held of the grain, if anything, is in this phase, and in the place of this previous one.
+fn write(map: &mut GrainMap<Kept>, grain: &GrainId, phase: Phase, previous: Option<ActivationId>)
+    ensures written { MatchOption (lookup (is_at (grain_cmp grain.now)) map.old) (map.new ≡ map.old)
+        (λ held. map.new ≡ set_value (is_at (grain_cmp grain.now)) map.old (record held { phase = phase; previous = previous })) }
+{
+    map.apart();
+    let Some((index, held)) = held_of(map, grain) else {
+        return;
+    };
+    map.set_at(
+        index,
+        Kept::of(&Held {
+            count: held.count,
+            phase,
+            previous,
+        }),
+    );
+}
+
+// An activation of a grain without one is put in, with the count in its key, as the last one, and its index under the key. Fails
+// only when memory runs out, and then changes nothing.
+fn put_in(
+    map: &mut GrainMap<Kept>,
+    by_hash: &mut ByHash,
+    key: HashedCount,
+    grain: &GrainId,
+    phase: Phase,
+    previous: Option<ActivationId>,
+) -> Result<(), AllocError>
+    requires { lookup (is_at (grain_cmp grain.now)) map.old ≡ None }
+    ensures map { OnOk result (map.new ≡ map.old ++ (grain.now, record { count = key.count; phase = phase; previous = previous }) ∷ []) }
+    ensures by_hash { OnOk result ((q : HashedCount) → lookup (is_at (hashed_count_cmp q)) by_hash.new.entries
+        ≡ (if is_at (hashed_count_cmp key) q then Some (length map.old) else lookup (is_at (hashed_count_cmp q)) by_hash.old.entries)) }
+    ensures same_map { OnErr result (map.new ≡ map.old) }
+    ensures same_by_hash { OnErr result (by_hash.new.entries ≡ by_hash.old.entries) }
+{
+    let last = map.len();
+    let held = Held {
+        count: key.count,
+        phase,
+        previous,
+    };
+    map.put(grain, Kept::of(&held))?;
+    match by_hash.insert(key, last) {
+        Ok(_) => Ok(()),
+        Err(_) => {
+            map.swap_remove(last);
+            Err(AllocError)
+        }
+    }
+}
+
+// What is held of the grain, if anything, goes; the last one takes its room.
+fn take_out(hashing: Hashing, map: &mut GrainMap<Kept>, by_hash: &mut ByHash, grain: &GrainId)
+    requires { AreByHash hashing map.old by_hash.old.entries }
+    ensures gone { (q : Grain) → lookup (is_at (grain_cmp q)) map.new ≡ (if is_at (grain_cmp grain.now) q then None else lookup (is_at (grain_cmp q)) map.old) }
+    ensures by_hash { AreByHash hashing map.new by_hash.new.entries }
+{
+    map.apart();
+    let Some((index, held)) = held_of(map, grain) else {
+        return;
+    };
+    let key = key_of(hashing, grain, &held);
+    map.swap_remove(index);
+    by_hash.remove(&key);
+    note_index(hashing, map, by_hash, index);
+}
+
+// The activation that stands at the index now, if there is one, is found there by its hash.
+fn note_index(hashing: Hashing, map: &GrainMap<Kept>, by_hash: &mut ByHash, index: usize)
+    requires { MatchOption (slice_get map.now index) ⊤ (λ e. IsSome (lookup (is_at (hashed_count_cmp (key_of hashing e))) by_hash.old.entries)) }
+    ensures { MatchOption (slice_get map.now index) (by_hash.new.entries ≡ by_hash.old.entries) (λ e. (q : HashedCount) → lookup (is_at (hashed_count_cmp q)) by_hash.new.entries
+        ≡ (if is_at (hashed_count_cmp (key_of hashing e)) q then Some index else lookup (is_at (hashed_count_cmp q)) by_hash.old.entries)) }
+{
+    if let Some((grain, held)) = held_at(map, index) {
+        let key = key_of(hashing, &grain, &held);
+        let put: Result<_, _> = by_hash.insert(key, index);
+        put.unwrap();
+    }
+}

@@ -1,0 +1,285 @@
+ghost use Rattle.std.specs.Map.Iter.{ShowsInOrder, deref_pair};
+ghost use Rattle.std.specs.List.{cons_option};
+ghost use Rattle.std.specs.Prelude.{◌≡◌, ◌++◌, ℕ, [], IfOk, OnErr, OnOk, flat_map, length, map};
+ghost use Rattle.directory_rules.specs.Sent.{ask_letters, gathering_of, grain_of, letter_to, owner_by, query_letters, recovery_of, request_letters, request_of, wants_by};
+ghost use Rattle.directory_letters.specs.LetterModel.{body_of};
+ghost use Rattle.directory_rules.specs.Letter.{Query_letter};
+ghost use Rattle.directory_rules.specs.Piece.{Piece as PieceValue};
+ghost use Rattle.node_plans.specs.Sender.{sending, wants_of};
+
+use crate::plan::list_of;
+use directory_letters::{Body, Letter};
+use directory_rules::{Act, PieceState, Request, Settings};
+use grain_partition::{Holding, Piece};
+use hash_ring::Ring;
+use host_activations::Host;
+use membership_view::View;
+use range_recovery::Recovery;
+use ring_range::RingRange;
+use seal_snapshot::Gathering;
+use silo_address::{GrainId, SiloAddress};
+use std::alloc::{AllocError, Global};
+use std::collections::BTreeMap;
+use std::collections::btree_map::Iter;
+
+/// Who writes letters: a node, as it is or as it will be once it has seen a view, as far as its letters depend on that
+/// (`docs/RULES.md#the-world`).
+#[derive(Clone, Copy)]
+pub struct Sender<'a> {
+    /// What the node is set up with.
+    pub settings: &'a Settings,
+    /// The silo, as the host of its activations.
+    pub host: &'a Host,
+    /// The view seen, and its ring.
+    pub view: &'a View,
+    pub ring: &'a Ring,
+    /// What pieces wait by, under their starts.
+    pub gatherings: &'a BTreeMap<u32, Gathering>,
+    pub recoveries: &'a BTreeMap<u32, Recovery>,
+}
+
+// All letters of a step.
+impl Sender<'_> {
+    /// The letter of a request to the owner of its hash, if anybody owns it, as a list. Only a letter needs memory.
+    pub fn request_letters(
+        &self,
+        alloc: Global,
+        number: u64,
+        act: Act,
+    ) -> Result<Vec<Letter>, AllocError>
+        ensures sent { IfOk result (λ letters. letters.items ≡ request_letters (sending self.now) number act) }
+        ensures one { OnErr result (length (request_letters (sending self.now) number act) ≡ 1) }
+    {
+        match self.request_letter(number, act) {
+            Some(letter) => list_of(alloc, letter),
+            None => Ok(Vec::new(alloc)),
+        }
+    }
+
+    /// The letters of a sight: what these pieces want, piece by piece, and then the requests, each under its number. Fails only when
+    /// memory runs out.
+    pub fn sight_letters(
+        &self,
+        alloc: Global,
+        pieces: &BTreeMap<u32, Piece>,
+        requests: &[(u64, Act)],
+    ) -> Result<Vec<Letter>, AllocError>
+        ensures { IfOk result (λ letters. letters.items ≡ wants_of (sending self.now) pieces.now.entries ++ flat_map (λ e. request_letters (sending self.now) e.0 e.1) requests.now) }
+    {
+        let mut letters = Vec::new(alloc);
+        self.send_wants(alloc, &mut letters, pieces.iter())?;
+        self.send_requests(&mut letters, requests)?;
+        Ok(letters)
+    }
+
+    /// The letters of a nudge: the requests, each under its number, and then what the pieces held want, piece by piece. Fails only
+    /// when memory runs out.
+    pub fn nudge_letters(
+        &self,
+        alloc: Global,
+        requests: &[(u64, Act)],
+        holding: &Holding,
+    ) -> Result<Vec<Letter>, AllocError>
+        ensures { IfOk result (λ letters. letters.items ≡ flat_map (λ e. request_letters (sending self.now) e.0 e.1) requests.now ++ wants_of (sending self.now) holding.now.pieces) }
+    {
+        let mut letters = Vec::new(alloc);
+        self.send_requests(&mut letters, requests)?;
+        self.send_wants(alloc, &mut letters, holding.pieces())?;
+        Ok(letters)
+    }
+}
+
+// Queries.
+impl Sender<'_> {
+    /// A query for the recovery's range to each silo whose report is missing, by address. Fails only when memory runs out.
+    pub fn queries(&self, alloc: Global, recovery: &Recovery) -> Result<Vec<Letter>, AllocError>
+        ensures { IfOk result (λ letters. letters.items ≡ map (λ silo. letter_to silo (sending self.now) (Query_letter recovery.now.range)) recovery.now.awaiting) }
+    {
+        let silos = recovery.awaiting(alloc)?;
+        self.queries_to(alloc, recovery.range(), &silos)
+    }
+
+    // A query for the range to each of these silos.
+    fn queries_to(
+        &self,
+        alloc: Global,
+        range: RingRange,
+        silos: &[SiloAddress],
+    ) -> Result<Vec<Letter>, AllocError>
+        ensures { IfOk result (λ letters. letters.items ≡ map (λ silo. letter_to silo (sending self.now) (Query_letter range)) silos.now) }
+    {
+        silos
+            .iter()
+            .map(|silo| self.letter_to(*silo, Body::Query(range)))
+            .collect(alloc)
+    }
+}
+
+// Requests.
+impl Sender<'_> {
+    // The letters of requests, each under its number.
+    fn send_requests(
+        &self,
+        letters: &mut Vec<Letter>,
+        requests: &[(u64, Act)],
+    ) -> Result<(), AllocError>
+        ensures { OnOk result (letters.new.items ≡ letters.old.items ++ flat_map (λ e. request_letters (sending self.now) e.0 e.1) requests.now) }
+    {
+        let mut rest = requests;
+        while let Some((request, behind)) = rest.split_first() {
+            self.send_request(letters, request.0, request.1)?;
+            rest = behind;
+        }
+        Ok(())
+    }
+
+    // The letter of a request behind others.
+    fn send_request(
+        &self,
+        letters: &mut Vec<Letter>,
+        number: u64,
+        act: Act,
+    ) -> Result<(), AllocError>
+        ensures { OnOk result (letters.new.items ≡ letters.old.items ++ request_letters (sending self.now) number act) }
+    {
+        if let Some(letter) = self.request_letter(number, act) {
+            letters.push(letter)?;
+        }
+        Ok(())
+    }
+
+    // The letter of a request to the owner of its hash, by the ring of the view seen; none where nobody owns it.
+    fn request_letter(&self, number: u64, act: Act) -> Option<Letter>
+        ensures { cons_option result [] ≡ request_letters (sending self.now) number act }
+    {
+        let request = self.request_of(number, act);
+        match self.owner_of(request.hash) {
+            Some(owner) => Some(self.letter_to(owner, Body::Request(request))),
+            None => None,
+        }
+    }
+
+    // The request of that number.
+    fn request_of(&self, number: u64, act: Act) -> Request
+        ensures { result ≡ request_of (sending self.now) number act }
+    {
+        Request {
+            sender: self.host.silo(),
+            version: self.view.version(),
+            number,
+            hash: self.settings.hashing().hash_grain(&grain_of(&act)),
+            act,
+        }
+    }
+
+    // Who owns a hash, by the ring of the view seen.
+    fn owner_of(&self, hash: u32) -> Option<SiloAddress>
+        ensures { result ≡ owner_by (sending self.now) hash }
+    {
+        self.ring.owner(hash).map(|point| point.silo)
+    }
+
+    // A letter of the silo, of the version seen.
+    fn letter_to(&self, silo: SiloAddress, body: Body) -> Letter
+        ensures { result ≡ letter_to silo (sending self.now) (body_of body) }
+    {
+        Letter::new(self.host.silo(), silo, self.view.version(), body)
+    }
+}
+
+// What pieces want.
+impl Sender<'_> {
+    // What the pieces want, piece by piece.
+    fn send_wants(
+        &self,
+        alloc: Global,
+        letters: &mut Vec<Letter>,
+        pieces: Iter<'_, u32, Piece>,
+    ) -> Result<(), AllocError>
+        requires { ShowsInOrder (deref_pair {K = ℕ} {X = PieceValue}) }
+        ensures { OnOk result (letters.new.items ≡ letters.old.items ++ wants_of (sending self.now) pieces.entry) }
+    {
+        for (_, piece) in pieces {
+            self.send_wanted(alloc, letters, piece)?;
+        }
+        Ok(())
+    }
+
+    // What a piece wants: a settled one nothing, one that awaits a snapshot its next page, and one that recovers the reports that
+    // are missing.
+    fn send_wanted(
+        &self,
+        alloc: Global,
+        letters: &mut Vec<Letter>,
+        piece: &Piece,
+    ) -> Result<(), AllocError>
+        ensures { OnOk result (letters.new.items ≡ letters.old.items ++ wants_by piece.now.state (sending self.now) piece.now.range) }
+    {
+        match piece.state() {
+            PieceState::Settled => Ok(()),
+            PieceState::Awaiting(from) => self.send_ask(letters, from, piece.range()),
+            PieceState::Recovering => self.send_queries(alloc, letters, piece.range()),
+        }
+    }
+
+    // The ask for the next page of a snapshot.
+    fn send_ask(
+        &self,
+        letters: &mut Vec<Letter>,
+        from: SiloAddress,
+        range: RingRange,
+    ) -> Result<(), AllocError>
+        ensures { OnOk result (letters.new.items ≡ letters.old.items ++ ask_letters (sending self.now) range from) }
+    {
+        let page = self.next_page(range);
+        letters.push(self.letter_to(from, Body::Ask { range, page }))?;
+        Ok(())
+    }
+
+    // The number of the page that is wanted next.
+    fn next_page(&self, range: RingRange) -> u64
+        ensures { result ≡ (gathering_of (sending self.now) range).next }
+    {
+        match self.gatherings.get(&range.start()) {
+            Some(gathering) => gathering.next(),
+            None => 0,
+        }
+    }
+
+    // A query to each silo whose report for the piece is missing.
+    fn send_queries(
+        &self,
+        alloc: Global,
+        letters: &mut Vec<Letter>,
+        range: RingRange,
+    ) -> Result<(), AllocError>
+        ensures { OnOk result (letters.new.items ≡ letters.old.items ++ query_letters (sending self.now) range) }
+    {
+        let awaiting = self.awaited(alloc, range)?;
+        for silo in &awaiting {
+            letters.push(self.letter_to(*silo, Body::Query(range)))?;
+        }
+        Ok(())
+    }
+
+    // The silos whose report for the piece is missing.
+    fn awaited(&self, alloc: Global, range: RingRange) -> Result<Vec<SiloAddress>, AllocError>
+        ensures { IfOk result (λ silos. silos.items ≡ (recovery_of (sending self.now) range).awaiting) }
+    {
+        match self.recoveries.get(&range.start()) {
+            Some(recovery) => recovery.awaiting(alloc),
+            None => { Recovery::new(alloc, self.settings, self.view, range)?.awaiting(alloc) }
+        }
+    }
+}
+
+// The grain that an act is about.
+fn grain_of(act: &Act) -> GrainId
+    ensures { result ≡ grain_of act.now }
+{
+    match act {
+        Act::Register { entry, .. } => entry.grain,
+        Act::Deregister { entry } => entry.grain,
+        Act::Find { grain } => *grain,
+    }
+}

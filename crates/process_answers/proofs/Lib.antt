@@ -1,0 +1,5 @@
+pub mod Written
+pub mod Outcomes
+pub mod Printing
+pub mod Tellings
+pub mod Received

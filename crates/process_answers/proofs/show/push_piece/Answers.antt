@@ -1,0 +1,21 @@
+use Rattle.std.proofs.Common.{ap, ◌∙◌, ◌++◌, ◌∷◌, []}
+use Rattle.ring_range.specs.Text.{range_text}
+use Rattle.script_output.specs.Spaced.{spaced}
+use Rattle.script_output.proofs.Fronts.{begins_with_the_first}
+use Rattle.script_output.proofs.SpacedWords.{then_spaced}
+use Rattle.process_answers.proofs.show.push_piece.Goals as goal
+
+pub returns-in_err-push_range-clause-kept : goal.returns-in_err-push_range-clause-kept
+returns-in_err-push_range-clause-kept c = begins_with_the_first _ _ _ c.push_word.ensures.kept c.push_range.ensures.kept
+
+pub returns-in_err-push_state-clause-kept : goal.returns-in_err-push_state-clause-kept
+returns-in_err-push_state-clause-kept c = begins_with_the_first _ _ _ (begins_with_the_first _ _ _ c.push_word.ensures.kept c.push_range.ensures.kept) c.push_state.ensures.kept
+
+pub returns-clause-written : goal.returns-clause-written
+returns-clause-written c =
+    then_spaced _ _ _ _ _ c.in_ok-push_word.ensures.written
+    (then_spaced _ _ _ _ _ (c.in_ok-push_range.ensures.written ∙ ap (λ range. c.push_word.new.out.items ++ spaced (range_text range ∷ [])) c.range.ensures)
+    c.in_ok-push_state.ensures.written)
+
+pub returns-clause-kept : goal.returns-clause-kept
+returns-clause-kept c = begins_with_the_first _ _ _ (begins_with_the_first _ _ _ c.push_word.ensures.kept c.push_range.ensures.kept) c.push_state.ensures.kept

@@ -1,0 +1,5 @@
+pub mod Answering
+pub mod ChangeModel
+pub mod Ending
+pub mod StepModel
+pub mod Telling

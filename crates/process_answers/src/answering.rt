@@ -1,0 +1,97 @@
+ghost use Rattle.std.specs.Prelude.{◌≡◌, ◌≢◌, ◌++◌, [], IfOk, OnErr, OnOk};
+ghost use Rattle.texts.specs.Printed.{text_of_lines};
+ghost use Rattle.script_output.specs.Spaced.{BeginsWith};
+ghost use Rattle.process_lines.specs.AskedModel.{asked_of};
+ghost use Rattle.process_output.specs.Answer.{answered};
+ghost use Rattle.process_answers.specs.Answering.{IsAnswered};
+
+use crate::changes::{Change, answer_change};
+use crate::dump::write_dump;
+use crate::letters::answer_letter;
+use crate::lines::write_pong;
+use crate::show::write_show;
+use crate::steps::{Step, answer_see, answer_step};
+use directory_silo::Silo;
+use process_lines::Asked;
+use std::alloc::{AllocError, Global};
+
+/// Answers what a line of a silo's process asks for: the silo is told, asked or shown, and what came of it is written behind what
+/// is written already; whether the process ends, since the silo is Dead. Fails only when memory runs out, and only where something
+/// is written; then nothing is written, and the silo may have changed (`docs/RULES.md#lines-of-a-silos-process`).
+#[tactic(auto, using(script_output::proofs::Fronts::front_taken))]
+pub fn answer(
+    alloc: Global,
+    silo: &mut Silo,
+    asked: Asked<'_>,
+    out: &mut Vec<u8>,
+) -> Result<bool, AllocError>
+    ensures silo { OnOk result (silo.new ≡ (answered (asked_of asked.entry) silo.old).silo) }
+    ensures lines { OnOk result (out.new.items ≡ out.old.items ++ text_of_lines (answered (asked_of asked.entry) silo.old).lines) }
+    ensures ends { IfOk result (λ ends. ends ≡ (answered (asked_of asked.entry) silo.old).ends) }
+    ensures unwritten { OnErr result (out.new.items ≡ out.old.items) }
+    ensures memory { OnErr result ((answered (asked_of asked.entry) silo.old).lines ≢ []) }
+{
+    let start = out.len();
+    match answer_asked(alloc, silo, &asked, out) {
+        Ok(ends) => Ok(ends),
+        Err(error) => {
+            out.truncate(start);
+            Err(error)
+        }
+    }
+}
+
+// One function a kind of line.
+#[tactic(auto, unfolding(process_output::specs::Answer::answered))]
+fn answer_asked(
+    alloc: Global,
+    silo: &mut Silo,
+    asked: &Asked<'_>,
+    out: &mut Vec<u8>,
+) -> Result<bool, AllocError>
+    ensures answered { IfOk result (IsAnswered (answered (asked_of asked.now) silo.old) out.old.items silo.new out.new.items) }
+    ensures kept { BeginsWith out.old.items out.new.items }
+    ensures memory { OnErr result ((answered (asked_of asked.now) silo.old).lines ≢ []) }
+{
+    match asked {
+        Asked::Joined {
+            version,
+            silo: joined,
+            places,
+        } => {
+            let change = Change::Join {
+                silo: joined,
+                places: places.as_slice(),
+            };
+            answer_change(silo, *version, &change, out)
+        }
+        Asked::Leaving {
+            version,
+            silo: leaving,
+        } => answer_change(silo, *version, &Change::Leave(leaving), out),
+        Asked::Dead {
+            version,
+            silo: dead,
+        } => answer_change(silo, *version, &Change::Die(dead), out),
+        Asked::See { version } => answer_see(silo, *version, out),
+        Asked::Wake { grain } => answer_step(silo, &Step::Wake(grain), out),
+        Asked::Close { grain } => answer_step(silo, &Step::Close(grain), out),
+        Asked::Offer { grain, to } => answer_step(silo, &Step::Offer { grain, to }, out),
+        Asked::Find { grain } => answer_step(silo, &Step::Find(grain), out),
+        Asked::Forget { grain } => answer_step(silo, &Step::Forget(grain), out),
+        Asked::Nudge => answer_step(silo, &Step::Nudge, out),
+        Asked::Receive(letter) => answer_letter(silo, letter, out),
+        Asked::Ping(word) => {
+            write_pong(out, word)?;
+            Ok(false)
+        }
+        Asked::Show => {
+            write_show(alloc, silo, out)?;
+            Ok(false)
+        }
+        Asked::Dump => {
+            write_dump(alloc, silo, out)?;
+            Ok(false)
+        }
+    }
+}

@@ -1,0 +1,14 @@
+//! What a silo's process answers to what a line asks for: the call of the silo, and the lines that tell what came of it. The rules
+//! are in `docs/RULES.md#lines-of-a-silos-process`.
+#![tactic(auto)]
+
+mod answering;
+mod changes;
+mod dump;
+mod letters;
+mod lines;
+mod show;
+mod steps;
+mod telling;
+
+pub use answering::answer;

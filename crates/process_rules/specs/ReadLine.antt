@@ -1,0 +1,142 @@
+-- What a line of a silo's process asks for, or the number of its first fault. It is a function of the line alone: what a letter to
+-- another silo says is read as well.
+use Rattle.std.specs.Prelude.{ℕ, nat_lt, List, [], ◌∷◌, length, codes, bytes_eq, if◌then◌else◌, Option, Some, None, Result, Ok, Err}
+use Rattle.std.specs.List.{list_all}
+use Rattle.std.specs.Map.{lookup}
+use Rattle.texts.specs.Words.{words_in}
+use Rattle.silo_address.specs.Silo.{Silo}
+use Rattle.silo_address.specs.Grain.{Grain}
+use Rattle.hash_ring.specs.declared.hashing.Hashing.{Hashing}
+use Rattle.directory_rules.specs.Letter.{Letter}
+use Rattle.script_rules.specs.Script.{silo_word, grain_word, number_word, places_in, is_text, is_remark, ◌>>=◌}
+use Rattle.process_rules.specs.ReadLetter.{read_letter}
+
+-- what a line may ask for
+pub data Asked : Type 0 where
+  -- the silo is told a change of membership, and the version that it makes; a silo joins with the places stated for it
+  Joined : (version : ℕ) → Silo → (places : List ℕ) → Asked
+  Leaving : (version : ℕ) → Silo → Asked
+  Dead : (version : ℕ) → Silo → Asked
+  -- it is to take a step of its own
+  See : (version : ℕ) → Asked
+  Wake : Grain → Asked
+  Close : Grain → Asked
+  Offer : Grain → (to : Silo) → Asked
+  Find : Grain → Asked
+  Forget : Grain → Asked
+  Nudge : Asked
+  -- a letter comes, which may be another silo's
+  Receive : Letter → Asked
+  -- what is asked of it changes nothing
+  Ping : (word : List ℕ) → Asked
+  Show : Asked
+  Dump : Asked
+
+-- ---- What stands behind the name of a command: 922 where there are too many words or too few, and then from the left the first word
+-- with a fault.
+abbrev pub Grammar : Type 0
+Grammar = List (List ℕ) → Result Asked ℕ
+
+-- no word
+abbrev pub no_word : Asked → Grammar
+no_word asked [] = Ok asked
+no_word asked (word ∷ words) = Err 922
+
+-- any one word
+abbrev pub a_word : Grammar
+a_word (word ∷ []) = Ok (Ping word)
+a_word words = Err 922
+
+-- a version, a silo, and any number of places
+abbrev pub a_join : Grammar
+a_join (version ∷ silo ∷ places) = do
+  version ← number_word version
+  silo ← silo_word silo
+  places ← places_in places
+  Ok (Joined version silo places)
+a_join words = Err 922
+
+-- a version and a silo
+abbrev pub a_version_and_a_silo : (ℕ → Silo → Asked) → Grammar
+a_version_and_a_silo of (version ∷ silo ∷ []) = do
+  version ← number_word version
+  silo ← silo_word silo
+  Ok (of version silo)
+a_version_and_a_silo of words = Err 922
+
+-- a version
+abbrev pub a_version : Grammar
+a_version (version ∷ []) = do
+  version ← number_word version
+  Ok (See version)
+a_version words = Err 922
+
+-- a grain
+abbrev pub a_grain : (Grain → Asked) → Grammar
+a_grain of (grain ∷ []) = do
+  grain ← grain_word grain
+  Ok (of grain)
+a_grain of words = Err 922
+
+-- a grain and a silo
+abbrev pub a_grain_and_a_silo : Grammar
+a_grain_and_a_silo (grain ∷ silo ∷ []) = do
+  grain ← grain_word grain
+  silo ← silo_word silo
+  Ok (Offer grain silo)
+a_grain_and_a_silo words = Err 922
+
+-- the words of a letter
+abbrev pub a_letter : Hashing → Grammar
+a_letter hashing words = do
+  letter ← read_letter hashing words
+  Ok (Receive letter)
+
+-- each command under its name, with what stands behind the name
+abbrev pub commands : Hashing → List (List ℕ × Grammar)
+commands hashing =
+    (codes "joined", a_join)
+    ∷ (codes "leaving", a_version_and_a_silo Leaving)
+    ∷ (codes "dead", a_version_and_a_silo Dead)
+    ∷ (codes "see", a_version)
+    ∷ (codes "wake", a_grain Wake)
+    ∷ (codes "close", a_grain Close)
+    ∷ (codes "offer", a_grain_and_a_silo)
+    ∷ (codes "find", a_grain Find)
+    ∷ (codes "forget", a_grain Forget)
+    ∷ (codes "nudge", no_word Nudge)
+    ∷ (codes "letter", a_letter hashing)
+    ∷ (codes "ping", a_word)
+    ∷ (codes "show", no_word Show)
+    ∷ (codes "dump", no_word Dump)
+    ∷ []
+
+-- ---- Lines.
+
+-- how many bytes a line may have, without its end
+abbrev pub longest_line : ℕ
+longest_line = 16777216
+
+-- the words behind the name of a command that was looked up
+abbrev pub asked_if_known : Option Grammar → List (List ℕ) → Result (Option Asked) ℕ
+asked_if_known None words = Err 921
+asked_if_known (Some grammar) words = do
+  asked ← grammar words
+  Ok (Some asked)
+
+-- what the words ask for; nothing where there is no word or they are a remark
+abbrev pub asked_of_words : Hashing → List (List ℕ) → Result (Option Asked) ℕ
+asked_of_words hashing [] = Ok None
+asked_of_words hashing (name ∷ words) = if is_remark name then Ok None else asked_if_known (lookup (bytes_eq name) (commands hashing)) words
+
+-- what a line asks for that ended, hashes being of that kind: something, nothing, or its first fault. 924 where it is too long, then
+-- 925 where a byte isn't text, then 921 where its first word names no command, then those of the words behind it
+unfoldable pub read_silo_line : Hashing → List ℕ → Result (Option Asked) ℕ
+read_silo_line hashing line =
+    if nat_lt longest_line (length line) then Err 924
+    else (if list_all is_text line then asked_of_words hashing (words_in line) else Err 925)
+
+-- the fault of what stands behind the last end, if anything does: 924 where it is too long, then 931, since it may have been cut
+unfoldable pub unended_fault : List ℕ → Option ℕ
+unended_fault [] = None
+unended_fault (byte ∷ bytes) = if nat_lt longest_line (length (byte ∷ bytes)) then Some 924 else Some 931

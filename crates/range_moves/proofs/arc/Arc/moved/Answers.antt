@@ -1,5 +1,0 @@
-use Rattle.std.proofs.Common.{rules}
-use Rattle.range_moves.proofs.arc.Arc.moved.Goals as goal
-
-pub returns : goal.returns
-returns c = search rules

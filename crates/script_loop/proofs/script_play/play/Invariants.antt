@@ -1,0 +1,15 @@
+use Rattle.std.proofs.Common.{IfSome}
+use Rattle.script_loop.specs.Progress.{progress, work}
+use Rattle.script_loop.specs.Turns.{CallsSoFar, Stands}
+use Rattle.script_loop.proofs.script_play.play.Given as goal
+
+abbrev pub invariant-turns : goal.invariant-turns
+invariant-turns g l = record {
+  stands : IfSome (g.R.Source.remaining l.fn.reader) (λ script.
+      Stands (g.P.LinePlayer.output l.fn.player) script (g.W.Sink.contents l.fn.writer) (g.P.LinePlayer.output l.player) (progress l.session)
+      (g.R.Source.remaining l.reader) (g.W.Sink.contents l.writer));
+  calls : CallsSoFar g.R.Source.reads g.W.Sink.writes (l.fn.reader, l.fn.writer) (l.reader, l.writer) (progress l.session).ended;
+}
+
+abbrev pub decreases-turns : goal.decreases-turns
+decreases-turns g l = work (progress l.session)

@@ -1,5 +1,0 @@
-use Rattle.std.proofs.Common.{rules}
-use Rattle.seal_snapshot.proofs.gathering.Gathering.agrees.Goals as goal
-
-pub returns-then-whole-pages : goal.returns-then-whole-pages
-returns-then-whole-pages c = search rules

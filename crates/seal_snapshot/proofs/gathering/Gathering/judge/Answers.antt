@@ -1,5 +1,0 @@
-use Rattle.std.proofs.Common.{rules}
-use Rattle.seal_snapshot.proofs.gathering.Gathering.judge.Goals as goal
-
-pub returns-else-has_digest-clause-judged : goal.returns-else-has_digest-clause-judged
-returns-else-has_digest-clause-judged c = search rules

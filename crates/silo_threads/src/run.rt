@@ -1,0 +1,186 @@
+ghost use Rattle.std.specs.Prelude.{◌≡◌, ◌+◌, ◌<◌, ◌≤◌, IfErr, IfOk, None, OnErr, OnOk};
+ghost use Rattle.directory_rules.specs.EventModel.{event_of};
+ghost use Rattle.silo_threads.specs.Followed.{HasChanged, HasFollowed, HasJoined};
+ghost use Rattle.silo_threads.specs.Replies.{IsReceiptOf, IsRefusalOf};
+
+use crate::cluster::{MOST_WORKERS, PARTS};
+use crate::start::{Desk, start};
+use crate::{Cluster, Lack};
+use cluster_board::Board;
+use cluster_journal::Receipt;
+use directory_core::EventRefusal;
+use directory_rules::Event;
+use silo_address::SiloAddress;
+use silo_workers::{Gate, Site};
+use std::alloc::AllocError;
+use std::sync::ledger::{Ledger, Share};
+use std::sync::{Arc, Wait};
+use std::thread::Threads;
+use value_marks::Names;
+
+/// An event that was accepted: its receipt, and what it should have had behind it and lacks.
+#[derive(Drop)]
+pub struct Ran {
+    pub receipt: Receipt,
+    pub lack: Option<Lack>,
+}
+
+impl<L: Ledger + Names + Send + 'static, G: Gate + Drop + Send + Sync + 'static> Cluster<L, G> {
+    /// Posts an event. At a join the silo's worker starts, with a part of the share; at each change of membership the ring of the
+    /// new view is published. Refused as the world refuses the event; out of memory may come before any other refusal. A refusal
+    /// changes nothing. That no thread or no publication could be had is told with the receipt; without a thread all silos are to
+    /// stop, and nothing is published. The caller has all parts of the share that no worker has
+    /// (`docs/RULES.md#running-silos`).
+    pub fn run<R: Threads + Wait + Copy + Drop + Send + 'static>(
+        &mut self,
+        rt: &R,
+        share: &mut Share<L>,
+        event: &Event,
+    ) -> Result<Ran, EventRefusal>
+        requires { share.old.parts + self.old.workers ≡ PARTS }
+        ensures receipt { IfOk result (λ ran. IsReceiptOf (event_of event.now) ran.receipt) }
+        ensures followed { IfOk result (λ ran. HasFollowed (event_of event.now) self.old self.new ran.lack) }
+        ensures refused { IfErr result (IsRefusalOf (event_of event.now)) }
+        ensures unchanged { OnErr result (self.new ≡ self.old) }
+        ensures whole { share.new.parts + self.new.workers ≡ PARTS }
+        ensures counted { OnOk result (share.new.amount ≡ share.old.amount + 1) }
+        ensures not_counted { OnErr result (share.new.amount ≡ share.old.amount) }
+    {
+        self.has_few();
+        match event {
+            Event::Join { silo, .. } => self.join(rt, share, event, *silo),
+            Event::Leave { .. } | Event::Kill { .. } => self.change(rt, share, event),
+            _ => self.happen(rt, share, event),
+        }
+    }
+
+    // A silo joins.
+    fn join<R: Threads + Wait + Copy + Drop + Send + 'static>(
+        &mut self,
+        rt: &R,
+        share: &mut Share<L>,
+        event: &Event,
+        silo: SiloAddress,
+    ) -> Result<Ran, EventRefusal>
+        requires { share.old.parts + self.old.workers ≡ PARTS }
+        ensures receipt { IfOk result (λ ran. IsReceiptOf (event_of event.now) ran.receipt) }
+        ensures followed { IfOk result (λ ran. HasJoined self.old self.new ran.lack) }
+        ensures refused { IfErr result (IsRefusalOf (event_of event.now)) }
+        ensures unchanged { OnErr result (self.new ≡ self.old) }
+        ensures whole { share.new.parts + self.new.workers ≡ PARTS }
+        ensures counted { OnOk result (share.new.amount ≡ share.old.amount + 1) }
+        ensures not_counted { OnErr result (share.new.amount ≡ share.old.amount) }
+    {
+        let Ok(desk) = self.desk_for(silo) else {
+            return Err(EventRefusal::OutOfMemory);
+        };
+        if self.workers.reserve(1).is_err() {
+            return Err(EventRefusal::OutOfMemory);
+        }
+        let receipt = post(rt, &self.site, share, event)?;
+        let lack = match start(rt, &self.site, &mut self.workers, share, desk) {
+            Ok(()) => self.publish(rt).err(),
+            Err(lack) => Some(lack),
+        };
+        Ok(Ran { receipt, lack })
+    }
+
+    // A silo leaves or dies.
+    fn change<R: Wait>(
+        &mut self,
+        rt: &R,
+        share: &mut Share<L>,
+        event: &Event,
+    ) -> Result<Ran, EventRefusal>
+        requires { 0 < share.old.parts }
+        ensures receipt { IfOk result (λ ran. IsReceiptOf (event_of event.now) ran.receipt) }
+        ensures followed { IfOk result (λ ran. HasChanged self.old self.new ran.lack) }
+        ensures refused { IfErr result (IsRefusalOf (event_of event.now)) }
+        ensures unchanged { OnErr result (self.new ≡ self.old) }
+        ensures workers { self.new.workers ≡ self.old.workers }
+        ensures parts { share.new.parts ≡ share.old.parts }
+        ensures counted { OnOk result (share.new.amount ≡ share.old.amount + 1) }
+        ensures not_counted { OnErr result (share.new.amount ≡ share.old.amount) }
+    {
+        let receipt = post(rt, &self.site, share, event)?;
+        let lack = self.publish(rt).err();
+        Ok(Ran { receipt, lack })
+    }
+
+    // An event that changes no view.
+    fn happen<R: Wait>(
+        &self,
+        rt: &R,
+        share: &mut Share<L>,
+        event: &Event,
+    ) -> Result<Ran, EventRefusal>
+        requires { 0 < share.old.parts }
+        ensures receipt { IfOk result (λ ran. IsReceiptOf (event_of event.now) ran.receipt) }
+        ensures no_lack { IfOk result (λ ran. ran.lack ≡ None) }
+        ensures refused { IfErr result (IsRefusalOf (event_of event.now)) }
+        ensures parts { share.new.parts ≡ share.old.parts }
+        ensures counted { OnOk result (share.new.amount ≡ share.old.amount + 1) }
+        ensures not_counted { OnErr result (share.new.amount ≡ share.old.amount) }
+    {
+        let receipt = post(rt, &self.site, share, event)?;
+        Ok(Ran {
+            receipt,
+            lack: None,
+        })
+    }
+
+    // A law: there are never more workers than there may be.
+    fn has_few(&self)
+        ensures { self.now.workers ≤ MOST_WORKERS }
+    {
+        let _workers = self.workers.len();
+    }
+
+    // What the worker of a silo takes with it.
+    fn desk_for(&self, silo: SiloAddress) -> Result<Desk<L, G>, AllocError> {
+        Ok(Desk {
+            alloc: self.alloc,
+            silo,
+            site: Arc::try_clone(&self.site)?,
+            causes: self.causes.clone()?,
+        })
+    }
+}
+
+// Posts the event, and tells all workers that the board has changed.
+fn post<L: Ledger + Names, G: Gate + Drop, R: Wait>(
+    rt: &R,
+    site: &Site<L, G>,
+    share: &mut Share<L>,
+    event: &Event,
+) -> Result<Receipt, EventRefusal>
+    requires { 0 < share.old.parts }
+    ensures receipt { IfOk result (IsReceiptOf (event_of event.now)) }
+    ensures refused { IfErr result (IsRefusalOf (event_of event.now)) }
+    ensures parts { share.new.parts ≡ share.old.parts }
+    ensures counted { OnOk result (share.new.amount ≡ share.old.amount + 1) }
+    ensures not_counted { OnErr result (share.new.amount ≡ share.old.amount) }
+{
+    let mut board = site.board.lock(rt);
+    let receipt = post_to(&mut board, share, event)?;
+    drop(board);
+    site.bell.notify_all();
+    Ok(receipt)
+}
+
+// Posts the event to the board.
+fn post_to<L: Ledger + Names>(
+    board: &mut Board<L>,
+    share: &mut Share<L>,
+    event: &Event,
+) -> Result<Receipt, EventRefusal>
+    requires { 0 < share.old.parts }
+    ensures receipt { IfOk result (IsReceiptOf (event_of event.now)) }
+    ensures refused { IfErr result (IsRefusalOf (event_of event.now)) }
+    ensures parts { share.new.parts ≡ share.old.parts }
+    ensures counted { OnOk result (share.new.amount ≡ share.old.amount + 1) }
+    ensures not_counted { OnErr result (share.new.amount ≡ share.old.amount) }
+{
+    board.journaled();
+    board.post(share, event)
+}

@@ -1,6 +1,0 @@
-use Rattle.std.proofs.Common.{◌≡◌, map, take}
-use Rattle.dump_rules.specs.Dump.{dump_held}
-use Rattle.world_lists.proofs.nodes.held.Given as goal
-
-abbrev pub invariant-loop-grain : goal.invariant-loop-grain
-invariant-loop-grain l = l.listed.items ≡ map (λ e. dump_held l.silo e.0 e.1) (take l.grain-index l.grain-items)

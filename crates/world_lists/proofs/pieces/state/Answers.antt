@@ -1,5 +1,0 @@
-use Rattle.std.proofs.Common.{rules}
-use Rattle.world_lists.proofs.pieces.state.Goals as goal
-
-pub returns-in-Awaiting : goal.returns-in-Awaiting
-returns-in-Awaiting c = search rules
