@@ -11,7 +11,6 @@ mod Results
 mod Rows
 mod Sights
 mod Turns
-mod Answered
 mod Written
 mod Accepted
 mod NumberRows

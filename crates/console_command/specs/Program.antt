@@ -13,7 +13,8 @@ use Rattle.silo_rules.specs.SiloValue.{first_silo}
 use Rattle.process_output.specs.Output.{silo_output}
 use Rattle.process_loop.specs.Endings.{Stops}
 use Rattle.process_loop.specs.declared.stopped.Stopped.{Stopped}
-use Rattle.console_command.specs.SiloPlay.{WritesOutput, process_settings}
+use Rattle.silo_player.specs.ProcessSettings.{process_settings}
+use Rattle.console_command.specs.SiloPlay.{WritesOutput}
 use Rattle.console_command.specs.Play.{lines_played}
 use Rattle.console_command.specs.Checks.{Checks}
 use Rattle.console_command.specs.declared.checked.Checked.{Checked}

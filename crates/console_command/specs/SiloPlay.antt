@@ -1,17 +1,11 @@
 -- Processes of silos, by the rule.
 use Rattle.std.specs.Prelude.{◌≡◌, ℕ, List, Option}
 use Rattle.std.specs.Io.KnownBytes.{Appends}
-use Rattle.hash_ring.specs.declared.Hashing.{Hashing}
-use Rattle.directory_rules.specs.Settings.{Settings, directory_settings}
 use Rattle.texts.specs.Printed.{Output}
 use Rattle.script_output.specs.Spaced.{BeginsWith}
 use Rattle.process_loop.specs.declared.stopped.Stopped.{Stopped}
 use Rattle.process_loop.specs.declared.stopped.Stopped.TheVariants.{AtEnd, Dead}
 use Rattle.process_loop.specs.Endings.{status_of}
-
--- the settings of a process: a directory's own, but that 65,536 silos may ever join, since each that is started again is another one
-abbrev pub process_settings : Hashing → (points cache : ℕ) → Settings
-process_settings hashing points cache = record (directory_settings hashing points cache) { silos = 65536 }
 
 -- the text is the output, whose status is the exit's, where the process came to its end; else a beginning of its text
 abbrev pub IsOfOutput : Output → (text : List ℕ) → Stopped → Type 0

@@ -50,10 +50,7 @@ fn play_command(
     ensures kept { OnErr result (BeginsWith out.old.items out.new.items) }
 {
     match command {
-        Command::Happen(event) => {
-            take_turn(world, event, out)?;
-            Ok(())
-        }
+        Command::Happen(event) => happen(world, event, out),
         Command::Sync => sync(alloc, world, out),
         Command::Settle => settle(world, out),
         Command::Owner { hash } => tell_owner(alloc, world, *hash, out),
@@ -69,7 +66,16 @@ fn play_command(
     }
 }
 
-/// An event among others: the line that tells it, or its refusal. Answers whether it was accepted, so that what comes next may happen.
+// An event: the line that tells it, or its refusal.
+fn happen(world: &mut World, event: &Event, out: &mut Vec<u8>) -> Result<(), AllocError>
+    ensures performed { OnOk result (Performs (events_in_turn (event_of event.now ∷ []) (in_session world.old)) out.old.items world.new out.new.items) }
+    ensures kept { OnErr result (BeginsWith out.old.items out.new.items) }
+{
+    take_turn(world, event, out)?;
+    Ok(())
+}
+
+/// The same of one event among others: whether it was accepted, so that what comes next may happen.
 pub(crate) fn take_turn(
     world: &mut World,
     event: &Event,

@@ -18,7 +18,6 @@ mod place;
 mod program;
 mod shown;
 mod silo_play;
-mod silo_player;
 mod source;
 mod sync;
 mod verdict;

@@ -4,19 +4,17 @@ ghost use Rattle.std.specs.Prelude.{◌≡◌, ◌≤◌, ◌↔◌, IfSome, IsS
 ghost use Rattle.silo_rules.specs.SiloValue.{first_silo};
 ghost use Rattle.process_output.specs.Output.{silo_output};
 ghost use Rattle.process_loop.specs.Endings.{MakesCalls, Stops};
-ghost use Rattle.console_command.specs.SiloPlay.{WritesOutput, process_settings};
+ghost use Rattle.silo_player.specs.ProcessSettings.{process_settings};
+ghost use Rattle.console_command.specs.SiloPlay.{WritesOutput};
 
-use crate::silo_player::Player;
 use directory_rules::Settings;
 use directory_silo::Silo;
 use hash_ring::Hashing;
 use process_loop::Stopped;
 use script_loop::{Sink, Source};
 use silo_address::SiloAddress;
+use silo_player::{Player, process_settings};
 use std::alloc::Global;
-
-/// How many silos may ever join a deployment.
-const MOST_SILOS: usize = 65_536;
 
 /// Plays the process of a new silo, under a way of hashing, with a number of points, 1 to 128, and of hints that its cache keeps, 0 to
 /// 65536: `None` where one of them is out of its range, and nothing is read or written. Its lines come from the reader up to its end,
@@ -43,14 +41,6 @@ pub fn play_new_silo<R: Source, W: Sink>(
 {
     let settings = process_settings(hashing, points, cache)?;
     Some(play(alloc, settings, silo, reader, writer))
-}
-
-// A directory's settings, but that more silos may ever join.
-fn process_settings(hashing: Hashing, points: usize, cache: usize) -> Option<Settings>
-    ensures exact { IfSome result (λ settings. settings ≡ process_settings hashing points cache) }
-    ensures in_range { IsSome result ↔ ((1 ≤ points) × (points ≤ 128) × (cache ≤ 65536)) }
-{
-    Settings::of_directory(hashing, points, cache)?.with_silos(MOST_SILOS)
 }
 
 // Plays the process of a silo that was told nothing yet, as `process_loop::play` does.

@@ -13,8 +13,8 @@ use std::alloc::{AllocError, Global};
 
 /// A silo, as far as its process has brought it.
 #[derive(Drop)]
-pub(crate) struct Player {
-    pub(crate) silo: Silo,
+pub struct Player {
+    pub silo: Silo,
 }
 
 impl SiloPlayer for Player {
