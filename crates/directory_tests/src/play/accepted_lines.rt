@@ -190,14 +190,16 @@ fn lines_that_are_refused(rt: HostRuntime) {
     }
 }
 
-// The help of the program and that of its command, its version, and a mistake, which is told with the way out.
-const HELP: &str = "A directory of grains on a cluster of silos, played from a script
+// The help of the program and that of two of its commands, its version, and a mistake, which is told with the way out.
+const HELP: &str =
+    "A directory of grains on a cluster of silos, played from a script, or one silo of it
 
 Usage: grain-directory <COMMAND>
 
 Commands:
   play     Play a cluster's script, read from standard input
   threads  Play a cluster's script with a thread per silo, read from standard input
+  silo     Be one silo's process: lines of standard input are answered on standard output
   check    Judge the dump of a cluster, read from standard input
   help     Print this message or the help of the given subcommand(s)
 
@@ -217,6 +219,21 @@ Options:
   -h, --help               Print help
 ";
 
+const HELP_OF_SILO: &str =
+    "Be one silo's process: lines of standard input are answered on standard output
+
+Usage: grain-directory silo [OPTIONS] <ADDR>
+
+Arguments:
+  <ADDR>  The silo: a.b.c.d:port@generation
+
+Options:
+      --hashing <HASHING>  How points and grains are hashed: by their texts, or as the script states [default: sha256] [possible values: sha256, stated]
+      --points <POINTS>    How many points a silo has under sha256, from 1 to 128 [default: 30]
+      --cache <CACHE>      How many hints a silo's cache keeps, from 1 to 65536 [default: 1024]
+  -h, --help               Print help
+";
+
 const VERSION: &str = "grain-directory 0.1.0\n";
 
 const MISTAKE: &str = "error: invalid value '0' for '--points <POINTS>': 0 is not in 1..=128
@@ -225,9 +242,10 @@ For more information, try '--help'.
 ";
 
 // A line, the text that is shown for it, and whether that was asked for.
-const SHOWN: [(&'static [&'static str], &str, bool); 4] = [
+const SHOWN: [(&'static [&'static str], &str, bool); 5] = [
     (&["g", "help"], HELP, true),
     (&["g", "play", "--help"], HELP_OF_PLAY, true),
+    (&["g", "silo", "--help"], HELP_OF_SILO, true),
     (&["g", "--version"], VERSION, true),
     (&["g", "play", "--points", "0"], MISTAKE, false),
 ];
