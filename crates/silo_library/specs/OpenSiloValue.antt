@@ -1,0 +1,77 @@
+-- An open silo: which it is at first, and what a line makes of it.
+use Rattle.std.specs.Prelude.{◌≡◌, ℕ, ◌≤◌, zero, suc, Bool, true, false, List, [], Option, Some, None, Ok, IsErr, IsOk, IsSome}
+use Rattle.silo_address.specs.ReadSilo.{read_silo}
+use Rattle.hash_ring.specs.declared.Hashing.{Hashing}
+use Rattle.hash_ring.specs.declared.Hashing.TheVariants.{Sha256, Stated}
+use Rattle.silo_address.specs.Silo.{Silo}
+use Rattle.directory_rules.specs.Settings.{Settings}
+use Rattle.silo_rules.specs.SiloValue.{SiloValue, first_silo}
+use Rattle.process_loop.specs.Answering.{AnswersLine}
+use Rattle.silo_player.specs.ProcessSettings.{process_settings}
+use Rattle.silo_library.specs.declared.status.Status.{Status}
+use Rattle.silo_library.specs.declared.status.Status.TheVariants as status
+
+-- a silo, what it answered to the last line, and whether it answers no more
+pub record OpenSiloValue : Type 0 where
+  pub silo : SiloValue
+  pub answer : List ℕ
+  pub ended : Bool
+
+-- ---- Opened.
+-- the way of hashing that has the number
+abbrev pub hashing_of : (number : ℕ) → Option Hashing
+hashing_of zero = Some Sha256
+hashing_of (suc zero) = Some Stated
+hashing_of (suc (suc more)) = None
+
+-- as many points and hints as there may be
+abbrev pub AreInRange : (points cache : ℕ) → Type 0
+AreInRange points cache = (1 ≤ points) × (points ≤ 128) × (cache ≤ 65536)
+
+-- the silo with these settings, which was told nothing yet, and answered nothing
+abbrev pub first_open : Settings → Silo → OpenSiloValue
+first_open settings silo = record { silo = first_silo settings silo; answer = []; ended = false }
+
+-- an address and settings open that silo
+pub record Opens (address : List ℕ) (hashing points cache : ℕ) (it : OpenSiloValue) : Type 0 where
+  pub silo : Silo
+  pub way : Hashing
+  pub named : read_silo address ≡ Ok silo
+  pub numbered : hashing_of hashing ≡ Some way
+  pub in_range : AreInRange points cache
+  pub first : it ≡ first_open (process_settings way points cache) silo
+
+-- what is wrong with them: the first that applies of no silo, no way of hashing and a number out of its range; or else memory ran out
+abbrev pub RefusesToOpen : (address : List ℕ) (hashing points cache : ℕ) → Status → Type 0
+RefusesToOpen address hashing points cache status.NotASilo = IsErr (read_silo address)
+RefusesToOpen address hashing points cache status.NoSuchHashing = IsOk (read_silo address) × (hashing_of hashing ≡ None)
+RefusesToOpen address hashing points cache status.OutOfRange = IsOk (read_silo address) × IsSome (hashing_of hashing) × ¬ (AreInRange points cache)
+RefusesToOpen address hashing points cache status.OutOfMemory = IsOk (read_silo address) × IsSome (hashing_of hashing) × AreInRange points cache
+RefusesToOpen address hashing points cache other = ⊥
+
+-- ---- Answering.
+-- a line makes this of an open silo, which tells so by its status
+abbrev pub Answers : (old : OpenSiloValue) (line : List ℕ) (new : OpenSiloValue) → Status → Type 0
+Answers old line new status.GoesOn = (old.ended ≡ false) × AnswersLine old.silo line [] new.silo new.answer false × (new.ended ≡ false)
+Answers old line new status.Dead = (old.ended ≡ false) × AnswersLine old.silo line [] new.silo new.answer true × (new.ended ≡ true)
+Answers old line new status.OutOfMemory = (old.ended ≡ false) × (new.answer ≡ []) × (new.ended ≡ true)
+Answers old line new status.Ended = (old.ended ≡ true) × (new ≡ record old { answer = [] })
+Answers old line new other = ⊥
+
+-- ---- The numbers of statuses.
+abbrev pub status_number : Status → ℕ
+status_number status.GoesOn = 0
+status_number status.Dead = 1
+status_number status.Ended = 2
+status_number status.OutOfMemory = 3
+status_number status.NotASilo = 4
+status_number status.NoSuchHashing = 5
+status_number status.OutOfRange = 6
+
+-- that number tells why nothing was opened
+abbrev pub TellsRefusal : (address : List ℕ) (hashing points cache number : ℕ) → Type 0
+TellsRefusal address hashing points cache number = (status : Status) × RefusesToOpen address hashing points cache status × (number ≡ status_number status)
+
+-- that number tells what the line made of the open silo
+abbrev pub TellsAnswer : (old : OpenSiloValue) (line : List ℕ) (new : OpenSiloValue) (number : ℕ) → Type 0
+TellsAnswer old line new number = (status : Status) × Answers old line new status × (number ≡ status_number status)

@@ -1,0 +1,152 @@
+//! What is behind a handle.
+
+ghost use Rattle.std.specs.Prelude.{◌≡◌, IfErr, IfOk};
+ghost use Rattle.silo_library.specs.OpenSiloValue.{Answers, Opens, RefusesToOpen, TellsAnswer, TellsRefusal, first_open, hashing_of};
+
+use crate::Status;
+use directory_rules::Settings;
+use directory_silo::Silo;
+use hash_ring::Hashing;
+use process_loop::SiloPlayer;
+use silo_address::SiloAddress;
+use silo_player::{Player, process_settings};
+use std::alloc::{AllocError, Global};
+use std::marker::Model;
+
+/// A silo, what it answered to the last line, and whether it answers no more.
+#[derive(Drop)]
+pub struct OpenSilo {
+    alloc: Global,
+    player: Player,
+    answer: Vec<u8>,
+    ended: bool,
+}
+
+impl Model for OpenSilo {
+    ghost use Rattle.silo_library.specs.OpenSiloValue.{OpenSiloValue};
+
+    ghost Value = { OpenSiloValue };
+
+    ghost view = { λ it. record { silo = it.player.silo; answer = it.answer.items; ended = it.ended } };
+}
+
+impl OpenSilo {
+    /// The silo of a text, under the way of hashing that has the number, with so many points and a cache of so many hints. It was
+    /// told nothing yet. A refusal is told by its number.
+    pub(crate) fn open(
+        alloc: Global,
+        address: &[u8],
+        hashing: u32,
+        points: usize,
+        cache: usize,
+    ) -> Result<Box<OpenSilo>, u32>
+        ensures opened { IfOk result (λ it. Opens address.now hashing points cache it.value) }
+        ensures refused { IfErr result (TellsRefusal address.now hashing points cache) }
+    {
+        match OpenSilo::make(alloc, address, hashing, points, cache) {
+            Ok(it) => Ok(it),
+            Err(status) => Err(status.number()),
+        }
+    }
+
+    // The same, with the refusal by its name.
+    fn make(
+        alloc: Global,
+        address: &[u8],
+        hashing: u32,
+        points: usize,
+        cache: usize,
+    ) -> Result<Box<OpenSilo>, Status>
+        ensures opened { IfOk result (λ it. Opens address.now hashing points cache it.value) }
+        ensures refused { IfErr result (λ status. RefusesToOpen address.now hashing points cache status) }
+    {
+        let Ok(silo) = SiloAddress::parse(address) else {
+            return Err(Status::NotASilo);
+        };
+        let Some(hashing) = hashing_of(hashing) else {
+            return Err(Status::NoSuchHashing);
+        };
+        let Some(settings) = process_settings(hashing, points, cache) else {
+            return Err(Status::OutOfRange);
+        };
+        match first(alloc, settings, silo) {
+            Ok(it) => Ok(it),
+            Err(_) => Err(Status::OutOfMemory),
+        }
+    }
+
+    /// Answers a line, given without its line feed, as the silo's process does. The status is told by its number.
+    pub(crate) fn answer_line(&mut self, line: &[u8]) -> u32
+        ensures { TellsAnswer self.old line.now self.new result }
+    {
+        self.answered(line).number()
+    }
+
+    // The same, with the status by its name.
+    fn answered(&mut self, line: &[u8]) -> Status
+        ensures { Answers self.old line.now self.new result }
+    {
+        self.answer.clear();
+        if self.ended {
+            return Status::Ended;
+        }
+        match self.player.answer_line(self.alloc, line, &mut self.answer) {
+            Ok(false) => Status::GoesOn,
+            Ok(true) => {
+                self.ended = true;
+                Status::Dead
+            }
+            Err(_) => {
+                self.ended = true;
+                Status::OutOfMemory
+            }
+        }
+    }
+
+    /// What was answered to the last line.
+    pub(crate) fn answer(&self) -> &[u8]
+        ensures { result.now ≡ self.now.answer }
+    {
+        &self.answer
+    }
+}
+
+/// A law: an open silo may go to another thread.
+pub fn may_cross(silo: Box<OpenSilo>) -> Box<OpenSilo> {
+    crossed(silo)
+}
+
+fn crossed<T: Send>(it: T) -> T {
+    it
+}
+
+/// Lets a silo go, with all that it has.
+pub(crate) fn close(_silo: Box<OpenSilo>) {}
+
+// The way of hashing that has the number.
+fn hashing_of(number: u32) -> Option<Hashing>
+    ensures { result ≡ hashing_of number }
+{
+    match number {
+        0 => Some(Hashing::Sha256),
+        1 => Some(Hashing::Stated),
+        _ => None,
+    }
+}
+
+// A silo that was told nothing yet, and answered nothing.
+fn first(alloc: Global, settings: Settings, silo: SiloAddress) -> Result<Box<OpenSilo>, AllocError>
+    ensures { IfOk result (λ it. it.value ≡ first_open settings silo) }
+{
+    let silo = Silo::new(alloc, settings, silo)?;
+    let it = Box::new(
+        alloc,
+        OpenSilo {
+            alloc,
+            player: Player { silo },
+            answer: Vec::new(alloc),
+            ended: false,
+        },
+    )?;
+    Ok(it)
+}

@@ -1,0 +1,95 @@
+/* A silo's process, as `grain-directory silo`, over the library:
+ *
+ *   silo_process silo ADDRESS [--hashing sha256|stated] [--points N] [--cache N]
+ *
+ * reads lines from standard input and writes what is answered, line by line. It ends at the end of its input with status 0, and where
+ * the silo is dead; with 3 if memory runs out, with 5 if reading or writing fails, and with 2 at a mistake in its words. */
+#include "grain_directory.h"
+
+#include <stdio.h>
+#include <stdlib.h>
+#include <string.h>
+#include <unistd.h>
+
+/* A line that is longer than that is too long, whatever comes: of a longer one no more is kept, and a carriage return that may end it. */
+enum { MOST_KEPT = 16777216 + 2, CHUNK = 65536 };
+
+static char line[MOST_KEPT];
+static size_t kept;
+
+static int mistake(const char *what) {
+    fprintf(stderr, "silo_process: %s\n", what);
+    return 2;
+}
+
+/* Writes all of the bytes; or says that it couldn't. */
+static int write_all(const unsigned char *bytes, size_t length) {
+    while (length > 0) {
+        ssize_t written = write(STDOUT_FILENO, bytes, length);
+        if (written <= 0) return 0;
+        bytes += written;
+        length -= (size_t)written;
+    }
+    return 1;
+}
+
+static void keep(const char *bytes, size_t length) {
+    size_t room = MOST_KEPT - kept;
+    if (length > room) length = room;
+    memcpy(line + kept, bytes, length);
+    kept += length;
+}
+
+/* The exit status, or -1 to go on. */
+static int answer_line(grain_directory *silo) {
+    grain_directory_text answer = {NULL, 0};
+    uint32_t status = grain_directory_line(silo, (const unsigned char *)line, kept, &answer);
+    kept = 0;
+    if (!write_all(answer.bytes, answer.length)) return 5;
+    if (status == GRAIN_DIRECTORY_OK) return -1;
+    return status == GRAIN_DIRECTORY_DEAD ? 0 : 3;
+}
+
+static int play(grain_directory *silo) {
+    static char chunk[CHUNK];
+    for (;;) {
+        ssize_t count = read(STDIN_FILENO, chunk, CHUNK);
+        if (count < 0) return 5;
+        if (count == 0) break;
+        const char *from = chunk, *end = chunk + count;
+        while (from < end) {
+            const char *feed = memchr(from, '\n', (size_t)(end - from));
+            keep(from, (size_t)((feed != NULL ? feed : end) - from));
+            if (feed == NULL) break;
+            int status = answer_line(silo);
+            if (status >= 0) return status;
+            from = feed + 1;
+        }
+    }
+    /* What no line feed ended may have been cut, so it is never taken. */
+    if (kept > 0) {
+        const char *fault = kept > 16777216 ? "fault 924\n" : "fault 931\n";
+        if (!write_all((const unsigned char *)fault, strlen(fault))) return 5;
+    }
+    return 0;
+}
+
+int main(int count, char **words) {
+    if (count < 3 || strcmp(words[1], "silo") != 0) return mistake("silo ADDRESS [--hashing sha256|stated] [--points N] [--cache N]");
+    uint32_t hashing = GRAIN_DIRECTORY_SHA256;
+    size_t points = GRAIN_DIRECTORY_POINTS, cache = GRAIN_DIRECTORY_CACHE;
+    for (int word = 3; word + 1 < count; word += 2) {
+        const char *value = words[word + 1];
+        if (strcmp(words[word], "--hashing") == 0) hashing = strcmp(value, "stated") == 0 ? GRAIN_DIRECTORY_STATED : GRAIN_DIRECTORY_SHA256;
+        else if (strcmp(words[word], "--points") == 0) points = strtoul(value, NULL, 10);
+        else if (strcmp(words[word], "--cache") == 0) cache = strtoul(value, NULL, 10);
+        else return mistake("no such option");
+    }
+    grain_directory *silo = NULL;
+    uint32_t status = grain_directory_open((const unsigned char *)words[2], strlen(words[2]), hashing, points, cache, &silo);
+    if (status == GRAIN_DIRECTORY_OUT_OF_MEMORY) return 3;
+    if (status != GRAIN_DIRECTORY_OK) return mistake("no silo, or a number out of its range");
+    int ended = play(silo);
+    grain_directory_close(silo);
+    return ended;
+}
