@@ -2,7 +2,8 @@ ghost use Rattle.std.specs.Prelude.{◌≡◌, ◌↔◌, IsTrue, IfOk};
 ghost use Rattle.directory_rules.specs.Letter.{act_kind, kind_of, reply_kind};
 ghost use Rattle.directory_letters.specs.LetterModel.{body_of};
 
-use directory_rules::{Act, LetterKind, Reply, Request};
+use directory_rules::{Act, LetterKind, Reply};
+use grain_table::HashedRequest;
 use range_recovery::Report;
 use ring_range::RingRange;
 use seal_snapshot::Page;
@@ -14,7 +15,7 @@ use std::marker::Model;
 #[derive(Drop)]
 pub enum Body {
     /// A silo to the owner of a grain's hash.
-    Request(Request),
+    Request(HashedRequest),
     /// The owner back, under the request's number.
     Reply { number: u64, reply: Reply },
     /// The new owner of a range to the previous one: for the page of that number of its snapshot.
@@ -43,7 +44,7 @@ impl Body {
         ensures { IfOk result (λ body. body_of body ≡ body_of self.now) }
     {
         match self {
-            Body::Request(request) => Ok(Body::Request(*request)),
+            Body::Request(request) => Ok(Body::Request(request.copy())),
             Body::Reply { number, reply } => Ok(Body::Reply {
                 number: *number,
                 reply: *reply,
@@ -162,7 +163,7 @@ impl Letter {
         ensures { result ≡ kind_of self.now.body }
     {
         match &self.body {
-            Body::Request(request) => act_kind(&request.act),
+            Body::Request(request) => act_kind(&request.request().act),
             Body::Reply { reply, .. } => reply_kind(reply),
             Body::Ask { .. } => LetterKind::Ask,
             Body::Page(_) => LetterKind::Page,

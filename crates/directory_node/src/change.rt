@@ -6,7 +6,7 @@ ghost use Rattle.directory_rules.specs.Reply.{yielded_by};
 ghost use Rattle.node_plans.specs.Plans.{Fits, changed, without};
 
 use crate::{Change, Node};
-use directory_rules::Request;
+use grain_table::HashedRequest;
 use node_plans::{forget, learn, use_hint};
 use silo_address::Entry;
 use std::alloc::AllocError;
@@ -67,7 +67,7 @@ impl Node {
     }
 
     // A request is served.
-    fn serve(&mut self, request: &Request) -> Result<(), AllocError>
+    fn serve(&mut self, request: &HashedRequest) -> Result<(), AllocError>
         ensures made { OnOk result (self.new ≡ record self.old { holding = (answered self.old.holding request.now).holding }) }
         ensures unchanged { OnErr result (self.new ≡ self.old) }
     {

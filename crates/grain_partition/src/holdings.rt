@@ -23,7 +23,7 @@ use crate::settled::are_settled;
 use crate::sight::sight;
 use crate::{ArcsBySilo, Piece};
 use directory_rules::{Act, Reply, Request, Why};
-use grain_table::Table;
+use grain_table::{HashedRequest, Table};
 use hash_ring::Hashing;
 use membership_view::View;
 use ring_range::RingRange;
@@ -97,11 +97,11 @@ impl Holding {
     }
 
     /// What a request is answered, whether or not it is then served (`docs/RULES.md#requests`).
-    pub fn answer(&self, request: &Request) -> Reply
+    pub fn answer(&self, request: &HashedRequest) -> Reply
         ensures { result ≡ (answered self.now request.now).reply }
     {
-        match self.serving_piece(request) {
-            Ok(piece) => piece.reply_to(&request.act),
+        match self.serving_piece(request.request()) {
+            Ok(piece) => piece.reply_to(request),
             Err(why) => Reply::Retry(why),
         }
     }
@@ -109,17 +109,18 @@ impl Holding {
     /// Serves a request: answers it, and makes its change. A sender's Registers and Deregisters are served by rising numbers,
     /// so that a late copy of one changes nothing. Fails only when memory runs out, and then changes nothing; a Find and a retry
     /// need none (`docs/RULES.md#requests`).
-    pub fn serve(&mut self, request: &Request) -> Result<Reply, AllocError>
+    pub fn serve(&mut self, request: &HashedRequest) -> Result<Reply, AllocError>
         ensures served { IfOk result (λ reply. answered self.old request.now ≡ record { reply = reply; holding = self.new }) }
         ensures unchanged { OnErr result (self.new ≡ self.old) }
         ensures find_succeeds { is_numbered request.now.act ≡ false → IsOk result }
         ensures retry_succeeds { IsErr (serving_piece self.old request.now) → IsOk result }
     {
         self.whole();
-        let start = match self.serving_piece(request) {
+        let asked = request.request();
+        let start = match self.serving_piece(asked) {
             Ok(piece) => {
-                if !is_numbered(&request.act) {
-                    return Ok(piece.reply_to(&request.act));
+                if !is_numbered(&asked.act) {
+                    return Ok(piece.reply_to(request));
                 }
                 piece.range().start()
             }
@@ -129,7 +130,7 @@ impl Holding {
     }
 
     // Serves a numbered request from the piece that begins at the start.
-    fn serve_from(&mut self, start: u32, request: &Request) -> Result<Reply, AllocError>
+    fn serve_from(&mut self, start: u32, request: &HashedRequest) -> Result<Reply, AllocError>
         requires { IsSome (lookup (is_at (nat_cmp start)) self.old.pieces) }
         ensures turned { IfOk result (IsTurnOf request.now.act start self.old.pieces self.new.pieces) }
         ensures noted { OnOk result (self.new ≡ record self.old { served = insert_entry silo_cmp self.old.served request.now.sender request.now.number; pieces = self.new.pieces }) }

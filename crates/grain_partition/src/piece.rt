@@ -5,8 +5,8 @@ ghost use Rattle.directory_rules.specs.Sight.{is_settled};
 ghost use Rattle.directory_rules.specs.Table.{entries_of, entry_at, lie_in};
 ghost use Rattle.grain_partition.specs.Kept.{covers, left_of};
 
-use directory_rules::{Act, PieceState, Reply};
-use grain_table::Table;
+use directory_rules::{PieceState, Reply};
+use grain_table::{HashedRequest, Table};
 use hash_ring::Hashing;
 use membership_view::View;
 use ring_range::RingRange;
@@ -135,20 +135,20 @@ impl Piece {
         Piece::settled(range, entries)
     }
 
-    // What the piece answers to an act.
-    pub(crate) fn reply_to(&self, act: &Act) -> Reply
-        ensures { result ≡ (turned act.now self.now.entries).reply }
+    // What the piece answers to what a request asks.
+    pub(crate) fn reply_to(&self, request: &HashedRequest) -> Reply
+        ensures { result ≡ (turned request.now.act self.now.entries).reply }
     {
-        self.entries.reply_to(act)
+        self.entries.reply_to(request)
     }
 
-    // Answers an act, and makes its change. Fails only when memory runs out, and then changes nothing.
-    pub(crate) fn turn(&mut self, act: &Act) -> Result<Reply, AllocError>
-        ensures reply { IfOk result (λ reply. reply ≡ (turned act.now self.old.entries).reply) }
-        ensures table { OnOk result (self.new ≡ record self.old { entries = (turned act.now self.old.entries).table }) }
+    // Answers what a request asks, and makes its change. Fails only when memory runs out, and then changes nothing.
+    pub(crate) fn turn(&mut self, request: &HashedRequest) -> Result<Reply, AllocError>
+        ensures reply { IfOk result (λ reply. reply ≡ (turned request.now.act self.old.entries).reply) }
+        ensures table { OnOk result (self.new ≡ record self.old { entries = (turned request.now.act self.old.entries).table }) }
         ensures unchanged { OnErr result (self.new ≡ self.old) }
     {
-        self.entries.turn(act)
+        self.entries.turn(request)
     }
 
     /// An equal piece. Fails only when memory runs out.

@@ -10,7 +10,8 @@ ghost use Rattle.directory_rules.specs.Piece.{Piece as PieceValue};
 ghost use Rattle.grain_partition.specs.Served.{IsTurnOf, number_before};
 
 use crate::Piece;
-use directory_rules::{Act, Reply, Request};
+use directory_rules::{Reply, Request};
+use grain_table::HashedRequest;
 use silo_address::SiloAddress;
 use std::alloc::AllocError;
 use std::collections::BTreeMap;
@@ -21,7 +22,7 @@ pub(crate) fn serve_numbered(
     pieces: &mut BTreeMap<u32, Piece>,
     served: &mut BTreeMap<SiloAddress, u64>,
     start: u32,
-    request: &Request,
+    request: &HashedRequest,
 ) -> Result<Reply, AllocError>
     requires { IsSome (lookup (is_at (nat_cmp start)) pieces.old.entries) }
     ensures turned { IfOk result (IsTurnOf request.now.act start pieces.old.entries pieces.new.entries) }
@@ -29,11 +30,12 @@ pub(crate) fn serve_numbered(
     ensures pieces_stay { OnErr result (pieces.new.entries ≡ pieces.old.entries) }
     ensures served_stay { OnErr result (served.new.entries ≡ served.old.entries) }
 {
-    let before = served.insert(request.sender, request.number)?;
-    match turn_at(pieces, start, &request.act) {
+    let Request { sender, number, .. } = *request.request();
+    let before = served.insert(sender, number)?;
+    match turn_at(pieces, start, request) {
         Ok(reply) => Ok(reply),
         Err(_) => {
-            unnote(served, &request.sender, before);
+            unnote(served, &sender, before);
             Err(AllocError)
         }
     }
@@ -41,13 +43,17 @@ pub(crate) fn serve_numbered(
 
 // The turn of the piece that begins at the start.
 #[tactic(auto, using(std::proofs::lemmas::Map::Steps::set_value_same))]
-fn turn_at(pieces: &mut BTreeMap<u32, Piece>, start: u32, act: &Act) -> Result<Reply, AllocError>
+fn turn_at(
+    pieces: &mut BTreeMap<u32, Piece>,
+    start: u32,
+    request: &HashedRequest,
+) -> Result<Reply, AllocError>
     requires { IsSome (lookup (is_at (nat_cmp start)) pieces.old.entries) }
-    ensures turned { IfOk result (IsTurnOf act.now start pieces.old.entries pieces.new.entries) }
+    ensures turned { IfOk result (IsTurnOf request.now.act start pieces.old.entries pieces.new.entries) }
     ensures unchanged { OnErr result (pieces.new.entries ≡ pieces.old.entries) }
 {
     let piece = pieces.get_mut(&start).unwrap();
-    piece.turn(act)
+    piece.turn(request)
 }
 
 // What was noted for the silo before is noted again.

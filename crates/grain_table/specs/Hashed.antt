@@ -1,5 +1,5 @@
 -- How a table keeps its entries: activations under hashed grains, in order of hash, then the grain's text.
-use Rattle.std.specs.Prelude.{◌≡◌, ◌<◌, Bool, true, List, [], ◌∷◌}
+use Rattle.std.specs.Prelude.{⊤, ◌≡◌, ◌<◌, Bool, true, List, [], ◌∷◌, Option, MatchOption}
 use Rattle.std.specs.List.{AllByRecursion, list_any}
 use Rattle.std.specs.List.Sorted.{IsStrictlySortedBy}
 use Rattle.std.specs.Map.{keys_of}
@@ -14,6 +14,8 @@ use Rattle.silo_address.specs.declared.Entry.{Entry}
 use Rattle.ring_range.specs.Range.{circle}
 use Rattle.hash_ring.specs.declared.Hashing.{Hashing}
 use Rattle.hash_ring.specs.Hash.{hash_grain}
+use Rattle.directory_rules.specs.declared.act.Request.{Request}
+use Rattle.directory_rules.specs.Sent.{grain_of}
 use Rattle.directory_rules.specs.Table.{Table, with_entry}
 use Rattle.grain_table.specs.declared.hashed_grain.HashedGrain.{HashedGrain}
 
@@ -38,6 +40,10 @@ pub record IsKeyOf (hashing : Hashing) (key : HashedGrain) : Type 0 where
   pub hash_is : key.hash ≡ hash_grain hashing key.grain
   pub below : key.hash < circle
   pub is_grain : IsGrain key.grain
+
+-- what a request keeps beside which a hashing stands: its hash is that of its grain by this hashing
+abbrev pub IsHashedBy : Option Hashing → Request → Type 0
+IsHashedBy known_by request = MatchOption known_by ⊤ (λ hashing. request.hash ≡ hash_grain hashing (grain_of request.act))
 
 -- what the entries of every table keep
 pub record AreHashed (hashing : Hashing) (hashed : Hashed) : Type 0 where

@@ -4,7 +4,9 @@
 mod alive;
 mod hashed_grain;
 mod hashed_map;
+mod hashed_request;
 mod table;
 
 pub use alive::is_dead_in;
+pub use hashed_request::HashedRequest;
 pub use table::Table;

@@ -73,6 +73,7 @@ fn says(
 {
     match body {
         Body::Request(request) => {
+            let request = request.request();
             if !request.sender.same(from) || request.version != version {
                 return Ok(None);
             }

@@ -7,6 +7,7 @@ ghost use Rattle.letter_mail.specs.Kept.{IsNumbered, entry_by, grain_at, letter_
 use directory_letters::{Body, Letter};
 use directory_rules::{Act, Reply, Request, Why};
 use grain_names::GrainMap;
+use grain_table::HashedRequest;
 use ring_range::RingRange;
 use silo_address::{ActivationId, Entry, GrainId, SiloAddress};
 
@@ -157,7 +158,7 @@ fn register(grains: &GrainMap<()>, brief: &Brief, number: u32, hash: u32, entry:
     requires numbered { entry.grain < length (keys_of grains.now) }
     ensures { body_of result ≡ request_by brief.now.from brief.now.version number hash (Act.Register (entry_by (keys_of grains.now) entry) None) }
 {
-    Body::Request(Request {
+    Body::Request(HashedRequest::claimed(Request {
         sender: brief.from,
         version: u64::from(brief.version),
         number: u64::from(number),
@@ -166,7 +167,7 @@ fn register(grains: &GrainMap<()>, brief: &Brief, number: u32, hash: u32, entry:
             entry: entry_by(grains, entry),
             previous: None,
         },
-    })
+    }))
 }
 
 // A Deregister of the letter's own sender and version.
@@ -174,7 +175,7 @@ fn deregister(grains: &GrainMap<()>, brief: &Brief, number: u32, hash: u32, entr
     requires numbered { entry.grain < length (keys_of grains.now) }
     ensures { body_of result ≡ request_by brief.now.from brief.now.version number hash (Act.Deregister (entry_by (keys_of grains.now) entry)) }
 {
-    Body::Request(Request {
+    Body::Request(HashedRequest::claimed(Request {
         sender: brief.from,
         version: u64::from(brief.version),
         number: u64::from(number),
@@ -182,7 +183,7 @@ fn deregister(grains: &GrainMap<()>, brief: &Brief, number: u32, hash: u32, entr
         act: Act::Deregister {
             entry: entry_by(grains, entry),
         },
-    })
+    }))
 }
 
 // A Find of the letter's own sender and version.
@@ -190,7 +191,7 @@ fn find(grains: &GrainMap<()>, brief: &Brief, number: u32, hash: u32, grain: u32
     requires numbered { grain < length (keys_of grains.now) }
     ensures { body_of result ≡ request_by brief.now.from brief.now.version number hash (Act.Find (grain_at (keys_of grains.now) grain)) }
 {
-    Body::Request(Request {
+    Body::Request(HashedRequest::claimed(Request {
         sender: brief.from,
         version: u64::from(brief.version),
         number: u64::from(number),
@@ -198,7 +199,7 @@ fn find(grains: &GrainMap<()>, brief: &Brief, number: u32, hash: u32, grain: u32
         act: Act::Find {
             grain: grain_at(grains, grain),
         },
-    })
+    }))
 }
 
 // The reply that an entry was put in.

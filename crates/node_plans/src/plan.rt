@@ -7,8 +7,8 @@ ghost use Rattle.node_plans.specs.Plans.{changed, step_by};
 
 use crate::Transition;
 use directory_letters::Letter;
-use directory_rules::{Effect, Request};
-use grain_table::Table;
+use directory_rules::Effect;
+use grain_table::{HashedRequest, Table};
 use host_activations::Renewal;
 use membership_view::View;
 use range_recovery::{Recovery, Report};
@@ -46,7 +46,7 @@ pub enum Change {
     /// The host asks where the grain is.
     Asks(GrainId),
     /// A request is served.
-    Serves(Request),
+    Serves(HashedRequest),
     /// The activation whose Register has the number is firm.
     Confirms(u64),
     /// The activation whose Register has the number goes: another one has its grain, which is learnt.

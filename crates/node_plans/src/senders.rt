@@ -1,7 +1,7 @@
 ghost use Rattle.std.specs.Map.Iter.{ShowsInOrder, deref_pair};
 ghost use Rattle.std.specs.List.{cons_option};
 ghost use Rattle.std.specs.Prelude.{◌≡◌, ◌++◌, ℕ, [], IfOk, OnErr, OnOk, flat_map, length, map};
-ghost use Rattle.directory_rules.specs.Sent.{ask_letters, gathering_of, grain_of, letter_to, owner_by, query_letters, recovery_of, request_letters, request_of, wants_by};
+ghost use Rattle.directory_rules.specs.Sent.{ask_letters, gathering_of, letter_to, owner_by, query_letters, recovery_of, request_letters, request_of, wants_by};
 ghost use Rattle.directory_letters.specs.LetterModel.{body_of};
 ghost use Rattle.directory_rules.specs.Letter.{Query_letter};
 ghost use Rattle.directory_rules.specs.Piece.{Piece as PieceValue};
@@ -9,15 +9,16 @@ ghost use Rattle.node_plans.specs.Sender.{sending, wants_of};
 
 use crate::plan::list_of;
 use directory_letters::{Body, Letter};
-use directory_rules::{Act, PieceState, Request, Settings};
+use directory_rules::{Act, PieceState, Settings};
 use grain_partition::{Holding, Piece};
+use grain_table::HashedRequest;
 use hash_ring::Ring;
 use host_activations::Host;
 use membership_view::View;
 use range_recovery::Recovery;
 use ring_range::RingRange;
 use seal_snapshot::Gathering;
-use silo_address::{GrainId, SiloAddress};
+use silo_address::SiloAddress;
 use std::alloc::{AllocError, Global};
 use std::collections::BTreeMap;
 use std::collections::btree_map::Iter;
@@ -153,23 +154,18 @@ impl Sender<'_> {
         ensures { cons_option result [] ≡ request_letters (sending self.now) number act }
     {
         let request = self.request_of(number, act);
-        match self.owner_of(request.hash) {
+        match self.owner_of(request.request().hash) {
             Some(owner) => Some(self.letter_to(owner, Body::Request(request))),
             None => None,
         }
     }
 
     // The request of that number.
-    fn request_of(&self, number: u64, act: Act) -> Request
+    fn request_of(&self, number: u64, act: Act) -> HashedRequest
         ensures { result ≡ request_of (sending self.now) number act }
     {
-        Request {
-            sender: self.host.silo(),
-            version: self.view.version(),
-            number,
-            hash: self.settings.hashing().hash_grain(&grain_of(&act)),
-            act,
-        }
+        let hashing = self.settings.hashing();
+        HashedRequest::of(hashing, self.host.silo(), self.view.version(), number, act)
     }
 
     // Who owns a hash, by the ring of the view seen.
@@ -270,16 +266,5 @@ impl Sender<'_> {
             Some(recovery) => recovery.awaiting(alloc),
             None => { Recovery::new(alloc, self.settings, self.view, range)?.awaiting(alloc) }
         }
-    }
-}
-
-// The grain that an act is about.
-fn grain_of(act: &Act) -> GrainId
-    ensures { result ≡ grain_of act.now }
-{
-    match act {
-        Act::Register { entry, .. } => entry.grain,
-        Act::Deregister { entry } => entry.grain,
-        Act::Find { grain } => *grain,
     }
 }

@@ -8,7 +8,7 @@ use crate::samples::{A, B, C, MANY, declare_dead, entry, grain, join, joined, ra
 use crate::tables::{is_reply, put};
 use directory_rules::{Act, PieceState, Reply, Request};
 use grain_partition::{ArcsBySilo, Holding, Piece};
-use grain_table::Table;
+use grain_table::{HashedRequest, Table};
 use hash_ring::{Hashing, Places, Ring};
 use membership_view::View;
 use range_moves::{RingArc, arcs};
@@ -267,7 +267,7 @@ fn check_sealed(rt: &impl Abort, alloc: Global, holding: &Holding, want: &Snapsh
 }
 
 // Whether B's request is answered so, and served so at first or behind a refusal that leaves the holding as it was.
-fn serves(holding: &mut Holding, before: &Holding, request: &Request, want: &Reply) -> bool {
+fn serves(holding: &mut Holding, before: &Holding, request: &HashedRequest, want: &Reply) -> bool {
     holding.answer(request).same(want)
         && (is_reply(holding.serve(request), want)
             || (holding.same(before) && is_reply(holding.serve(request), want)))
@@ -287,6 +287,7 @@ fn register(rt: &impl Abort, holding: &mut Holding, number: u64, text: &str, has
         hash,
         act,
     };
+    let request = HashedRequest::claimed(request);
     assert!(rt; serves(holding, &before, &request, &Reply::Registered(*entry)));
 }
 

@@ -1,9 +1,9 @@
 //! Tables of entries. Each call that needs memory stands in a form that any one refusal of an allocation leaves true: what is
 //! refused has changed nothing, and made again it gives its result. `rt try --test --fail-alloc N` refuses each test its Nth
 //! allocation.
-use crate::samples::{A, B, MANY, declare_dead, entry, grain, joined, range, view};
-use directory_rules::{Act, Reply};
-use grain_table::Table;
+use crate::samples::{A, B, MANY, declare_dead, entry, grain, joined, range, silo, view};
+use directory_rules::{Act, Reply, Request};
+use grain_table::{HashedRequest, Table};
 use hash_ring::Hashing;
 use membership_view::View;
 use ring_range::RingRange;
@@ -80,10 +80,10 @@ pub(crate) fn is_reply(reply: Result<Reply, AllocError>, want: &Reply) -> bool {
     }
 }
 
-fn turns(table: &mut Table, before: &Table, act: &Act, want: &Reply) -> bool {
-    table.reply_to(act).same(want)
-        && (is_reply(table.turn(act), want)
-            || (table.has_same_entries(before) && is_reply(table.turn(act), want)))
+fn turns(table: &mut Table, before: &Table, request: &HashedRequest, want: &Reply) -> bool {
+    table.reply_to(request).same(want)
+        && (is_reply(table.turn(request), want)
+            || (table.has_same_entries(before) && is_reply(table.turn(request), want)))
 }
 
 #[test]
@@ -94,8 +94,31 @@ fn a_register_is_answered(rt: HostRuntime) {
         entry,
         previous: None,
     };
+    let request = HashedRequest::of(Hashing::Stated, entry.activation.silo, 1, 1, act);
     let want = Reply::Registered(entry);
-    assert!(rt; turns(&mut table, &before, &act, &want) && has(&table, &entry, 16));
+    assert!(rt; turns(&mut table, &before, &request, &want) && has(&table, &entry, 16));
+}
+
+// Whether the request stays what it is, whoever says what its hash is, and whether or not that is believed.
+fn stays(request: &HashedRequest) -> bool {
+    let claim = HashedRequest::claimed(*request.request());
+    claim.same(request)
+        && claim.checked(Hashing::Stated).same(request)
+        && claim.checked(Hashing::Sha256).same(request)
+        && request.checked(Hashing::Stated).same(request)
+}
+
+#[test]
+fn a_request_has_its_grains_hash(rt: HostRuntime) {
+    let grain = grain(&rt, "user/ann#50");
+    let request = HashedRequest::of(Hashing::Stated, silo(&rt, A), 3, 7, Act::Find { grain });
+    let &Request {
+        version,
+        number,
+        hash,
+        ..
+    } = request.request();
+    assert!(rt; (version, number, hash) == (3, 7, 50) && stays(&request));
 }
 
 // The first table, into a copy of which all of the second are put.

@@ -10,7 +10,8 @@ use crate::LineFault;
 use crate::head::Head;
 use crate::words::{activation_word, entry_of_words, grain_word, number_word, only_four_words};
 use directory_letters::{Body, Letter};
-use directory_rules::{Act, Request};
+use directory_rules::Act;
+use grain_table::HashedRequest;
 use hash_ring::Hashing;
 use script_commands::{only_three_words, only_two_words};
 use silo_address::Entry;
@@ -19,17 +20,8 @@ use silo_address::Entry;
 fn request_of(hashing: Hashing, head: &Head, number: u64, act: Act) -> Letter
     ensures { result ≡ rule.request_of hashing (head_of head.now) number act }
 {
-    let hash = match &act {
-        Act::Register { entry, .. } | Act::Deregister { entry } => hashing.hash_grain(&entry.grain),
-        Act::Find { grain } => hashing.hash_grain(grain),
-    };
-    head.letter(Body::Request(Request {
-        sender: head.from,
-        version: head.version,
-        number,
-        hash,
-        act,
-    }))
+    let request = HashedRequest::of(hashing, head.from, head.version, number, act);
+    head.letter(Body::Request(request))
 }
 
 /// A number, a grain, its activation, and perhaps the one that it replaces.

@@ -67,7 +67,10 @@ fn push_body(out: &mut Vec<u8>, body: &Body) -> Result<(), AllocError>
     ensures kept { BeginsWith out.old.items out.new.items }
 {
     match body {
-        Body::Request(request) => push_request(out, request.number, &request.act),
+        Body::Request(request) => {
+            let request = request.request();
+            push_request(out, request.number, &request.act)
+        }
         Body::Reply { number, reply } => push_numbered_reply(out, *number, reply),
         Body::Ask { range, page } => push_ask(out, range, *page),
         Body::Page(page) => push_page(out, page),

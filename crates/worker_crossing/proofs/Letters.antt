@@ -1,8 +1,9 @@
 -- Letters, and what steps and events tell, cross.
 use mathlib.Core.List.{[], ◌∷◌}
-use Rattle.worker_crossing.proofs.Parts.{Crosses, All, fields, modelled, variants, number16, number32, number64}
+use Rattle.worker_crossing.proofs.Parts.{Crosses, All, choice, fields, modelled, variants, number16, number32, number64}
 use Rattle.worker_crossing.proofs.Holders.{optional}
 use Rattle.worker_crossing.proofs.Names.{silo_crosses, grain_crosses, activation_crosses, entry_field_crosses, range_crosses}
+use Rattle.worker_crossing.proofs.Members.{hashing_crosses}
 use Rattle.worker_crossing.proofs.Tables.{page_crosses, report_crosses}
 use Rattle.silo_address.specs.contracts.entry.Entry as entry
 use Rattle.ring_range.specs.contracts.range.RingRange as range
@@ -13,6 +14,9 @@ use Rattle.directory_rules.specs.contracts.reply.Why as why
 use Rattle.directory_rules.specs.contracts.reply.Reply as reply
 use Rattle.directory_rules.specs.contracts.effect.Effect as effect
 use Rattle.directory_rules.specs.contracts.letter_kind.LetterKind as kind
+use Rattle.hash_ring.specs.contracts.hashing.Hashing as hashing
+use Rattle.grain_table.specs.contracts.hashed_request.HashedRequest as hashed
+use Rattle.grain_table.specs.contracts.hashed_request.HashedRequest.TheInside as hashed_inside
 use Rattle.directory_letters.specs.contracts.letter.Body as body
 use Rattle.directory_letters.specs.contracts.letter.Letter as letter
 use Rattle.directory_letters.specs.contracts.letter.Letter.TheInside as letter_inside
@@ -20,8 +24,11 @@ use Rattle.directory_letters.specs.contracts.letter.Letter.TheInside as letter_i
 act_crosses : Crosses (act.the_field).row
 act_crosses = let previous = optional activation.the_row activation_crosses in variants act.the_type ((entry_field_crosses, (previous, tt)), ((entry_field_crosses, tt), ((grain_crosses, tt), tt)))
 
-pub request_crosses : Crosses (request.the_field).row
+request_crosses : Crosses (request.the_field).row
 request_crosses = fields request.the_type (silo_crosses, (number64, (number64, (number32, (act_crosses, tt)))))
+
+pub hashed_crosses : Crosses hashed.the_row
+hashed_crosses = modelled hashed_inside.the_type _ _ _ _ (request_crosses, (optional hashing.the_row (choice hashing.the_type hashing_crosses), tt))
 
 pub why_crosses : Crosses (why.the_field).row
 why_crosses = variants why.the_type ((number64, tt), (tt, ((number64, tt), (tt, tt))))
@@ -33,7 +40,7 @@ body_crosses : Crosses (body.the_field).row
 body_crosses =
     let range : All (range.the_row ∷ []) = (range_crosses, tt) in
     variants body.the_type (
-      (request_crosses, tt),
+      (hashed_crosses, tt),
       ((number64, (reply_crosses, tt)), ((range_crosses, (number64, tt)), ((page_crosses, tt), (range, (range, (range, ((report_crosses, tt), (range, (range, ((entry_field_crosses, tt), tt)))))))))),
     )
 

@@ -7,7 +7,7 @@ use Rattle.worker_crossing.proofs.Names.{silo_crosses, grain_crosses, activation
 use Rattle.worker_crossing.proofs.Members.{settings_cross, view_crosses, ring_crosses}
 use Rattle.worker_crossing.proofs.Tables.{table_crosses, recovery_crosses, report_crosses, snapshot_crosses, page_crosses, shelf_crosses, gathering_crosses, by_silo_crosses, holding_crosses}
 use Rattle.worker_crossing.proofs.Hosts.{host_crosses, renewal_crosses, cache_crosses}
-use Rattle.worker_crossing.proofs.Letters.{request_crosses, letter_crosses, effect_crosses}
+use Rattle.worker_crossing.proofs.Letters.{hashed_crosses, letter_crosses, effect_crosses}
 use Rattle.silo_address.specs.contracts.grain.GrainId as grain
 use Rattle.silo_address.specs.contracts.entry.Entry as entry
 use Rattle.silo_address.specs.contracts.activation.ActivationId as activation
@@ -67,7 +67,7 @@ change_crosses =
               (
                 grain,
                 (
-                  (request_crosses, tt),
+                  (hashed_crosses, tt),
                   (
                     number,
                     (

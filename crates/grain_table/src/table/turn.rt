@@ -2,51 +2,55 @@
 ghost use Rattle.std.specs.Prelude.{◌≡◌, [], IfOk, OnOk, OnErr};
 ghost use Rattle.directory_rules.specs.Answer.{deregistered_from, found_reply, is_previous, registered_over, turned};
 ghost use Rattle.directory_rules.specs.Table.{entry_at};
+ghost use Rattle.grain_table.specs.Hashed.{IsKeyOf};
 
 use super::Table;
-use crate::hashed_grain::key_of;
+use crate::HashedRequest;
+use crate::hashed_grain::HashedGrain;
 use directory_rules::{Act, Reply};
 use silo_address::{ActivationId, Entry};
 use std::alloc::AllocError;
 
 impl Table {
-    /// What the table answers to an act (`docs/RULES.md#requests`).
-    pub fn reply_to(&self, act: &Act) -> Reply
-        ensures { result ≡ (turned act.now self.now.entries).reply }
+    /// What the table answers to what a request asks (`docs/RULES.md#requests`).
+    pub fn reply_to(&self, request: &HashedRequest) -> Reply
+        ensures { result ≡ (turned request.now.act self.now.entries).reply }
     {
-        match act {
-            Act::Register { entry, previous } => {
-                register_reply(self.get(&entry.grain), entry, *previous)
-            }
-            Act::Deregister { entry } => deregister_reply(self.get(&entry.grain), entry),
-            Act::Find { grain } => find_reply(self.get(grain)),
+        let there = self.at(&request.key(self.hashing));
+        match &request.request().act {
+            Act::Register { entry, previous } => register_reply(there, entry, *previous),
+            Act::Deregister { entry } => deregister_reply(there, entry),
+            Act::Find { .. } => find_reply(there),
         }
     }
 
-    /// Answers an act, and makes its change. Fails only when memory runs out, and then changes nothing
+    /// Answers what a request asks, and makes its change. Fails only when memory runs out, and then changes nothing
     /// (`docs/RULES.md#requests`).
-    pub fn turn(&mut self, act: &Act) -> Result<Reply, AllocError>
-        ensures reply { IfOk result (λ reply. reply ≡ (turned act.now self.old.entries).reply) }
-        ensures table { OnOk result (self.new ≡ record self.old { entries = (turned act.now self.old.entries).table }) }
+    pub fn turn(&mut self, request: &HashedRequest) -> Result<Reply, AllocError>
+        ensures reply { IfOk result (λ reply. reply ≡ (turned request.now.act self.old.entries).reply) }
+        ensures table { OnOk result (self.new ≡ record self.old { entries = (turned request.now.act self.old.entries).table }) }
         ensures unchanged { OnErr result (self.new ≡ self.old) }
     {
-        match act {
-            Act::Register { entry, previous } => self.register(entry, *previous),
-            Act::Deregister { entry } => Ok(self.deregister(entry)),
-            Act::Find { grain } => Ok(find_reply(self.get(grain))),
+        let key = request.key(self.hashing);
+        match &request.request().act {
+            Act::Register { entry, previous } => self.register(key, entry, *previous),
+            Act::Deregister { entry } => Ok(self.deregister(&key, entry)),
+            Act::Find { .. } => Ok(find_reply(self.at(&key))),
         }
     }
 
     fn register(
         &mut self,
+        key: HashedGrain,
         entry: &Entry,
         previous: Option<ActivationId>,
     ) -> Result<Reply, AllocError>
+        requires is_key { IsKeyOf self.old.hashing key }
+        requires of_grain { key.grain ≡ entry.now.grain }
         ensures reply { IfOk result (λ reply. reply ≡ (registered_over (entry_at entry.now.grain self.old.entries) entry.now previous self.old.entries).reply) }
         ensures table { OnOk result (self.new ≡ record self.old { entries = (registered_over (entry_at entry.now.grain self.old.entries) entry.now previous self.old.entries).table }) }
         ensures unchanged { OnErr result (self.new ≡ self.old) }
     {
-        let key = key_of(self.hashing, &entry.grain);
         if let Some(there) = self.at(&key) {
             if there.activation == entry.activation {
                 return Ok(Reply::Registered(*entry));
@@ -59,18 +63,19 @@ impl Table {
         Ok(Reply::Registered(*entry))
     }
 
-    fn deregister(&mut self, entry: &Entry) -> Reply
+    fn deregister(&mut self, key: &HashedGrain, entry: &Entry) -> Reply
+        requires is_key { IsKeyOf self.old.hashing key.now }
+        requires of_grain { key.now.grain ≡ entry.now.grain }
         ensures reply { result ≡ (deregistered_from (entry_at entry.now.grain self.old.entries) entry.now self.old.entries).reply }
         ensures table { self.new ≡ record self.old { entries = (deregistered_from (entry_at entry.now.grain self.old.entries) entry.now self.old.entries).table } }
     {
-        let key = key_of(self.hashing, &entry.grain);
-        let Some(there) = self.at(&key) else {
+        let Some(there) = self.at(key) else {
             return Reply::Absent;
         };
         if there.activation != entry.activation {
             return Reply::Absent;
         }
-        self.take_out(&key);
+        self.take_out(key);
         Reply::Removed
     }
 }

@@ -6,7 +6,7 @@ use Rattle.grain_partition.proofs.served.serve_numbered.Goals as goal
 
 pub returns-in-Err-clause-served_stay : goal.returns-in-Err-clause-served_stay
 returns-in-Err-clause-served_stay c =
-    let request : Request = c.args.request.now in
+    let request : Request = c.request.result.now in
     c.unnote.ensures
     ∙ ap (number_before request.sender c.in_ok-before.before) c.in_ok-before.ensures.entries
     ∙ number_again request.sender request.number c.in_ok-before.before c.args.served.now.entries c.in_ok-before.ensures.was_ordered c.in_ok-before.ensures.old
