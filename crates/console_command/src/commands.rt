@@ -21,7 +21,7 @@ use script_output::{write_outcome, write_refusal};
 use std::alloc::{AllocError, Global};
 use texts::taken_back_at_error;
 
-/// Does what a command asks for, and writes what it prints behind what is written already. Fails only for want of memory; then
+/// Does what a command asks for, and writes what it prints behind what is written already. Fails only when memory runs out; then
 /// nothing is written, and the world may have changed.
 #[tactic(auto, using(script_output::proofs::Fronts::front_taken))]
 pub(crate) fn perform(
