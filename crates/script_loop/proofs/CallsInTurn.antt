@@ -2,11 +2,12 @@
 use Rattle.std.proofs.Common.{◌≡◌, ℕ, ◌<◌, ◌≤◌, Bool, true, false, List, [], length, drop, Option, Some, None, ap, subst, sym, refl, ◌∙◌, inl, inr, is_none}
 use Rattle.script_loop.specs.declared.ended.Ended.{Ended}
 use Rattle.script_loop.specs.declared.ended.Ended.TheVariants as ended
-use Rattle.script_loop.specs.Calls.{ReadsInTurn, WritesText, WritesTexts, no_read, read_some, read_nothing, read_failed, wrote_all, wrote_some, wrote_nothing, write_failed, no_text, text_written, text_broken}
+use Rattle.script_loop.specs.Calls.{WritesText, no_read, read_some, read_nothing, read_failed, wrote_all, wrote_some, wrote_nothing, write_failed, text_broken}
 use Rattle.script_loop.specs.Endings.{MakesCalls}
 use Rattle.script_loop.specs.Progress.{EndsStep, Progress}
 use Rattle.script_loop.specs.Transfers.{Drains, ReadsOnce}
 use Rattle.script_loop.specs.Turns.{AddsCalls, CallsSoFar, ReadsSoFar, WritesSoFar}
+use Rattle.script_loop.proofs.CallsSoFar.{reads_well, text_more, writes_well}
 
 -- ---- The writes of a text.
 
@@ -37,18 +38,6 @@ module _ {W : Type 0} (writes : W → List ℕ → Option ℕ → W → Type 0) 
 -- ---- The calls of a turn.
 
 module _ {R W : Type 0} (reads : R → Option (List ℕ) → R → Type 0) (writes : W → List ℕ → Option ℕ → W → Type 0) where
-  -- so far all were well
-  reads_well : (first now : R) (at_end : Bool) → ReadsSoFar reads first now at_end → ReadsInTurn reads first now true
-  reads_well first now true before = before
-  reads_well first now false before = before now true no_read
-
-  writes_well : (first now : W) → WritesSoFar writes first now → WritesTexts writes first now true
-  writes_well first now before = before now true no_text
-
-  -- a text more
-  text_more : (first now new : W) (text : List ℕ) → WritesText writes text now new true → WritesSoFar writes first now → WritesSoFar writes first new
-  text_more first now new text written before = λ last well after. before last well (text_written text written after)
-
   -- a read more
   read_more : (first now new : R) (at_end : Bool) → ReadsOnce reads now new at_end None → ReadsSoFar reads first now false → ReadsSoFar reads first new at_end
   read_more first now new false read before = λ last well after. before last well (read_some read.0 (read.3 refl) read.1 after)
@@ -63,7 +52,7 @@ module _ {R W : Type 0} (reads : R → Option (List ℕ) → R → Type 0) (writ
       → AddsCalls reads writes (source, old) (source, new) was_at_end at_end (Some ending)
   text_unmade source old new text was_at_end at_end ending is made = λ first before.
       subst (MakesCalls reads writes first (source, new)) (sym is)
-      (inr (reads_well first.0 source was_at_end before.of_source, before.of_sink new false (text_broken text made)))
+      (inr (reads_well reads first.0 source was_at_end before.of_source, before.of_sink new false (text_broken text made)))
 
   -- what waits was written, and where it wasn't, the play breaks
   pub text_made : (source : R) (old new : W) (was_at_end : Bool) (late next : Progress) (begun written : Option (List ℕ)) (result : Option Ended) → late.ended ≡ was_at_end
@@ -71,7 +60,7 @@ module _ {R W : Type 0} (reads : R → Option (List ℕ) → R → Type 0) (writ
       → AddsCalls reads writes (source, old) (source, new) was_at_end next.ended result
   text_made source old new was_at_end late next begun written None is drain made = λ first before. record {
     of_source = subst (ReadsSoFar reads first.0 source) (sym (ap (λ (p : Progress). p.ended) drain.drained ∙ is)) before.of_source;
-    of_sink = text_more first.1 old new late.waiting made before.of_sink;
+    of_sink = text_more writes first.1 old new late.waiting made before.of_sink;
   }
   text_made source old new was_at_end late next begun written (Some ending) is drain made = text_unmade source old new late.waiting was_at_end next.ended ending drain.1 made
 
@@ -85,22 +74,16 @@ module _ {R W : Type 0} (reads : R → Option (List ℕ) → R → Type 0) (writ
       source first before = subst (ReadsSoFar reads first.0 old_source) goes before.of_source
 
       sink : (first : R × W) → CallsSoFar reads writes first (old_source, old) was_at_end → WritesSoFar writes first.1 new
-      sink first before = text_more first.1 old new text written before.of_sink
+      sink first before = text_more writes first.1 old new text written before.of_sink
 
       made : (result : Option Ended) → ReadsOnce reads old_source new_source at_end result → AddsCalls reads writes (old_source, old) (new_source, new) was_at_end at_end result
       made None read = λ first before. record { of_source = read_more first.0 old_source new_source at_end read (source first before); of_sink = sink first before }
-      made (Some ended.Broken) read = λ first before. inl (source first before new_source false (read_failed read), writes_well first.1 new (sink first before))
-      made (Some other) read = λ first before. (source first before new_source true (read_some read.0 read.2 read.1 no_read), writes_well first.1 new (sink first before))
+      made (Some ended.Broken) read = λ first before. inl (source first before new_source false (read_failed read), writes_well writes first.1 new (sink first before))
+      made (Some other) read = λ first before. (source first before new_source true (read_some read.0 read.2 read.1 no_read), writes_well writes first.1 new (sink first before))
 
   -- the script ended, and its last text was written
   pub last_made : (source : R) (old new : W) (text : List ℕ) (was_at_end at_end : Bool) (at : Progress) (ending : Ended) → EndsStep at ending → WritesText writes text old new true
       → AddsCalls reads writes (source, old) (source, new) was_at_end at_end (Some ending)
   last_made source old new text was_at_end at_end at ended.Broken ends written = absurd ends
   last_made source old new text was_at_end at_end at ending ends written = λ first before.
-      (reads_well first.0 source was_at_end before.of_source, writes_well first.1 new (text_more first.1 old new text written before.of_sink))
-
--- ---- The calls of a play.
-
--- none yet
-pub none_so_far : {R W : Type 0} (reads : R → Option (List ℕ) → R → Type 0) (writes : W → List ℕ → Option ℕ → W → Type 0) (first : R × W) → CallsSoFar reads writes first first false
-none_so_far reads writes first = record { of_source = λ new well after. after; of_sink = λ new well after. after }
+      (reads_well reads first.0 source was_at_end before.of_source, writes_well writes first.1 new (text_more writes first.1 old new text written before.of_sink))

@@ -1,4 +1,5 @@
 mod CallsInTurn
+pub mod CallsSoFar
 mod Filled
 mod Pieces
 mod Stands

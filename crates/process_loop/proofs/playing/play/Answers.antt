@@ -2,7 +2,7 @@ use Rattle.std.proofs.Common.{ap, rules, subst, sym}
 use Rattle.script_loop.specs.Calls.{no_read, no_text}
 use Rattle.script_loop.specs.Turns.{CallsSoFar}
 use Rattle.process_loop.specs.Progress.{Progress, progress}
-use Rattle.process_loop.proofs.Calls.{none_so_far}
+use Rattle.script_loop.proofs.CallsSoFar.{none_so_far}
 use Rattle.process_loop.proofs.TurnsTaken.{begins_standing, stops_at_first, stops_by_turn}
 use Rattle.process_loop.proofs.playing.play.Goals as goal
 

@@ -1,5 +1,5 @@
 use Rattle.std.proofs.Common.{ap, rules, subst, sym}
-use Rattle.script_loop.proofs.CallsInTurn.{none_so_far}
+use Rattle.script_loop.proofs.CallsSoFar.{none_so_far}
 use Rattle.script_loop.specs.Calls.{no_read, no_text}
 use Rattle.script_loop.proofs.TurnsTaken.{begins_standing, ends_at_first, ends_by_turn}
 use Rattle.script_loop.specs.Progress.{Progress, progress}
