@@ -1,5 +1,6 @@
 mod CallsInTurn
 pub mod CallsSoFar
+pub mod InTurn
 mod Filled
 mod Pieces
 mod Stands

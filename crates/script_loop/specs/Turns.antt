@@ -1,9 +1,9 @@
 -- Turns: how far a play has come, and what a turn makes of it.
-use Rattle.std.specs.Prelude.{◌≡◌, ℕ, ◌+◌, ◌≤◌, Bool, true, false, List, ◌++◌, length, Option, Some, None}
+use Rattle.std.specs.Prelude.{◌≡◌, ℕ, ◌+◌, ◌≤◌, Bool, true, false, List, [], ◌++◌, length, Option, Some, None}
 use Rattle.std.specs.Io.KnownBytes.{Appends, IsAtEnd}
 use Rattle.script_rules.specs.Script.{lines_of}
 use Rattle.script_loop.specs.declared.ended.Ended.{Ended}
-use Rattle.script_loop.specs.Calls.{ReadsInTurn, WritesTexts}
+use Rattle.script_loop.specs.Calls.{InTurn, ReadsInTurn, WritesTexts}
 use Rattle.script_loop.specs.Endings.{Ends, HasRead, MakesCalls, most_read}
 use Rattle.script_loop.specs.Lines.{Rule, behind}
 use Rattle.script_loop.specs.Progress.{Progress, to_come}
@@ -28,6 +28,11 @@ Turns rule old read before next new rest written None =
     (first : Rule) (script : List ℕ) (begun : Option (List ℕ)) → Stands first script begun rule old read before → Stands first script begun next new rest written
 Turns rule old read before next new rest written (Some ended) =
     (first : Rule) (script : List ℕ) (begun : Option (List ℕ)) → Stands first script begun rule old read before → Ends script (first 1) rest begun written ended
+
+-- the calls so far, by whether the end was reached: if it wasn't, what is called from here on stands in turn with them; else what is written
+abbrev pub InTurnSoFar : {R W : Type 0} → (reads : R → Option (List ℕ) → R → Type 0) → (writes : W → List ℕ → Option ℕ → W → Type 0) → (Due : (bytes text : List ℕ) → Type 0) → (bytes text : List ℕ) → (first now : R × W) → (at_end : Bool) → Type 0
+InTurnSoFar {R} {W} reads writes Due bytes text first now false = (new : R) (last : W) (well : Bool) → InTurn reads writes Due bytes text now.0 now.1 new last well → InTurn reads writes Due [] [] first.0 first.1 new last well
+InTurnSoFar {R} {W} reads writes Due bytes text first now true = (last : W) (well : Bool) → WritesTexts writes now.1 last well → InTurn reads writes Due [] [] first.0 first.1 now.0 last well
 
 -- the reads so far, by whether the end was reached: if it wasn't, what is read from here on is read in turn with them
 abbrev pub ReadsSoFar : {R : Type 0} → (reads : R → Option (List ℕ) → R → Type 0) → (first now : R) → (at_end : Bool) → Type 0
