@@ -281,7 +281,7 @@ module _ (first : SiloValue) (input : List ℕ) (start : Option (List ℕ)) wher
   concludes_by read before silo at next last stopped.AtEnd step stands = sym (ended_whole read before silo at last stands step)
   concludes_by read before silo at next last stopped.Dead step stands = sym (died_whole read before silo at next last stands step)
   concludes_by read before silo at next last stopped.OutOfMemory step stands =
-      subst (λ (w : List ℕ). BeginsWith (stands.sent ++ w) (written_on (pieces_at line_feed input) first)) (sym step) (waits_begins read before silo at stands)
+      subst (λ (w : List ℕ). BeginsWith (stands.sent ++ w) (written_on (pieces_at line_feed input) first)) (sym step.0) (waits_begins read before silo at stands)
   concludes_by read before silo at next last stopped.TooManyReads step stands = absurd step
   concludes_by read before silo at next last stopped.Broken step stands = absurd step
 
