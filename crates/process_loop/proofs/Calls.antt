@@ -1,78 +1,110 @@
--- The calls of turns, one after the other.
-use Rattle.std.proofs.Common.{◌≡◌, ℕ, Bool, true, false, List, Option, Some, None, ap, subst, sym, refl, ◌∙◌, inl, inr, is_none}
-use Rattle.script_loop.specs.Calls.{ReadsInTurn, WritesText, WritesTexts, no_read, read_some, read_nothing, read_failed, no_text, text_written, text_broken}
-use Rattle.script_loop.specs.Turns.{CallsSoFar, ReadsSoFar, WritesSoFar}
+-- The calls of turns, each behind those so far.
+use Rattle.std.proofs.Common.{◌≡◌, ℕ, ◌<◌, Bool, true, false, List, [], ◌++◌, length, Option, Some, None, ap, append-nil, subst, sym, refl, ◌∙◌, is_none}
+use Rattle.script_loop.specs.Calls.{InTurn, WritesText, no_call}
+use Rattle.script_loop.specs.Turns.{InTurnSoFar}
 use Rattle.silo_rules.specs.SiloValue.{SiloValue}
 use Rattle.process_loop.specs.declared.stopped.Stopped.{Stopped}
 use Rattle.process_loop.specs.declared.stopped.Stopped.TheVariants as stopped
-use Rattle.process_loop.specs.Endings.{MakesCalls}
-use Rattle.process_loop.specs.Progress.{Progress, StopsStep}
-use Rattle.process_loop.specs.Transfers.{Drains, ReadsOnce}
-use Rattle.process_loop.specs.Turns.{AddsCalls}
+use Rattle.process_loop.specs.Endings.{AnswersInTurn, IsAnswered, MakesCalls}
+use Rattle.process_loop.specs.Progress.{HasAnswered, NeedsMore, Progress, StopsStep, first_progress}
+use Rattle.process_loop.specs.Transfers.{Drains, Fills, HasFilled, ReadsOnce}
+use Rattle.process_loop.specs.Turns.{AddsCalls, CallsSoFar}
+use Rattle.script_loop.proofs.InTurn.{broken_behind, chunk_behind, end_behind, failure_behind, none_so_far, of_each, one_broke, text_behind, well_so_far}
+use Rattle.process_loop.proofs.AnswersSoFar.{all_answered, answers_begun, answers_first, answers_more, answers_read_on, answers_written}
 
 module _ {R W : Type 0} (reads : R → Option (List ℕ) → R → Type 0) (writes : W → List ℕ → Option ℕ → W → Type 0) where
-  -- so far all were well
-  reads_well : (first now : R) (at_end : Bool) → ReadsSoFar reads first now at_end → ReadsInTurn reads first now true
-  reads_well first now true before = before
-  reads_well first now false before = before now true no_read
+  -- before the first turn
+  pub no_calls : (first : SiloValue) (start : R × W) (at : Progress) → at ≡ first_progress → CallsSoFar reads writes first start first at start
+  no_calls first start at is = record {
+    bytes = [];
+    sent = [];
+    answers = answers_first first at is;
+    calls = subst (InTurnSoFar reads writes (IsAnswered first) [] [] start start) (ap (λ (p : Progress). p.ended) (sym is)) (none_so_far reads writes (IsAnswered first) start);
+  }
 
-  writes_well : (first now : W) → WritesSoFar writes first now → WritesTexts writes first now true
-  writes_well first now before = before now true no_text
+  -- one part of a turn behind another
+  pub behind : (silo : SiloValue) (old : Progress) (before : R × W) (next : SiloValue) (late : Progress) (between : R × W) (last : SiloValue) (new : Progress) (after : R × W) (result : Option Stopped)
+      → AddsCalls reads writes silo old before next late between None → AddsCalls reads writes next late between last new after result → AddsCalls reads writes silo old before last new after result
+  behind silo old before next late between last new after None one other = λ first start so_far. other first start (one first start so_far)
+  behind silo old before next late between last new after (Some stopping) one other = λ first start so_far. other first start (one first start so_far)
 
-  -- a text more
-  text_more : (first now new : W) (text : List ℕ) → WritesText writes text now new true → WritesSoFar writes first now → WritesSoFar writes first new
-  text_more first now new text written before = λ last well after. before last well (text_written text written after)
+  -- a line was answered: no call
+  pub none_answered : (silo : SiloValue) (old : Progress) (next : SiloValue) (new : Progress) (same : R × W) → HasAnswered silo old next new false → AddsCalls reads writes silo old same next new same None
+  none_answered silo old next new same step = λ first start so_far. record {
+    bytes = so_far.bytes;
+    sent = so_far.sent;
+    answers = answers_more first so_far.bytes so_far.sent silo old next new step so_far.answers;
+    calls = subst (InTurnSoFar reads writes (IsAnswered first) so_far.bytes so_far.sent start same) (sym step.same_end) so_far.calls;
+  }
 
-  -- a read more
-  read_more : (first now new : R) (at_end : Bool) → ReadsOnce reads now new at_end None → ReadsSoFar reads first now false → ReadsSoFar reads first new at_end
-  read_more first now new false read before = λ last well after. before last well (read_some read.0 (read.3 refl) read.1 after)
-  read_more first now new true read before = before new true (read_nothing (subst (λ (got : List ℕ). reads now (Some got) new) (read.2 refl) read.1))
-
-  -- no call
-  pub none_made : (same : R × W) (was_at_end at_end : Bool) → at_end ≡ was_at_end → AddsCalls reads writes same same was_at_end at_end None
-  none_made same was_at_end at_end is = λ first before. subst (λ (b : Bool). CallsSoFar reads writes first same b) (sym is) before
+  -- nor where a line goes on
+  pub none_begun : (silo : SiloValue) (old : Progress) (next : SiloValue) (new : Progress) (same : R × W) → NeedsMore silo old next new → AddsCalls reads writes silo old same next new same None
+  none_begun silo old next new same step = λ first start so_far. record {
+    bytes = so_far.bytes;
+    sent = so_far.sent;
+    answers = answers_begun first so_far.bytes so_far.sent silo old next new step so_far.answers;
+    calls = subst (InTurnSoFar reads writes (IsAnswered first) so_far.bytes so_far.sent start same) (sym step.same_end) so_far.calls;
+  }
 
   -- a text wasn't taken whole
-  pub text_unmade : (source : R) (old new : W) (text : List ℕ) (was_at_end at_end : Bool) (stopping : Stopped) → stopping ≡ stopped.Broken → WritesText writes text old new false
-      → AddsCalls reads writes (source, old) (source, new) was_at_end at_end (Some stopping)
-  text_unmade source old new text was_at_end at_end stopping is made = λ first before.
-      subst (MakesCalls reads writes first (source, new)) (sym is)
-      (inr (reads_well first.0 source was_at_end before.of_source, before.of_sink new false (text_broken text made)))
+  pub text_unmade : (silo : SiloValue) (old : Progress) (next : SiloValue) (new : Progress) (source : R) (before after : W) (text : List ℕ) (stopping : Stopped) → stopping ≡ stopped.Broken
+      → WritesText writes text before after false → AddsCalls reads writes silo old (source, before) next new (source, after) (Some stopping)
+  text_unmade silo old next new source before after text stopping is made = λ first start so_far.
+      subst (AnswersInTurn reads writes first start (source, after)) (sym is)
+      (broken_behind reads writes (IsAnswered first) so_far.bytes so_far.sent start source before after text old.ended made so_far.calls)
 
   -- what waits was written, and where it wasn't, the process breaks
-  pub text_made : (source : R) (old new : W) (was_at_end : Bool) (late next : Progress) (begun written : Option (List ℕ)) (result : Option Stopped) → late.ended ≡ was_at_end
-      → Drains late begun next written result → WritesText writes late.waiting old new (is_none result)
-      → AddsCalls reads writes (source, old) (source, new) was_at_end next.ended result
-  text_made source old new was_at_end late next begun written None is drain made = λ first before. record {
-    of_source = subst (ReadsSoFar reads first.0 source) (sym (ap (λ (p : Progress). p.ended) drain.drained ∙ is)) before.of_source;
-    of_sink = text_more first.1 old new late.waiting made before.of_sink;
+  pub text_made : (silo : SiloValue) (old new : Progress) (source : R) (before after : W) (begun written : Option (List ℕ)) (result : Option Stopped)
+      → Drains old begun new written result → WritesText writes old.waiting before after (is_none result) → AddsCalls reads writes silo old (source, before) silo new (source, after) result
+  text_made silo old new source before after begun written None drain made = λ first start so_far. record {
+    bytes = so_far.bytes;
+    sent = so_far.sent ++ old.waiting;
+    answers = answers_written first so_far.bytes so_far.sent silo old new drain.drained so_far.answers;
+    calls = subst (InTurnSoFar reads writes (IsAnswered first) so_far.bytes (so_far.sent ++ old.waiting) start (source, after)) (sym (ap (λ (p : Progress). p.ended) drain.drained))
+        (text_behind reads writes (IsAnswered first) so_far.bytes so_far.sent start source before after old.waiting old.ended made so_far.calls);
   }
-  text_made source old new was_at_end late next begun written (Some stopping) is drain made = text_unmade source old new late.waiting was_at_end next.ended stopping drain.1 made
+  text_made silo old new source before after begun written (Some stopping) drain made = text_unmade silo old silo new source before after old.waiting stopping drain.1 made
 
-  -- a text was written, and a chunk read
-  pub chunk_made : (old_source new_source : R) (old new : W) (text : List ℕ) (was_at_end at_end : Bool) (result : Option Stopped) → was_at_end ≡ false
-      → WritesText writes text old new true → ReadsOnce reads old_source new_source at_end result
-      → AddsCalls reads writes (old_source, old) (new_source, new) was_at_end at_end result
-  chunk_made old_source new_source old new text was_at_end at_end result goes written read = made result read
+  -- a chunk was read, where all is written
+  pub chunk_made : (silo : SiloValue) (old new : Progress) (before after : R) (sink : W) (read rest : Option (List ℕ)) (result : Option Stopped) → old.ended ≡ false → old.unread ≡ [] → old.waiting ≡ []
+      → Fills old read new rest result → ReadsOnce reads before after new result → AddsCalls reads writes silo old (before, sink) silo new (after, sink) result
+  chunk_made silo old new before after sink read rest result goes seen none fill once = made result fill once
     where
-      source : (first : R × W) → CallsSoFar reads writes first (old_source, old) was_at_end → ReadsSoFar reads first.0 old_source false
-      source first before = subst (ReadsSoFar reads first.0 old_source) goes before.of_source
+      due : (first : SiloValue) (start : R × W) (so_far : CallsSoFar reads writes first start silo old (before, sink)) → IsAnswered first so_far.bytes so_far.sent
+      due first start so_far = all_answered first so_far.bytes so_far.sent silo old so_far.answers seen none
 
-      sink : (first : R × W) → CallsSoFar reads writes first (old_source, old) was_at_end → WritesSoFar writes first.1 new
-      sink first before = text_more first.1 old new text written before.of_sink
+      calls : (first : SiloValue) (start : R × W) (so_far : CallsSoFar reads writes first start silo old (before, sink)) → InTurnSoFar reads writes (IsAnswered first) so_far.bytes so_far.sent start (before, sink) false
+      calls first start so_far = subst (InTurnSoFar reads writes (IsAnswered first) so_far.bytes so_far.sent start (before, sink)) goes so_far.calls
 
-      made : (result : Option Stopped) → ReadsOnce reads old_source new_source at_end result → AddsCalls reads writes (old_source, old) (new_source, new) was_at_end at_end result
-      made None read = λ first before. record { of_source = read_more first.0 old_source new_source at_end read (source first before); of_sink = sink first before }
-      made (Some stopped.Broken) read = λ first before. inl (source first before new_source false (read_failed read), writes_well first.1 new (sink first before))
-      made (Some other) read = λ first before. (source first before new_source true (read_some read.0 read.2 read.1 no_read), writes_well first.1 new (sink first before))
+      later : (first : SiloValue) (start : R × W) (so_far : CallsSoFar reads writes first start silo old (before, sink)) (over : Bool) → new.ended ≡ over → ReadsOnce reads before after new None
+          → InTurnSoFar reads writes (IsAnswered first) (so_far.bytes ++ new.unread) so_far.sent start (after, sink) over
+      later first start so_far false is once =
+          chunk_behind reads writes (IsAnswered first) so_far.bytes so_far.sent start before after sink (due first start so_far) (calls first start so_far) new.unread (once.2 is) once.0
+      later first start so_far true is once =
+          end_behind reads writes (IsAnswered first) so_far.bytes so_far.sent start before after sink (due first start so_far) (calls first start so_far)
+          (subst (λ (got : List ℕ). reads before (Some got) after) (once.1 is) once.0)
+
+      made : (result : Option Stopped) → Fills old read new rest result → ReadsOnce reads before after new result → AddsCalls reads writes silo old (before, sink) silo new (after, sink) result
+      made None fill once = λ first start so_far. record {
+        bytes = so_far.bytes ++ new.unread;
+        sent = so_far.sent;
+        answers = answers_read_on first so_far.bytes so_far.sent new.unread silo old new seen refl fill.same_begun fill.same_waiting so_far.answers;
+        calls = later first start so_far new.ended refl once;
+      }
+      made (Some stopped.Broken) fill once = λ first start so_far.
+          failure_behind reads writes (IsAnswered first) so_far.bytes so_far.sent start before after sink (due first start so_far) (calls first start so_far) once
+      made (Some other) fill once = λ first start so_far.
+          chunk_behind reads writes (IsAnswered first) so_far.bytes so_far.sent start before after sink (due first start so_far) (calls first start so_far) once.0 once.2 once.1 after sink true no_call
 
   -- the process stopped, and its last text was written
-  pub last_made : (source : R) (old new : W) (text : List ℕ) (was_at_end at_end : Bool) (silo next : SiloValue) (at late : Progress) (stopping : Stopped) → StopsStep silo at next late stopping
-      → WritesText writes text old new true → AddsCalls reads writes (source, old) (source, new) was_at_end at_end (Some stopping)
-  last_made source old new text was_at_end at_end silo next at late stopped.Broken stops written = absurd stops
-  last_made source old new text was_at_end at_end silo next at late stopping stops written = λ first before.
-      (reads_well first.0 source was_at_end before.of_source, writes_well first.1 new (text_more first.1 old new text written before.of_sink))
+  pub last_made : (silo : SiloValue) (old : Progress) (next : SiloValue) (late new : Progress) (source : R) (before after : W) (text : List ℕ) (stopping : Stopped) → StopsStep silo old next late stopping
+      → WritesText writes text before after true → AddsCalls reads writes silo old (source, before) next new (source, after) (Some stopping)
+  last_made silo old next late new source before after text stopped.Broken stops written = absurd stops
+  last_made silo old next late new source before after text stopping stops written = λ first start so_far.
+      well_so_far reads writes (IsAnswered first) so_far.bytes (so_far.sent ++ text) start source after old.ended
+      (text_behind reads writes (IsAnswered first) so_far.bytes so_far.sent start source before after text old.ended written so_far.calls)
 
--- none yet
-pub none_so_far : {R W : Type 0} (reads : R → Option (List ℕ) → R → Type 0) (writes : W → List ℕ → Option ℕ → W → Type 0) (first : R × W) → CallsSoFar reads writes first first false
-none_so_far reads writes first = record { of_source = λ new well after. after; of_sink = λ new well after. after }
+  -- what they are of the source and of the sink
+  pub calls_of_each : (silo : SiloValue) (old new : R × W) (stopping : Stopped) → AnswersInTurn reads writes silo old new stopping → MakesCalls reads writes old new stopping
+  calls_of_each silo old new stopped.Broken calls = one_broke reads writes (IsAnswered silo) [] [] old.0 old.1 new.0 new.1 calls
+  calls_of_each silo old new other calls = of_each reads writes (IsAnswered silo) [] [] old.0 old.1 new.0 new.1 calls

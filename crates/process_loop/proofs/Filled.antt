@@ -1,5 +1,5 @@
 -- A chunk read and taken in.
-use Rattle.std.proofs.Common.{◌≡◌, ℕ, ◌<◌, ◌≤◌, List, length, take, Option, Some, None, ap, arith, subst}
+use Rattle.std.proofs.Common.{◌≡◌, ℕ, ◌<◌, ◌≤◌, List, length, take, Option, Some, None, ap, arith, subst, sym, ◌∙◌}
 use Rattle.std.proofs.lemmas.List.{length-take-le}
 use Rattle.std.specs.Io.KnownBytes.{Consumes, IsAtEnd}
 use Rattle.script_loop.specs.Endings.{most_at_once}
@@ -42,11 +42,15 @@ filled old late new read rest chunk put n result consumes ends within room same 
 
 -- by one read
 pub read_once : {R : Type 0} (reads : R → Option (List ℕ) → R → Type 0) (before after : R) (old new : Progress) (got put : List ℕ) (result : Option Stopped) → put ≡ got
-    → reads before (Some got) after → TakesIn old put new result → ReadsOnce reads before after new.ended result
+    → reads before (Some got) after → TakesIn old put new result → ReadsOnce reads before after new result
 read_once {R} reads before after old new got put result same once taken = made result (subst (λ (bytes : List ℕ). TakesIn old bytes new result) same taken)
   where
-    made : (result : Option Stopped) → TakesIn old got new result → ReadsOnce reads before after new.ended result
-    made None taken = (got, once, taken.at_end, taken.goes_on)
+    made : (result : Option Stopped) → TakesIn old got new result → ReadsOnce reads before after new result
+    made None taken = (
+      subst (λ (bytes : List ℕ). reads before (Some bytes) after) (sym taken.unread) once,
+      λ over. taken.unread ∙ taken.at_end over,
+      λ goes. subst (λ (bytes : List ℕ). 0 < length bytes) (sym taken.unread) (taken.goes_on goes),
+    )
     made (Some stopped.TooManyReads) taken = (got, once, taken.1)
     made (Some stopped.OutOfMemory) taken = absurd taken
     made (Some stopped.Broken) taken = absurd taken

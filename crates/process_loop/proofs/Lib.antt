@@ -2,6 +2,7 @@ mod Lines
 mod Kept
 mod Chunks
 mod Steps
+mod AnswersSoFar
 mod Calls
 mod Filled
 mod Stands

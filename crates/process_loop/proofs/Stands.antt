@@ -17,8 +17,9 @@ use Rattle.process_loop.specs.Endings.{Concludes, EndsReading, HasRead, Stops}
 use Rattle.process_loop.specs.Progress.{HasAnswered, HasEnded, HasNoEnd, NeedsMore, Progress, StopsStep, first_progress, kept}
 use Rattle.process_loop.specs.Transfers.{Fills, HasDrained, HasFilled}
 use Rattle.process_loop.specs.Turns.{Stands}
-use Rattle.process_loop.proofs.Kept.{kept_again, said_kept, unended_kept}
-use Rattle.process_loop.proofs.Lines.{before_the_last, behind_the_begun, ends_next, ends_on_nothing, ends_there, first_piece, no_end_in_both, nothing_ends, nothing_written, only_piece, written_last, written_next}
+use Rattle.process_loop.proofs.Kept.{said_kept, unended_kept}
+use Rattle.process_loop.proofs.Lines.{before_the_last, behind_the_begun, ends_on_nothing, ends_there, first_piece, no_end_in_both, nothing_ends, nothing_written, only_piece, written_last}
+use Rattle.process_loop.proofs.AnswersSoFar.{all_answered, answered_goes_on, answers_begun, answers_first, answers_more, answers_read_on, answers_written, ended_answered, kept_line}
 
 -- ---- What was read.
 
@@ -63,136 +64,69 @@ module _ (first : SiloValue) (input : List ℕ) (start : Option (List ℕ)) wher
   abbrev pub bytes_read : (silo : SiloValue) (at : Progress) (read written : Option (List ℕ)) → Stands first input start silo at read written → List ℕ
   bytes_read silo at read written stands = stands.has_read.front ++ stands.has_read.chunk
 
-  -- where what is unread has no line feed, the lines that ended are those that were answered
-  pub ended_answered : (silo : SiloValue) (at : Progress) (read written : Option (List ℕ)) (stands : Stands first input start silo at read written) → HasNoEnd at.unread
-      → ended_lines (bytes_read silo at read written stands) ≡ stands.answered
-  ended_answered silo at read written stands none =
-      let bytes = bytes_read silo at read written stands in
-      let held = stands.begun ++ at.unread in
-      let one : pieces_at line_feed bytes ≡ stands.answered ++ held ∷ [] =
-      ap (pieces_at line_feed) (sym (append-nil bytes)) ∙ (stands.lines [] ∙ (ap (λ (bs : List ℕ). stands.answered ++ pieces_at line_feed bs) (append-nil held)
-      ∙ ap (λ (ps : List (List ℕ)). stands.answered ++ ps) (only_piece held (no_end_in_both stands.begun at.unread stands.no_end none)))) in
-      ap before_last one ∙ (before_the_last stands.answered held [] ∙ append-nil stands.answered)
-
-  -- and the process doesn't end by them
-  pub answered_goes_on : (silo : SiloValue) (at : Progress) (read written : Option (List ℕ)) (stands : Stands first input start silo at read written) → ends_on stands.answered first ≡ false
-  answered_goes_on silo at read written stands =
-      ap (λ (ls : List (List ℕ)). ends_on ls first) (sym (append-nil stands.answered)) ∙ (stands.goes_on [] ∙ ends_on_nothing silo)
-
   -- a chunk more, where all that was read is looked at and nothing waits
   abbrev pub more_read : (silo : SiloValue) (at : Progress) (read rest written : Option (List ℕ)) (got : List ℕ) → at.unread ≡ [] → at.waiting ≡ [] → HasGot read rest got
       → (stands : Stands first input start silo at read written) → HasRead input first rest stands.sent
   more_read silo at read rest written got seen none chunk stands =
+      let bytes = bytes_read silo at read written stands in
       let none_unread : HasNoEnd at.unread = subst HasNoEnd (sym seen) nothing_ends in
-      let ended = ended_answered silo at read written stands none_unread in
       record {
-        front = bytes_read silo at read written stands;
+        front = bytes;
         chunk = got;
-        consumes = Consumes-trans (Some input) read rest (bytes_read silo at read written stands) got stands.has_read.consumes chunk.consumes;
+        consumes = Consumes-trans (Some input) read rest bytes got stands.has_read.consumes chunk.consumes;
         chunk_fits = chunk.fits;
-        goes_on = ap (λ (ls : List (List ℕ)). ends_on ls first) ended ∙ answered_goes_on silo at read written stands;
-        written = record {
-          more = [];
-          joined = sym (ap (λ (ls : List (List ℕ)). written_on (ls ++ [] ∷ []) first ++ []) ended ∙ (append-nil (written_on (stands.answered ++ [] ∷ []) first)
-              ∙ (stands.makes [] [] ∙ (ap (λ (t : List ℕ). stands.sent ++ (at.waiting ++ t)) (nothing_written silo)
-              ∙ (ap (λ (w : List ℕ). stands.sent ++ (w ++ [])) none ∙ append-nil stands.sent)))));
-        };
+        goes_on = ap (λ (ls : List (List ℕ)). ends_on ls first) (ended_answered first bytes stands.sent silo at stands.answers none_unread) ∙ answered_goes_on first bytes stands.sent silo at stands.answers;
+        written = record { more = []; joined = all_answered first bytes stands.sent silo at stands.answers seen none ∙ sym (append-nil (written_on (ended_lines bytes ++ [] ∷ []) first)) };
       }
 
   -- ---- A process goes on.
 
   -- before the first line
   pub stands_first : (at : Progress) → at ≡ first_progress → Stands first input start first at (Some input) start
-  stands_first at is = subst (λ (p : Progress). Stands first input start first p (Some input) start) (sym is) (record {
+  stands_first at is = record {
     sent = [];
     appends = Appends-nil start;
     has_read = none_read first input;
     at_end = λ over. absurd (cc);
-    counted = omega arith;
-    answered = [];
-    begun = [];
-    begun_kept = refl;
-    no_end = nothing_ends;
-    lines = λ more. refl;
-    makes = λ next lines. refl;
-    goes_on = λ lines. refl;
-  })
-
-  -- a line that is begun, and goes on with bytes without a line feed up to one, is what the session keeps of it
-  kept_line : (silo : SiloValue) (at : Progress) (read written : Option (List ℕ)) (stands : Stands first input start silo at read written) (line : List ℕ)
-      → kept (at.begun ++ line) ≡ kept (stands.begun ++ line)
-  kept_line silo at read written stands line = ap (λ (b : List ℕ). kept (b ++ line)) stands.begun_kept ∙ kept_again stands.begun line
+    counted = omega (arith, ap (λ (p : Progress). p.left) is);
+    answers = answers_first first at is;
+  }
 
   -- a line was answered
   pub stands_answered : (read written : Option (List ℕ)) (silo : SiloValue) (old : Progress) (next : SiloValue) (new : Progress)
       → HasAnswered silo old next new false → Stands first input start silo old read written → Stands first input start next new read written
-  stands_answered read written silo old next new step stands =
-      let line = stands.begun ++ step.line in
-      let answers = subst (λ (l : List ℕ). AnswersLine silo l old.waiting next new.waiting false) (kept_line silo old read written stands step.line) step.answers in
-      let same = said_kept line silo in
-      record {
-        sent = stands.sent;
-        appends = stands.appends;
-        has_read = stands.has_read;
-        at_end = λ over. stands.at_end (sym step.same_end ∙ over);
-        counted = omega (arith, step.same_left, stands.counted);
-        answered = stands.answered ++ line ∷ [];
-        begun = [];
-        begun_kept = step.none_begun;
-        no_end = nothing_ends;
-        lines = λ more.
-            let cut = first_piece (new.unread ++ more) in
-            stands.lines more ∙ (ap (λ (bs : List ℕ). stands.answered ++ pieces_at line_feed bs) (append_assoc stands.begun old.unread more)
-            ∙ (ap (λ (ps : List (List ℕ)). stands.answered ++ ps) (behind_the_begun stands.begun (old.unread ++ more) step.line (pieces_at line_feed (new.unread ++ more)) stands.no_end (step.cuts more))
-            ∙ sym (append_assoc stands.answered (line ∷ []) (pieces_at line_feed (new.unread ++ more)))));
-        makes = λ after lines.
-            ap (λ (ls : List (List ℕ)). written_on ls first) (append_assoc stands.answered (line ∷ []) (after ∷ lines))
-            ∙ (stands.makes line (after ∷ lines)
-            ∙ ap (λ (t : List ℕ). stands.sent ++ t) (sym (written_next line (kept line) after lines silo next old.waiting new.waiting same answers)));
-        goes_on = λ lines.
-            ap (λ (ls : List (List ℕ)). ends_on ls first) (append_assoc stands.answered (line ∷ []) lines)
-            ∙ (stands.goes_on (line ∷ lines) ∙ ends_next line (kept line) lines silo next old.waiting new.waiting same answers);
-      }
+  stands_answered read written silo old next new step stands = record {
+    sent = stands.sent;
+    appends = stands.appends;
+    has_read = stands.has_read;
+    at_end = λ over. stands.at_end (sym step.same_end ∙ over);
+    counted = omega (arith, step.same_left, stands.counted);
+    answers = answers_more first (bytes_read silo old read written stands) stands.sent silo old next new step stands.answers;
+  }
 
   -- a line goes on with all that was read
   pub stands_begun : (read written : Option (List ℕ)) (silo : SiloValue) (old : Progress) (next : SiloValue) (new : Progress)
       → NeedsMore silo old next new → Stands first input start silo old read written → Stands first input start next new read written
-  stands_begun read written silo old next new step stands =
-      subst (λ (s : SiloValue). Stands first input start s new read written) (sym step.same_silo) (record {
-        sent = stands.sent;
-        appends = stands.appends;
-        has_read = stands.has_read;
-        at_end = λ over. stands.at_end (sym step.same_end ∙ over);
-        counted = omega (arith, step.same_left, stands.counted);
-        answered = stands.answered;
-        begun = stands.begun ++ old.unread;
-        begun_kept = step.begun ∙ kept_line silo old read written stands old.unread;
-        no_end = no_end_in_both stands.begun old.unread stands.no_end step.none;
-        lines = λ more. stands.lines more
-            ∙ ap (λ (bs : List ℕ). stands.answered ++ pieces_at line_feed (bs ++ more)) (sym (append-nil (stands.begun ++ old.unread)) ∙ ap (λ (u : List ℕ). (stands.begun ++ old.unread) ++ u) (sym step.seen));
-        makes = λ after lines. stands.makes after lines ∙ ap (λ (w : List ℕ). stands.sent ++ (w ++ written_on (after ∷ lines) silo)) (sym step.same_waiting);
-        goes_on = stands.goes_on;
-      })
+  stands_begun read written silo old next new step stands = record {
+    sent = stands.sent;
+    appends = stands.appends;
+    has_read = stands.has_read;
+    at_end = λ over. stands.at_end (sym step.same_end ∙ over);
+    counted = omega (arith, step.same_left, stands.counted);
+    answers = answers_begun first (bytes_read silo old read written stands) stands.sent silo old next new step stands.answers;
+  }
 
   -- what waited was written
   pub stands_drained : (read before written : Option (List ℕ)) (silo : SiloValue) (old new : Progress)
       → HasDrained old before new written → Stands first input start silo old read before → Stands first input start silo new read written
-  stands_drained read before written silo old new drain stands =
-      let drained : Progress = record old { waiting = [] } in
-      subst (λ (p : Progress). Stands first input start silo p read written) (sym drain.drained) (record {
-        sent = stands.sent ++ old.waiting;
-        appends = Appends-trans start before written _ _ stands.appends drain.appends;
-        has_read = same_read first input read stands.sent old.waiting stands.has_read;
-        at_end = stands.at_end;
-        counted = stands.counted;
-        answered = stands.answered;
-        begun = stands.begun;
-        begun_kept = stands.begun_kept;
-        no_end = stands.no_end;
-        lines = stands.lines;
-        makes = λ next lines. stands.makes next lines ∙ sym (append_assoc stands.sent old.waiting (written_on (next ∷ lines) silo));
-        goes_on = stands.goes_on;
-      })
+  stands_drained read before written silo old new drain stands = record {
+    sent = stands.sent ++ old.waiting;
+    appends = Appends-trans start before written _ _ stands.appends drain.appends;
+    has_read = same_read first input read stands.sent old.waiting stands.has_read;
+    at_end = λ over. stands.at_end (sym (ap (λ (p : Progress). p.ended) drain.drained) ∙ over);
+    counted = omega (arith, ap (λ (p : Progress). p.left) drain.drained, stands.counted);
+    answers = answers_written first (bytes_read silo old read before stands) stands.sent silo old new drain.drained stands.answers;
+  }
 
   -- more was read
   pub stands_filled : (read rest written : Option (List ℕ)) (silo : SiloValue) (old new : Progress) → old.unread ≡ [] → old.waiting ≡ [] → HasFilled old read new rest
@@ -205,18 +139,7 @@ module _ (first : SiloValue) (input : List ℕ) (start : Option (List ℕ)) wher
         has_read = more_read silo old read rest written fill.got seen none fill.chunk stands;
         at_end = fill.at_end;
         counted = omega (arith, fill.counted, stands.counted, length-append bytes fill.got);
-        answered = stands.answered;
-        begun = stands.begun;
-        begun_kept = fill.same_begun ∙ stands.begun_kept;
-        no_end = stands.no_end;
-        lines = λ more. ap (pieces_at line_feed) (append_assoc bytes fill.got more)
-            ∙ (stands.lines (fill.got ++ more)
-            ∙ (ap (λ (u : List ℕ). stands.answered ++ pieces_at line_feed ((stands.begun ++ u) ++ (fill.got ++ more))) seen
-            ∙ (ap (λ (b : List ℕ). stands.answered ++ pieces_at line_feed (b ++ (fill.got ++ more))) (append-nil stands.begun)
-            ∙ (ap (λ (bs : List ℕ). stands.answered ++ pieces_at line_feed bs) (sym (append_assoc stands.begun fill.got more))
-            ∙ ap (λ (u : List ℕ). stands.answered ++ pieces_at line_feed ((stands.begun ++ u) ++ more)) (sym fill.unread)))));
-        makes = λ next lines. stands.makes next lines ∙ ap (λ (w : List ℕ). stands.sent ++ (w ++ written_on (next ∷ lines) silo)) (sym fill.same_waiting);
-        goes_on = stands.goes_on;
+        answers = answers_read_on first bytes stands.sent fill.got silo old new seen fill.unread fill.same_begun fill.same_waiting stands.answers;
       }
 
   -- ---- A process stops.
@@ -232,12 +155,12 @@ module _ (first : SiloValue) (input : List ℕ) (start : Option (List ℕ)) wher
 
   -- what is written on all of the input, by its lines from the one that is begun on
   whole_by : (silo : SiloValue) (at : Progress) (read written : Option (List ℕ)) (stands : Stands first input start silo at read written) (rest next : List ℕ) (lines : List (List ℕ))
-      → input ≡ bytes_read silo at read written stands ++ rest → pieces_at line_feed ((stands.begun ++ at.unread) ++ rest) ≡ next ∷ lines
+      → input ≡ bytes_read silo at read written stands ++ rest → pieces_at line_feed ((stands.answers.begun ++ at.unread) ++ rest) ≡ next ∷ lines
       → written_on (pieces_at line_feed input) first ≡ stands.sent ++ (at.waiting ++ written_on (next ∷ lines) silo)
   whole_by silo at read written stands rest next lines is cut =
       ap (λ (bs : List ℕ). written_on (pieces_at line_feed bs) first) is
-      ∙ (ap (λ (ps : List (List ℕ)). written_on ps first) (stands.lines rest ∙ ap (λ (ps : List (List ℕ)). stands.answered ++ ps) cut)
-      ∙ stands.makes next lines)
+      ∙ (ap (λ (ps : List (List ℕ)). written_on ps first) (stands.answers.lines rest ∙ ap (λ (ps : List (List ℕ)). stands.answers.answered ++ ps) cut)
+      ∙ stands.answers.makes next lines)
 
   -- what was sent, and a beginning of what waits, is a beginning of it
   begins_by : (sent front waiting later whole : List ℕ) → BeginsWith front waiting → whole ≡ sent ++ (waiting ++ later) → BeginsWith (sent ++ front) whole
@@ -251,7 +174,7 @@ module _ (first : SiloValue) (input : List ℕ) (start : Option (List ℕ)) wher
       → BeginsWith (stands.sent ++ front) (written_on (pieces_at line_feed input) first)
   sent_begins silo at read written stands front begins =
       let left = rest_of read (bytes_read silo at read written stands) stands.has_read.consumes in
-      let cut = first_piece ((stands.begun ++ at.unread) ++ left.0) in
+      let cut = first_piece ((stands.answers.begun ++ at.unread) ++ left.0) in
       begins_by stands.sent front at.waiting (written_on (cut.0 ∷ cut.1) silo) _ begins (whole_by silo at read written stands left.0 cut.0 cut.1 left.2 cut.2)
 
   all_begins : (text : List ℕ) → BeginsWith text text
@@ -313,29 +236,29 @@ module _ (first : SiloValue) (input : List ℕ) (start : Option (List ℕ)) wher
   died_whole : (read before : Option (List ℕ)) (silo : SiloValue) (at : Progress) (next : SiloValue) (last : Progress) (stands : Stands first input start silo at read before)
       → HasAnswered silo at next last true → written_on (pieces_at line_feed input) first ≡ stands.sent ++ last.waiting
   died_whole read before silo at next last stands step =
-      let line = stands.begun ++ step.line in
+      let line = stands.answers.begun ++ step.line in
       let left = rest_of read (bytes_read silo at read before stands) stands.has_read.consumes in
       let behind = first_piece (last.unread ++ left.0) in
-      let cut : pieces_at line_feed ((stands.begun ++ at.unread) ++ left.0) ≡ line ∷ (behind.0 ∷ behind.1) =
-      ap (pieces_at line_feed) (append_assoc stands.begun at.unread left.0)
-      ∙ (behind_the_begun stands.begun (at.unread ++ left.0) step.line _ stands.no_end (step.cuts left.0) ∙ ap (λ (ps : List (List ℕ)). line ∷ ps) behind.2) in
-      let answers = subst (λ (l : List ℕ). AnswersLine silo l at.waiting next last.waiting true) (kept_line silo at read before stands step.line) step.answers in
+      let cut : pieces_at line_feed ((stands.answers.begun ++ at.unread) ++ left.0) ≡ line ∷ (behind.0 ∷ behind.1) =
+      ap (pieces_at line_feed) (append_assoc stands.answers.begun at.unread left.0)
+      ∙ (behind_the_begun stands.answers.begun (at.unread ++ left.0) step.line _ stands.answers.no_end (step.cuts left.0) ∙ ap (λ (ps : List (List ℕ)). line ∷ ps) behind.2) in
+      let answers = subst (λ (l : List ℕ). AnswersLine silo l at.waiting next last.waiting true) (kept_line first (bytes_read silo at read before stands) stands.sent silo at stands.answers step.line) step.answers in
       whole_by silo at read before stands left.0 line (behind.0 ∷ behind.1) left.2 cut
       ∙ ap (λ (t : List ℕ). stands.sent ++ t) (sym (written_last line (kept line) behind.0 behind.1 silo next at.waiting last.waiting (said_kept line silo) answers))
 
   died_reading : (read before : Option (List ℕ)) (silo : SiloValue) (at : Progress) (next : SiloValue) (last : Progress) (stands : Stands first input start silo at read before)
       → HasAnswered silo at next last true → ends_on (ended_lines (bytes_read silo at read before stands)) first ≡ true
   died_reading read before silo at next last stands step =
-      let line = stands.begun ++ step.line in
+      let line = stands.answers.begun ++ step.line in
       let bytes = bytes_read silo at read before stands in
       let behind = first_piece (last.unread ++ []) in
-      let cut : pieces_at line_feed bytes ≡ stands.answered ++ line ∷ (behind.0 ∷ behind.1) =
-      ap (pieces_at line_feed) (sym (append-nil bytes)) ∙ (stands.lines []
-      ∙ (ap (λ (bs : List ℕ). stands.answered ++ pieces_at line_feed bs) (append_assoc stands.begun at.unread [])
-      ∙ ap (λ (ps : List (List ℕ)). stands.answered ++ ps) (behind_the_begun stands.begun (at.unread ++ []) step.line _ stands.no_end (step.cuts []) ∙ ap (λ (ps : List (List ℕ)). line ∷ ps) behind.2))) in
-      let answers = subst (λ (l : List ℕ). AnswersLine silo l at.waiting next last.waiting true) (kept_line silo at read before stands step.line) step.answers in
-      ap (λ (ls : List (List ℕ)). ends_on ls first) (ap before_last cut ∙ before_the_last stands.answered line (behind.0 ∷ behind.1))
-      ∙ (stands.goes_on (line ∷ before_last (behind.0 ∷ behind.1))
+      let cut : pieces_at line_feed bytes ≡ stands.answers.answered ++ line ∷ (behind.0 ∷ behind.1) =
+      ap (pieces_at line_feed) (sym (append-nil bytes)) ∙ (stands.answers.lines []
+      ∙ (ap (λ (bs : List ℕ). stands.answers.answered ++ pieces_at line_feed bs) (append_assoc stands.answers.begun at.unread [])
+      ∙ ap (λ (ps : List (List ℕ)). stands.answers.answered ++ ps) (behind_the_begun stands.answers.begun (at.unread ++ []) step.line _ stands.answers.no_end (step.cuts []) ∙ ap (λ (ps : List (List ℕ)). line ∷ ps) behind.2))) in
+      let answers = subst (λ (l : List ℕ). AnswersLine silo l at.waiting next last.waiting true) (kept_line first (bytes_read silo at read before stands) stands.sent silo at stands.answers step.line) step.answers in
+      ap (λ (ls : List (List ℕ)). ends_on ls first) (ap before_last cut ∙ before_the_last stands.answers.answered line (behind.0 ∷ behind.1))
+      ∙ (stands.answers.goes_on (line ∷ before_last (behind.0 ∷ behind.1))
       ∙ ends_there line (kept line) (before_last (behind.0 ∷ behind.1)) silo next at.waiting last.waiting (said_kept line silo) answers)
 
   -- the end of the input
@@ -343,12 +266,12 @@ module _ (first : SiloValue) (input : List ℕ) (start : Option (List ℕ)) wher
       → HasEnded at last → written_on (pieces_at line_feed input) first ≡ stands.sent ++ last.waiting
   unfolding written_on
   ended_whole read before silo at last stands step =
-      let held = stands.begun ++ at.unread in
+      let held = stands.answers.begun ++ at.unread in
       let left = rest_of read (bytes_read silo at read before stands) stands.has_read.consumes in
       let cut : pieces_at line_feed (held ++ left.0) ≡ held ∷ [] =
       ap (λ (bs : List ℕ). pieces_at line_feed (held ++ bs)) (none_left read left.0 left.1 (stands.at_end step.ended))
-      ∙ (ap (pieces_at line_feed) (append-nil held) ∙ only_piece held (no_end_in_both stands.begun at.unread stands.no_end step.none)) in
-      let told : unended_fault (kept (at.begun ++ at.unread)) ≡ unended_fault held = ap unended_fault (kept_line silo at read before stands at.unread) ∙ unended_kept held in
+      ∙ (ap (pieces_at line_feed) (append-nil held) ∙ only_piece held (no_end_in_both stands.answers.begun at.unread stands.answers.no_end step.none)) in
+      let told : unended_fault (kept (at.begun ++ at.unread)) ≡ unended_fault held = ap unended_fault (kept_line first (bytes_read silo at read before stands) stands.sent silo at stands.answers at.unread) ∙ unended_kept held in
       whole_by silo at read before stands left.0 held [] left.2 cut
       ∙ ap (λ (t : List ℕ). stands.sent ++ t) (sym (step.told ∙ ap (λ (f : Option ℕ). at.waiting ++ after_last f) told))
 
@@ -358,7 +281,7 @@ module _ (first : SiloValue) (input : List ℕ) (start : Option (List ℕ)) wher
   concludes_by read before silo at next last stopped.AtEnd step stands = sym (ended_whole read before silo at last stands step)
   concludes_by read before silo at next last stopped.Dead step stands = sym (died_whole read before silo at next last stands step)
   concludes_by read before silo at next last stopped.OutOfMemory step stands =
-      subst (λ (w : List ℕ). BeginsWith (stands.sent ++ w) (written_on (pieces_at line_feed input) first)) (sym step) (waits_begins read before silo at stands)
+      subst (λ (w : List ℕ). BeginsWith (stands.sent ++ w) (written_on (pieces_at line_feed input) first)) (sym step.0) (waits_begins read before silo at stands)
   concludes_by read before silo at next last stopped.TooManyReads step stands = absurd step
   concludes_by read before silo at next last stopped.Broken step stands = absurd step
 
@@ -377,7 +300,7 @@ module _ (first : SiloValue) (input : List ℕ) (start : Option (List ℕ)) wher
   reading_ends : (read before : Option (List ℕ)) (silo : SiloValue) (at : Progress) (next : SiloValue) (last : Progress) (stopping : Stopped) → StopsStep silo at next last stopping
       → (stands : Stands first input start silo at read before) → EndsReading (bytes_read silo at read before stands) first read stopping
   reading_ends read before silo at next last stopped.AtEnd step stands =
-      (stands.at_end step.ended, ap (λ (ls : List (List ℕ)). ends_on ls first) (ended_answered silo at read before stands step.none) ∙ answered_goes_on silo at read before stands)
+      (stands.at_end step.ended, ap (λ (ls : List (List ℕ)). ends_on ls first) (ended_answered first (bytes_read silo at read before stands) stands.sent silo at stands.answers step.none) ∙ answered_goes_on first (bytes_read silo at read before stands) stands.sent silo at stands.answers)
   reading_ends read before silo at next last stopped.Dead step stands = died_reading read before silo at next last stands step
   reading_ends read before silo at next last stopped.OutOfMemory step stands = tt
   reading_ends read before silo at next last stopped.TooManyReads step stands = absurd step

@@ -4,7 +4,7 @@ use Rattle.std.specs.Io.KnownBytes.{Appends, Consumes, IsAtEnd}
 use Rattle.texts.specs.Words.{line_feed, pieces_at}
 use Rattle.silo_rules.specs.SiloValue.{SiloValue}
 use Rattle.script_output.specs.Spaced.{BeginsWith}
-use Rattle.script_loop.specs.Calls.{ReadsInTurn, WritesTexts}
+use Rattle.script_loop.specs.Calls.{InTurn, ReadsInTurn, WritesTexts}
 use Rattle.script_loop.specs.Endings.{most_at_once}
 use Rattle.process_output.specs.Output.{written_on}
 use Rattle.process_loop.specs.declared.stopped.Stopped.{Stopped}
@@ -61,3 +61,12 @@ abbrev pub MakesCalls : {R W : Type 0} → (reads : R → Option (List ℕ) → 
 MakesCalls reads writes old new Broken =
     (ReadsInTurn reads old.0 new.0 false × WritesTexts writes old.1 new.1 true) ⊎ (ReadsInTurn reads old.0 new.0 true × WritesTexts writes old.1 new.1 false)
 MakesCalls reads writes old new other = ReadsInTurn reads old.0 new.0 true × WritesTexts writes old.1 new.1 true
+
+-- the text is all that is answered to the lines that ended in the bytes
+abbrev pub IsAnswered : SiloValue → (bytes text : List ℕ) → Type 0
+IsAnswered silo bytes text = text ≡ written_on (ended_lines bytes ++ [] ∷ []) silo
+
+-- the calls of a process in turn: more is read only where all is written that is answered to the lines that ended in what was read
+abbrev pub AnswersInTurn : {R W : Type 0} → (reads : R → Option (List ℕ) → R → Type 0) → (writes : W → List ℕ → Option ℕ → W → Type 0) → SiloValue → (old new : R × W) → Stopped → Type 0
+AnswersInTurn reads writes silo old new Broken = InTurn reads writes (IsAnswered silo) [] [] old.0 old.1 new.0 new.1 false
+AnswersInTurn reads writes silo old new other = InTurn reads writes (IsAnswered silo) [] [] old.0 old.1 new.0 new.1 true

@@ -97,11 +97,11 @@ pub record HasEnded (old new : Progress) : Type 0 where
   pub none : HasNoEnd old.unread
   pub told : new.waiting ≡ old.waiting ++ after_last (unended_fault (kept (old.begun ++ old.unread)))
 
--- how a step may stop the process
+-- how a step may stop the process; memory runs out only where there is a line, ended or begun
 abbrev pub StopsStep : SiloValue → Progress → SiloValue → Progress → Stopped → Type 0
 StopsStep old_silo old new_silo new stopped.AtEnd = HasEnded old new
 StopsStep old_silo old new_silo new stopped.Dead = HasAnswered old_silo old new_silo new true
-StopsStep old_silo old new_silo new stopped.OutOfMemory = new.waiting ≡ old.waiting
+StopsStep old_silo old new_silo new stopped.OutOfMemory = (new.waiting ≡ old.waiting) × (0 < length (old.begun ++ old.unread))
 StopsStep old_silo old new_silo new other = ⊥
 
 -- what a step did

@@ -1,5 +1,5 @@
 -- What reads and writes make of a process's progress.
-use Rattle.std.specs.Prelude.{◌≡◌, ℕ, ◌+◌, ◌<◌, ◌≤◌, Bool, true, false, List, [], length, Option, Some, None}
+use Rattle.std.specs.Prelude.{◌≡◌, ℕ, ◌+◌, ◌<◌, ◌≤◌, true, false, List, [], length, Option, Some, None}
 use Rattle.std.specs.Io.KnownBytes.{Appends, IsAtEnd, Keeps}
 use Rattle.script_loop.specs.Sent.{WritesFront}
 use Rattle.script_loop.specs.Transfers.{HasGot}
@@ -48,8 +48,8 @@ Fills old read new rest (Some stopped.TooManyReads) = (got : List ℕ) × HasGot
 Fills old read new rest (Some stopped.Broken) = Keeps read rest
 Fills old read new rest (Some other) = ⊥
 
--- one read was made: it failed where the process breaks; else it gave something, or nothing at the end
-abbrev pub ReadsOnce : {R : Type 0} → (R → Option (List ℕ) → R → Type 0) → (old new : R) → (at_end : Bool) → Option Stopped → Type 0
-ReadsOnce reads old new at_end None = (got : List ℕ) × reads old (Some got) new × (at_end ≡ true → got ≡ []) × (at_end ≡ false → 0 < length got)
-ReadsOnce reads old new at_end (Some stopped.Broken) = reads old None new
-ReadsOnce reads old new at_end (Some other) = (got : List ℕ) × reads old (Some got) new × (0 < length got)
+-- one read was made: it failed where the process breaks; else it gave what is unread then, or nothing at the end
+abbrev pub ReadsOnce : {R : Type 0} → (R → Option (List ℕ) → R → Type 0) → (old new : R) → Progress → Option Stopped → Type 0
+ReadsOnce reads old new at None = reads old (Some at.unread) new × (at.ended ≡ true → at.unread ≡ []) × (at.ended ≡ false → 0 < length at.unread)
+ReadsOnce reads old new at (Some stopped.Broken) = reads old None new
+ReadsOnce reads old new at (Some other) = (got : List ℕ) × reads old (Some got) new × (0 < length got)

@@ -1,7 +1,7 @@
 //! A silo's process, from a source to a sink.
 
 ghost use Rattle.std.specs.Prelude.{IfSome};
-ghost use Rattle.process_loop.specs.Endings.{MakesCalls, Stops};
+ghost use Rattle.process_loop.specs.Endings.{AnswersInTurn, MakesCalls, Stops};
 
 use crate::session::Session;
 use crate::{SiloPlayer, Stopped};
@@ -23,6 +23,7 @@ pub fn play<P: SiloPlayer, R: Source, W: Sink>(
     ensures stops { IfSome (R.remaining reader.old) (λ input.
         Stops input (P.silo player.old) (R.remaining reader.new) (W.contents writer.old) (W.contents writer.new) result) }
     ensures calls { MakesCalls R.reads W.writes (reader.old, writer.old) (reader.new, writer.new) result }
+    ensures in_turn { AnswersInTurn R.reads W.writes (P.silo player.old) (reader.old, writer.old) (reader.new, writer.new) result }
 {
     let Ok(mut session) = Session::new(alloc) else {
         return Stopped::OutOfMemory;

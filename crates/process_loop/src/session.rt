@@ -125,6 +125,7 @@ impl Session {
     fn tell_unended(&mut self) -> Result<(), AllocError>
         ensures told { OnOk result (self.new.out.items ≡ self.old.out.items ++ after_last (unended_fault self.old.line.items)) }
         ensures untold { OnErr result (self.new.out.items ≡ self.old.out.items) }
+        ensures wanted { OnErr result (0 < length self.old.line.items) }
         ensures same { (self.new.left ≡ self.old.left) × (self.new.ended ≡ self.old.ended) }
     {
         let length = self.line.len();
@@ -152,6 +153,7 @@ impl Session {
     fn take_rest(&mut self) -> Result<(), AllocError>
         ensures taken { OnOk result (progress self.new ≡ rest_taken (progress self.old)) }
         ensures unchanged { OnErr result (progress self.new ≡ progress self.old) }
+        ensures wanted { OnErr result (0 < length (progress self.old).unread) }
     {
         self.keep(self.to - self.from)?;
         self.from = self.to;
@@ -163,6 +165,7 @@ impl Session {
         requires within { count ≤ length (progress self.old).unread }
         ensures kept { OnOk result (progress self.new ≡ begun_by count (progress self.old)) }
         ensures unchanged { OnErr result (progress self.new ≡ progress self.old) }
+        ensures wanted { OnErr result (0 < count) }
     {
         let room = MOST_KEPT - self.line.len();
         let end = self.from + count.min(room);

@@ -28,7 +28,7 @@ impl Session {
         requires goes_on { self.old.ended ≡ false }
         requires seen { (progress self.old).unread ≡ [] }
         ensures fills { Fills (progress self.old) (R.remaining reader.old) (progress self.new) (R.remaining reader.new) result }
-        ensures once { ReadsOnce R.reads reader.old reader.new (progress self.new).ended result }
+        ensures once { ReadsOnce R.reads reader.old reader.new (progress self.new) result }
     {
         self.from = 0;
         self.to = 0;

@@ -1,12 +1,16 @@
 -- Calls made one after the other.
-use Rattle.std.proofs.Common.{◌≡◌, ℕ, ◌<◌, ◌≤◌, Bool, true, false, List, [], length, drop, Option, Some, None, ap, subst, sym, refl, ◌∙◌, inl, inr, is_none}
+use Rattle.std.proofs.Common.{◌≡◌, ℕ, ◌<◌, ◌≤◌, Bool, true, false, List, [], ◌++◌, length, drop, Option, Some, None, ap, subst, sym, refl, is_none}
+use Rattle.texts.specs.Printed.{Output}
 use Rattle.script_loop.specs.declared.ended.Ended.{Ended}
 use Rattle.script_loop.specs.declared.ended.Ended.TheVariants as ended
-use Rattle.script_loop.specs.Calls.{ReadsInTurn, WritesText, WritesTexts, no_read, read_some, read_nothing, read_failed, wrote_all, wrote_some, wrote_nothing, write_failed, no_text, text_written, text_broken}
-use Rattle.script_loop.specs.Endings.{MakesCalls}
-use Rattle.script_loop.specs.Progress.{EndsStep, Progress}
-use Rattle.script_loop.specs.Transfers.{Drains, ReadsOnce}
-use Rattle.script_loop.specs.Turns.{AddsCalls, CallsSoFar, ReadsSoFar, WritesSoFar}
+use Rattle.script_loop.specs.Calls.{WritesText, no_call, wrote_all, wrote_some, wrote_nothing, write_failed}
+use Rattle.script_loop.specs.Endings.{IsBegun, IsPrinted, MakesCalls, PrintsInTurn}
+use Rattle.script_loop.specs.Lines.{Rule, no_output}
+use Rattle.script_loop.specs.Progress.{EndsStep, HasPlayed, NeedsMore, Progress, first_progress}
+use Rattle.script_loop.specs.Transfers.{Drains, Fills, ReadsOnce}
+use Rattle.script_loop.specs.Turns.{AddsCalls, CallsSoFar, InTurnSoFar}
+use Rattle.script_loop.proofs.InTurn.{broken_behind, chunk_behind, end_behind, failure_behind, none_so_far, of_each, one_broke, text_behind, well_so_far}
+use Rattle.script_loop.proofs.PlayedSoFar.{all_printed, plays_first, plays_more, plays_read_on, plays_still, plays_written}
 
 -- ---- The writes of a text.
 
@@ -34,73 +38,101 @@ module _ {W : Type 0} (writes : W → List ℕ → Option ℕ → W → Type 0) 
       → WritesText writes text first new false
   written_nothing rest count some none once before = before new false (wrote_nothing some (subst (λ (n : ℕ). writes now rest (Some n) new) none once))
 
--- ---- The calls of a turn.
+-- ---- The calls of a turn, each behind those so far.
 
 module _ {R W : Type 0} (reads : R → Option (List ℕ) → R → Type 0) (writes : W → List ℕ → Option ℕ → W → Type 0) where
-  -- so far all were well
-  reads_well : (first now : R) (at_end : Bool) → ReadsSoFar reads first now at_end → ReadsInTurn reads first now true
-  reads_well first now true before = before
-  reads_well first now false before = before now true no_read
+  -- before the first turn
+  pub no_calls : (first : Rule) (start : R × W) (at : Progress) → at ≡ first_progress → CallsSoFar reads writes first start first at start
+  no_calls first start at is = record {
+    bytes = [];
+    sent = [];
+    plays = plays_first first at is;
+    calls = subst (InTurnSoFar reads writes (IsPrinted (first 1)) [] [] start start) (ap (λ (p : Progress). p.ended) (sym is)) (none_so_far reads writes (IsPrinted (first 1)) start);
+  }
 
-  writes_well : (first now : W) → WritesSoFar writes first now → WritesTexts writes first now true
-  writes_well first now before = before now true no_text
+  -- one part of a turn behind another
+  pub behind_calls : (rule : Rule) (old : Progress) (before : R × W) (next : Rule) (late : Progress) (between : R × W) (last : Rule) (new : Progress) (after : R × W) (result : Option Ended)
+      → AddsCalls reads writes rule old before next late between None → AddsCalls reads writes next late between last new after result → AddsCalls reads writes rule old before last new after result
+  behind_calls rule old before next late between last new after None one other = λ first start so_far. other first start (one first start so_far)
+  behind_calls rule old before next late between last new after (Some ending) one other = λ first start so_far. other first start (one first start so_far)
 
-  -- a text more
-  text_more : (first now new : W) (text : List ℕ) → WritesText writes text now new true → WritesSoFar writes first now → WritesSoFar writes first new
-  text_more first now new text written before = λ last well after. before last well (text_written text written after)
+  -- a line was played: no call
+  pub none_played : (rule : Rule) (old : Progress) (next : Rule) (new : Progress) (same : R × W) → HasPlayed rule old next new → AddsCalls reads writes rule old same next new same None
+  none_played rule old next new same step = λ first start so_far. record {
+    bytes = so_far.bytes;
+    sent = so_far.sent;
+    plays = plays_more first so_far.bytes so_far.sent rule old next new step so_far.plays;
+    calls = subst (InTurnSoFar reads writes (IsPrinted (first 1)) so_far.bytes so_far.sent start same) (sym step.same_end) so_far.calls;
+  }
 
-  -- a read more
-  read_more : (first now new : R) (at_end : Bool) → ReadsOnce reads now new at_end None → ReadsSoFar reads first now false → ReadsSoFar reads first new at_end
-  read_more first now new false read before = λ last well after. before last well (read_some read.0 (read.3 refl) read.1 after)
-  read_more first now new true read before = before new true (read_nothing (subst (λ (got : List ℕ). reads now (Some got) new) (read.2 refl) read.1))
-
-  -- no call
-  pub none_made : (same : R × W) (was_at_end at_end : Bool) → at_end ≡ was_at_end → AddsCalls reads writes same same was_at_end at_end None
-  none_made same was_at_end at_end is = λ first before. subst (λ (b : Bool). CallsSoFar reads writes first same b) (sym is) before
+  -- nor where more is needed
+  pub none_needed : (rule : Rule) (old : Progress) (next : Rule) (new : Progress) (same : R × W) → NeedsMore rule old next new → AddsCalls reads writes rule old same next new same None
+  none_needed rule old next new same step = λ first start so_far. record {
+    bytes = so_far.bytes;
+    sent = so_far.sent;
+    plays = plays_still first so_far.bytes so_far.sent rule old next new step so_far.plays;
+    calls = subst (InTurnSoFar reads writes (IsPrinted (first 1)) so_far.bytes so_far.sent start same) (sym (ap (λ (p : Progress). p.ended) step.same)) so_far.calls;
+  }
 
   -- a text wasn't taken whole
-  pub text_unmade : (source : R) (old new : W) (text : List ℕ) (was_at_end at_end : Bool) (ending : Ended) → ending ≡ ended.Broken → WritesText writes text old new false
-      → AddsCalls reads writes (source, old) (source, new) was_at_end at_end (Some ending)
-  text_unmade source old new text was_at_end at_end ending is made = λ first before.
-      subst (MakesCalls reads writes first (source, new)) (sym is)
-      (inr (reads_well first.0 source was_at_end before.of_source, before.of_sink new false (text_broken text made)))
+  pub text_unmade : (rule : Rule) (old : Progress) (next : Rule) (new : Progress) (source : R) (before after : W) (text : List ℕ) (ending : Ended) → ending ≡ ended.Broken
+      → WritesText writes text before after false → AddsCalls reads writes rule old (source, before) next new (source, after) (Some ending)
+  text_unmade rule old next new source before after text ending is made = λ first start so_far.
+      subst (PrintsInTurn reads writes (first 1) start (source, after)) (sym is)
+      (broken_behind reads writes (IsPrinted (first 1)) so_far.bytes so_far.sent start source before after text old.ended made so_far.calls)
 
   -- what waits was written, and where it wasn't, the play breaks
-  pub text_made : (source : R) (old new : W) (was_at_end : Bool) (late next : Progress) (begun written : Option (List ℕ)) (result : Option Ended) → late.ended ≡ was_at_end
-      → Drains late begun next written result → WritesText writes late.waiting old new (is_none result)
-      → AddsCalls reads writes (source, old) (source, new) was_at_end next.ended result
-  text_made source old new was_at_end late next begun written None is drain made = λ first before. record {
-    of_source = subst (ReadsSoFar reads first.0 source) (sym (ap (λ (p : Progress). p.ended) drain.drained ∙ is)) before.of_source;
-    of_sink = text_more first.1 old new late.waiting made before.of_sink;
+  pub text_made : (rule : Rule) (old new : Progress) (source : R) (before after : W) (begun written : Option (List ℕ)) (result : Option Ended)
+      → Drains old begun new written result → WritesText writes old.waiting before after (is_none result) → AddsCalls reads writes rule old (source, before) rule new (source, after) result
+  text_made rule old new source before after begun written None drain made = λ first start so_far. record {
+    bytes = so_far.bytes;
+    sent = so_far.sent ++ old.waiting;
+    plays = plays_written first so_far.bytes so_far.sent rule old new drain.drained so_far.plays;
+    calls = subst (InTurnSoFar reads writes (IsPrinted (first 1)) so_far.bytes (so_far.sent ++ old.waiting) start (source, after)) (sym (ap (λ (p : Progress). p.ended) drain.drained))
+        (text_behind reads writes (IsPrinted (first 1)) so_far.bytes so_far.sent start source before after old.waiting old.ended made so_far.calls);
   }
-  text_made source old new was_at_end late next begun written (Some ending) is drain made = text_unmade source old new late.waiting was_at_end next.ended ending drain.1 made
+  text_made rule old new source before after begun written (Some ending) drain made = text_unmade rule old rule new source before after old.waiting ending drain.1 made
 
-  -- a text was written, and a chunk read
-  pub chunk_made : (old_source new_source : R) (old new : W) (text : List ℕ) (was_at_end at_end : Bool) (result : Option Ended) → was_at_end ≡ false
-      → WritesText writes text old new true → ReadsOnce reads old_source new_source at_end result
-      → AddsCalls reads writes (old_source, old) (new_source, new) was_at_end at_end result
-  chunk_made old_source new_source old new text was_at_end at_end result goes written read = made result read
+  -- a chunk was read, where all is written
+  pub chunk_made : (rule : Rule) (old new : Progress) (before after : R) (sink : W) (read rest : Option (List ℕ)) (result : Option Ended) → rule old.line [] ≡ no_output → old.ended ≡ false → IsBegun old.held
+      → old.waiting ≡ [] → Fills old read new rest result → ReadsOnce reads before after old new result → AddsCalls reads writes rule old (before, sink) rule new (after, sink) result
+  chunk_made rule old new before after sink read rest result nothing goes is_begun none fill once = made result fill once
     where
-      source : (first : R × W) → CallsSoFar reads writes first (old_source, old) was_at_end → ReadsSoFar reads first.0 old_source false
-      source first before = subst (ReadsSoFar reads first.0 old_source) goes before.of_source
+      due : (first : Rule) (start : R × W) (so_far : CallsSoFar reads writes first start rule old (before, sink)) → IsPrinted (first 1) so_far.bytes so_far.sent
+      due first start so_far = all_printed first so_far.bytes so_far.sent rule old so_far.plays nothing is_begun none
 
-      sink : (first : R × W) → CallsSoFar reads writes first (old_source, old) was_at_end → WritesSoFar writes first.1 new
-      sink first before = text_more first.1 old new text written before.of_sink
+      calls : (first : Rule) (start : R × W) (so_far : CallsSoFar reads writes first start rule old (before, sink)) → InTurnSoFar reads writes (IsPrinted (first 1)) so_far.bytes so_far.sent start (before, sink) false
+      calls first start so_far = subst (InTurnSoFar reads writes (IsPrinted (first 1)) so_far.bytes so_far.sent start (before, sink)) goes so_far.calls
 
-      made : (result : Option Ended) → ReadsOnce reads old_source new_source at_end result → AddsCalls reads writes (old_source, old) (new_source, new) was_at_end at_end result
-      made None read = λ first before. record { of_source = read_more first.0 old_source new_source at_end read (source first before); of_sink = sink first before }
-      made (Some ended.Broken) read = λ first before. inl (source first before new_source false (read_failed read), writes_well first.1 new (sink first before))
-      made (Some other) read = λ first before. (source first before new_source true (read_some read.0 read.2 read.1 no_read), writes_well first.1 new (sink first before))
+      later : (first : Rule) (start : R × W) (so_far : CallsSoFar reads writes first start rule old (before, sink)) (over : Bool) → new.ended ≡ over → (once : ReadsOnce reads before after old new None)
+          → InTurnSoFar reads writes (IsPrinted (first 1)) (so_far.bytes ++ once.0) so_far.sent start (after, sink) over
+      later first start so_far false is once =
+          chunk_behind reads writes (IsPrinted (first 1)) so_far.bytes so_far.sent start before after sink (due first start so_far) (calls first start so_far) once.0 (once.4 is) once.1
+      later first start so_far true is once =
+          end_behind reads writes (IsPrinted (first 1)) so_far.bytes so_far.sent start before after sink (due first start so_far) (calls first start so_far)
+          (subst (λ (got : List ℕ). reads before (Some got) after) (once.3 is) once.1)
+
+      made : (result : Option Ended) → Fills old read new rest result → ReadsOnce reads before after old new result → AddsCalls reads writes rule old (before, sink) rule new (after, sink) result
+      made None fill once = λ first start so_far. record {
+        bytes = so_far.bytes ++ once.0;
+        sent = so_far.sent;
+        plays = plays_read_on first so_far.bytes so_far.sent once.0 rule old new once.2 fill.same_line fill.same_waiting so_far.plays;
+        calls = later first start so_far new.ended refl once;
+      }
+      made (Some ended.Broken) fill once = λ first start so_far.
+          failure_behind reads writes (IsPrinted (first 1)) so_far.bytes so_far.sent start before after sink (due first start so_far) (calls first start so_far) once
+      made (Some other) fill once = λ first start so_far.
+          chunk_behind reads writes (IsPrinted (first 1)) so_far.bytes so_far.sent start before after sink (due first start so_far) (calls first start so_far) once.0 once.2 once.1 after sink true no_call
 
   -- the script ended, and its last text was written
-  pub last_made : (source : R) (old new : W) (text : List ℕ) (was_at_end at_end : Bool) (at : Progress) (ending : Ended) → EndsStep at ending → WritesText writes text old new true
-      → AddsCalls reads writes (source, old) (source, new) was_at_end at_end (Some ending)
-  last_made source old new text was_at_end at_end at ended.Broken ends written = absurd ends
-  last_made source old new text was_at_end at_end at ending ends written = λ first before.
-      (reads_well first.0 source was_at_end before.of_source, writes_well first.1 new (text_more first.1 old new text written before.of_sink))
+  pub last_made : (rule : Rule) (old : Progress) (next : Rule) (new : Progress) (source : R) (before after : W) (text : List ℕ) (ending : Ended) → EndsStep old ending
+      → WritesText writes text before after true → AddsCalls reads writes rule old (source, before) next new (source, after) (Some ending)
+  last_made rule old next new source before after text ended.Broken ends written = absurd ends
+  last_made rule old next new source before after text ending ends written = λ first start so_far.
+      well_so_far reads writes (IsPrinted (first 1)) so_far.bytes (so_far.sent ++ text) start source after old.ended
+      (text_behind reads writes (IsPrinted (first 1)) so_far.bytes so_far.sent start source before after text old.ended written so_far.calls)
 
--- ---- The calls of a play.
-
--- none yet
-pub none_so_far : {R W : Type 0} (reads : R → Option (List ℕ) → R → Type 0) (writes : W → List ℕ → Option ℕ → W → Type 0) (first : R × W) → CallsSoFar reads writes first first false
-none_so_far reads writes first = record { of_source = λ new well after. after; of_sink = λ new well after. after }
+  -- what they are of the source and of the sink
+  pub calls_of_each : (output : List (List ℕ) → Output) (old new : R × W) (ending : Ended) → PrintsInTurn reads writes output old new ending → MakesCalls reads writes old new ending
+  calls_of_each output old new ended.Broken calls = one_broke reads writes (IsPrinted output) [] [] old.0 old.1 new.0 new.1 calls
+  calls_of_each output old new other calls = of_each reads writes (IsPrinted output) [] [] old.0 old.1 new.0 new.1 calls

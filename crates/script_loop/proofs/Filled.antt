@@ -40,11 +40,11 @@ filled old new read rest chunk put n result consumes ends within room same taken
 
 -- by one read
 pub read_once : {R : Type 0} (reads : R → Option (List ℕ) → R → Type 0) (before after : R) (old new : Progress) (got put : List ℕ) (result : Option Ended) → put ≡ got
-    → reads before (Some got) after → TakesIn old put new result → ReadsOnce reads before after new.ended result
+    → reads before (Some got) after → TakesIn old put new result → ReadsOnce reads before after old new result
 read_once {R} reads before after old new got put result same once taken = made result (subst (λ (bytes : List ℕ). TakesIn old bytes new result) same taken)
   where
-    made : (result : Option Ended) → TakesIn old got new result → ReadsOnce reads before after new.ended result
-    made None taken = (got, once, taken.at_end, taken.goes_on)
+    made : (result : Option Ended) → TakesIn old got new result → ReadsOnce reads before after old new result
+    made None taken = (got, once, taken.held, taken.at_end, taken.goes_on)
     made (Some ended.TooLong) taken = (got, once, omega arith)
     made (Some ended.OutOfMemory) taken = (got, once, taken)
     made (Some ended.Broken) taken = absurd taken

@@ -1,6 +1,8 @@
 mod CallsInTurn
+pub mod InTurn
 mod Filled
 mod Pieces
+mod PlayedSoFar
 mod Stands
 mod Steps
 mod TurnsTaken

@@ -10,10 +10,11 @@ use Rattle.script_loop.specs.declared.ended.Ended.{Ended}
 use Rattle.script_loop.specs.declared.ended.Ended.TheVariants as ended
 use Rattle.script_loop.specs.Endings.{Concludes, Ends, EndsReading, HasRead, IsBegun, most_read}
 use Rattle.script_loop.specs.Lines.{Rule, behind, no_output}
-use Rattle.script_loop.specs.Progress.{EndsStep, HasEnded, HasPlayed, MayCome, Progress, first_progress, to_come}
+use Rattle.script_loop.specs.Progress.{EndsStep, HasEnded, HasPlayed, MayCome, NeedsMore, Progress, first_progress, to_come}
 use Rattle.script_loop.specs.Sent.{WritesFront}
 use Rattle.script_loop.specs.Transfers.{Fills, HasDrained, HasFilled, HasGot}
 use Rattle.script_loop.specs.Turns.{Stands}
+use Rattle.script_loop.proofs.PlayedSoFar.{all_printed, none_played, plays_drained, plays_more, plays_read_on}
 
 -- ---- What was read.
 
@@ -67,33 +68,25 @@ kept_read output script read rest text keeps old = record {
   written = old.written;
 }
 
--- all lines that were played are written where nothing waits
-pub all_sent : (sent waiting : List ℕ) (output whole : Output) → waiting ≡ [] → output ≡ no_output → behind sent (behind waiting output) ≡ whole → sent ≡ whole.text ++ []
-all_sent sent waiting output whole none nothing is =
-    let text : sent ++ (waiting ++ output.text) ≡ whole.text = ap (λ (o : Output). o.text) is in
-    let no_text : waiting ++ output.text ≡ [] = ap (λ (t : List ℕ). t ++ output.text) none ∙ ap (λ (o : Output). o.text) nothing in
-    sym (append-nil (whole.text) ∙ (sym text ∙ (ap (λ (t : List ℕ). sent ++ t) no_text ∙ append-nil sent)))
-
 -- a chunk more, where what is held is a line that is begun and nothing waits
 abbrev pub more_read : (first : Rule) (script : List ℕ) (begun : Option (List ℕ)) (rule : Rule) (at : Progress) (read rest written : Option (List ℕ)) (got : List ℕ)
     → rule at.line [] ≡ no_output → IsBegun at.held → at.waiting ≡ [] → HasGot read rest got
     → (stands : Stands first script begun rule at read written) → HasRead script (first 1) rest stands.sent
-more_read first script begun rule at read rest written got nothing is_begun none chunk stands = record {
-  front = stands.has_read.front ++ stands.has_read.chunk;
-  chunk = got;
-  consumes = Consumes-trans (Some script) read rest (stands.has_read.front ++ stands.has_read.chunk) got stands.has_read.consumes chunk.consumes;
-  front_fits = omega (arith, stands.counted);
-  chunk_fits = chunk.fits;
-  whole = stands.played;
-  begun = at.held;
-  is_begun = is_begun;
-  lines = stands.lines;
-  written = record {
-    more = [];
-    joined = all_sent stands.sent at.waiting (rule at.line []) (first 1 stands.played) none nothing
-        (stands.makes [] ∙ ap (first 1) (append-nil stands.played));
-  };
-}
+more_read first script begun rule at read rest written got nothing is_begun none chunk stands =
+    let bytes = stands.has_read.front ++ stands.has_read.chunk in
+    let printed = all_printed first bytes stands.sent rule at stands.plays nothing is_begun none in
+    record {
+      front = bytes;
+      chunk = got;
+      consumes = Consumes-trans (Some script) read rest bytes got stands.has_read.consumes chunk.consumes;
+      front_fits = omega (arith, stands.counted);
+      chunk_fits = chunk.fits;
+      whole = stands.plays.played;
+      begun = at.held;
+      is_begun = is_begun;
+      lines = stands.plays.lines;
+      written = record { more = []; joined = printed.printed ∙ sym (append-nil (first 1 stands.plays.played).text) };
+    }
 
 -- ---- A play goes on.
 
@@ -106,50 +99,47 @@ stands_first first script begun at nothing is = subst (λ (p : Progress). Stands
   has_read = none_read first script nothing;
   at_end = λ over. absurd (cc);
   counted = refl;
-  played = [];
+  plays = none_played first;
   numbered = refl;
   whole_played = omega arith;
-  lines = λ more. refl;
-  makes = λ lines. refl;
 })
 
 -- a line was played
 pub stands_played : (first : Rule) (script : List ℕ) (begun read written : Option (List ℕ)) (rule : Rule) (old : Progress) (next : Rule) (new : Progress)
     → HasPlayed rule old next new → Stands first script begun rule old read written → Stands first script begun next new read written
-stands_played first script begun read written rule old next new step stands = record {
-  sent = stands.sent;
-  appends = stands.appends;
-  has_read = stands.has_read;
-  at_end = λ over. stands.at_end (sym step.same_end ∙ over);
-  counted = omega (arith, step.same_left, stands.counted);
-  played = stands.played ++ step.line ∷ [];
-  numbered = omega (arith, step.next_line, stands.numbered, length-append stands.played (step.line ∷ []));
-  whole_played = omega (arith, stands.whole_played, length-append stands.played (step.line ∷ []));
-  lines = λ more. stands.lines more
-      ∙ (ap (λ (ls : List (List ℕ)). stands.played ++ ls) (step.first more) ∙ sym (append_assoc stands.played (step.line ∷ []) (lines_of (new.held ++ more))));
-  makes = λ lines. ap (behind stands.sent) (step.plays lines)
-      ∙ (stands.makes (step.line ∷ lines) ∙ ap (first 1) (sym (append_assoc stands.played (step.line ∷ []) lines)));
-}
+stands_played first script begun read written rule old next new step stands =
+    let played = stands.plays.played in
+    record {
+      sent = stands.sent;
+      appends = stands.appends;
+      has_read = stands.has_read;
+      at_end = λ over. stands.at_end (sym step.same_end ∙ over);
+      counted = omega (arith, step.same_left, stands.counted);
+      plays = plays_more first (stands.has_read.front ++ stands.has_read.chunk) stands.sent rule old next new step stands.plays;
+      numbered = omega (arith, step.next_line, stands.numbered, length-append played (step.line ∷ []));
+      whole_played = omega (arith, stands.whole_played, length-append played (step.line ∷ []));
+    }
 
-behind_both : (one other : List ℕ) (output : Output) → behind (one ++ other) output ≡ behind one (behind other output)
-behind_both one other output = ap (λ (t : List ℕ). let o : Output = record { text = t; status = output.status } in o) (append_assoc one other output.text)
+-- nothing has changed
+pub stands_still : (first : Rule) (script : List ℕ) (begun read written : Option (List ℕ)) (rule : Rule) (old : Progress) (next : Rule) (same : Progress)
+    → NeedsMore rule old next same → Stands first script begun rule old read written → Stands first script begun next same read written
+stands_still first script begun read written rule old next same step stands =
+    subst (λ (p : Progress). Stands first script begun next p read written) (sym step.same)
+    (subst (λ (r : Rule). Stands first script begun r old read written) (sym step.same_rule) stands)
 
 -- what waited was written
 pub stands_drained : (first : Rule) (script : List ℕ) (begun read before written : Option (List ℕ)) (rule : Rule) (old new : Progress)
     → HasDrained old before new written → Stands first script begun rule old read before → Stands first script begun rule new read written
 stands_drained first script begun read before written rule old new drain stands =
-    let drained : Progress = record old { waiting = [] } in
     subst (λ (p : Progress). Stands first script begun rule p read written) (sym drain.drained) (record {
       sent = stands.sent ++ old.waiting;
       appends = Appends-trans begun before written _ _ stands.appends drain.appends;
       has_read = same_read (first 1) script read stands.sent old.waiting stands.has_read;
       at_end = stands.at_end;
       counted = stands.counted;
-      played = stands.played;
+      plays = plays_drained first (stands.has_read.front ++ stands.has_read.chunk) stands.sent rule old stands.plays;
       numbered = stands.numbered;
       whole_played = stands.whole_played;
-      lines = stands.lines;
-      makes = λ lines. behind_both stands.sent old.waiting (to_come rule drained lines) ∙ stands.makes lines;
     })
 
 -- more was read
@@ -164,14 +154,9 @@ stands_filled first script begun read rest written rule old new nothing is_begun
       has_read = more_read first script begun rule old read rest written fill.got nothing is_begun none fill.chunk stands;
       at_end = fill.at_end;
       counted = omega (arith, fill.counted, stands.counted, length-append consumed fill.got);
-      played = stands.played;
+      plays = plays_read_on first consumed stands.sent fill.got rule old new fill.held fill.same_line fill.same_waiting stands.plays;
       numbered = fill.same_line ∙ stands.numbered;
       whole_played = omega arith;
-      lines = λ more. ap lines_of (append_assoc consumed fill.got more)
-          ∙ (stands.lines (fill.got ++ more) ∙ ap (λ (bs : List ℕ). stands.played ++ lines_of bs)
-          (sym (append_assoc old.held fill.got more) ∙ ap (λ (h : List ℕ). h ++ more) (sym fill.held)));
-      makes = λ lines. ap (λ (w : List ℕ). behind stands.sent (behind w (rule new.line lines))) fill.same_waiting
-          ∙ (ap (λ (n : ℕ). behind stands.sent (behind old.waiting (rule n lines))) fill.same_line ∙ stands.makes lines);
     }
 
 -- ---- A play ends.
@@ -195,7 +180,7 @@ whole_output : (first : Rule) (script : List ℕ) (begun : Option (List ℕ)) (r
     → (stands : Stands first script begun rule at read written) → script ≡ (stands.has_read.front ++ stands.has_read.chunk) ++ rest
     → behind stands.sent (to_come rule at (lines_of (at.held ++ rest))) ≡ first 1 (lines_of script)
 whole_output first script begun rule at read written rest stands is =
-    stands.makes (lines_of (at.held ++ rest)) ∙ ap (first 1) (sym (ap lines_of is ∙ stands.lines rest))
+    stands.plays.makes (lines_of (at.held ++ rest)) ∙ ap (first 1) (sym (ap lines_of is ∙ stands.plays.lines rest))
 
 -- what was sent is a beginning of it
 sent_first : (sent : List ℕ) (output whole : Output) → behind sent output ≡ whole → BeginsWith sent whole.text
@@ -319,5 +304,5 @@ ends_written first script begun read before written rule at last ended step drai
       concludes = subst (λ (o : Output). Concludes o (stands.sent ++ last.waiting) ended) (whole_output first script begun rule at read before left.0 stands left.2)
           (behind_concluded stands.sent last.waiting (to_come rule at (lines_of (at.held ++ left.0))) ended (step.concludes left.0 may));
       read = same_read (first 1) script read stands.sent last.waiting h;
-      reads = ends_reading script at read left.0 (h.front ++ h.chunk) h.whole stands.played ended step.ends left.2 stands.at_end may stands.counted stands.numbered stands.whole_played;
+      reads = ends_reading script at read left.0 (h.front ++ h.chunk) h.whole stands.plays.played ended step.ends left.2 stands.at_end may stands.counted stands.numbered stands.whole_played;
     }

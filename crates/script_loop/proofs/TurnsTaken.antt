@@ -1,5 +1,5 @@
 -- Turns, by what the step, the read and the write of each did.
-use Rattle.std.proofs.Common.{◌≡◌, ℕ, ◌++◌, List, [], Option, Some, None, IfSome, ap, subst, sym, ◌∙◌}
+use Rattle.std.proofs.Common.{◌≡◌, ℕ, ◌++◌, false, List, [], Option, Some, None, IfSome, ap, subst, sym, ◌∙◌}
 use Rattle.script_rules.specs.Script.{lines_of}
 use Rattle.script_loop.specs.declared.ended.Ended.{Ended}
 use Rattle.script_loop.specs.declared.ended.Ended.TheVariants as ended
@@ -8,7 +8,7 @@ use Rattle.script_loop.specs.Lines.{Rule, no_output}
 use Rattle.script_loop.specs.Progress.{HasEnded, HasPlayed, NeedsMore, Progress, first_progress, to_come}
 use Rattle.script_loop.specs.Transfers.{Drains, Fills, HasDrained}
 use Rattle.script_loop.specs.Turns.{Stands, Turns}
-use Rattle.script_loop.proofs.Stands.{concluded_first, ends_at_once, ends_unread, ends_unwritten, ends_written, stands_drained, stands_filled, stands_first, stands_played, waits_first}
+use Rattle.script_loop.proofs.Stands.{concluded_first, ends_at_once, ends_unread, ends_unwritten, ends_written, stands_drained, stands_filled, stands_first, stands_played, stands_still, waits_first}
 
 -- a line was played
 pub played_on : (rule : Rule) (old : Progress) (next : Rule) (new : Progress) (read before : Option (List ℕ)) → HasPlayed rule old next new → Turns rule old read before next new read before None
@@ -23,17 +23,14 @@ played_and_drained rule old next late new read before written (Some ended) step 
     ends_unwritten first script begun read before written next late late.waiting ended drain.1 (λ more may. waits_first next late (lines_of (late.held ++ more))) drain.0
     (stands_played first script begun read before rule old next late step stands)
 
--- nothing has changed
-same_stands : (first : Rule) (script : List ℕ) (begun : Option (List ℕ)) (rule : Rule) (old : Progress) (next : Rule) (same : Progress) (read before : Option (List ℕ))
-    → NeedsMore rule old next same → Stands first script begun rule old read before → Stands first script begun next same read before
-same_stands first script begun rule old next same read before step stands =
-    subst (λ (p : Progress). Stands first script begun next p read before) (sym step.same)
-    (subst (λ (r : Rule). Stands first script begun r old read before) (sym step.same_rule) stands)
-
 -- what is begun is so still, once what waits was written
 pub begun_still : (rule : Rule) (old : Progress) (next : Rule) (same late : Progress) → NeedsMore rule old next same → late ≡ record same { waiting = [] } → IsBegun late.held
 begun_still rule old next same late step drained =
     subst IsBegun (ap (λ (p : Progress). p.held) (sym step.same) ∙ ap (λ (p : Progress). p.held) (sym drained)) step.is_begun
+
+-- and whether the script is at its end
+pub goes_on_still : (rule : Rule) (old : Progress) (next : Rule) (same late : Progress) → NeedsMore rule old next same → late ≡ record same { waiting = [] } → late.ended ≡ false
+goes_on_still rule old next same late step drained = ap (λ (p : Progress). p.ended) drained ∙ (ap (λ (p : Progress). p.ended) step.same ∙ step.goes_on)
 
 -- more has to come: what waits was written, and more read
 pub drained_and_filled : (rule : Rule) (old : Progress) (next : Rule) (same late new : Progress) (read rest before written : Option (List ℕ)) (result : Option Ended)
@@ -42,18 +39,18 @@ pub drained_and_filled : (rule : Rule) (old : Progress) (next : Rule) (same late
 drained_and_filled rule old next same late new read rest before written None nothing step drain fill = λ first script begun stands.
     stands_filled first script begun read rest written next late new (nothing late.line)
     (begun_still rule old next same late step drain.drained) (ap (λ (p : Progress). p.waiting) drain.drained) fill
-    (stands_drained first script begun read before written next same late drain (same_stands first script begun rule old next same read before step stands))
+    (stands_drained first script begun read before written next same late drain (stands_still first script begun read before rule old next same step stands))
 drained_and_filled rule old next same late new read rest before written (Some ended) nothing step drain fill = λ first script begun stands.
     ends_unread first script begun read rest written next late new ended (nothing late.line)
     (begun_still rule old next same late step drain.drained) (ap (λ (p : Progress). p.waiting) drain.drained) fill
-    (stands_drained first script begun read before written next same late drain (same_stands first script begun rule old next same read before step stands))
+    (stands_drained first script begun read before written next same late drain (stands_still first script begun read before rule old next same step stands))
 
 -- or the write failed
 pub waits_unwritten : (rule : Rule) (old : Progress) (next : Rule) (same late : Progress) (read before written : Option (List ℕ)) (ended : Ended) → NeedsMore rule old next same
     → Drains same before late written (Some ended) → Turns rule old read before next late read written (Some ended)
 waits_unwritten rule old next same late read before written ended step drain = λ first script begun stands.
     ends_unwritten first script begun read before written next same same.waiting ended drain.1 (λ more may. waits_first next same (lines_of (same.held ++ more))) drain.0
-    (same_stands first script begun rule old next same read before step stands)
+    (stands_still first script begun read before rule old next same step stands)
 
 -- the script ended, and what waited was written
 pub ended_and_drained : (rule : Rule) (old : Progress) (next : Rule) (late new : Progress) (read before written : Option (List ℕ)) (ended : Ended) → HasEnded rule old late ended

@@ -1,5 +1,5 @@
--- Reads and writes: what each call gave or took, and how the calls of a source or of a sink follow one another.
-use Rattle.std.specs.Prelude.{ℕ, ◌<◌, ◌≤◌, Bool, true, false, List, [], length, take, drop, Option, Some, None, Result, Ok, Err}
+-- Reads and writes: what each call gave or took, and how the calls of a source, of a sink, or of both follow one another.
+use Rattle.std.specs.Prelude.{ℕ, ◌<◌, ◌≤◌, Bool, true, false, List, [], ◌++◌, length, take, drop, Option, Some, None, Result, Ok, Err}
 use Rattle.std.specs.Io.KnownBytes.{Appends, Consumes, Keeps}
 
 -- ---- One call.
@@ -46,3 +46,16 @@ pub data WritesTexts {W : Type 0} (writes : W → List ℕ → Option ℕ → W 
   no_text : {sink : W} → WritesTexts writes sink sink true
   text_written : {old between new : W} {well : Bool} → (text : List ℕ) → WritesText writes text old between true → WritesTexts writes between new well → WritesTexts writes old new well
   text_broken : {old new : W} → (text : List ℕ) → WritesText writes text old new false → WritesTexts writes old new false
+
+-- ---- Reads and writes in turn.
+
+-- the calls of a loop between two states of its source and of its sink, once these bytes were read and this text was written, and whether
+-- all were well. The source is asked for more only where the text is all that is due on the bytes; behind a read that gave nothing there are
+-- only writes, and no call stands behind one that failed, or a write that took nothing.
+pub data InTurn {R W : Type 0} (reads : R → Option (List ℕ) → R → Type 0) (writes : W → List ℕ → Option ℕ → W → Type 0) (Due : (bytes text : List ℕ) → Type 0) : (bytes text : List ℕ) → R → W → R → W → Bool → Type 0 where
+  no_call : {bytes text : List ℕ} {source : R} {sink : W} → InTurn reads writes Due bytes text source sink source sink true
+  reads_on : {bytes text : List ℕ} {old between new : R} {sink last : W} {well : Bool} → (chunk : List ℕ) → Due bytes text → 0 < length chunk → reads old (Some chunk) between → InTurn reads writes Due (bytes ++ chunk) text between sink new last well → InTurn reads writes Due bytes text old sink new last well
+  reads_nothing : {bytes text : List ℕ} {old new : R} {sink last : W} {well : Bool} → Due bytes text → reads old (Some []) new → WritesTexts writes sink last well → InTurn reads writes Due bytes text old sink new last well
+  read_breaks : {bytes text : List ℕ} {old new : R} {sink : W} → Due bytes text → reads old None new → InTurn reads writes Due bytes text old sink new sink false
+  writes_on : {bytes text : List ℕ} {source new : R} {old between last : W} {well : Bool} → (more : List ℕ) → WritesText writes more old between true → InTurn reads writes Due bytes (text ++ more) source between new last well → InTurn reads writes Due bytes text source old new last well
+  write_breaks : {bytes text : List ℕ} {source : R} {old new : W} → (more : List ℕ) → WritesText writes more old new false → InTurn reads writes Due bytes text source old source new false

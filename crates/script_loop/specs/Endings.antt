@@ -1,5 +1,5 @@
 -- A script played to its end: what is written of its output, and what was read of it, by the ending.
-use Rattle.std.specs.Prelude.{◌≡◌, ℕ, ◌+◌, ◌<◌, ◌≤◌, ◌⊎◌, true, false, Contains, List, ◌++◌, length, Option, Some, ⊤}
+use Rattle.std.specs.Prelude.{◌≡◌, ℕ, ◌+◌, ◌<◌, ◌≤◌, ◌⊎◌, true, false, Contains, List, [], ◌++◌, length, Option, Some, ⊤}
 use Rattle.std.specs.Io.KnownBytes.{Appends, Consumes, IsAtEnd}
 use Rattle.texts.specs.Printed.{Output}
 use Rattle.texts.specs.Words.{line_feed}
@@ -7,7 +7,7 @@ use Rattle.script_rules.specs.Script.{lines_of, longest_line}
 use Rattle.script_output.specs.Spaced.{BeginsWith}
 use Rattle.script_loop.specs.declared.ended.Ended.{Ended}
 use Rattle.script_loop.specs.declared.ended.Ended.TheVariants.{Played, Faulted, TooLong, OutOfMemory, Broken}
-use Rattle.script_loop.specs.Calls.{ReadsInTurn, WritesTexts}
+use Rattle.script_loop.specs.Calls.{InTurn, ReadsInTurn, WritesTexts}
 use Rattle.script_loop.specs.Lines.{told_fault}
 
 -- the exit status of an ending
@@ -76,3 +76,16 @@ abbrev pub MakesCalls : {R W : Type 0} → (reads : R → Option (List ℕ) → 
 MakesCalls reads writes old new Broken =
     (ReadsInTurn reads old.0 new.0 false × WritesTexts writes old.1 new.1 true) ⊎ (ReadsInTurn reads old.0 new.0 true × WritesTexts writes old.1 new.1 false)
 MakesCalls reads writes old new other = ReadsInTurn reads old.0 new.0 true × WritesTexts writes old.1 new.1 true
+
+-- the bytes are whole lines, and then one that is begun; and the text is all that the whole lines print
+pub record IsPrinted (output : List (List ℕ) → Output) (bytes text : List ℕ) : Type 0 where
+  pub whole : List (List ℕ)
+  pub begun : List ℕ
+  pub is_begun : IsBegun begun
+  pub lines : (more : List ℕ) → lines_of (bytes ++ more) ≡ whole ++ lines_of (begun ++ more)
+  pub printed : text ≡ (output whole).text
+
+-- the calls of a play in turn: more is read only where all is written that the whole lines of what was read print
+abbrev pub PrintsInTurn : {R W : Type 0} → (reads : R → Option (List ℕ) → R → Type 0) → (writes : W → List ℕ → Option ℕ → W → Type 0) → (output : List (List ℕ) → Output) → (old new : R × W) → Ended → Type 0
+PrintsInTurn reads writes output old new Broken = InTurn reads writes (IsPrinted output) [] [] old.0 old.1 new.0 new.1 false
+PrintsInTurn reads writes output old new other = InTurn reads writes (IsPrinted output) [] [] old.0 old.1 new.0 new.1 true

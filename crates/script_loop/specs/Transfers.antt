@@ -1,5 +1,5 @@
 -- What reads and writes make of a script's progress.
-use Rattle.std.specs.Prelude.{◌≡◌, ℕ, ◌+◌, ◌<◌, ◌≤◌, Bool, true, false, List, [], ◌++◌, length, Option, Some, None}
+use Rattle.std.specs.Prelude.{◌≡◌, ℕ, ◌+◌, ◌<◌, ◌≤◌, true, false, List, [], ◌++◌, length, Option, Some, None}
 use Rattle.std.specs.Io.KnownBytes.{Appends, Consumes, IsAtEnd, Keeps}
 use Rattle.script_loop.specs.declared.ended.Ended.{Ended}
 use Rattle.script_loop.specs.declared.ended.Ended.TheVariants as ended
@@ -55,8 +55,9 @@ Fills old read new rest (Some ended.OutOfMemory) = (got : List ℕ) × HasGot re
 Fills old read new rest (Some ended.Broken) = Keeps read rest
 Fills old read new rest (Some other) = ⊥
 
--- one read was made: it failed where the play breaks; else it gave something, or nothing at the end
-abbrev pub ReadsOnce : {R : Type 0} → (R → Option (List ℕ) → R → Type 0) → (old new : R) → (at_end : Bool) → Option Ended → Type 0
-ReadsOnce reads old new at_end None = (got : List ℕ) × reads old (Some got) new × (at_end ≡ true → got ≡ []) × (at_end ≡ false → 0 < length got)
-ReadsOnce reads old new at_end (Some ended.Broken) = reads old None new
-ReadsOnce reads old new at_end (Some other) = (got : List ℕ) × reads old (Some got) new × (0 < length got)
+-- one read was made: it failed where the play breaks; else it gave what is then held behind what was, or nothing at the end
+abbrev pub ReadsOnce : {R : Type 0} → (R → Option (List ℕ) → R → Type 0) → (old new : R) → (before after : Progress) → Option Ended → Type 0
+ReadsOnce reads old new before after None =
+    (got : List ℕ) × reads old (Some got) new × (after.held ≡ before.held ++ got) × (after.ended ≡ true → got ≡ []) × (after.ended ≡ false → 0 < length got)
+ReadsOnce reads old new before after (Some ended.Broken) = reads old None new
+ReadsOnce reads old new before after (Some other) = (got : List ℕ) × reads old (Some got) new × (0 < length got)

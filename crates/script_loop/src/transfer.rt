@@ -31,7 +31,7 @@ impl Session {
         requires written { self.old.out.items ≡ [] }
         requires begun { IsBegun (progress self.old).held }
         ensures fills { Fills (progress self.old) (R.remaining reader.old) (progress self.new) (R.remaining reader.new) result }
-        ensures once { ReadsOnce R.reads reader.old reader.new (progress self.new).ended result }
+        ensures once { ReadsOnce R.reads reader.old reader.new (progress self.old) (progress self.new) result }
     {
         match reader.read_chunk(self.chunk.as_mut_slice()) {
             Ok(count) => self.take_in(count),

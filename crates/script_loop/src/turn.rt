@@ -23,7 +23,8 @@ impl Session {
         ensures goes { Turns (P.output player.old) (progress self.old) (R.remaining reader.old) (W.contents writer.old)
             (P.output player.new) (progress self.new) (R.remaining reader.new) (W.contents writer.new) result }
         ensures less { IfNone result (work (progress self.new) < work (progress self.old)) }
-        ensures calls { AddsCalls R.reads W.writes (reader.old, writer.old) (reader.new, writer.new) (progress self.old).ended (progress self.new).ended result }
+        ensures calls { AddsCalls R.reads W.writes (P.output player.old) (progress self.old) (reader.old, writer.old)
+            (P.output player.new) (progress self.new) (reader.new, writer.new) result }
     {
         match self.step(player) {
             Step::Played if self.out.len() < WRITTEN_AT => None,

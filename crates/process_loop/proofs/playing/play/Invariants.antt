@@ -1,7 +1,6 @@
 use Rattle.std.proofs.Common.{IfSome}
-use Rattle.script_loop.specs.Turns.{CallsSoFar}
 use Rattle.process_loop.specs.Progress.{progress, work}
-use Rattle.process_loop.specs.Turns.{Stands}
+use Rattle.process_loop.specs.Turns.{CallsSoFar, Stands}
 use Rattle.process_loop.proofs.playing.play.Given as goal
 
 abbrev pub invariant-turns : goal.invariant-turns
@@ -9,7 +8,7 @@ invariant-turns g l = record {
   stands : IfSome (g.R.Source.remaining l.fn.reader) (λ input.
       Stands (g.P.SiloPlayer.silo l.fn.player) input (g.W.Sink.contents l.fn.writer) (g.P.SiloPlayer.silo l.player) (progress l.session)
       (g.R.Source.remaining l.reader) (g.W.Sink.contents l.writer));
-  calls : CallsSoFar g.R.Source.reads g.W.Sink.writes (l.fn.reader, l.fn.writer) (l.reader, l.writer) (progress l.session).ended;
+  calls : CallsSoFar g.R.Source.reads g.W.Sink.writes (g.P.SiloPlayer.silo l.fn.player) (l.fn.reader, l.fn.writer) (g.P.SiloPlayer.silo l.player) (progress l.session) (l.reader, l.writer);
 }
 
 abbrev pub decreases-turns : goal.decreases-turns

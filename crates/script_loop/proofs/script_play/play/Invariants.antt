@@ -8,7 +8,7 @@ invariant-turns g l = record {
   stands : IfSome (g.R.Source.remaining l.fn.reader) (λ script.
       Stands (g.P.LinePlayer.output l.fn.player) script (g.W.Sink.contents l.fn.writer) (g.P.LinePlayer.output l.player) (progress l.session)
       (g.R.Source.remaining l.reader) (g.W.Sink.contents l.writer));
-  calls : CallsSoFar g.R.Source.reads g.W.Sink.writes (l.fn.reader, l.fn.writer) (l.reader, l.writer) (progress l.session).ended;
+  calls : CallsSoFar g.R.Source.reads g.W.Sink.writes (g.P.LinePlayer.output l.fn.player) (l.fn.reader, l.fn.writer) (g.P.LinePlayer.output l.player) (progress l.session) (l.reader, l.writer);
 }
 
 abbrev pub decreases-turns : goal.decreases-turns

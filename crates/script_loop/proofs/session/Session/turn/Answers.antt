@@ -1,7 +1,7 @@
-use Rattle.std.proofs.Common.{ap}
+use Rattle.std.proofs.Common.{None, ap}
 use Rattle.script_loop.specs.Progress.{Progress, progress}
-use Rattle.script_loop.proofs.TurnsTaken.{begun_still, drained_and_filled, ended_and_drained, ended_unwritten, played_and_drained, played_on, waits_unwritten}
-use Rattle.script_loop.proofs.CallsInTurn.{chunk_made, last_made, none_made, text_made, text_unmade}
+use Rattle.script_loop.proofs.TurnsTaken.{begun_still, drained_and_filled, ended_and_drained, ended_unwritten, goes_on_still, played_and_drained, played_on, waits_unwritten}
+use Rattle.script_loop.proofs.CallsInTurn.{behind_calls, chunk_made, last_made, none_needed, none_played, text_made, text_unmade}
 use Rattle.script_loop.proofs.session.Session.turn.Goals as goal
 
 pub returns-in-Played-clause-goes : goal.returns-in-Played-clause-goes
@@ -11,33 +11,46 @@ pub returns-in-Played-2-clause-goes : goal.returns-in-Played-2-clause-goes
 returns-in-Played-2-clause-goes g c = played_and_drained _ _ _ _ _ _ _ _ c.drain.result c.in-Played-2.ensures c.drain.ensures.drains
 
 pub returns-in-Played-clause-calls : goal.returns-in-Played-clause-calls
-returns-in-Played-clause-calls g c = none_made g.R.Source.reads g.W.Sink.writes _ _ _ c.in-Played.ensures.same_end
+returns-in-Played-clause-calls g c = none_played g.R.Source.reads g.W.Sink.writes _ _ _ _ _ c.in-Played.ensures
 
 pub returns-in-Played-2-clause-calls : goal.returns-in-Played-2-clause-calls
 returns-in-Played-2-clause-calls g c =
-    text_made g.R.Source.reads g.W.Sink.writes _ _ _ _ (progress c.step.new.self) (progress c.drain.new.self) _ _ c.drain.result c.in-Played-2.ensures.same_end c.drain.ensures.drains c.drain.ensures.calls
+    behind_calls g.R.Source.reads g.W.Sink.writes _ _ _ (g.P.LinePlayer.output c.step.new.player) (progress c.step.new.self) _ _ (progress c.drain.new.self) _ c.drain.result
+    (none_played g.R.Source.reads g.W.Sink.writes _ _ _ _ (c.args.reader.now, c.args.writer.now) c.in-Played-2.ensures)
+    (text_made g.R.Source.reads g.W.Sink.writes _ (progress c.step.new.self) (progress c.drain.new.self) _ _ _ _ _ c.drain.result c.drain.ensures.drains c.drain.ensures.calls)
 
 pub returns-in-None-clause-goes : goal.returns-in-None-clause-goes
 returns-in-None-clause-goes g c = drained_and_filled _ _ _ _ _ _ _ _ _ _ c.fill.result (g.met.P.LinePlayer.nothing c.step.new.player) c.in-Wants.ensures c.in-None.ensures.drains c.fill.ensures.fills
 
 pub returns-in-None-clause-calls : goal.returns-in-None-clause-calls
-returns-in-None-clause-calls g c = chunk_made g.R.Source.reads g.W.Sink.writes _ _ _ _ _ _ _ c.fill.result c.in-Wants.ensures.goes_on c.in-None.ensures.calls c.fill.ensures.once
+returns-in-None-clause-calls g c =
+    let reads = g.R.Source.reads in
+    let writes = g.W.Sink.writes in
+    let next = g.P.LinePlayer.output c.step.new.player in
+    let same = progress c.step.new.self in
+    let late = progress c.drain-in-Wants.new.self in
+    let drain = c.in-None.ensures.drains in
+    behind_calls reads writes _ _ _ next same (c.args.reader.now, c.args.writer.now) _ _ _ c.fill.result
+    (none_needed reads writes _ _ next same _ c.in-Wants.ensures)
+    (behind_calls reads writes next same _ next late (c.args.reader.now, c.drain-in-Wants.new.writer) _ _ _ c.fill.result
+    (text_made reads writes next same late _ _ _ _ _ None drain c.in-None.ensures.calls)
+    (chunk_made reads writes next late _ _ _ _ _ _ c.fill.result (g.met.P.LinePlayer.nothing c.step.new.player late.line) (goes_on_still _ _ _ _ _ c.in-Wants.ensures drain.drained)
+    (begun_still _ _ _ _ _ c.in-Wants.ensures drain.drained) (ap (λ (p : Progress). p.waiting) drain.drained) c.fill.ensures.fills c.fill.ensures.once))
 
 pub returns-in-Some-clause-goes : goal.returns-in-Some-clause-goes
 returns-in-Some-clause-goes g c = waits_unwritten (g.P.LinePlayer.output c.args.player.now) (progress c.args.self.now) (g.P.LinePlayer.output c.step.new.player) (progress c.step.new.self) (progress c.drain-in-Wants.new.self) _ _ _ c.in-Some.ended c.in-Wants.ensures c.in-Some.ensures.drains
 
 pub returns-in-Some-clause-calls : goal.returns-in-Some-clause-calls
 returns-in-Some-clause-calls g c =
-    text_unmade g.R.Source.reads g.W.Sink.writes _ _ _ _
-    (progress c.args.self.now).ended (progress c.drain-in-Wants.new.self).ended c.in-Some.ended c.in-Some.ensures.drains.1 c.in-Some.ensures.calls
+    text_unmade g.R.Source.reads g.W.Sink.writes (g.P.LinePlayer.output c.args.player.now) (progress c.args.self.now) (g.P.LinePlayer.output c.step.new.player) (progress c.drain-in-Wants.new.self) _ _ _ _ c.in-Some.ended c.in-Some.ensures.drains.1 c.in-Some.ensures.calls
 
 pub returns-in-None-drain-clause-goes : goal.returns-in-None-drain-clause-goes
 returns-in-None-drain-clause-goes g c = ended_and_drained (g.P.LinePlayer.output c.args.player.now) (progress c.args.self.now) (g.P.LinePlayer.output c.step.new.player) (progress c.step.new.self) (progress c.drain-in-Ends.new.self) _ _ _ c.in-Ends.ended c.in-Ends.ensures c.in-None-drain.ensures.drains
 
 pub returns-in-None-drain-clause-calls : goal.returns-in-None-drain-clause-calls
 returns-in-None-drain-clause-calls g c =
-    last_made g.R.Source.reads g.W.Sink.writes _ _ _ _ (progress c.args.self.now).ended (progress c.drain-in-Ends.new.self).ended (progress c.args.self.now) c.in-Ends.ended
-    c.in-Ends.ensures.ends c.in-None-drain.ensures.calls
+    last_made g.R.Source.reads g.W.Sink.writes (g.P.LinePlayer.output c.args.player.now) (progress c.args.self.now) (g.P.LinePlayer.output c.step.new.player) (progress c.drain-in-Ends.new.self)
+    _ _ _ _ c.in-Ends.ended c.in-Ends.ensures.ends c.in-None-drain.ensures.calls
 
 pub returns-in-Some-drain-clause-goes : goal.returns-in-Some-drain-clause-goes
 returns-in-Some-drain-clause-goes g c = ended_unwritten (g.P.LinePlayer.output c.args.player.now) (progress c.args.self.now) (g.P.LinePlayer.output c.step.new.player) (progress c.step.new.self) (progress c.drain-in-Ends.new.self) _ _ _ c.in-Ends.ended c.in-Some-drain.broken c.in-Ends.ensures c.in-Some-drain.ensures.drains
@@ -47,7 +60,7 @@ fill-requires-clause-written g c = ap (λ (p : Progress). p.waiting) c.in-None.e
 
 pub returns-in-Some-drain-clause-calls : goal.returns-in-Some-drain-clause-calls
 returns-in-Some-drain-clause-calls g c =
-    text_unmade g.R.Source.reads g.W.Sink.writes _ _ _ _ (progress c.args.self.now).ended (progress c.drain-in-Ends.new.self).ended c.in-Some-drain.broken c.in-Some-drain.ensures.drains.1 c.in-Some-drain.ensures.calls
+    text_unmade g.R.Source.reads g.W.Sink.writes (g.P.LinePlayer.output c.args.player.now) (progress c.args.self.now) (g.P.LinePlayer.output c.step.new.player) (progress c.drain-in-Ends.new.self) _ _ _ _ c.in-Some-drain.broken c.in-Some-drain.ensures.drains.1 c.in-Some-drain.ensures.calls
 
 pub fill-requires-clause-begun : goal.fill-requires-clause-begun
 fill-requires-clause-begun g c = begun_still _ _ _ _ _ c.in-Wants.ensures c.in-None.ensures.drains.drained
