@@ -15,8 +15,8 @@ use Rattle.script_loop.specs.declared.ended.LineFault.{LineFault}
 use Rattle.threaded_play.specs.Endings.{Ends}
 use Rattle.threaded_play.specs.Faults.{faults_alone, line_told}
 use Rattle.threaded_play.specs.declared.ended.ThreadsEnded.{ThreadsEnded}
-use Rattle.threaded_play.specs.declared.ended.ThreadsEnded.TheVariants.{Played}
-use Rattle.console_threads.specs.Endings.{EndsBy, IsWritten, LinesEnd, Tells, sent_ending}
+use Rattle.threaded_play.specs.declared.ended.ThreadsEnded.TheVariants.{Lacking, Played}
+use Rattle.console_threads.specs.Endings.{EndsBy, IsWritten, LacksOnlyAfter, LinesEnd, Tells, sent_ending}
 
 -- ---- What the lines print by themselves.
 
@@ -49,6 +49,15 @@ broken script rest text end begins lines is = record {
   read = lines.read;
   reads = tt;
 }
+
+-- what is sent lacks nothing
+sent_never_lacks : (end : Ended) (whole : Bool) → sent_ending end whole ≡ Lacking → ⊥
+sent_never_lacks end true is = absurd (cc)
+sent_never_lacks end false is = absurd (cc)
+
+pub written_never_lacks : {W : Type 0} (writes : W → List ℕ → Option ℕ → W → Type 0) (contents : W → Option (List ℕ)) (text : List ℕ) (end : Ended) (old new : W) (result : ThreadsEnded)
+    → IsWritten writes contents text end old new result → LacksOnlyAfter end result
+written_never_lacks writes contents text end old new result written = λ lacks. absurd (sent_never_lacks end written.0 (sym written.1 ∙ lacks))
 
 -- ---- By what was written.
 

@@ -1,3 +1,4 @@
+mod Commands
 mod Faulted
 mod Closed
 mod Lost

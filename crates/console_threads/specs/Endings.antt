@@ -13,13 +13,21 @@ use Rattle.threaded_play.specs.Endings.{Ends, WritesSome}
 use Rattle.threaded_play.specs.Faults.{faults_alone}
 use Rattle.threaded_play.specs.Printed.{TellsWorld}
 use Rattle.threaded_play.specs.declared.ended.ThreadsEnded.{ThreadsEnded}
+use Rattle.threaded_play.specs.declared.ended.ThreadsEnded.TheVariants as threads
 use Rattle.threaded_play.specs.declared.ended.ThreadsEnded.TheVariants.{Played}
+use Rattle.compared_receipts.specs.declared.refusal.CloseRefusal.{CloseRefusal}
+use Rattle.compared_receipts.specs.declared.refusal.CloseRefusal.TheVariants as refusal
 use Rattle.console_threads.specs.Held.{is_read_well}
 
 -- the cluster wasn't closed
 abbrev pub IsUnclosed : ThreadsEnded → Type 0
 IsUnclosed (Played end) = ⊥
 IsUnclosed other = ⊤
+
+-- how it ends where a close is refused
+abbrev pub unclosed_by : CloseRefusal → ThreadsEnded
+unclosed_by refusal.ReceiptDiffers = threads.ReceiptDiffers
+unclosed_by refusal.OutOfMemory = threads.Lacking
 
 -- the script's lines end so, and print that text by themselves
 abbrev pub LinesEnd : (script : List ℕ) → (rest : Option (List ℕ)) → (text : List ℕ) → Ended → Type 0
@@ -53,3 +61,7 @@ WritesOnce writes old new end (Played ended.Played) = (is_read_well end ≡ true
 WritesOnce writes old new end (Played (ended.Faulted fault)) = (is_read_well end ≡ true) × WritesSome writes old new true
 WritesOnce writes old new end (Played other) = (is_read_well end ≡ true) × (new ≡ old)
 WritesOnce writes old new end other = new ≡ old
+
+-- something lacks only where the lines were all played, or memory ran out for them
+abbrev pub LacksOnlyAfter : Ended → ThreadsEnded → Type 0
+LacksOnlyAfter end result = (result ≡ threads.Lacking) → (end ≡ ended.Played) ⊎ (end ≡ ended.OutOfMemory)

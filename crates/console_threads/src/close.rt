@@ -1,9 +1,9 @@
 //! The cluster is closed: its threads are joined, and what all of them did is compared with its journal.
 
-ghost use Rattle.std.specs.Prelude.{◌≡◌, ℕ, List, IfErr, IfOk, MatchResult};
+ghost use Rattle.std.specs.Prelude.{◌≡◌, ℕ, List, IfErr, IfOk, MatchResult, OnOk, false};
 ghost use Rattle.cluster_journal.specs.Journal.{IsJournaled};
 ghost use Rattle.threaded_play.specs.Endings.{IsSent, TellsCauses};
-ghost use Rattle.console_threads.specs.Endings.{IsUnclosed};
+ghost use Rattle.console_threads.specs.Endings.{IsUnclosed, unclosed_by};
 
 use crate::driver::Driver;
 use cluster_board::Board;
@@ -30,6 +30,8 @@ impl<L: Ledger + Names> Driver<L, OpenGate> {
         errors: &mut E,
     ) -> Result<Board<L>, ThreadsEnded>
         requires { L.parts ≡ PARTS }
+        ensures worked { IfOk result (λ board. board.gave_up ≡ false) }
+        ensures lacked_nothing { OnOk result (self.lacks ≡ false) }
         ensures journaled { IfOk result (λ board. IsJournaled settings board.journal board.world) }
         ensures unclosed { IfErr result IsUnclosed }
         ensures told { MatchResult result (λ _. errors.new ≡ errors.old) (λ ended. TellsCauses E.writes E.contents ended errors.old errors.new) }
@@ -54,13 +56,24 @@ impl<L: Ledger + Names> Driver<L, OpenGate> {
 // The board of a cluster that has ended, if its receipts are those of its journal and its settings are these.
 fn closed<L: Ledger + Names>(ended: Ended<L>, settings: Settings) -> Result<Board<L>, ThreadsEnded>
     requires { ended.share.parts ≡ L.parts }
+    ensures same { IfOk result (λ board. board ≡ ended.board) }
     ensures journaled { IfOk result (λ board. IsJournaled settings board.journal board.world) }
     ensures unclosed { IfErr result IsUnclosed }
 {
     match ended.close() {
         Ok(board) => of_settings(board, settings),
-        Err(CloseRefusal::ReceiptDiffers) => Err(ThreadsEnded::ReceiptDiffers),
-        Err(CloseRefusal::OutOfMemory) => Err(ThreadsEnded::Lacking),
+        Err(refusal) => Err(unclosed(refusal)),
+    }
+}
+
+// How it ends where a cluster isn't closed.
+fn unclosed(refusal: CloseRefusal) -> ThreadsEnded
+    ensures told { result ≡ unclosed_by refusal }
+    ensures unclosed { IsUnclosed result }
+{
+    match refusal {
+        CloseRefusal::ReceiptDiffers => ThreadsEnded::ReceiptDiffers,
+        CloseRefusal::OutOfMemory => ThreadsEnded::Lacking,
     }
 }
 
@@ -70,6 +83,7 @@ fn of_settings<L: Ledger + Names>(
     settings: Settings,
 ) -> Result<Board<L>, ThreadsEnded>
     requires { IsJournaled board.settings board.journal board.world }
+    ensures same { IfOk result (λ its. its ≡ board) }
     ensures journaled { IfOk result (λ board. IsJournaled settings board.journal board.world) }
     ensures unclosed { IfErr result IsUnclosed }
 {

@@ -1,7 +1,7 @@
 //! What a script comes to is printed, once its cluster is closed.
 
 ghost use Rattle.std.specs.Prelude.{◌≡◌, IfOk};
-ghost use Rattle.console_threads.specs.Endings.{EndsBy, IsWritten, Tells, WritesOnce};
+ghost use Rattle.console_threads.specs.Endings.{EndsBy, IsWritten, LacksOnlyAfter, Tells, WritesOnce};
 
 use crate::lines::Lines;
 use cluster_board::Board;
@@ -21,6 +21,7 @@ pub(crate) fn print<L: Ledger + Names, W: Sink>(
 ) -> ThreadsEnded
     ensures ends { EndsBy board.now.journal board.now.world lines.now.text.items lines.now.ended (W.contents writer.old) (W.contents writer.new) result }
     ensures once { WritesOnce W.writes writer.old writer.new lines.now.ended result }
+    ensures lacking { LacksOnlyAfter lines.now.ended result }
 {
     match lines.ended {
         Ended::Played => print_world(alloc, &lines.text, board, writer),

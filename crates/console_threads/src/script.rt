@@ -1,7 +1,10 @@
 //! Lines read as commands, which are kept until the whole script is read.
 
-ghost use Rattle.std.specs.Prelude.{◌≡◌, IfOk, OnErr};
+ghost use Rattle.std.specs.Prelude.{◌≡◌, IfOk, OnErr, OnOk, map};
+ghost use Rattle.script_commands.specs.CommandModel.{command_of};
 ghost use Rattle.script_loop.specs.Lines.{PlaysLine};
+ghost use Rattle.script_rules.specs.Script.{read_line};
+ghost use Rattle.console_threads.specs.Kept.{with_line};
 ghost use Rattle.threaded_play.specs.Faults.{faults_alone, long_lines_are_faults, nothing_is_wrong};
 
 use script_commands::{Command, ReadError, read_command};
@@ -30,6 +33,7 @@ impl LinePlayer for Script {
         out: &mut Vec<u8>,
     ) -> Result<Option<LineFault>, AllocError>
         ensures played { IfOk result (PlaysLine faults_alone faults_alone number line.now out.old.items out.new.items) }
+        ensures kept { OnOk result (map command_of self.new.commands.items ≡ with_line (read_line line.now) (map command_of self.old.commands.items)) }
         ensures unwritten { OnErr result (out.new.items ≡ out.old.items) }
     {
         match read_command(alloc, line) {

@@ -1,4 +1,5 @@
 pub mod Desks
 pub mod PostedEvents
+pub mod VersionsMade
 pub mod Rings
 pub mod Tallies

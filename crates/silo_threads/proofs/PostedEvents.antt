@@ -1,5 +1,5 @@
 -- What is told of an event that was posted.
-use Rattle.std.proofs.Common.{◌≡◌, ◌+◌, ℕ, Option, Some, None, Result, Ok, Err, IfErr, IfOk, length}
+use Rattle.std.proofs.Common.{◌≡◌, ◌+◌, ℕ, Option, Some, None, Result, Ok, Err, IfErr, IfOk, length, refl, subst, sym}
 use Rattle.directory_rules.specs.Event.{Event}
 use Rattle.directory_rules.specs.Happens.{happens}
 use Rattle.directory_rules.specs.World.{World}
@@ -9,6 +9,7 @@ use Rattle.directory_core.specs.Numbers.{IsNumberedUnlessMemory, event_refusal_n
 use Rattle.directory_core.specs.declared.refusal.EventRefusal.{EventRefusal}
 use Rattle.cluster_journal.specs.declared.entry.Receipt.{Receipt}
 use Rattle.silo_workers.specs.Moments.{Moment}
+use Rattle.silo_threads.specs.Followed.{HasLeft}
 use Rattle.silo_threads.specs.Replies.{IsReceiptOf, IsRefusalOf, WasRefusedBy}
 
 -- what follows the rule at a moment, whatever excuses want of a number
@@ -18,6 +19,14 @@ FollowsAt event moment after result = Follows (λ (receipt : Receipt). accepted_
 pub received : (event : Event) (result : Result Receipt EventRefusal) (moment : Moment) (after : World) → FollowsAt event moment after result → IfOk result (λ receipt. receipt.entry.event ≡ event) → IfOk result (λ receipt. receipt.number ≡ length moment.journal + 1) → IfOk result (IsReceiptOf event)
 received event (Ok receipt) moment after told its number = record { moment = moment; told = record { after = after; told = told; its = its; number = number } }
 received event (Err refusal) moment after told its number = tt
+
+pub left : (event : Event) (result : Result Receipt EventRefusal) (moment : Moment) (after : World) → FollowsAt event moment after result → IfOk result (λ receipt. receipt.entry.event ≡ event) → IfOk result (λ receipt. receipt.number ≡ length moment.journal + 1) → IfOk result (λ receipt. HasLeft receipt after)
+left event (Ok receipt) moment after told its number = record {
+  moment = moment;
+  told = record { after = after; told = subst (λ (e : Event). happens moment.world e ≡ Ok (accepted_as after receipt.entry.outcome)) (sym its) told; its = refl; number = number };
+  left = refl;
+}
+left event (Err refusal) moment after told its number = tt
 
 refused_by : (event : Event) (number : Option ℕ) (moment : Moment) → RefusesBy (λ _. Unit {0}) number (happens moment.world event) → WasRefusedBy event number
 refused_by event (Some number) moment refused = record { moment = moment; refused = refused }

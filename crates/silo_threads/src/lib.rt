@@ -5,6 +5,7 @@ mod cluster;
 mod end;
 mod ended;
 mod fault;
+mod posted;
 mod publication;
 mod run;
 mod start;

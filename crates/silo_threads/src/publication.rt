@@ -1,9 +1,10 @@
-//! The ring of the newest view is published.
+//! The ring of the view that an event made is published.
 ghost use Rattle.std.specs.Prelude.{◌≡◌, IfErr, IfOk, OnErr, OnOk};
 ghost use Rattle.cluster_journal.specs.Journal.{IsJournaled};
 ghost use Rattle.directory_rules.specs.World.{current_view};
-ghost use Rattle.silo_threads.specs.Followed.{HasPublished, Shows};
+ghost use Rattle.silo_threads.specs.Followed.{HasPublished, IsLeftBy, Shows};
 
+use crate::posted::Posted;
 use crate::{Cluster, Lack};
 use cluster_board::Board;
 use hash_ring::Places;
@@ -34,31 +35,36 @@ pub(crate) fn newest<L: Ledger + Names>(
 }
 
 impl<L: Ledger + Names, G: Gate + Drop> Cluster<L, G> {
-    /// Publishes the ring of the current view, unless it is published already.
-    pub(crate) fn publish<R: Wait>(&mut self, rt: &R) -> Result<(), Lack>
+    /// Publishes the ring of the view that the event left, unless that of its version or a later one was.
+    pub(crate) fn publish<R: Wait>(&mut self, rt: &R, posted: &Posted) -> Result<(), Lack>
+        requires { IfOk posted.now.newest (λ newest. IsLeftBy posted.now.receipt newest.0 newest.1) }
         ensures workers { self.new.workers ≡ self.old.workers }
-        ensures published { OnOk result (HasPublished self.old.published self.new.published) }
+        ensures published { OnOk result (HasPublished posted.now.receipt self.old.published self.new.published) }
         ensures unchanged { OnErr result (self.new ≡ self.old) }
         ensures lack { IfErr result (λ lack. lack ≡ Lack.Publication) }
     {
-        match self.publish_newest(rt) {
-            Ok(()) => Ok(()),
-            Err(_) => Err(Lack::Publication),
-        }
+        show_left(rt, self.alloc, &mut self.publisher, posted)
     }
+}
 
-    // The same, with the reason.
-    fn publish_newest<R: Wait>(&mut self, rt: &R) -> Result<(), RouteError>
-        ensures workers { self.new.workers ≡ self.old.workers }
-        ensures published { OnOk result (HasPublished self.old.published self.new.published) }
-        ensures unchanged { OnErr result (self.new ≡ self.old) }
-    {
-        let board = self.site.board.lock(rt);
-        let newest = newest(self.alloc, &board);
-        drop(board);
-        let (view, places) = newest?;
-        show(rt, self.alloc, &mut self.publisher, &view, &places)?;
-        Ok(())
+// The same, by the publisher.
+fn show_left<R: Wait>(
+    rt: &R,
+    alloc: Global,
+    publisher: &mut Publisher,
+    posted: &Posted,
+) -> Result<(), Lack>
+    requires { IfOk posted.now.newest (λ newest. IsLeftBy posted.now.receipt newest.0 newest.1) }
+    ensures published { OnOk result (HasPublished posted.now.receipt publisher.old publisher.new) }
+    ensures unchanged { OnErr result (publisher.new ≡ publisher.old) }
+    ensures lack { IfErr result (λ lack. lack ≡ Lack.Publication) }
+{
+    let Ok((view, places)) = &posted.newest else {
+        return Err(Lack::Publication);
+    };
+    match show(rt, alloc, publisher, view, places) {
+        Ok(()) => Ok(()),
+        Err(_) => Err(Lack::Publication),
     }
 }
 

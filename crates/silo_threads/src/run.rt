@@ -1,9 +1,10 @@
 ghost use Rattle.std.specs.Prelude.{◌≡◌, ◌+◌, ◌<◌, ◌≤◌, IfErr, IfOk, None, OnErr, OnOk};
 ghost use Rattle.directory_rules.specs.EventModel.{event_of};
-ghost use Rattle.silo_threads.specs.Followed.{HasChanged, HasFollowed, HasJoined};
+ghost use Rattle.silo_threads.specs.Followed.{HasChanged, HasFollowed, HasJoined, HasLeft};
 ghost use Rattle.silo_threads.specs.Replies.{IsReceiptOf, IsRefusalOf};
 
 use crate::cluster::{MOST_WORKERS, PARTS};
+use crate::posted::post_change;
 use crate::start::{Desk, start};
 use crate::{Cluster, Lack};
 use cluster_board::Board;
@@ -27,7 +28,7 @@ pub struct Ran {
 
 impl<L: Ledger + Names + Send + 'static, G: Gate + Drop + Send + Sync + 'static> Cluster<L, G> {
     /// Posts an event. At a join the silo's worker starts, with a part of the share; at each change of membership the ring of the
-    /// new view is published. Refused as the world refuses the event; out of memory may come before any other refusal. A refusal
+    /// view that it made is published, unless that of a later one was. Refused as the world refuses the event; out of memory may come before any other refusal. A refusal
     /// changes nothing. That no thread or no publication could be had is told with the receipt; without a thread all silos are to
     /// stop, and nothing is published. The caller has all parts of the share that no worker has
     /// (`docs/RULES.md#running-silos`).
@@ -39,7 +40,7 @@ impl<L: Ledger + Names + Send + 'static, G: Gate + Drop + Send + Sync + 'static>
     ) -> Result<Ran, EventRefusal>
         requires { share.old.parts + self.old.workers ≡ PARTS }
         ensures receipt { IfOk result (λ ran. IsReceiptOf (event_of event.now) ran.receipt) }
-        ensures followed { IfOk result (λ ran. HasFollowed (event_of event.now) self.old self.new ran.lack) }
+        ensures followed { IfOk result (λ ran. HasFollowed (event_of event.now) ran.receipt self.old self.new ran.lack) }
         ensures refused { IfErr result (IsRefusalOf (event_of event.now)) }
         ensures unchanged { OnErr result (self.new ≡ self.old) }
         ensures whole { share.new.parts + self.new.workers ≡ PARTS }
@@ -64,7 +65,7 @@ impl<L: Ledger + Names + Send + 'static, G: Gate + Drop + Send + Sync + 'static>
     ) -> Result<Ran, EventRefusal>
         requires { share.old.parts + self.old.workers ≡ PARTS }
         ensures receipt { IfOk result (λ ran. IsReceiptOf (event_of event.now) ran.receipt) }
-        ensures followed { IfOk result (λ ran. HasJoined self.old self.new ran.lack) }
+        ensures followed { IfOk result (λ ran. HasJoined ran.receipt self.old self.new ran.lack) }
         ensures refused { IfErr result (IsRefusalOf (event_of event.now)) }
         ensures unchanged { OnErr result (self.new ≡ self.old) }
         ensures whole { share.new.parts + self.new.workers ≡ PARTS }
@@ -77,12 +78,15 @@ impl<L: Ledger + Names + Send + 'static, G: Gate + Drop + Send + Sync + 'static>
         if self.workers.reserve(1).is_err() {
             return Err(EventRefusal::OutOfMemory);
         }
-        let receipt = post(rt, &self.site, share, event)?;
+        let posted = post_change(rt, self.alloc, &self.site, share, event)?;
         let lack = match start(rt, &self.site, &mut self.workers, share, desk) {
-            Ok(()) => self.publish(rt).err(),
+            Ok(()) => self.publish(rt, &posted).err(),
             Err(lack) => Some(lack),
         };
-        Ok(Ran { receipt, lack })
+        Ok(Ran {
+            receipt: posted.receipt,
+            lack,
+        })
     }
 
     // A silo leaves or dies.
@@ -94,7 +98,7 @@ impl<L: Ledger + Names + Send + 'static, G: Gate + Drop + Send + Sync + 'static>
     ) -> Result<Ran, EventRefusal>
         requires { 0 < share.old.parts }
         ensures receipt { IfOk result (λ ran. IsReceiptOf (event_of event.now) ran.receipt) }
-        ensures followed { IfOk result (λ ran. HasChanged self.old self.new ran.lack) }
+        ensures followed { IfOk result (λ ran. HasChanged ran.receipt self.old self.new ran.lack) }
         ensures refused { IfErr result (IsRefusalOf (event_of event.now)) }
         ensures unchanged { OnErr result (self.new ≡ self.old) }
         ensures workers { self.new.workers ≡ self.old.workers }
@@ -102,9 +106,12 @@ impl<L: Ledger + Names + Send + 'static, G: Gate + Drop + Send + Sync + 'static>
         ensures counted { OnOk result (share.new.amount ≡ share.old.amount + 1) }
         ensures not_counted { OnErr result (share.new.amount ≡ share.old.amount) }
     {
-        let receipt = post(rt, &self.site, share, event)?;
-        let lack = self.publish(rt).err();
-        Ok(Ran { receipt, lack })
+        let posted = post_change(rt, self.alloc, &self.site, share, event)?;
+        let lack = self.publish(rt, &posted).err();
+        Ok(Ran {
+            receipt: posted.receipt,
+            lack,
+        })
     }
 
     // An event that changes no view.
@@ -168,14 +175,15 @@ fn post<L: Ledger + Names, G: Gate + Drop, R: Wait>(
     Ok(receipt)
 }
 
-// Posts the event to the board.
-fn post_to<L: Ledger + Names>(
+/// Posts the event to the board.
+pub(crate) fn post_to<L: Ledger + Names>(
     board: &mut Board<L>,
     share: &mut Share<L>,
     event: &Event,
 ) -> Result<Receipt, EventRefusal>
     requires { 0 < share.old.parts }
     ensures receipt { IfOk result (IsReceiptOf (event_of event.now)) }
+    ensures left { IfOk result (λ receipt. HasLeft receipt board.new.world) }
     ensures refused { IfErr result (IsRefusalOf (event_of event.now)) }
     ensures parts { share.new.parts ≡ share.old.parts }
     ensures counted { OnOk result (share.new.amount ≡ share.old.amount + 1) }

@@ -6,6 +6,7 @@ use Rattle.script_loop.specs.Lines.{PlaysLine}
 use Rattle.script_output.specs.Printed.{printed}
 use Rattle.script_rules.specs.Lines.{fault_line}
 use Rattle.threaded_play.specs.Faults.{faults_alone}
+use Rattle.console_threads.proofs.Commands.{kept_at_fault, kept_none, kept_one}
 use Rattle.console_threads.proofs.Faulted.{fault_told, passed_over}
 use Rattle.console_threads.proofs.script.ScriptLinePlayer.play_line.Goals as goal
 
@@ -28,3 +29,16 @@ returns-in_ok-write_fault-in-Err-Fault-clause-played c =
 
 pub returns-in-Err-OutOfMemory-clause-played : goal.returns-in-Err-OutOfMemory-clause-played
 returns-in-Err-OutOfMemory-clause-played c = tt
+
+pub returns-in-Ok-None-clause-kept : goal.returns-in-Ok-None-clause-kept
+returns-in-Ok-None-clause-kept c = kept_none c.args.line.now c.args.self.now.commands.items (rw c.in-Ok-None.field-0-is at c.in-Ok-None.ensures.reads)
+
+pub returns-in_ok-push-in-Ok-Some-clause-kept : goal.returns-in_ok-push-in-Ok-Some-clause-kept
+returns-in_ok-push-in-Ok-Some-clause-kept c =
+    kept_one c.args.line.now c.args.self.now.commands.items _ c.in-Ok-Some.command
+    (rw c.in-Ok-Some.field-0-is at c.in-Ok-Some.ensures.reads)
+    c.in_ok-push-in-Ok-Some.ensures.items
+
+pub returns-in_ok-write_fault-in-Err-Fault-clause-kept : goal.returns-in_ok-write_fault-in-Err-Fault-clause-kept
+returns-in_ok-write_fault-in-Err-Fault-clause-kept c =
+    kept_at_fault c.args.line.now c.args.self.now.commands.items (script_fault_number c.in-Err-Fault.fault) (rw c.in-Err-Fault.field-0-is at c.in-Err-Fault.ensures.reads)
