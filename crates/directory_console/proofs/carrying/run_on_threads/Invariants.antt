@@ -1,4 +1,4 @@
-use Rattle.directory_console.proofs.main.Given as goal
+use Rattle.directory_console.proofs.carrying.run_on_threads.Given as goal
 
 abbrev pub ghosts-play_on_threads-L-Ledger : goal.ghosts-play_on_threads-L-Ledger
 ghosts-play_on_threads-L-Ledger g a = record { name = a.tokens.0.name; parts = a.tokens.0.parts }
