@@ -94,7 +94,7 @@ fn a_register_is_answered(rt: HostRuntime) {
         entry,
         previous: None,
     };
-    let request = HashedRequest::of(Hashing::Stated, entry.activation.silo, 1, 1, act);
+    let request = HashedRequest::of(Hashing::Stated, silo(&rt, B), 1, 1, act);
     let want = Reply::Registered(entry);
     assert!(rt; turns(&mut table, &before, &request, &want) && has(&table, &entry, 16));
 }
