@@ -1,6 +1,8 @@
 //! Commands carried out by a cluster that runs.
 
-ghost use Rattle.std.specs.Prelude.{◌≡◌, ◌+◌};
+ghost use Rattle.std.specs.Prelude.{◌≡◌, ◌+◌, false, map};
+ghost use Rattle.script_commands.specs.CommandModel.{command_of};
+ghost use Rattle.console_threads.specs.CarriedOut.{CarryOut};
 ghost use Rattle.silo_threads.specs.declared.cluster.TheConstants.{PARTS};
 
 use cluster_journal::Receipt;
@@ -44,7 +46,9 @@ impl<L: Ledger + Names + Send + 'static, G: Gate + Drop + Send + Sync + 'static>
         &mut self,
         rt: &H,
         commands: &[Command],
-    ) {
+    )
+        ensures { self.new.lacks ≡ false → CarryOut (map command_of commands.now) self.old.receipts.items self.new.receipts.items self.old.cluster self.new.cluster }
+    {
         for command in commands {
             if self.perform(rt, command).is_err() {
                 self.lacks = true;
