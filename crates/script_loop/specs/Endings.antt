@@ -8,7 +8,7 @@ use Rattle.script_output.specs.Spaced.{BeginsWith}
 use Rattle.script_loop.specs.declared.ended.Ended.{Ended}
 use Rattle.script_loop.specs.declared.ended.Ended.TheVariants.{Played, Faulted, TooLong, OutOfMemory, Broken}
 use Rattle.script_loop.specs.Calls.{InTurn, ReadsInTurn, WritesTexts}
-use Rattle.script_loop.specs.Lines.{told_fault}
+use Rattle.script_loop.specs.Lines.{LinesMake, told_fault}
 
 -- the exit status of an ending
 abbrev pub status_of : Ended → ℕ
@@ -89,3 +89,8 @@ pub record IsPrinted (output : List (List ℕ) → Output) (bytes text : List �
 abbrev pub PrintsInTurn : {R W : Type 0} → (reads : R → Option (List ℕ) → R → Type 0) → (writes : W → List ℕ → Option ℕ → W → Type 0) → (output : List (List ℕ) → Output) → (old new : R × W) → Ended → Type 0
 PrintsInTurn reads writes output old new Broken = InTurn reads writes (IsPrinted output) [] [] old.0 old.1 new.0 new.1 false
 PrintsInTurn reads writes output old new other = InTurn reads writes (IsPrinted output) [] [] old.0 old.1 new.0 new.1 true
+
+-- what a play leaves of its player: where it ends well, all lines of the script were played, one after the other
+abbrev pub LeavesPlayer : {P : Type 0} → (makes : P → List ℕ → P → Type 0) → (script : List ℕ) → (before after : P) → Ended → Type 0
+LeavesPlayer makes script before after Played = LinesMake makes before (lines_of script) after
+LeavesPlayer makes script before after other = ⊤

@@ -31,3 +31,8 @@ abbrev pub PlaysLine : (old new : Rule) → (number : ℕ) → (line before afte
 PlaysLine old new number line before after None = (lines : List (List ℕ)) → behind after (new (number + 1) lines) ≡ behind before (old number (line ∷ lines))
 PlaysLine old new number line before after (Some fault) =
     (fault.line ≡ number) × (after ≡ before ++ told_fault fault) × ((lines : List (List ℕ)) → behind before (old number (line ∷ lines)) ≡ record { text = after; status = 2 })
+
+-- lines played one after the other: each makes the next player of the one before
+pub data LinesMake {P : Type 0} (makes : P → List ℕ → P → Type 0) : P → List (List ℕ) → P → Type 0 where
+  no_line : {player : P} → LinesMake makes player [] player
+  then_line : {before between after : P} {lines : List (List ℕ)} → (line : List ℕ) → makes before line between → LinesMake makes between lines after → LinesMake makes before (line ∷ lines) after

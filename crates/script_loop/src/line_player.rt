@@ -1,6 +1,6 @@
 //! What plays a line.
 
-ghost use Rattle.std.specs.Prelude.{◌≡◌, ◌<◌, ℕ, List, [], ◌∷◌, IfOk, OnErr, length};
+ghost use Rattle.std.specs.Prelude.{◌≡◌, ◌<◌, ℕ, List, [], ◌∷◌, IfNone, IfOk, OnErr, length};
 ghost use Rattle.script_rules.specs.Script.{longest_line};
 ghost use Rattle.texts.specs.Printed.{Output};
 ghost use Rattle.script_loop.specs.Lines.{PlaysLine, faulty_output, no_output};
@@ -13,6 +13,9 @@ pub trait LinePlayer {
     // The rule's output of lines, the first of which has this number, from this state on.
     ghost output: { Self → (number : ℕ) → (lines : List (List ℕ)) → Output };
 
+    // What a line without a fault makes of the player.
+    ghost makes: { (before : Self) → (line : List ℕ) → (after : Self) → Type 0 };
+
     /// Plays a line, given without its end and by its number from 1: does what it asks for, and writes what that prints behind
     /// what is written already, or the line that tells its fault, which is answered. Fails only when memory runs out; then
     /// nothing is written, and the player may have changed.
@@ -24,6 +27,7 @@ pub trait LinePlayer {
         out: &mut Vec<u8>,
     ) -> Result<Option<LineFault>, AllocError>
         ensures played { IfOk result (PlaysLine (output self.old) (output self.new) number line.now out.old.items out.new.items) }
+        ensures made { IfOk result (λ fault. IfNone fault (makes self.old line.now self.new)) }
         ensures unwritten { OnErr result (out.new.items ≡ out.old.items) };
 
     // Behind the last line nothing is printed.

@@ -1,7 +1,7 @@
 //! Scripts, from a source to a sink.
 
 ghost use Rattle.std.specs.Prelude.{IfSome};
-ghost use Rattle.script_loop.specs.Endings.{Ends, MakesCalls, PrintsInTurn};
+ghost use Rattle.script_loop.specs.Endings.{Ends, LeavesPlayer, MakesCalls, PrintsInTurn};
 
 use crate::session::Session;
 use crate::{Ended, LinePlayer, Sink, Source};
@@ -22,6 +22,7 @@ pub fn play<P: LinePlayer, R: Source, W: Sink>(
         Ends script (P.output player.old 1) (R.remaining reader.new) (W.contents writer.old) (W.contents writer.new) result) }
     ensures calls { MakesCalls R.reads W.writes (reader.old, writer.old) (reader.new, writer.new) result }
     ensures in_turn { PrintsInTurn R.reads W.writes (P.output player.old 1) (reader.old, writer.old) (reader.new, writer.new) result }
+    ensures made { IfSome (R.remaining reader.old) (λ script. LeavesPlayer P.makes script player.old player.new result) }
 {
     let Ok(mut session) = Session::new(alloc) else {
         return Ended::OutOfMemory;
