@@ -3,6 +3,7 @@ pub mod InTurn
 mod Filled
 mod Pieces
 mod PlayedSoFar
+mod PlayerMade
 mod Stands
 mod Steps
 mod TurnsTaken

@@ -162,11 +162,11 @@ stands_filled first script begun read rest written rule old new nothing is_begun
 -- ---- A play ends.
 
 -- what the source still has
-rest_of : (script : List ℕ) (read : Option (List ℕ)) (bytes : List ℕ) → Consumes (Some script) read bytes → (rest : List ℕ) × (read ≡ Some rest) × (script ≡ bytes ++ rest)
+pub rest_of : (script : List ℕ) (read : Option (List ℕ)) (bytes : List ℕ) → Consumes (Some script) read bytes → (rest : List ℕ) × (read ≡ Some rest) × (script ≡ bytes ++ rest)
 rest_of script None bytes consumes = absurd consumes
 rest_of script (Some rest) bytes consumes = (rest, refl, consumes)
 
-none_left : (read : Option (List ℕ)) (rest : List ℕ) → read ≡ Some rest → IsAtEnd read → rest ≡ []
+pub none_left : (read : Option (List ℕ)) (rest : List ℕ) → read ≡ Some rest → IsAtEnd read → rest ≡ []
 none_left None rest is end = absurd (cc)
 none_left (Some xs) rest is end = cc
 

@@ -1,5 +1,5 @@
 -- Steps of a script, over the lines that are to come.
-use Rattle.std.proofs.Common.{◌≡◌, ℕ, ◌+◌, ◌-◌, ◌<◌, ◌≤◌, ◌++◌, List, [], ◌∷◌, Option, None, Some, length, drop, ap, sym, ◌∙◌, append-nil, subst, arith}
+use Rattle.std.proofs.Common.{◌≡◌, ℕ, ◌+◌, ◌-◌, ◌<◌, ◌≤◌, ◌++◌, List, [], ◌∷◌, Option, None, Some, IfNone, length, drop, ap, sym, ◌∙◌, append-nil, subst, arith}
 use Rattle.std.proofs.lemmas.List.{drop-drop, length-drop}
 use Rattle.script_rules.specs.Script.{lines_of}
 use Rattle.script_rules.specs.Lines.{fault_line}
@@ -64,3 +64,13 @@ long_told rule at start text line lines all code is all_is code_is written =
     let here : text ≡ start ++ text_of_lines (fault_line at 924 ∷ []) =
     written ∙ (ap (λ (n : ℕ). start ++ printed (fault_line at n)) code_is ∙ ap (λ (t : List ℕ). start ++ t) (sym (append-nil (printed (fault_line at 924))))) in
     (here, ap (λ (ls : List (List ℕ)). behind start (rule at ls)) all_is ∙ (ap (behind start) is ∙ ap (λ (t : List ℕ). let o : Output = record { text = t; status = 2 } in o) (sym here)))
+
+-- the first line of what is held, where nothing more comes
+pub first_alone : (held new_held line : List ℕ) → ((more : List ℕ) → lines_of (held ++ more) ≡ line ∷ lines_of (new_held ++ more)) → lines_of held ≡ line ∷ lines_of new_held
+first_alone held new_held line first =
+    ap lines_of (sym (append-nil held)) ∙ (first [] ∙ ap (λ (bs : List ℕ). line ∷ lines_of bs) (append-nil new_held))
+
+-- what a line made, where its play tells no fault
+pub unfaulted : (Made : Type 0) (told : Option LineFault) → told ≡ None → IfNone told Made → Made
+unfaulted Made None well made = made
+unfaulted Made (Some fault) well made = absurd (cc)

@@ -81,3 +81,16 @@ abbrev pub Steps : Rule → Progress → Rule → Progress → Step → Type 0
 Steps rule old next new Played = HasPlayed rule old next new
 Steps rule old next new Wants = NeedsMore rule old next new
 Steps rule old next new (Ends ended) = HasEnded rule old new ended
+
+-- the first of the lines that are held was played, and these stand behind it
+pub record PlaysFirst {P : Type 0} (makes : P → List ℕ → P → Type 0) (before : P) (held : List ℕ) (others : List (List ℕ)) (after : P) : Type 0 where
+  pub line : List ℕ
+  pub first : lines_of held ≡ line ∷ others
+  pub made : makes before line after
+
+-- what a step made of the player: a line was played, or the last
+abbrev pub StepMakes : {P : Type 0} → (makes : P → List ℕ → P → Type 0) → P → Progress → P → Progress → Step → Type 0
+StepMakes makes before old after new Played = PlaysFirst makes before old.held (lines_of new.held) after
+StepMakes makes before old after new Wants = after ≡ before
+StepMakes makes before old after new (Ends ended.Played) = PlaysFirst makes before old.held [] after
+StepMakes makes before old after new (Ends other) = ⊤

@@ -4,8 +4,8 @@ use Rattle.std.specs.Io.KnownBytes.{Appends, IsAtEnd}
 use Rattle.script_rules.specs.Script.{lines_of}
 use Rattle.script_loop.specs.declared.ended.Ended.{Ended}
 use Rattle.script_loop.specs.Calls.{InTurn, WritesTexts}
-use Rattle.script_loop.specs.Endings.{Ends, HasRead, IsPrinted, PrintsInTurn, most_read}
-use Rattle.script_loop.specs.Lines.{Rule, behind}
+use Rattle.script_loop.specs.Endings.{Ends, HasRead, IsPrinted, LeavesPlayer, PrintsInTurn, most_read}
+use Rattle.script_loop.specs.Lines.{LinesMake, Rule, behind}
 use Rattle.script_loop.specs.Progress.{Progress, to_come}
 
 -- the lines so far: those of the bytes that were read are those that were played and those of what is held; and what was sent so far, and
@@ -49,3 +49,18 @@ pub record CallsSoFar {R W : Type 0} (reads : R → Option (List ℕ) → R → 
 abbrev pub AddsCalls : {R W : Type 0} → (reads : R → Option (List ℕ) → R → Type 0) → (writes : W → List ℕ → Option ℕ → W → Type 0) → Rule → Progress → (before : R × W) → Rule → Progress → (after : R × W) → Option Ended → Type 0
 AddsCalls {R} {W} reads writes rule old before next new after None = (first : Rule) (start : R × W) → CallsSoFar reads writes first start rule old before → CallsSoFar reads writes first start next new after
 AddsCalls {R} {W} reads writes rule old before next new after (Some ended) = (first : Rule) (start : R × W) → CallsSoFar reads writes first start rule old before → PrintsInTurn reads writes (first 1) start after ended
+
+-- what the lines so far made of the player: the lines of the script are those that were played, and those of what is held and of the rest,
+-- which is not read yet
+pub record MadeSoFar {P : Type 0} (makes : P → List ℕ → P → Type 0) (first : P) (script : List ℕ) (now : P) (at : Progress) (read : Option (List ℕ)) : Type 0 where
+  pub played : List (List ℕ)
+  pub rest : List ℕ
+  pub unread : read ≡ Some rest
+  pub lines : lines_of script ≡ played ++ lines_of (at.held ++ rest)
+  pub at_end : at.ended ≡ true → rest ≡ []
+  pub made : LinesMake makes first played now
+
+-- what a turn makes of the player, behind those
+abbrev pub TurnMakes : {P : Type 0} → (makes : P → List ℕ → P → Type 0) → P → Progress → (read : Option (List ℕ)) → P → Progress → (rest : Option (List ℕ)) → Option Ended → Type 0
+TurnMakes {P} makes before old read after new rest None = (first : P) (script : List ℕ) → MadeSoFar makes first script before old read → MadeSoFar makes first script after new rest
+TurnMakes {P} makes before old read after new rest (Some ended) = (first : P) (script : List ℕ) → MadeSoFar makes first script before old read → LeavesPlayer makes script first after ended

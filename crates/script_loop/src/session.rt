@@ -43,7 +43,7 @@ pub(crate) struct Session {
 }
 
 impl Session {
-    ghost use Rattle.script_loop.specs.Progress.{Steps, first_progress, progress};
+    ghost use Rattle.script_loop.specs.Progress.{StepMakes, Steps, first_progress, progress};
 
     /// Before the first line.
     pub(crate) fn new(alloc: Global) -> Result<Session, AllocError>
@@ -64,7 +64,8 @@ impl Session {
 
     /// Has the next line played, if it is there.
     pub(crate) fn step<P: LinePlayer>(&mut self, player: &mut P) -> Step
-        ensures { Steps (P.output player.old) (progress self.old) (P.output player.new) (progress self.new) result }
+        ensures steps { Steps (P.output player.old) (progress self.old) (P.output player.new) (progress self.new) result }
+        ensures made { StepMakes P.makes player.old (progress self.old) player.new (progress self.new) result }
     {
         let Some((line, rest)) = first_line(tail(&self.bytes, self.start)) else {
             return self.step_without_line_feed(player);
@@ -86,7 +87,8 @@ impl Session {
     fn step_without_line_feed<P: LinePlayer>(&mut self, player: &mut P) -> Step
         requires none { ¬ (Contains (progress self.old).held line_feed) }
         requires only { lines_of (progress self.old).held ≡ strip_last carriage_return (progress self.old).held ∷ [] }
-        ensures { Steps (P.output player.old) (progress self.old) (P.output player.new) (progress self.new) result }
+        ensures steps { Steps (P.output player.old) (progress self.old) (P.output player.new) (progress self.new) result }
+        ensures made { StepMakes P.makes player.old (progress self.old) player.new (progress self.new) result }
     {
         if self.ended {
             return self.last_step(player);
@@ -109,7 +111,8 @@ impl Session {
     fn last_step<P: LinePlayer>(&mut self, player: &mut P) -> Step
         requires only { lines_of (progress self.old).held ≡ strip_last carriage_return (progress self.old).held ∷ [] }
         requires ended { self.old.ended ≡ true }
-        ensures { Steps (P.output player.old) (progress self.old) (P.output player.new) (progress self.new) result }
+        ensures steps { Steps (P.output player.old) (progress self.old) (P.output player.new) (progress self.new) result }
+        ensures made { StepMakes P.makes player.old (progress self.old) player.new (progress self.new) result }
     {
         let line = without_return(tail(&self.bytes, self.start));
         match player.play_line(self.alloc, self.line, line, &mut self.out) {

@@ -1,7 +1,7 @@
 //! One turn of a play.
 
 ghost use Rattle.std.specs.Prelude.{◌<◌, IfNone};
-ghost use Rattle.script_loop.specs.Turns.{AddsCalls, Turns};
+ghost use Rattle.script_loop.specs.Turns.{AddsCalls, TurnMakes, Turns};
 
 use crate::session::Session;
 use crate::step::Step;
@@ -25,6 +25,7 @@ impl Session {
         ensures less { IfNone result (work (progress self.new) < work (progress self.old)) }
         ensures calls { AddsCalls R.reads W.writes (P.output player.old) (progress self.old) (reader.old, writer.old)
             (P.output player.new) (progress self.new) (reader.new, writer.new) result }
+        ensures made { TurnMakes P.makes player.old (progress self.old) (R.remaining reader.old) player.new (progress self.new) (R.remaining reader.new) result }
     {
         match self.step(player) {
             Step::Played if self.out.len() < WRITTEN_AT => None,

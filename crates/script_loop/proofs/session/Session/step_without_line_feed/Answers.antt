@@ -4,8 +4,8 @@ use Rattle.script_loop.specs.Progress.{progress}
 use Rattle.script_loop.proofs.Steps.{long_told}
 use Rattle.script_loop.proofs.session.Session.step_without_line_feed.Goals as goal
 
-pub returns-in-Ok : goal.returns-in-Ok
-returns-in-Ok g c = record {
+pub returns-in-Ok-clause-steps : goal.returns-in-Ok-clause-steps
+returns-in-Ok-clause-steps g c = record {
   ends = refl;
   concludes = λ more may.
       let at = progress c.args.self.now in
