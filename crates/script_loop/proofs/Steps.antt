@@ -74,3 +74,10 @@ first_alone held new_held line first =
 pub unfaulted : (Made : Type 0) (told : Option LineFault) → told ≡ None → IfNone told Made → Made
 unfaulted Made None well made = made
 unfaulted Made (Some fault) well made = absurd (cc)
+
+-- a line that is too long isn't passed over, for it prints its fault
+pub long_unpassed : (Passed : Type 0) (rule : Rule) (number : ℕ) (line : List ℕ) → rule number (line ∷ []) ≡ faulty_output number 924 → rule (number + 1) [] ≡ no_output
+    → (Passed → rule number (line ∷ []) ≡ rule (number + 1) []) → ¬ Passed
+long_unpassed Passed rule number line long nothing quiet passed =
+    let both : (faulty_output number 924).status ≡ no_output.status = ap (λ (o : Output). o.status) (sym long ∙ (quiet passed ∙ nothing)) in
+    absurd (omega arith)

@@ -1,6 +1,7 @@
 -- Lines played one by one: what each makes of the output.
-use Rattle.std.specs.Prelude.{◌≡◌, ℕ, ◌+◌, List, [], ◌∷◌, ◌++◌, Option, Some, None}
+use Rattle.std.specs.Prelude.{◌≡◌, ℕ, ◌+◌, List, [], ◌∷◌, ◌++◌, Option, Some, None, Ok}
 use Rattle.script_rules.specs.Lines.{fault_line}
+use Rattle.script_rules.specs.Script.{read_line}
 use Rattle.texts.specs.Printed.{Output, text_of_lines}
 use Rattle.script_commands.specs.Numbers.{script_fault_number}
 use Rattle.script_loop.specs.declared.ended.LineFault.{LineFault}
@@ -36,3 +37,7 @@ PlaysLine old new number line before after (Some fault) =
 pub data LinesMake {P : Type 0} (makes : P → List ℕ → P → Type 0) : P → List (List ℕ) → P → Type 0 where
   no_line : {player : P} → LinesMake makes player [] player
   then_line : {before between after : P} {lines : List (List ℕ)} → (line : List ℕ) → makes before line between → LinesMake makes between lines after → LinesMake makes before (line ∷ lines) after
+
+-- a line that asks for nothing and has no fault
+abbrev pub IsPassedOver : List ℕ → Type 0
+IsPassedOver line = read_line line ≡ Ok None

@@ -1,5 +1,6 @@
 //! A player that prints each line as it stands.
 
+ghost use Rattle.std.specs.Prelude.{⊤};
 ghost use Rattle.directory_tests.specs.Echoes.{echoed, long_lines_fault, nothing_echoed};
 
 use script_commands::ScriptFault;
@@ -13,7 +14,13 @@ pub(crate) struct Echo;
 impl LinePlayer for Echo {
     ghost output = { λ _. echoed };
 
+    ghost makes = { λ _ _ _. ⊤ };
+
+    ghost passes_over = { λ _. ⊥ };
+
     ghost nothing = { λ _. nothing_echoed };
+
+    ghost passes_quietly = { λ _ _ _ _ passed. absurd passed };
 
     ghost too_long = { λ _. long_lines_fault };
 

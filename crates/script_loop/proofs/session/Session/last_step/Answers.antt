@@ -29,3 +29,12 @@ returns-in-Ok-None-clause-made g c = record {
   first = c.requires.only ∙ ap (λ (l : List ℕ). l ∷ []) (sym (c.without_return-line.ensures ∙ ap (strip_last carriage_return) c.tail.ensures));
   made = unfaulted _ _ c.in-Ok-None.field-0-is c.in-Ok-None.ensures.made;
 }
+
+pub returns-in-Err-clause-memory : goal.returns-in-Err-clause-memory
+returns-in-Err-clause-memory g c = λ more may. (
+  c.without_return-line.result.now,
+  [],
+  nothing_more (progress c.args.self.now).held _ more _ (may c.requires.ended) c.requires.only
+      (c.without_return-line.ensures ∙ ap (strip_last carriage_return) c.tail.ensures),
+  c.in-Err.ensures.memory,
+)

@@ -1,4 +1,5 @@
-use Rattle.std.proofs.Common.{◌≡◌, ◌-◌, ◌∙◌, ap, arith, drop, length, refl}
+use Rattle.std.proofs.Common.{◌≡◌, ◌-◌, ◌++◌, ◌∙◌, ap, arith, drop, length, refl}
+use Rattle.script_rules.specs.Script.{lines_of}
 use Rattle.script_loop.specs.Progress.{progress}
 use Rattle.script_loop.proofs.Steps.{ends_by_fault, fault_of, first_alone, first_of, goes_on, rest_of, unfaulted}
 use Rattle.script_loop.proofs.session.Session.step.Goals as goal
@@ -45,3 +46,12 @@ returns-in-Ok-None-clause-made g c =
       first = first_alone (progress self).held (drop (c.len.result - length rest) self.bytes.items) c.in-Some.line.now (λ more. first_of _ c.tail.result.now _ rest _ more c.tail.ensures rest_is (c.in-Some.ensures.later more));
       made = unfaulted _ _ c.in-Ok-None.field-0-is c.in-Ok-None.ensures.made;
     }
+
+pub returns-in-Err-clause-memory : goal.returns-in-Err-clause-memory
+returns-in-Err-clause-memory g c = λ more may.
+    let rest = c.in-Some.rest.now in (
+      c.in-Some.line.now,
+      lines_of (rest ++ more),
+      first_of (progress c.args.self.now).held c.tail.result.now rest rest _ more c.tail.ensures refl (c.in-Some.ensures.later more),
+      c.in-Err.ensures.memory,
+    )
