@@ -1,5 +1,6 @@
 -- Lines played to a cluster, by the rule.
-use Rattle.std.specs.Prelude.{◌≡◌, ℕ, ◌+◌, ◌<◌, List, [], ◌∷◌, length, ap, refl}
+use Rattle.std.specs.Prelude.{◌≡◌, ℕ, ◌+◌, ◌<◌, List, [], ◌∷◌, length, refl}
+use Rattle.std.proofs.Common.{ap}
 use Rattle.std.proofs.lemmas.Bool.{lt-ltb}
 use Rattle.directory_rules.specs.World.{World}
 use Rattle.script_rules.specs.Output.{line_played, played}

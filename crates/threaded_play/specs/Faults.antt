@@ -1,5 +1,6 @@
 -- Lines of which nothing is printed but the fault that ends them.
-use Rattle.std.specs.Prelude.{◌≡◌, ℕ, ◌+◌, ◌<◌, List, [], ◌∷◌, length, Option, Result, Ok, Err, ap, refl}
+use Rattle.std.specs.Prelude.{◌≡◌, ℕ, ◌+◌, ◌<◌, List, [], ◌∷◌, length, Option, Result, Ok, Err, refl}
+use Rattle.std.proofs.Common.{ap}
 use Rattle.std.proofs.lemmas.Bool.{lt-ltb}
 use Rattle.script_rules.specs.Script.{Command, longest_line, read_line}
 use Rattle.texts.specs.Printed.{Output}
