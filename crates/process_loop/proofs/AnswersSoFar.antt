@@ -1,14 +1,15 @@
 -- What steps and reads keep of the answers so far.
-use Rattle.std.proofs.Common.{◌≡◌, ◌++◌, ℕ, List, [], ◌∷◌, false, ap, refl, sym, ◌∙◌, append_assoc, append-nil, subst}
+use Rattle.std.proofs.Common.{◌≡◌, ◌++◌, ℕ, List, [], ◌∷◌, false, ap, refl, sym, ◌∙◌, append_assoc, append-nil, subst, Option, Result}
 use Rattle.texts.specs.Words.{line_feed, pieces_at}
 use Rattle.silo_rules.specs.SiloValue.{SiloValue}
-use Rattle.process_output.specs.Output.{written_on}
+use Rattle.process_rules.specs.ReadLine.{Asked}
+use Rattle.process_output.specs.Output.{answered_to, said, written_on}
 use Rattle.process_loop.specs.Answering.{AnswersLine, before_last, ended_lines, ends_on}
 use Rattle.process_loop.specs.Endings.{IsAnswered}
 use Rattle.process_loop.specs.Progress.{HasAnswered, HasNoEnd, NeedsMore, Progress, first_progress, kept}
 use Rattle.process_loop.specs.Turns.{AnswersSoFar}
 use Rattle.process_loop.proofs.Kept.{kept_again, said_kept}
-use Rattle.process_loop.proofs.Lines.{before_the_last, behind_the_begun, ends_next, ends_on_nothing, first_piece, no_end_in_both, nothing_ends, nothing_written, only_piece, written_next}
+use Rattle.process_loop.proofs.Lines.{after_next, after_nothing, before_the_last, behind_the_begun, ends_next, ends_on_nothing, no_end_in_both, nothing_ends, nothing_written, only_piece, written_next}
 
 module _ (first : SiloValue) where
   -- ---- What they say of the bytes.
@@ -17,14 +18,18 @@ module _ (first : SiloValue) where
   pub kept_line : (bytes sent : List ℕ) (silo : SiloValue) (at : Progress) (so_far : AnswersSoFar first bytes sent silo at) (line : List ℕ) → kept (at.begun ++ line) ≡ kept (so_far.begun ++ line)
   kept_line bytes sent silo at so_far line = ap (λ (b : List ℕ). kept (b ++ line)) so_far.begun_kept ∙ kept_again so_far.begun line
 
-  -- where what is unread has no line feed, the lines that ended are those that were answered
+  -- where what is unread has no line feed, the lines of the bytes are those that were answered and the one that is begun
+  pub pieces_answered : (bytes sent : List ℕ) (silo : SiloValue) (at : Progress) (so_far : AnswersSoFar first bytes sent silo at) → HasNoEnd at.unread
+      → pieces_at line_feed bytes ≡ so_far.answered ++ (so_far.begun ++ at.unread) ∷ []
+  pieces_answered bytes sent silo at so_far none =
+      let held = so_far.begun ++ at.unread in
+      ap (pieces_at line_feed) (sym (append-nil bytes)) ∙ (so_far.lines [] ∙ (ap (λ (bs : List ℕ). so_far.answered ++ pieces_at line_feed bs) (append-nil held)
+      ∙ ap (λ (ps : List (List ℕ)). so_far.answered ++ ps) (only_piece held (no_end_in_both so_far.begun at.unread so_far.no_end none))))
+
+  -- those that ended are those that were answered
   pub ended_answered : (bytes sent : List ℕ) (silo : SiloValue) (at : Progress) (so_far : AnswersSoFar first bytes sent silo at) → HasNoEnd at.unread → ended_lines bytes ≡ so_far.answered
   ended_answered bytes sent silo at so_far none =
-      let held = so_far.begun ++ at.unread in
-      let one : pieces_at line_feed bytes ≡ so_far.answered ++ held ∷ [] =
-      ap (pieces_at line_feed) (sym (append-nil bytes)) ∙ (so_far.lines [] ∙ (ap (λ (bs : List ℕ). so_far.answered ++ pieces_at line_feed bs) (append-nil held)
-      ∙ ap (λ (ps : List (List ℕ)). so_far.answered ++ ps) (only_piece held (no_end_in_both so_far.begun at.unread so_far.no_end none)))) in
-      ap before_last one ∙ (before_the_last so_far.answered held [] ∙ append-nil so_far.answered)
+      ap before_last (pieces_answered bytes sent silo at so_far none) ∙ (before_the_last so_far.answered (so_far.begun ++ at.unread) [] ∙ append-nil so_far.answered)
 
   -- and the process doesn't end by them
   pub answered_goes_on : (bytes sent : List ℕ) (silo : SiloValue) (at : Progress) (so_far : AnswersSoFar first bytes sent silo at) → ends_on so_far.answered first ≡ false
@@ -51,6 +56,7 @@ module _ (first : SiloValue) where
     lines = λ more. refl;
     makes = λ next lines. refl;
     goes_on = λ lines. refl;
+    brings = sym (after_nothing first);
   })
 
   -- a line was answered
@@ -76,6 +82,8 @@ module _ (first : SiloValue) where
         goes_on = λ lines.
             ap (λ (ls : List (List ℕ)). ends_on ls first) (append_assoc so_far.answered (line ∷ []) lines)
             ∙ (so_far.goes_on (line ∷ lines) ∙ ends_next line (kept line) lines silo next old.waiting new.waiting same answers);
+        brings = answers.silo ∙ (ap (λ (r : Result (Option Asked) ℕ). (answered_to r silo).silo) same
+            ∙ (ap (λ (s : SiloValue). (answered_to (said line s) s).silo) so_far.brings ∙ sym (after_next so_far.answered line first)));
       }
 
   -- a line goes on with all that was read
@@ -91,24 +99,28 @@ module _ (first : SiloValue) where
             ∙ ap (λ (bs : List ℕ). so_far.answered ++ pieces_at line_feed (bs ++ more)) (sym (append-nil (so_far.begun ++ old.unread)) ∙ ap (λ (u : List ℕ). (so_far.begun ++ old.unread) ++ u) (sym step.seen));
         makes = λ after lines. so_far.makes after lines ∙ ap (λ (w : List ℕ). sent ++ (w ++ written_on (after ∷ lines) silo)) (sym step.same_waiting);
         goes_on = so_far.goes_on;
+        brings = so_far.brings;
       })
 
   -- what waited was written
+  abbrev pub answers_sent : (bytes sent : List ℕ) (silo : SiloValue) (old : Progress) → AnswersSoFar first bytes sent silo old → AnswersSoFar first bytes (sent ++ old.waiting) silo (record old { waiting = [] })
+  answers_sent bytes sent silo old so_far = record {
+    answered = so_far.answered;
+    begun = so_far.begun;
+    begun_kept = so_far.begun_kept;
+    no_end = so_far.no_end;
+    lines = so_far.lines;
+    makes = λ next lines. so_far.makes next lines ∙ sym (append_assoc sent old.waiting (written_on (next ∷ lines) silo));
+    goes_on = so_far.goes_on;
+    brings = so_far.brings;
+  }
+
   pub answers_written : (bytes sent : List ℕ) (silo : SiloValue) (old new : Progress) → new ≡ record old { waiting = [] }
       → AnswersSoFar first bytes sent silo old → AnswersSoFar first bytes (sent ++ old.waiting) silo new
-  answers_written bytes sent silo old new drained so_far =
-      subst (λ (p : Progress). AnswersSoFar first bytes (sent ++ old.waiting) silo p) (sym drained) (record {
-        answered = so_far.answered;
-        begun = so_far.begun;
-        begun_kept = so_far.begun_kept;
-        no_end = so_far.no_end;
-        lines = so_far.lines;
-        makes = λ next lines. so_far.makes next lines ∙ sym (append_assoc sent old.waiting (written_on (next ∷ lines) silo));
-        goes_on = so_far.goes_on;
-      })
+  answers_written bytes sent silo old new drained so_far = subst (λ (p : Progress). AnswersSoFar first bytes (sent ++ old.waiting) silo p) (sym drained) (answers_sent bytes sent silo old so_far)
 
   -- more was read
-  pub answers_read_on : (bytes sent got : List ℕ) (silo : SiloValue) (old new : Progress) → old.unread ≡ [] → new.unread ≡ got → new.begun ≡ old.begun → new.waiting ≡ old.waiting
+  abbrev pub answers_read_on : (bytes sent got : List ℕ) (silo : SiloValue) (old new : Progress) → old.unread ≡ [] → new.unread ≡ got → new.begun ≡ old.begun → new.waiting ≡ old.waiting
       → AnswersSoFar first bytes sent silo old → AnswersSoFar first (bytes ++ got) sent silo new
   answers_read_on bytes sent got silo old new seen unread same_begun same_waiting so_far = record {
     answered = so_far.answered;
@@ -123,4 +135,5 @@ module _ (first : SiloValue) where
         ∙ ap (λ (u : List ℕ). so_far.answered ++ pieces_at line_feed ((so_far.begun ++ u) ++ more)) (sym unread)))));
     makes = λ next lines. so_far.makes next lines ∙ ap (λ (w : List ℕ). sent ++ (w ++ written_on (next ∷ lines) silo)) (sym same_waiting);
     goes_on = so_far.goes_on;
+    brings = so_far.brings;
   }

@@ -1,13 +1,13 @@
 -- The calls of turns, each behind those so far.
-use Rattle.std.proofs.Common.{◌≡◌, ℕ, ◌<◌, Bool, true, false, List, [], ◌++◌, length, Option, Some, None, ap, append-nil, subst, sym, refl, ◌∙◌, is_none}
-use Rattle.script_loop.specs.Calls.{InTurn, WritesText, no_call}
+use Rattle.std.proofs.Common.{◌≡◌, ℕ, Bool, true, false, List, [], ◌++◌, Option, Some, None, ap, subst, sym, refl, is_none}
+use Rattle.script_loop.specs.Calls.{WritesText, no_call}
 use Rattle.script_loop.specs.Turns.{InTurnSoFar}
 use Rattle.silo_rules.specs.SiloValue.{SiloValue}
 use Rattle.process_loop.specs.declared.stopped.Stopped.{Stopped}
 use Rattle.process_loop.specs.declared.stopped.Stopped.TheVariants as stopped
 use Rattle.process_loop.specs.Endings.{AnswersInTurn, IsAnswered, MakesCalls}
 use Rattle.process_loop.specs.Progress.{HasAnswered, NeedsMore, Progress, StopsStep, first_progress}
-use Rattle.process_loop.specs.Transfers.{Drains, Fills, HasFilled, ReadsOnce}
+use Rattle.process_loop.specs.Transfers.{Drains, Fills, ReadsOnce}
 use Rattle.process_loop.specs.Turns.{AddsCalls, CallsSoFar}
 use Rattle.script_loop.proofs.InTurn.{broken_behind, chunk_behind, end_behind, failure_behind, none_so_far, of_each, one_broke, text_behind, well_so_far}
 use Rattle.process_loop.proofs.AnswersSoFar.{all_answered, answers_begun, answers_first, answers_more, answers_read_on, answers_written}

@@ -1,5 +1,5 @@
 -- Bytes of a chunk, looked at one part after the other.
-use Rattle.std.proofs.Common.{◌≡◌, ℕ, ◌+◌, ◌-◌, ◌≤◌, List, ◌++◌, length, take, drop, min, ap, arith, inl, inr, sym, ◌∙◌}
+use Rattle.std.proofs.Common.{◌≡◌, ℕ, suc, ◌+◌, ◌-◌, ◌<◌, ◌≤◌, List, ◌++◌, length, take, drop, min, ap, arith, inl, inr, sym, ◌∙◌}
 use Rattle.std.proofs.lemmas.Bool.{cases_lt}
 use Rattle.std.proofs.lemmas.List.{drop-drop, drop-take, length-append, length-take, take-take, take_all}
 use Rattle.std.proofs.Math.Seq.{take-append-add}
@@ -17,6 +17,24 @@ unread_behind chunk from to count within =
     let parts : count + (to - (from + count)) ≡ to - from = omega arith in
     ap (take (to - (from + count))) (sym (drop-drop count from chunk))
     ∙ (sym (drop-take count (to - (from + count)) (drop from chunk)) ∙ ap (λ (n : ℕ). drop count (take n (drop from chunk))) parts)
+
+-- a line among them, and what is unread behind its line feed
+pub line_there : (line chunk : List ℕ) (from to count : ℕ) → line ≡ take ((from + count) - from) (drop from chunk) → count < length (take (to - from) (drop from chunk))
+    → line ≡ take count (take (to - from) (drop from chunk))
+line_there line chunk from to count is within =
+    let fits = unread_within chunk from to count (omega arith) in
+    let size : (from + count) - from ≡ count = omega arith in
+    is ∙ (ap (λ (n : ℕ). take n (drop from chunk)) size ∙ sym (take-take count (to - from) (drop from chunk) fits))
+
+pub behind_there : (chunk : List ℕ) (from to count : ℕ) → count < length (take (to - from) (drop from chunk))
+    → take (to - (from + count + 1)) (drop (from + count + 1) chunk) ≡ drop (suc count) (take (to - from) (drop from chunk))
+behind_there chunk from to count within =
+    let place : from + count + 1 ≡ from + suc count = omega arith in
+    ap (λ (n : ℕ). take (to - n) (drop n chunk)) place ∙ unread_behind chunk from to (suc count) (omega arith)
+
+-- no more than a line may have is unread
+pub chunk_fits : (chunk : List ℕ) (from to : ℕ) → to ≤ 65536 → length (take (to - from) (drop from chunk)) ≤ most_kept
+chunk_fits chunk from to filled = omega (arith, unread_within chunk from to (length (take (to - from) (drop from chunk))) (omega arith), filled)
 
 -- as much of a line is kept as there is room for
 pub kept_in_room : (begun next : List ℕ) (count room size : ℕ) → length begun + room ≡ most_kept → count ≤ size

@@ -1,13 +1,14 @@
 -- A line as far as it is kept says what the whole line says.
-use Rattle.std.proofs.Common.{◌≡◌, inl, inr, ℕ, ◌+◌, ◌-◌, ◌<◌, ◌≤◌, suc, Bool, true, false, List, [], ◌∷◌, ◌++◌, length, take, append-nil, ap, arith, refl, sym, ◌∙◌, Some, Err, if◌then◌else◌}
+use Rattle.std.proofs.Common.{◌≡◌, ◌≢◌, ◌⊎◌, inl, inr, ℕ, ◌+◌, ◌-◌, ◌<◌, ◌≤◌, suc, Bool, true, false, List, [], ◌∷◌, ◌++◌, length, take, append-nil, ap, arith, refl, subst, sym, ◌∙◌, Option, Some, Result, Err, if◌then◌else◌}
 use Rattle.std.specs.Io.BufRead.{ends_with_byte, strip_last}
 use Rattle.std.proofs.lemmas.Bool.{cases_lt, le-ltb, lt-ltb}
 use Rattle.std.proofs.lemmas.List.{length-take-le, take-append-le, take_all}
 use Rattle.hash_ring.specs.declared.hashing.Hashing.{Hashing}
 use Rattle.texts.specs.Words.{carriage_return}
 use Rattle.silo_rules.specs.SiloValue.{SiloValue}
-use Rattle.process_rules.specs.ReadLine.{longest_line, read_silo_line, unended_fault}
-use Rattle.process_output.specs.Output.{after_last, said}
+use Rattle.process_rules.specs.ReadLine.{Asked, longest_line, read_silo_line, unended_fault}
+use Rattle.process_output.specs.Output.{after_last, answered_to, said}
+use Rattle.process_loop.specs.Answering.{BringsEntries, MayLackMemory}
 use Rattle.process_loop.specs.Progress.{kept, most_kept}
 
 -- a byte at the end is one
@@ -32,6 +33,9 @@ said_kept line s = elim (cases_lt most_kept (length line)) [
   | inl more ↦ said_too_long (kept line) s (omega (arith, length-take-le most_kept line (omega arith))) ∙ sym (said_too_long line s (omega arith))
   | inr all ↦ ap (λ (l : List ℕ). said l s) (take_all most_kept line all)
 ]
+
+pub lacks_whole : (line : List ℕ) (s : SiloValue) → MayLackMemory s (kept line) → MayLackMemory s line
+lacks_whole line s lacks = subst (λ (r : Result (Option Asked) ℕ). ((answered_to r s).lines ≢ []) ⊎ BringsEntries r) (said_kept line s) lacks
 
 pub unended_too_long : (line : List ℕ) → longest_line < length line → unended_fault line ≡ Some 924
 unfolding unended_fault

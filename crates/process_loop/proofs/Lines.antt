@@ -10,7 +10,7 @@ use Rattle.silo_rules.specs.SiloValue.{SiloValue}
 use Rattle.process_rules.specs.ReadLine.{unended_fault}
 use Rattle.process_output.specs.Answer.{Answered}
 use Rattle.process_output.specs.Output.{after_line, answered_to, said, unless_ended, written_on}
-use Rattle.process_loop.specs.Answering.{AnswersLine, before_last, ends_on, ends_or}
+use Rattle.process_loop.specs.Answering.{AnswersLine, before_last, ends_on, ends_or, silo_after}
 use Rattle.process_loop.specs.Progress.{Cuts, HasNoEnd}
 
 -- ---- Bytes without a line feed.
@@ -48,6 +48,10 @@ pub behind_the_begun : (begun bytes first : List ℕ) (others : List (List ℕ))
     → pieces_at line_feed (begun ++ bytes) ≡ (begun ++ first) ∷ others
 behind_the_begun begun bytes first others none is = onto_the_first begun bytes first others (no_feed begun none) is
 
+-- there is a first piece
+pub first_piece : (bytes : List ℕ) → (first : List ℕ) × (others : List (List ℕ)) × (pieces_at line_feed bytes ≡ first ∷ others)
+first_piece bytes = pieces_at-front line_feed [] bytes (λ k below is. absurd (omega arith))
+
 -- ---- Lines that ended.
 
 -- the first line feed ends a line
@@ -56,10 +60,6 @@ cut_there unread end line rest found line_is rest_is = λ more.
     pieces_at-cut line_feed end unread more found.0.high (λ k below is. found.0.before k (omega arith) below (eq-eqb _ _ is)) (eqb-true _ _ found.1)
     ∙ (ap (λ (l : List ℕ). l ∷ pieces_at line_feed (drop (suc end) unread ++ more)) (sym line_is)
     ∙ ap (λ (r : List ℕ). line ∷ pieces_at line_feed (r ++ more)) (sym rest_is))
-
--- there is a first piece
-pub first_piece : (bytes : List ℕ) → (first : List ℕ) × (others : List (List ℕ)) × (pieces_at line_feed bytes ≡ first ∷ others)
-first_piece bytes = pieces_at-front line_feed [] bytes (λ k below is. absurd (omega arith))
 
 -- all but the last of a row that ends with some
 pub before_the_last : (lines : List (List ℕ)) (next : List ℕ) (others : List (List ℕ)) → before_last (lines ++ next ∷ others) ≡ lines ++ before_last (next ∷ others)
@@ -115,6 +115,16 @@ unfolding ends_on
 ends_there line kept lines s t before after same answers =
     ap (λ r. ends_or (answered_to r s) (ends_on lines)) (sym same)
     ∙ ap (λ (b : Bool). ends_or (record (answered_to (said kept s) s) { ends = b }) (ends_on lines)) (sym answers.stops)
+
+-- which silo they bring
+pub after_nothing : (s : SiloValue) → silo_after [] s ≡ s
+unfolding silo_after
+after_nothing s = refl
+
+pub after_next : (lines : List (List ℕ)) (line : List ℕ) (s : SiloValue) → silo_after (lines ++ line ∷ []) s ≡ (answered_to (said line (silo_after lines s)) (silo_after lines s)).silo
+unfolding silo_after
+after_next [] line s = refl
+after_next (one ∷ lines) line s = after_next lines line (answered_to (said one s) s).silo
 
 pub ends_on_nothing : (s : SiloValue) → ends_on [] s ≡ false
 unfolding ends_on

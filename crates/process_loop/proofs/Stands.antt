@@ -1,6 +1,6 @@
 -- What steps, reads and writes keep of a process.
-use Rattle.std.proofs.Common.{◌≡◌, ℕ, ◌++◌, List, [], ◌∷◌, Option, Some, None, true, false, ap, arith, refl, sym, ◌∙◌, append_assoc, append-nil, subst}
-use Rattle.std.proofs.lemmas.List.{length-append}
+use Rattle.std.proofs.Common.{◌≡◌, ◌⊎◌, inl, inr, ℕ, ◌<◌, ◌++◌, length, List, [], ◌∷◌, Option, Some, None, true, false, ap, arith, refl, sym, ◌∙◌, append_assoc, append-nil, subst}
+use Rattle.std.proofs.lemmas.List.{length-append, length-take}
 use Rattle.std.specs.Io.KnownBytes.{Appends, Consumes, IsAtEnd, Keeps}
 use Rattle.std.proofs.KnownBytes.{Appends-trans, Appends-nil, Consumes-trans, Consumes-kept}
 use Rattle.texts.specs.Words.{line_feed, pieces_at}
@@ -12,14 +12,14 @@ use Rattle.script_loop.specs.Transfers.{HasGot}
 use Rattle.process_output.specs.Output.{after_last, written_on}
 use Rattle.process_loop.specs.declared.stopped.Stopped.{Stopped}
 use Rattle.process_loop.specs.declared.stopped.Stopped.TheVariants as stopped
-use Rattle.process_loop.specs.Answering.{AnswersLine, before_last, ended_lines, ends_on}
-use Rattle.process_loop.specs.Endings.{Concludes, EndsReading, HasRead, Stops}
-use Rattle.process_loop.specs.Progress.{HasAnswered, HasEnded, HasNoEnd, NeedsMore, Progress, StopsStep, first_progress, kept}
+use Rattle.process_loop.specs.Answering.{AnswersLine, MayLackMemory, before_last, ended_lines, ends_on, silo_after}
+use Rattle.process_loop.specs.Endings.{BeginsOneMore, Concludes, EndsReading, HasRead, IsWanted, LacksMemory, Stops, StopsBefore}
+use Rattle.process_loop.specs.Progress.{HasAnswered, HasEnded, HasNoEnd, NeedsMore, Progress, StopsStep, WantsAnswer, WantsMemory, first_progress, kept, most_kept}
 use Rattle.process_loop.specs.Transfers.{Fills, HasDrained, HasFilled}
 use Rattle.process_loop.specs.Turns.{Stands}
-use Rattle.process_loop.proofs.Kept.{said_kept, unended_kept}
+use Rattle.process_loop.proofs.Kept.{lacks_whole, said_kept, unended_kept}
 use Rattle.process_loop.proofs.Lines.{before_the_last, behind_the_begun, ends_on_nothing, ends_there, first_piece, no_end_in_both, nothing_ends, nothing_written, only_piece, written_last}
-use Rattle.process_loop.proofs.AnswersSoFar.{all_answered, answered_goes_on, answers_begun, answers_first, answers_more, answers_read_on, answers_written, ended_answered, kept_line}
+use Rattle.process_loop.proofs.AnswersSoFar.{all_answered, answered_goes_on, answers_begun, answers_first, answers_more, answers_read_on, answers_sent, ended_answered, kept_line, pieces_answered}
 
 -- ---- What was read.
 
@@ -90,6 +90,7 @@ module _ (first : SiloValue) (input : List ℕ) (start : Option (List ℕ)) wher
     at_end = λ over. absurd (cc);
     counted = omega (arith, ap (λ (p : Progress). p.left) is);
     answers = answers_first first at is;
+    before = λ some. absurd (omega (arith, some, ap (λ (p : Progress). length p.unread) is));
   }
 
   -- a line was answered
@@ -102,6 +103,7 @@ module _ (first : SiloValue) (input : List ℕ) (start : Option (List ℕ)) wher
     at_end = λ over. stands.at_end (sym step.same_end ∙ over);
     counted = omega (arith, step.same_left, stands.counted);
     answers = answers_more first (bytes_read silo old read written stands) stands.sent silo old next new step stands.answers;
+    before = λ some. inl step.none_begun;
   }
 
   -- a line goes on with all that was read
@@ -114,19 +116,21 @@ module _ (first : SiloValue) (input : List ℕ) (start : Option (List ℕ)) wher
     at_end = λ over. stands.at_end (sym step.same_end ∙ over);
     counted = omega (arith, step.same_left, stands.counted);
     answers = answers_begun first (bytes_read silo old read written stands) stands.sent silo old next new step stands.answers;
+    before = λ some. absurd (omega (arith, some, ap length step.seen));
   }
 
   -- what waited was written
   pub stands_drained : (read before written : Option (List ℕ)) (silo : SiloValue) (old new : Progress)
       → HasDrained old before new written → Stands first input start silo old read before → Stands first input start silo new read written
-  stands_drained read before written silo old new drain stands = record {
+  stands_drained read before written silo old new drain stands = subst (λ (p : Progress). Stands first input start silo p read written) (sym drain.drained) (record {
     sent = stands.sent ++ old.waiting;
     appends = Appends-trans start before written _ _ stands.appends drain.appends;
     has_read = same_read first input read stands.sent old.waiting stands.has_read;
-    at_end = λ over. stands.at_end (sym (ap (λ (p : Progress). p.ended) drain.drained) ∙ over);
-    counted = omega (arith, ap (λ (p : Progress). p.left) drain.drained, stands.counted);
-    answers = answers_written first (bytes_read silo old read before stands) stands.sent silo old new drain.drained stands.answers;
-  }
+    at_end = stands.at_end;
+    counted = stands.counted;
+    answers = answers_sent first (bytes_read silo old read before stands) stands.sent silo old stands.answers;
+    before = stands.before;
+  })
 
   -- more was read
   pub stands_filled : (read rest written : Option (List ℕ)) (silo : SiloValue) (old new : Progress) → old.unread ≡ [] → old.waiting ≡ [] → HasFilled old read new rest
@@ -140,6 +144,8 @@ module _ (first : SiloValue) (input : List ℕ) (start : Option (List ℕ)) wher
         at_end = fill.at_end;
         counted = omega (arith, fill.counted, stands.counted, length-append bytes fill.got);
         answers = answers_read_on first bytes stands.sent fill.got silo old new seen fill.unread fill.same_begun fill.same_waiting stands.answers;
+        before = λ some. inr (pieces_answered first bytes stands.sent silo old stands.answers (subst HasNoEnd (sym seen) nothing_ends)
+            ∙ ap (λ (b : List ℕ). stands.answers.answered ++ b ∷ []) (ap (λ (u : List ℕ). stands.answers.begun ++ u) seen ∙ append-nil stands.answers.begun));
       }
 
   -- ---- A process stops.
@@ -195,6 +201,7 @@ module _ (first : SiloValue) (input : List ℕ) (start : Option (List ℕ)) wher
     concludes = subst (λ (t : List ℕ). BeginsWith t (written_on (pieces_at line_feed input) first)) (append-nil stands.sent) (sent_begins silo at read written stands [] (none_begins at.waiting));
     read = more_read silo at read rest written fill.0 seen none fill.1 stands;
     reads = omega (arith, fill.2, fill.3, stands.counted, length-append (bytes_read silo at read written stands) fill.0);
+    memory = tt;
   }
   stops_unread read rest written silo at new stopped.Broken seen none fill stands = record {
     text = stands.sent;
@@ -202,9 +209,23 @@ module _ (first : SiloValue) (input : List ℕ) (start : Option (List ℕ)) wher
     concludes = subst (λ (t : List ℕ). BeginsWith t (written_on (pieces_at line_feed input) first)) (append-nil stands.sent) (sent_begins silo at read written stands [] (none_begins at.waiting));
     read = kept_read first input read rest stands.sent fill stands.has_read;
     reads = tt;
+    memory = tt;
   }
 
   -- memory ran out before the first line
+  lacks_at_once : LacksMemory input first [] [] []
+  lacks_at_once =
+      let line = first_piece input in
+      record {
+        lines = [];
+        line = line.0;
+        others = line.1;
+        is_of_it = line.2;
+        goes_on = ends_on_nothing first;
+        answered = sym (nothing_written first);
+        wanted = inl refl;
+      }
+
   pub stops_at_once : Stops input first (Some input) start start stopped.OutOfMemory
   stops_at_once = record {
     text = [];
@@ -212,6 +233,7 @@ module _ (first : SiloValue) (input : List ℕ) (start : Option (List ℕ)) wher
     concludes = none_begins (written_on (pieces_at line_feed input) first);
     read = none_read first input;
     reads = tt;
+    memory = lacks_at_once;
   }
 
   -- a write failed
@@ -226,6 +248,7 @@ module _ (first : SiloValue) (input : List ℕ) (start : Option (List ℕ)) wher
         concludes = begins_by stands.sent front.front waiting whole.more _ front.begins (whole.joined ∙ append_assoc stands.sent waiting whole.more);
         read = same_read first input read stands.sent front.front stands.has_read;
         reads = tt;
+        memory = tt;
       })
 
   pub waits_begins : (read before : Option (List ℕ)) (silo : SiloValue) (at : Progress) (stands : Stands first input start silo at read before)
@@ -306,6 +329,74 @@ module _ (first : SiloValue) (input : List ℕ) (start : Option (List ℕ)) wher
   reading_ends read before silo at next last stopped.TooManyReads step stands = absurd step
   reading_ends read before silo at next last stopped.Broken step stands = absurd step
 
+  -- memory is wanted for the first line that isn't answered: one that ended
+  ended_wants : (read before : Option (List ℕ)) (silo : SiloValue) (at : Progress) (stands : Stands first input start silo at read before) (wants : WantsAnswer silo at)
+      → IsWanted first stands.answers.answered (stands.answers.begun ++ wants.line) stands.has_read.front stands.has_read.chunk
+  ended_wants read before silo at stands wants = inr (by wants.wanted (stands.before wants.some))
+    where
+      by : ((0 < length at.begun) ⊎ MayLackMemory silo (kept (at.begun ++ wants.line))) → (at.begun ≡ []) ⊎ (pieces_at line_feed stands.has_read.front ≡ stands.answers.answered ++ stands.answers.begun ∷ [])
+          → MayLackMemory (silo_after stands.answers.answered first) (stands.answers.begun ++ wants.line)
+          ⊎ (BeginsOneMore stands.answers.answered stands.has_read.front ⊎ BeginsOneMore stands.answers.answered (bytes_read silo at read before stands))
+      by (inr lacks) first_seen =
+          let same = kept_line first (bytes_read silo at read before stands) stands.sent silo at stands.answers wants.line in
+          inl (subst (λ (s : SiloValue). MayLackMemory s (stands.answers.begun ++ wants.line)) stands.answers.brings
+          (lacks_whole (stands.answers.begun ++ wants.line) silo (subst (MayLackMemory silo) same lacks)))
+      by (inl some) (inl none) = absurd (omega (arith, some, ap length none))
+      by (inl some) (inr cut) = inr (inl (stands.answers.begun, cut, omega (arith, some, ap length stands.answers.begun_kept, length-take most_kept stands.answers.begun)))
+
+  -- or one that hasn't
+  lacks_by : (read before : Option (List ℕ)) (silo : SiloValue) (at : Progress) (stands : Stands first input start silo at read before) → WantsMemory silo at
+      → LacksMemory input first stands.has_read.front stands.has_read.chunk (stands.sent ++ at.waiting)
+  lacks_by read before silo at stands wants = by wants
+    where
+      all_before : stands.sent ++ at.waiting ≡ written_on (stands.answers.answered ++ [] ∷ []) first
+      all_before = sym (stands.answers.makes [] [] ∙ (ap (λ (t : List ℕ). stands.sent ++ (at.waiting ++ t)) (nothing_written silo)
+          ∙ ap (λ (t : List ℕ). stands.sent ++ t) (append-nil at.waiting)))
+
+      left : (rest : List ℕ) × (read ≡ Some rest) × (input ≡ bytes_read silo at read before stands ++ rest)
+      left = rest_of read (bytes_read silo at read before stands) stands.has_read.consumes
+
+      cut_by : (line : List ℕ) (others : List (List ℕ)) → pieces_at line_feed ((stands.answers.begun ++ at.unread) ++ left.0) ≡ line ∷ others
+          → pieces_at line_feed input ≡ stands.answers.answered ++ line ∷ others
+      cut_by line others is = ap (pieces_at line_feed) left.2 ∙ (stands.answers.lines left.0 ∙ ap (λ (ps : List (List ℕ)). stands.answers.answered ++ ps) is)
+
+      by : WantsMemory silo at → LacksMemory input first stands.has_read.front stands.has_read.chunk (stands.sent ++ at.waiting)
+      by (inl ended) = record {
+        lines = stands.answers.answered;
+        line = stands.answers.begun ++ ended.line;
+        others = pieces_at line_feed (ended.rest ++ left.0);
+        is_of_it = cut_by (stands.answers.begun ++ ended.line) (pieces_at line_feed (ended.rest ++ left.0)) (ap (pieces_at line_feed) (append_assoc stands.answers.begun at.unread left.0)
+            ∙ behind_the_begun stands.answers.begun (at.unread ++ left.0) ended.line _ stands.answers.no_end (ended.cuts left.0));
+        goes_on = answered_goes_on first (bytes_read silo at read before stands) stands.sent silo at stands.answers;
+        answered = all_before;
+        wanted = ended_wants read before silo at stands ended;
+      }
+      by (inr (none, some)) =
+          let begun = stands.answers.begun in
+          let held = begun ++ at.unread in
+          let behind = first_piece left.0 in
+          let long : 0 < length held = omega (arith, some, length-append at.begun at.unread, length-append begun at.unread, ap length stands.answers.begun_kept, length-take most_kept begun) in
+          record {
+            lines = stands.answers.answered;
+            line = held ++ behind.0;
+            others = behind.1;
+            is_of_it = cut_by (held ++ behind.0) behind.1 (behind_the_begun held left.0 behind.0 behind.1 (no_end_in_both begun at.unread stands.answers.no_end none) behind.2);
+            goes_on = answered_goes_on first (bytes_read silo at read before stands) stands.sent silo at stands.answers;
+            answered = all_before;
+            wanted = inr (inr (inr (held, pieces_answered first (bytes_read silo at read before stands) stands.sent silo at stands.answers none, long)));
+          }
+
+  -- the process stops before it
+  stops_before : (read before : Option (List ℕ)) (silo : SiloValue) (at : Progress) (next : SiloValue) (last : Progress) (stopping : Stopped) → StopsStep silo at next last stopping
+      → (stands : Stands first input start silo at read before)
+      → StopsBefore input first stands.has_read.front stands.has_read.chunk (stands.sent ++ last.waiting) stopping
+  stops_before read before silo at next last stopped.AtEnd step stands = tt
+  stops_before read before silo at next last stopped.Dead step stands = tt
+  stops_before read before silo at next last stopped.OutOfMemory step stands =
+      subst (λ (w : List ℕ). LacksMemory input first stands.has_read.front stands.has_read.chunk (stands.sent ++ w)) (sym step.0) (lacks_by read before silo at stands step.1)
+  stops_before read before silo at next last stopped.TooManyReads step stands = absurd step
+  stops_before read before silo at next last stopped.Broken step stands = absurd step
+
   pub stops_written : (read before written : Option (List ℕ)) (silo : SiloValue) (at : Progress) (next : SiloValue) (last : Progress) (stopping : Stopped) → StopsStep silo at next last stopping
       → Appends before written last.waiting → Stands first input start silo at read before → Stops input first read start written stopping
   stops_written read before written silo at next last stopping step drained stands = record {
@@ -314,4 +405,5 @@ module _ (first : SiloValue) (input : List ℕ) (start : Option (List ℕ)) wher
     concludes = concludes_by read before silo at next last stopping step stands;
     read = same_read first input read stands.sent last.waiting stands.has_read;
     reads = reading_ends read before silo at next last stopping step stands;
+    memory = stops_before read before silo at next last stopping step stands;
   }

@@ -1,12 +1,17 @@
 -- Steps, by what was taken over and what was answered.
-use Rattle.std.proofs.Common.{◌≡◌, ℕ, suc, Bool, [], length, take, Some, ap, arith, refl, ◌∙◌, subst}
-use Rattle.std.proofs.lemmas.List.{length-drop}
+use Rattle.std.proofs.Common.{◌≡◌, ◌⊎◌, ◌==◌, inr, ℕ, zero, suc, ◌<◌, ◌≤◌, Bool, false, List, [], ◌++◌, length, take, drop, Some, ap, arith, refl, ◌∙◌, subst, sym}
+use Rattle.std.proofs.lemmas.List.{length-drop, length-take, take_all}
 use Rattle.memchr.specs.Find.{IsFirstByte, is_byte}
 use Rattle.texts.specs.Words.{line_feed}
 use Rattle.silo_rules.specs.SiloValue.{SiloValue}
-use Rattle.process_loop.specs.Answering.{AnswersLine}
-use Rattle.process_loop.specs.Progress.{HasAnswered, Progress, line_taken}
+use Rattle.process_loop.specs.Answering.{AnswersLine, MayLackMemory}
+use Rattle.process_loop.specs.Progress.{HasAnswered, Progress, WantsAnswer, kept, line_taken, most_kept}
 use Rattle.process_loop.proofs.Lines.{cut_there}
+
+-- all of a line in the chunk is kept of it
+whole_kept : (old : Progress) (line : List ℕ) (count : ℕ) → old.begun ≡ [] → length old.unread ≤ most_kept → line ≡ take count old.unread → line ≡ kept (old.begun ++ take count old.unread)
+whole_kept old line count unkept fits is =
+    is ∙ (sym (take_all most_kept (take count old.unread) (omega (arith, length-take count old.unread, fits))) ∙ ap (λ (b : List ℕ). kept (b ++ take count old.unread)) (sym unkept))
 
 -- a line was taken, and is answered
 pub answered_by : (silo : SiloValue) (old taken : Progress) (next : SiloValue) (new : Progress) (count : ℕ) (ends : Bool)
@@ -21,3 +26,37 @@ answered_by silo old taken next new count ends found is left end unread none ans
   none_begun = none;
   answers = subst (λ (p : Progress). AnswersLine silo p.begun p.waiting next new.waiting ends) is answers;
 }
+
+-- a line that wasn't begun is answered where it was read
+pub answered_there : (silo : SiloValue) (old : Progress) (next : SiloValue) (new : Progress) (line : List ℕ) (count : ℕ) (ends : Bool)
+    → IsFirstByte (is_byte line_feed) old.unread (Some count) → old.begun ≡ [] → length old.unread ≤ most_kept → line ≡ take count old.unread → new.left ≡ old.left → new.ended ≡ old.ended
+    → new.unread ≡ drop (suc count) old.unread → new.begun ≡ [] → AnswersLine silo line old.waiting next new.waiting ends → HasAnswered silo old next new ends
+answered_there silo old next new line count ends found unkept fits is left end unread none answers = record {
+  same_left = left;
+  same_end = end;
+  less = omega (arith, ap length unread, length-drop (suc count) old.unread, found.0.high);
+  line = take count old.unread;
+  cuts = cut_there old.unread count (take count old.unread) new.unread found refl unread;
+  none_begun = none;
+  answers = subst (λ (l : List ℕ). AnswersLine silo l old.waiting next new.waiting ends) (whole_kept old line count unkept fits is) answers;
+}
+
+-- memory ran out for a line that ended: it was begun, or is answered where it was read
+pub begun_lacks : (silo : SiloValue) (old : Progress) (count : ℕ) → IsFirstByte (is_byte line_feed) old.unread (Some count)
+    → (0 < length old.begun) ⊎ MayLackMemory silo (kept (old.begun ++ take count old.unread)) → WantsAnswer silo old
+begun_lacks silo old count found wanted = record {
+  some = omega (arith, found.0.high);
+  line = take count old.unread;
+  rest = drop (suc count) old.unread;
+  cuts = cut_there old.unread count (take count old.unread) (drop (suc count) old.unread) found refl refl;
+  wanted = wanted;
+}
+
+pub unkept_lacks : (silo : SiloValue) (old : Progress) (line : List ℕ) (count : ℕ) → IsFirstByte (is_byte line_feed) old.unread (Some count) → old.begun ≡ []
+    → length old.unread ≤ most_kept → line ≡ take count old.unread → MayLackMemory silo line → WantsAnswer silo old
+unkept_lacks silo old line count found unkept fits is lacks = begun_lacks silo old count found (inr (subst (MayLackMemory silo) (whole_kept old line count unkept fits is) lacks))
+
+-- a line is begun where it isn't empty
+pub some_begun : (size : ℕ) (empty : Bool) → empty ≡ (size == 0) → empty ≡ false → 0 < size
+some_begun zero empty is none = absurd (cc)
+some_begun (suc size) empty is none = omega arith

@@ -9,7 +9,7 @@ use Rattle.script_loop.specs.Endings.{most_at_once}
 use Rattle.process_output.specs.Output.{written_on}
 use Rattle.process_loop.specs.declared.stopped.Stopped.{Stopped}
 use Rattle.process_loop.specs.declared.stopped.Stopped.TheVariants.{AtEnd, Dead, TooManyReads, OutOfMemory, Broken}
-use Rattle.process_loop.specs.Answering.{ended_lines, ends_on}
+use Rattle.process_loop.specs.Answering.{MayLackMemory, ended_lines, ends_on, silo_after}
 
 -- the exit status
 abbrev pub status_of : Stopped → ℕ
@@ -47,6 +47,31 @@ EndsReading bytes silo rest Dead = ends_on (ended_lines bytes) silo ≡ true
 EndsReading bytes silo rest TooManyReads = most_reads < length bytes
 EndsReading bytes silo rest other = ⊤
 
+-- the bytes are those lines, and then the beginning of one more, which nothing in them ends
+abbrev pub BeginsOneMore : (lines : List (List ℕ)) → (bytes : List ℕ) → Type 0
+BeginsOneMore lines bytes = (begun : List ℕ) × (pieces_at line_feed bytes ≡ lines ++ begun ∷ []) × (0 < length begun)
+
+-- memory is wanted for the line behind those lines: to begin at all, before anything is read; to answer it; or to keep it, since it was begun
+-- in front of the last chunk, or that doesn't end it
+abbrev pub IsWanted : (silo : SiloValue) (lines : List (List ℕ)) (line : List ℕ) → (front chunk : List ℕ) → Type 0
+IsWanted silo lines line front chunk =
+    (front ++ chunk ≡ []) ⊎ (MayLackMemory (silo_after lines silo) line ⊎ (BeginsOneMore lines front ⊎ BeginsOneMore lines (front ++ chunk)))
+
+-- memory lacked for a line of the input: the text is all that is answered to the lines in front of it, by which the process doesn't end
+pub record LacksMemory (input : List ℕ) (silo : SiloValue) (front chunk text : List ℕ) : Type 0 where
+  pub lines : List (List ℕ)
+  pub line : List ℕ
+  pub others : List (List ℕ)
+  pub is_of_it : pieces_at line_feed input ≡ lines ++ line ∷ others
+  pub goes_on : ends_on lines silo ≡ false
+  pub answered : text ≡ written_on (lines ++ [] ∷ []) silo
+  pub wanted : IsWanted silo lines line front chunk
+
+-- where the process stops so for want of memory
+abbrev pub StopsBefore : (input : List ℕ) → SiloValue → (front chunk text : List ℕ) → Stopped → Type 0
+StopsBefore input silo front chunk text OutOfMemory = LacksMemory input silo front chunk text
+StopsBefore input silo front chunk text other = ⊤
+
 -- the input is answered by the silo, and written behind what the sink had before: the source's rest is then `rest`, what the sink has
 -- is `written`
 pub record Stops (input : List ℕ) (silo : SiloValue) (rest begun written : Option (List ℕ)) (stopped : Stopped) : Type 0 where
@@ -55,6 +80,7 @@ pub record Stops (input : List ℕ) (silo : SiloValue) (rest begun written : Opt
   pub concludes : Concludes (written_on (pieces_at line_feed input) silo) text stopped
   pub read : HasRead input silo rest text
   pub reads : EndsReading (read.front ++ read.chunk) silo rest stopped
+  pub memory : StopsBefore input silo read.front read.chunk text stopped
 
 -- the calls of a process: where it breaks, the last read or the last write failed or a write took nothing; else none did
 abbrev pub MakesCalls : {R W : Type 0} → (reads : R → Option (List ℕ) → R → Type 0) → (writes : W → List ℕ → Option ℕ → W → Type 0) → (old new : R × W) → Stopped → Type 0

@@ -1,5 +1,5 @@
 -- How far a process has come, and what steps make of that.
-use Rattle.std.specs.Prelude.{◌≡◌, ℕ, suc, ◌+◌, ◌-◌, ◌*◌, ◌<◌, Bool, true, false, if◌then◌else◌, List, [], ◌∷◌, ◌++◌, length, take, drop, None}
+use Rattle.std.specs.Prelude.{◌≡◌, ◌⊎◌, ℕ, suc, ◌+◌, ◌-◌, ◌*◌, ◌<◌, Bool, true, false, if◌then◌else◌, List, [], ◌∷◌, ◌++◌, length, take, drop, None}
 use Rattle.memchr.specs.Find.{IsFirstByte, is_byte}
 use Rattle.texts.specs.Words.{line_feed, pieces_at}
 use Rattle.silo_rules.specs.SiloValue.{SiloValue}
@@ -10,7 +10,7 @@ use Rattle.process_loop.specs.declared.step.Step.{Step}
 use Rattle.process_loop.specs.declared.step.Step.TheVariants.{Answered, Wants, Stops}
 use Rattle.process_loop.specs.declared.stopped.Stopped.{Stopped}
 use Rattle.process_loop.specs.declared.stopped.Stopped.TheVariants as stopped
-use Rattle.process_loop.specs.Answering.{AnswersLine}
+use Rattle.process_loop.specs.Answering.{AnswersLine, MayLackMemory}
 use Rattle.process_loop.specs.Endings.{most_reads}
 
 -- how many bytes of a line are kept
@@ -97,11 +97,26 @@ pub record HasEnded (old new : Progress) : Type 0 where
   pub none : HasNoEnd old.unread
   pub told : new.waiting ≡ old.waiting ++ after_last (unended_fault (kept (old.begun ++ old.unread)))
 
--- how a step may stop the process; memory runs out only where there is a line, ended or begun
+-- memory is wanted for a line that ended: to keep it, where it was begun before; or to answer it
+pub record WantsAnswer (silo : SiloValue) (at : Progress) : Type 0 where
+  pub some : 0 < length at.unread
+  pub line : List ℕ
+  pub rest : List ℕ
+  pub cuts : Cuts at.unread line rest
+  pub wanted : (0 < length at.begun) ⊎ MayLackMemory silo (kept (at.begun ++ line))
+
+-- for one that hasn't ended: to keep it, or to tell so
+abbrev pub WantsRest : Progress → Type 0
+WantsRest at = HasNoEnd at.unread × (0 < length (at.begun ++ at.unread))
+
+abbrev pub WantsMemory : SiloValue → Progress → Type 0
+WantsMemory silo at = WantsAnswer silo at ⊎ WantsRest at
+
+-- how a step may stop the process
 abbrev pub StopsStep : SiloValue → Progress → SiloValue → Progress → Stopped → Type 0
 StopsStep old_silo old new_silo new stopped.AtEnd = HasEnded old new
 StopsStep old_silo old new_silo new stopped.Dead = HasAnswered old_silo old new_silo new true
-StopsStep old_silo old new_silo new stopped.OutOfMemory = (new.waiting ≡ old.waiting) × (0 < length (old.begun ++ old.unread))
+StopsStep old_silo old new_silo new stopped.OutOfMemory = (new.waiting ≡ old.waiting) × WantsMemory old_silo old
 StopsStep old_silo old new_silo new other = ⊥
 
 -- what a step did

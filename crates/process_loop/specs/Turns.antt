@@ -1,12 +1,12 @@
 -- Turns: how far a process has come, and what a turn makes of it.
-use Rattle.std.specs.Prelude.{◌≡◌, ℕ, ◌+◌, ◌≤◌, Bool, true, List, ◌∷◌, ◌++◌, length, Option, Some, None}
+use Rattle.std.specs.Prelude.{◌≡◌, ◌⊎◌, ℕ, ◌+◌, ◌<◌, ◌≤◌, true, List, [], ◌∷◌, ◌++◌, length, Option, Some, None}
 use Rattle.std.specs.Io.KnownBytes.{Appends, IsAtEnd}
 use Rattle.texts.specs.Words.{line_feed, pieces_at}
 use Rattle.silo_rules.specs.SiloValue.{SiloValue}
 use Rattle.script_loop.specs.Turns.{InTurnSoFar}
 use Rattle.process_output.specs.Output.{written_on}
 use Rattle.process_loop.specs.declared.stopped.Stopped.{Stopped}
-use Rattle.process_loop.specs.Answering.{ends_on}
+use Rattle.process_loop.specs.Answering.{ends_on, silo_after}
 use Rattle.process_loop.specs.Endings.{AnswersInTurn, HasRead, IsAnswered, Stops, most_reads}
 use Rattle.process_loop.specs.Progress.{HasNoEnd, Progress, kept}
 
@@ -20,8 +20,10 @@ pub record AnswersSoFar (first : SiloValue) (bytes sent : List ℕ) (silo : Silo
   pub lines : (more : List ℕ) → pieces_at line_feed (bytes ++ more) ≡ answered ++ pieces_at line_feed ((begun ++ at.unread) ++ more)
   pub makes : (next : List ℕ) (lines : List (List ℕ)) → written_on (answered ++ next ∷ lines) first ≡ sent ++ (at.waiting ++ written_on (next ∷ lines) silo)
   pub goes_on : (lines : List (List ℕ)) → ends_on (answered ++ lines) first ≡ ends_on lines silo
+  pub brings : silo ≡ silo_after answered first
 
--- they are answers to a beginning of the input, which was read, and were sent to the sink
+-- they are answers to a beginning of the input, which was read, and were sent to the sink; where a line is begun and bytes are unread, it
+-- was begun in front of the last chunk
 pub record Stands (first : SiloValue) (input : List ℕ) (start : Option (List ℕ)) (silo : SiloValue) (at : Progress) (read written : Option (List ℕ)) : Type 0 where
   pub sent : List ℕ
   pub appends : Appends start written sent
@@ -29,6 +31,7 @@ pub record Stands (first : SiloValue) (input : List ℕ) (start : Option (List �
   pub at_end : at.ended ≡ true → IsAtEnd read
   pub counted : most_reads ≤ length (has_read.front ++ has_read.chunk) + at.left
   pub answers : AnswersSoFar first (has_read.front ++ has_read.chunk) sent silo at
+  pub before : 0 < length at.unread → (at.begun ≡ []) ⊎ (pieces_at line_feed has_read.front ≡ answers.answered ++ answers.begun ∷ [])
 
 -- a turn: the process goes on, or stops
 abbrev pub Turns : SiloValue → Progress → (read before : Option (List ℕ)) → SiloValue → Progress → (rest written : Option (List ℕ)) → Option Stopped → Type 0

@@ -2,7 +2,7 @@
 
 ghost use Rattle.std.specs.Prelude.{◌≡◌, IfOk, OnErr};
 ghost use Rattle.silo_rules.specs.SiloValue.{SiloValue};
-ghost use Rattle.process_loop.specs.Answering.{AnswersLine};
+ghost use Rattle.process_loop.specs.Answering.{AnswersLine, MayLackMemory};
 
 use std::alloc::{AllocError, Global};
 
@@ -12,7 +12,8 @@ pub trait SiloPlayer {
     ghost silo: { Self → SiloValue };
 
     /// Answers a line, given without its line feed: does what it asks for, and writes what that prints behind what is written already;
-    /// whether the process ends there. Fails only when memory runs out; then nothing is written, and the player may have changed.
+    /// whether the process ends there. Fails only when memory runs out, and only where something is printed of the line or it brings a list
+    /// of entries; then nothing is written, and the player may have changed.
     fn answer_line(
         &mut self,
         alloc: Global,
@@ -20,5 +21,6 @@ pub trait SiloPlayer {
         out: &mut Vec<u8>,
     ) -> Result<bool, AllocError>
         ensures answered { IfOk result (λ ends. AnswersLine (silo self.old) line.now out.old.items (silo self.new) out.new.items ends) }
-        ensures unwritten { OnErr result (out.new.items ≡ out.old.items) };
+        ensures unwritten { OnErr result (out.new.items ≡ out.old.items) }
+        ensures memory { OnErr result (MayLackMemory (silo self.old) line.now) };
 }

@@ -11,9 +11,10 @@ use std::alloc::Global;
 /// Has the lines of a silo's process answered, from the first one on.
 ///
 /// All that is answered to a line is written before the source is asked for more, and it is asked only where no line that is there is
-/// still to be answered. A line may have 16777216 bytes; of a longer one no more than two are kept. There may be any number of lines,
-/// of any size together, in up to 18446744073709551615 reads. No read or write is tried again, and a write that takes nothing is a
-/// failure.
+/// still to be answered. Where memory runs out, all is written that is answered to the lines before the one for which it lacked; that
+/// is none that says nothing and lies in one chunk. A line may have 16777216 bytes; of a longer one no more than two are kept. There
+/// may be any number of lines, of any size together, in up to 18446744073709551615 reads. No read or write is tried again, and a write
+/// that takes nothing is a failure.
 pub fn play<P: SiloPlayer, R: Source, W: Sink>(
     alloc: Global,
     player: &mut P,

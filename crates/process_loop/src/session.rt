@@ -1,6 +1,6 @@
 //! The input of a process on its way.
 
-ghost use Rattle.std.specs.Prelude.{◌≡◌, ◌<◌, ◌≤◌, ◌-◌, ◌++◌, Some, vec_len, length, take, drop, IfOk, OnOk, OnErr};
+ghost use Rattle.std.specs.Prelude.{◌≡◌, ◌<◌, ◌≤◌, ◌-◌, ◌++◌, [], Some, vec_len, length, take, drop, IfOk, OnOk, OnErr};
 ghost use Rattle.memchr.specs.Find.{IsFirstByte, is_byte};
 ghost use Rattle.texts.specs.Words.{line_feed};
 ghost use Rattle.silo_rules.specs.SiloValue.{SiloValue};
@@ -88,6 +88,9 @@ impl Session {
         requires found { IsFirstByte (is_byte line_feed) (progress self.old).unread (Some length) }
         ensures { Steps (P.silo player.old) (progress self.old) (P.silo player.new) (progress self.new) result }
     {
+        if self.line.is_empty() {
+            return self.answer_unkept(player, length);
+        }
         let Ok(()) = self.take_line(length) else {
             return Step::Stops(Stopped::OutOfMemory);
         };
@@ -100,6 +103,24 @@ impl Session {
                     Step::Answered
                 }
             }
+            Err(_) => Step::Stops(Stopped::OutOfMemory),
+        }
+    }
+
+    // The same of a line that wasn't begun before: it is answered where it was read, so that no memory is wanted to keep it.
+    fn answer_unkept<P: SiloPlayer>(&mut self, player: &mut P, count: usize) -> Step
+        requires found { IsFirstByte (is_byte line_feed) (progress self.old).unread (Some count) }
+        requires within { count < length (progress self.old).unread }
+        requires unkept { self.old.line.items ≡ [] }
+        ensures { Steps (P.silo player.old) (progress self.old) (P.silo player.new) (progress self.new) result }
+    {
+        let end = self.from + count;
+        let line = unread(&self.chunk, self.from, end);
+        let answered = player.answer_line(self.alloc, line, &mut self.out);
+        self.from = end + 1;
+        match answered {
+            Ok(false) => Step::Answered,
+            Ok(true) => Step::Stops(Stopped::Dead),
             Err(_) => Step::Stops(Stopped::OutOfMemory),
         }
     }

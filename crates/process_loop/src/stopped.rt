@@ -10,7 +10,7 @@ pub enum Stopped {
     Dead,
     /// 18446744073709551615 reads gave something, and so did one more. What is written answers all but that one's lines.
     TooManyReads,
-    /// Memory ran out. What is written is a beginning of what is answered.
+    /// Memory ran out. What is written is all that is answered to the lines before the one for which it lacked.
     OutOfMemory,
     /// A read or a write failed, or a write took nothing. What is written is a beginning of what is answered.
     Broken,

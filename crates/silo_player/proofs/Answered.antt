@@ -1,15 +1,28 @@
 -- Lines answered by a silo.
-use Rattle.std.proofs.Common.{◌≡◌, ◌++◌, ℕ, Bool, false, List, [], ◌∷◌, Option, None, Some, Result, Ok, Err, ap, sym, ◌∙◌, append-nil}
+use Rattle.std.proofs.Common.{◌≡◌, ◌≢◌, ◌⊎◌, inl, inr, ◌++◌, ℕ, Bool, false, List, [], ◌∷◌, Option, None, Some, Result, Ok, Err, ap, subst, sym, ◌∙◌, append-nil}
 use Rattle.std.specs.Prelude.{IfOk, OnOk}
 use Rattle.std.specs.Io.BufRead.{strip_last}
 use Rattle.texts.specs.Printed.{text_of_lines}
-use Rattle.texts.specs.Words.{carriage_return}
+use Rattle.texts.specs.Words.{carriage_return, sentence}
+use Rattle.silo_address.specs.Silo.{Silo}
+use Rattle.membership_view.specs.declared.status.Status.{Status}
+use Rattle.membership_view.specs.declared.status.Status.TheVariants as status
 use Rattle.hash_ring.specs.declared.hashing.Hashing.{Hashing}
-use Rattle.silo_rules.specs.SiloValue.{SiloValue}
-use Rattle.process_rules.specs.ReadLine.{Asked, read_silo_line}
-use Rattle.process_output.specs.Answer.{answered}
+use Rattle.directory_rules.specs.declared.act.Act.{Act}
+use Rattle.directory_rules.specs.declared.act.Act.TheVariants as act
+use Rattle.directory_rules.specs.declared.reply.Reply.{Reply}
+use Rattle.directory_rules.specs.declared.reply.Reply.TheVariants as reply
+use Rattle.directory_rules.specs.Letter.{Body, Page_letter, Reply_letter, Report_letter, Request_letter, act_kind, kind_of, reply_kind}
+use Rattle.silo_rules.specs.Membership.{Change, Join}
+use Rattle.silo_rules.specs.SiloValue.{SiloValue, own_status}
+use Rattle.silo_rules.specs.Told.{Heard, told}
+use Rattle.process_rules.specs.ReadLine.{Asked, Joined, Receive, read_silo_line}
+use Rattle.process_letters.specs.Short.{IsShort}
+use Rattle.process_lines.specs.Memory.{LineNeedsMemory}
+use Rattle.process_output.specs.Answer.{answered, heard, printing, unless_dead}
+use Rattle.process_output.specs.Happened.{news_words}
 use Rattle.process_output.specs.Output.{answered_to, fault_line, said}
-use Rattle.process_loop.specs.Answering.{AnswersLine}
+use Rattle.process_loop.specs.Answering.{AnswersLine, BringsEntries, HasEntries, MayLackMemory}
 
 -- what the line says, by equal hashing and an equal line
 pub said_so : (s : SiloValue) (line stripped : List ℕ) (hashing : Hashing) (read : Result (Option Asked) ℕ) → hashing ≡ s.node.settings.hashing
@@ -46,3 +59,51 @@ asked_answered s t line before after asked (Ok end) is silo lines ends = record 
   text = lines ∙ ap (λ (r : Result (Option Asked) ℕ). before ++ text_of_lines (answered_to r s).lines) (sym is);
   stops = ends ∙ ap (λ (r : Result (Option Asked) ℕ). (answered_to r s).ends) (sym is);
 }
+
+-- ---- Memory.
+
+-- something is printed of each change of membership
+alive_or_dead : (status : Option Status) (line : List ℕ) (s : SiloValue) → (unless_dead status (printing (line ∷ []) s)).lines ≢ []
+alive_or_dead None line s = λ none. cc
+alive_or_dead (Some status.Active) line s = λ none. cc
+alive_or_dead (Some status.Leaving) line s = λ none. cc
+alive_or_dead (Some status.Dead) line s = λ none. cc
+
+told_or_refused : (it : Result Heard ℕ) (version : ℕ) (change : Change) (s : SiloValue) → (heard it version change s).lines ≢ []
+told_or_refused (Err number) version change s = λ none. cc
+told_or_refused (Ok it) version change s = let next = record s { membership = it.membership } in alive_or_dead (own_status next) (sentence (news_words version change it.news)) next
+
+join_prints : (version : ℕ) (silo : Silo) (places : List ℕ) (s : SiloValue) → (answered (Joined version silo places) s).lines ≢ []
+unfolding answered
+join_prints version silo places s = told_or_refused (told s.node.settings s.membership version (Join silo places)) version (Join silo places) s
+
+-- a letter that isn't short has entries
+request_short : (act : Act) → IsShort (act_kind act)
+request_short (act.Register entry previous) = tt
+request_short (act.Deregister entry) = tt
+request_short (act.Find grain) = tt
+
+reply_short : (reply : Reply) → IsShort (reply_kind reply)
+reply_short (reply.Registered entry) = tt
+reply_short (reply.Taken entry) = tt
+reply_short reply.Removed = tt
+reply_short reply.Absent = tt
+reply_short (reply.Found entry) = tt
+reply_short reply.Nothing = tt
+reply_short (reply.Retry why) = tt
+
+entries_of : (body : Body) → ¬ (IsShort (kind_of body)) → HasEntries body
+entries_of (Page_letter page) long = tt
+entries_of (Report_letter report) long = tt
+entries_of (Request_letter request) long = absurd (long (request_short request.act))
+entries_of (Reply_letter number told) long = absurd (long (reply_short told))
+entries_of other long = absurd (long tt)
+
+-- a list that is read takes memory: so does what is printed of a join, or the letter has entries
+list_lacks : (s : SiloValue) (read : Result (Option Asked) ℕ) → LineNeedsMemory read → ((answered_to read s).lines ≢ []) ⊎ BringsEntries read
+list_lacks s (Ok (Some (Joined version silo (place ∷ places)))) needs = inl (join_prints version silo (place ∷ places) s)
+list_lacks s (Ok (Some (Receive letter))) needs = inr (entries_of letter.body needs)
+list_lacks s other needs = absurd needs
+
+pub unread_lacks : (s : SiloValue) (line : List ℕ) (read : Result (Option Asked) ℕ) → said line s ≡ read → LineNeedsMemory read → MayLackMemory s line
+unread_lacks s line read is needs = subst (λ (r : Result (Option Asked) ℕ). ((answered_to r s).lines ≢ []) ⊎ BringsEntries r) (sym is) (list_lacks s read needs)

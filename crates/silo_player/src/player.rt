@@ -1,7 +1,7 @@
 //! A silo that answers lines.
 
 ghost use Rattle.std.specs.Prelude.{◌≡◌, IfOk, OnErr};
-ghost use Rattle.process_loop.specs.Answering.{AnswersLine};
+ghost use Rattle.process_loop.specs.Answering.{AnswersLine, MayLackMemory};
 
 use directory_silo::Silo;
 use process_answers::answer;
@@ -28,6 +28,7 @@ impl SiloPlayer for Player {
     ) -> Result<bool, AllocError>
         ensures answered { IfOk result (λ ends. AnswersLine self.old.silo line.now out.old.items self.new.silo out.new.items ends) }
         ensures unwritten { OnErr result (out.new.items ≡ out.old.items) }
+        ensures memory { OnErr result (MayLackMemory self.old.silo line.now) }
     {
         let hashing = self.silo.node().settings().hashing();
         match read_line(alloc, hashing, without_return(line)) {

@@ -1,9 +1,9 @@
-use Rattle.std.proofs.Common.{◌∙◌, ap}
+use Rattle.std.proofs.Common.{◌∙◌, Err, ap, refl}
 use Rattle.directory_rules.specs.Node.{Node}
 use Rattle.directory_rules.specs.Settings.{Settings}
 use Rattle.process_letters.specs.FaultNumbers.{line_fault_number}
 use Rattle.process_lines.specs.AskedModel.{asked_of}
-use Rattle.silo_player.proofs.Answered.{asked_answered, fault_told, passed_over, said_so}
+use Rattle.silo_player.proofs.Answered.{asked_answered, fault_told, passed_over, said_so, unread_lacks}
 use Rattle.silo_player.proofs.player.PlayerSiloPlayer.answer_line.Goals as goal
 
 pub returns-in-Ok-None-clause-answered : goal.returns-in-Ok-None-clause-answered
@@ -28,3 +28,10 @@ returns-in_ok-write_fault-in-Err-Fault-clause-answered c =
     fault_told s c.args.line.now c.args.out.now.items c.write_fault.new.out.items (line_fault_number c.in-Err-Fault.fault) c.number.result
     (said_so s c.args.line.now c.without_return.result.now c.hashing-hashing.result _ same c.without_return.ensures (rw c.in-Err-Fault.field-0-is at c.in-Err-Fault.ensures.reads))
     (rw c.in-Err-Fault.field-0-is at c.number.ensures) c.in_ok-write_fault-in-Err-Fault.ensures.written
+
+pub returns-in-Err-OutOfMemory-clause-memory : goal.returns-in-Err-OutOfMemory-clause-memory
+returns-in-Err-OutOfMemory-clause-memory c =
+    let s = c.args.self.now.silo in
+    let same = c.hashing-hashing.ensures ∙ (ap (λ (i : Settings). i.hashing) c.settings.ensures ∙ ap (λ (n : Node). n.settings.hashing) c.node.ensures) in
+    unread_lacks s c.args.line.now _ (said_so s c.args.line.now c.without_return.result.now c.hashing-hashing.result _ same c.without_return.ensures refl)
+    (c.in-Err-OutOfMemory.ensures.memory (ap Err c.in-Err-OutOfMemory.field-0-is))
