@@ -1,11 +1,11 @@
 -- A publication of what an event left.
-use Rattle.std.proofs.Common.{◌≡◌, ◌≤◌, ℕ, IfSome, ap, arith, inl, inr, subst, sym}
+use Rattle.std.proofs.Common.{◌≤◌, ℕ, IfSome, ap, arith, inl, inr, subst}
 use Rattle.membership_view.specs.View.{ViewValue}
 use Rattle.hash_ring.specs.Places.{PlacesValue}
 use Rattle.directory_rules.specs.World.{World, current_view}
 use Rattle.cluster_journal.specs.declared.entry.Receipt.{Receipt}
 use Rattle.published_rings.specs.Ends.{PublisherValue}
-use Rattle.silo_threads.specs.Followed.{HasLeft, HasPublished, IsLeftBy, IsUpTo, Shows, version_made}
+use Rattle.silo_threads.specs.Followed.{HasLeft, HasPublished, IsLeftBy, Shows, version_made}
 use Rattle.silo_threads.proofs.VersionsMade.{up_to, version_left}
 
 -- the newest ring is of the view's version or of a later one

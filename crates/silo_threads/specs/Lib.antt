@@ -2,3 +2,4 @@ pub mod Cluster
 pub mod Replies
 pub mod Followed
 pub mod Tallied
+pub mod Unseen

@@ -1,5 +1,14 @@
 //! What silos haven't seen yet.
+
+ghost use Rattle.std.specs.Prelude.{◌≡◌, ◌+◌, ◌-◌, ◌++◌, IfOk, OnOk, map};
+ghost use Rattle.std.specs.List.{range_with_len};
+ghost use Rattle.directory_rules.specs.Event.{See};
+ghost use Rattle.directory_rules.specs.EventModel.{event_of};
+ghost use Rattle.script_rules.specs.Output.{sync_events, unseen_versions};
+ghost use Rattle.silo_threads.specs.Unseen.{WereUnseen};
+
 use crate::Cluster;
+use cluster_board::Board;
 use directory_core::World;
 use directory_rules::Event;
 use shared_node::SharedNode;
@@ -13,13 +22,25 @@ use value_marks::Names;
 impl<L: Ledger + Names, G: Gate + Drop> Cluster<L, G> {
     /// The sights that would bring each silo that isn't Dead, by address, from the version that it has seen up to the current one.
     /// Nothing happens yet. Fails only when memory runs out.
-    pub fn sights<R: Wait>(&self, rt: &R) -> Result<Vec<Event>, AllocError> {
+    pub fn sights<R: Wait>(&self, rt: &R) -> Result<Vec<Event>, AllocError>
+        ensures { IfOk result (λ events. WereUnseen (map event_of events.items)) }
+    {
         let board = self.site.board.lock(rt);
-        sights(self.alloc, board.world())
+        sights_now(self.alloc, &board)
     }
 }
 
-fn sights(alloc: Global, world: &World) -> Result<Vec<Event>, AllocError> {
+// The sights that silos lack by a board.
+fn sights_now<L: Ledger + Names>(alloc: Global, board: &Board<L>) -> Result<Vec<Event>, AllocError>
+    ensures { IfOk result (λ events. WereUnseen (map event_of events.items)) }
+{
+    board.journaled();
+    sights(alloc, board.world())
+}
+
+fn sights(alloc: Global, world: &World) -> Result<Vec<Event>, AllocError>
+    ensures { IfOk result (λ events. map event_of events.items ≡ sync_events world.now) }
+{
     let mut events = Vec::new(alloc);
     for (silo, node) in world.nodes() {
         see_up_to(world, silo, node, &mut events)?;
@@ -33,14 +54,25 @@ fn see_up_to(
     silo: &SiloAddress,
     node: &SharedNode,
     events: &mut Vec<Event>,
-) -> Result<(), AllocError> {
-    let joined = world.views().joined_at(silo).unwrap_or(0);
-    let seen = node.node().view().version();
-    for before in seen.max(joined.saturating_sub(1))..world.current() {
+) -> Result<(), AllocError>
+    ensures { OnOk result (map event_of events.new.items ≡ map event_of events.old.items ++ map (See silo.now) (unseen_versions world.now silo.now node.now)) }
+{
+    let current = world.current();
+    let after = seen_by(world, silo, node);
+    for seen in after..current {
         events.push(Event::See {
             silo: *silo,
-            version: before + 1,
+            version: seen + 1,
         })?;
     }
     Ok(())
+}
+
+// The version that a silo has seen, or the last one before it joined: behind it are those that it hasn't seen.
+fn seen_by(world: &World, silo: &SiloAddress, node: &SharedNode) -> u64
+    ensures { range_with_len (result + 1) (world.now.views.version - result) ≡ unseen_versions world.now silo.now node.now }
+{
+    let joined = world.views().joined_at(silo).unwrap_or(0);
+    let seen = node.node().view().version();
+    seen.max(joined.saturating_sub(1))
 }
