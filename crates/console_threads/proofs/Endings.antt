@@ -1,22 +1,29 @@
 -- How a script ends that was played on threads.
-use Rattle.std.proofs.Common.{◌≡◌, ◌∙◌, ◌+◌, ℕ, Bool, true, false, List, [], ◌∷◌, Option, None, Result, Ok, Err, ap, sym, subst, refl, append-nil, inl, inr, arith}
+use Rattle.std.proofs.Common.{◌≡◌, ◌∙◌, ◌+◌, ℕ, Bool, true, false, List, [], ◌∷◌, Option, None, Some, Result, Ok, Err, ap, sym, subst, refl, append-nil, inl, inr, arith}
+use Rattle.std.specs.Prelude.{IfSome}
 use Rattle.std.specs.Io.KnownBytes.{Appends}
+use Rattle.directory_rules.specs.Settings.{Settings}
 use Rattle.directory_rules.specs.World.{World}
 use Rattle.cluster_journal.specs.Entry.{EntryValue}
+use Rattle.cluster_journal.specs.Journal.{IsJournaled}
 use Rattle.script_rules.specs.Script.{Command, lines_of, read_line}
 use Rattle.texts.specs.Printed.{Output}
 use Rattle.script_output.specs.Spaced.{BeginsWith}
 use Rattle.script_loop.specs.Endings as play
+use Rattle.script_loop.specs.Endings.{LeavesPlayer}
 use Rattle.script_loop.specs.Lines.{no_output}
 use Rattle.script_loop.specs.Sent.{Sends}
 use Rattle.script_loop.specs.declared.ended.Ended.{Ended}
 use Rattle.script_loop.specs.declared.ended.Ended.TheVariants as ended
 use Rattle.script_loop.specs.declared.ended.LineFault.{LineFault}
+use Rattle.threaded_play.specs.CarriedOut.{CarriesOut}
 use Rattle.threaded_play.specs.Endings.{Ends}
 use Rattle.threaded_play.specs.Faults.{faults_alone, line_told}
 use Rattle.threaded_play.specs.declared.ended.ThreadsEnded.{ThreadsEnded}
-use Rattle.threaded_play.specs.declared.ended.ThreadsEnded.TheVariants.{Lacking, Played}
+use Rattle.threaded_play.specs.declared.ended.ThreadsEnded.TheVariants.{Lacking}
 use Rattle.console_threads.specs.Endings.{EndsBy, IsWritten, LacksOnlyAfter, LinesEnd, Tells, sent_ending}
+use Rattle.console_threads.specs.declared.script.Script.{Script}
+use Rattle.console_threads.proofs.Commands.{carried_whole, keeps, kept_by}
 
 -- ---- What the lines print by themselves.
 
@@ -65,11 +72,11 @@ module _ {W : Type 0} (writes : W → List ℕ → Option ℕ → W → Type 0) 
   -- the line of a fault
   fault_ends : (text : List ℕ) (fault : LineFault) (old new : W) (well : Bool) → Sends text (contents old) (contents new) well
       → EndsBy journal world text (ended.Faulted fault) (contents old) (contents new) (sent_ending (ended.Faulted fault) well)
-  fault_ends text fault old new true sent = λ settings script rest journaled lines.
+  fault_ends text fault old new true sent = λ settings script rest journaled carried lines.
       let output : faults_alone 1 (lines_of script) ≡ record { text = lines.text; status = 2 } = lines.concludes.0 in
       let same : text ≡ (faults_alone 1 (lines_of script)).text = lines.writes ∙ sym (ap (λ (o : Output). o.text) output) in
       (alone script rest text _ lines, subst (Appends (contents old) (contents new)) same sent)
-  fault_ends text fault old new false sent = λ settings script rest journaled lines.
+  fault_ends text fault old new false sent = λ settings script rest journaled carried lines.
       let output : faults_alone 1 (lines_of script) ≡ record { text = lines.text; status = 2 } = lines.concludes.0 in
       let same : faults_alone 1 (lines_of script) ≡ record { text = text; status = 2 } = output ∙ ap (λ (t : List ℕ). let o : Output = record { text = t; status = 2 } in o) (sym lines.writes) in
       let begins : BeginsWith lines.text (faults_alone 1 (lines_of script)).text = subst (BeginsWith lines.text) (sym (ap (λ (o : Output). o.text) output)) (whole lines.text) in
@@ -78,13 +85,13 @@ module _ {W : Type 0} (writes : W → List ℕ → Option ℕ → W → Type 0) 
   -- what the cluster came to
   world_ends : (printed text : List ℕ) (old new : W) (well : Bool) → Tells journal world text → Sends text (contents old) (contents new) well
       → EndsBy journal world printed ended.Played (contents old) (contents new) (sent_ending ended.Played well)
-  world_ends printed text old new true tells sent = λ settings script rest journaled lines.
-      (alone script rest printed _ lines, (text, tells settings journaled, sent))
-  world_ends printed text old new false tells sent = λ settings script rest journaled lines.
+  world_ends printed text old new true tells sent = λ settings script rest journaled carried lines.
+      (alone script rest printed _ lines, (text, tells settings script journaled carried, sent))
+  world_ends printed text old new false tells sent = λ settings script rest journaled carried lines.
       let output : faults_alone 1 (lines_of script) ≡ record { text = lines.text; status = 0 } = lines.concludes in
       let begins : BeginsWith lines.text (faults_alone 1 (lines_of script)).text = subst (BeginsWith lines.text) (sym (ap (λ (o : Output). o.text) output)) (whole lines.text) in
       let none : faults_alone 1 (lines_of script) ≡ no_output = silent 1 (lines_of script) lines.text output in
-      (broken script rest lines.text _ begins (alone script rest printed _ lines) refl, inr (text, inr (none, tells settings journaled), sent))
+      (broken script rest lines.text _ begins (alone script rest printed _ lines) refl, inr (text, inr (none, tells settings script journaled carried), sent))
 
   pub fault_written : (text : List ℕ) (fault : LineFault) (end : Ended) (old new : W) (result : ThreadsEnded) → end ≡ ended.Faulted fault
       → IsWritten writes contents text end old new result → EndsBy journal world text end (contents old) (contents new) result
@@ -99,6 +106,13 @@ module _ {W : Type 0} (writes : W → List ℕ → Option ℕ → W → Type 0) 
       subst (λ (r : ThreadsEnded). EndsBy journal world printed ended.Played (contents old) (contents new) r) (sym written.1)
       (world_ends printed text old new written.0 tells written.2)
 
--- ---- The calls.
+-- ---- A script that was read.
 
--- ---- Where the cluster wasn't closed.
+-- so it ends, if it is known, whose lines were played, and whose kept commands were carried out
+pub script_ends : (known : Option (List ℕ)) (settings : Settings) (journal : List EntryValue) (world : World) (text : List ℕ) (end : Ended) (before after : Script)
+    → (rest begun written : Option (List ℕ)) (result : ThreadsEnded) → before.commands.items ≡ [] → IsJournaled settings journal world → CarriesOut journal (kept_by after)
+    → IfSome known (λ script. LinesEnd script rest text end) → IfSome known (λ script. LeavesPlayer keeps script before after end)
+    → EndsBy journal world text end begun written result → IfSome known (λ script. Ends settings script rest begun written result)
+script_ends None settings journal world text end before after rest begun written result none journaled carried lines leaves ends = tt
+script_ends (Some script) settings journal world text end before after rest begun written result none journaled carried lines leaves ends =
+    ends settings script rest journaled (carried_whole journal script before after end none leaves carried) lines

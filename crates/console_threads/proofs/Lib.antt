@@ -1,5 +1,8 @@
 mod Commands
 mod Faulted
+mod SoFar
+mod Posted
+mod Entered
 mod Closed
 mod Lost
 mod Endings

@@ -1,5 +1,5 @@
 -- A play whose writes are held back breaks by a read, unless something was lost.
-use Rattle.std.proofs.Common.{◌≡◌, ◌≢◌, ℕ, true, false, true≢false, List, length, Option, arith, sym, ◌∙◌, inl, inr}
+use Rattle.std.proofs.Common.{◌≡◌, ℕ, true, false, true≢false, List, length, Option, arith, sym, ◌∙◌, inl, inr}
 use Rattle.script_loop.specs.Calls.{ReadsInTurn, WritesText, WritesTexts, wrote_some, wrote_nothing, write_failed, text_written, text_broken}
 use Rattle.script_loop.specs.Endings.{MakesCalls}
 use Rattle.script_loop.specs.declared.ended.Ended.{Ended}

@@ -4,11 +4,13 @@ use Rattle.directory_rules.specs.Settings.{Settings}
 use Rattle.directory_rules.specs.World.{World}
 use Rattle.cluster_journal.specs.Entry.{EntryValue}
 use Rattle.cluster_journal.specs.Journal.{IsJournaled}
+use Rattle.script_rules.specs.Script.{lines_of}
 use Rattle.script_loop.specs.Calls.{WritesText}
 use Rattle.script_loop.specs.Endings as play
 use Rattle.script_loop.specs.Sent.{Sends}
 use Rattle.script_loop.specs.declared.ended.Ended.{Ended}
 use Rattle.script_loop.specs.declared.ended.Ended.TheVariants as ended
+use Rattle.threaded_play.specs.CarriedOut.{CarriesOut, commands_of}
 use Rattle.threaded_play.specs.Endings.{Ends, WritesSome}
 use Rattle.threaded_play.specs.Faults.{faults_alone}
 use Rattle.threaded_play.specs.Printed.{TellsWorld}
@@ -33,15 +35,21 @@ unclosed_by refusal.OutOfMemory = threads.Lacking
 abbrev pub LinesEnd : (script : List ℕ) → (rest : Option (List ℕ)) → (text : List ℕ) → Ended → Type 0
 LinesEnd script rest text end = play.Ends script (faults_alone 1) rest (Some []) (Some text) end
 
--- the text tells the world, under whatever settings its journal made it
+-- the text tells the world, under whatever settings its journal made it, of whatever script it carries out
 abbrev pub Tells : List EntryValue → World → (text : List ℕ) → Type 0
-Tells journal world text = (settings : Settings) → IsJournaled settings journal world → TellsWorld settings text
+Tells journal world text =
+    (settings : Settings) (script : List ℕ) → IsJournaled settings journal world → CarriesOut journal (commands_of (lines_of script)) → TellsWorld settings script text
 
--- so a script ends, whatever it was, whose lines end so and print that text, and whose cluster came to that world
+-- where all lines of a script were played, its commands were carried out
+abbrev pub HasCarriedOut : List EntryValue → (script : List ℕ) → Ended → Type 0
+HasCarriedOut journal script ended.Played = CarriesOut journal (commands_of (lines_of script))
+HasCarriedOut journal script other = ⊤
+
+-- so a script ends, whatever it was, whose lines end so and print that text, and whose cluster carried it out and came to that world
 abbrev pub EndsBy : List EntryValue → World → (text : List ℕ) → Ended → (begun written : Option (List ℕ)) → ThreadsEnded → Type 0
 EndsBy journal world text end begun written result =
-    (settings : Settings) (script : List ℕ) (rest : Option (List ℕ)) → IsJournaled settings journal world → LinesEnd script rest text end
-    → Ends settings script rest begun written result
+    (settings : Settings) (script : List ℕ) (rest : Option (List ℕ)) → IsJournaled settings journal world → HasCarriedOut journal script end
+    → LinesEnd script rest text end → Ends settings script rest begun written result
 
 -- the ending once its text was sent, by whether all of it was taken
 abbrev pub sent_ending : Ended → (whole : Bool) → ThreadsEnded

@@ -1,9 +1,8 @@
 -- The commands of a script's lines.
-use Rattle.std.specs.Prelude.{ℕ, List, [], ◌∷◌, ◌++◌, Option, Some, None, Result, Ok, Err}
-use Rattle.script_rules.specs.Script.{Command}
+use Rattle.std.specs.Prelude.{◌≡◌, ◌++◌, ℕ, List}
+use Rattle.script_rules.specs.Script.{Command, read_line}
+use Rattle.threaded_play.specs.CarriedOut.{command_in}
 
--- behind the commands of the lines before it that of a line, if it has one; a line with a fault has none
-abbrev pub with_line : Result (Option Command) ℕ → List Command → List Command
-with_line (Ok (Some command)) commands = commands ++ command ∷ []
-with_line (Ok None) commands = commands
-with_line (Err fault) commands = commands
+-- behind the commands of the lines before it that of a line is kept, if it has one
+abbrev pub KeepsLine : (line : List ℕ) → (before after : List Command) → Type 0
+KeepsLine line before after = after ≡ before ++ command_in (read_line line)

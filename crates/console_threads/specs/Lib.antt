@@ -1,3 +1,4 @@
 pub mod Kept
+pub mod Driven
 pub mod Held
 pub mod Endings

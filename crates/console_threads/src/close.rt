@@ -1,11 +1,15 @@
 //! The cluster is closed: its threads are joined, and what all of them did is compared with its journal.
 
-ghost use Rattle.std.specs.Prelude.{◌≡◌, ℕ, List, IfErr, IfOk, MatchResult, OnOk, false};
+ghost use Rattle.std.specs.Prelude.{◌≡◌, ℕ, List, All, IfErr, IfOk, MatchResult, OnOk, false};
+ghost use Rattle.std.specs.List.Sorted.{IsStrictlyIncreasing};
+ghost use Rattle.cluster_journal.specs.Agreement.{Agree, Stands};
+ghost use Rattle.console_threads.specs.Driven.{numbers_of};
 ghost use Rattle.cluster_journal.specs.Journal.{IsJournaled};
 ghost use Rattle.threaded_play.specs.Endings.{IsSent, TellsCauses};
 ghost use Rattle.console_threads.specs.Endings.{IsUnclosed, unclosed_by};
 
 use crate::driver::Driver;
+use crate::order::ascend;
 use cluster_board::Board;
 use compared_receipts::CloseRefusal;
 use directory_rules::Settings;
@@ -32,6 +36,8 @@ impl<L: Ledger + Names> Driver<L, OpenGate> {
         requires { L.parts ≡ PARTS }
         ensures worked { IfOk result (λ board. board.gave_up ≡ false) }
         ensures lacked_nothing { OnOk result (self.lacks ≡ false) }
+        ensures stand { IfOk result (λ board. All (Stands board.journal) self.receipts.items) }
+        ensures ascending { OnOk result (IsStrictlyIncreasing (numbers_of self.receipts.items)) }
         ensures journaled { IfOk result (λ board. IsJournaled settings board.journal board.world) }
         ensures unclosed { IfErr result IsUnclosed }
         ensures told { MatchResult result (λ _. errors.new ≡ errors.old) (λ ended. TellsCauses E.writes E.contents ended errors.old errors.new) }
@@ -42,12 +48,16 @@ impl<L: Ledger + Names> Driver<L, OpenGate> {
             receipts,
             lacks,
         } = self;
+        let in_order = ascend(&receipts);
         let Ok(ended) = cluster.end(rt, share, receipts) else {
             return Err(ThreadsEnded::Lacking);
         };
         if lacks || ended.gave_up() {
             tell_causes(rt, alloc, &ended, errors);
             return Err(ThreadsEnded::Lacking);
+        }
+        if !in_order {
+            return Err(ThreadsEnded::ReceiptDiffers);
         }
         closed(ended, settings)
     }
@@ -57,6 +67,7 @@ impl<L: Ledger + Names> Driver<L, OpenGate> {
 fn closed<L: Ledger + Names>(ended: Ended<L>, settings: Settings) -> Result<Board<L>, ThreadsEnded>
     requires { ended.share.parts ≡ L.parts }
     ensures same { IfOk result (λ board. board ≡ ended.board) }
+    ensures agree { IfOk result (λ board. Agree board.journal ended.receipts.items) }
     ensures journaled { IfOk result (λ board. IsJournaled settings board.journal board.world) }
     ensures unclosed { IfErr result IsUnclosed }
 {

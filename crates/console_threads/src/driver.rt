@@ -1,7 +1,13 @@
 //! Commands carried out by a cluster that runs.
 
-ghost use Rattle.std.specs.Prelude.{◌≡◌, ◌+◌};
+ghost use Rattle.std.specs.Prelude.{◌≡◌, ◌+◌, [], IfOk, OnOk, false, map};
+ghost use Rattle.console_threads.specs.Driven.{IsPerformed, IsPosted, Puts};
+ghost use Rattle.directory_rules.specs.EventModel.{event_of};
+ghost use Rattle.script_commands.specs.CommandModel.{command_of};
+ghost use Rattle.script_rules.specs.Script as rule;
+ghost use Rattle.silo_threads.specs.Replies.{IsReceiptOf};
 ghost use Rattle.silo_threads.specs.declared.cluster.TheConstants.{PARTS};
+ghost use Rattle.threaded_play.specs.CarriedOut.{AreCarriedOut};
 
 use cluster_journal::Receipt;
 use directory_rules::Event;
@@ -28,6 +34,7 @@ impl<L: Ledger + Names, G: Gate + Drop> Driver<L, G> {
     /// Before the first command.
     pub(crate) fn new(alloc: Global, cluster: Cluster<L, G>, share: Share<L>) -> Driver<L, G>
         requires { share.parts + cluster.workers ≡ PARTS }
+        ensures { result.receipts.items ≡ [] }
     {
         Driver {
             cluster,
@@ -44,14 +51,27 @@ impl<L: Ledger + Names + Send + 'static, G: Gate + Drop + Send + Sync + 'static>
         &mut self,
         rt: &H,
         commands: &[Command],
-    ) {
+    )
+        ensures { self.new.lacks ≡ false → Puts (AreCarriedOut IsReceiptOf (map command_of commands.now)) self.old.receipts.items self.new.receipts.items }
+    {
         for command in commands {
-            if self.perform(rt, command).is_err() {
-                self.lacks = true;
-            }
+            self.carry_out(rt, command);
             if self.lacks {
                 return;
             }
+        }
+    }
+
+    // Carries out one command, unless something lacks for it.
+    fn carry_out<H: Threads + Wait + Copy + Drop + Send + 'static>(
+        &mut self,
+        rt: &H,
+        command: &Command,
+    )
+        ensures { self.new.lacks ≡ false → Puts (IsPerformed (command_of command.now)) self.old.receipts.items self.new.receipts.items }
+    {
+        if self.perform(rt, command).is_err() {
+            self.lacks = true;
         }
     }
 
@@ -61,7 +81,9 @@ impl<L: Ledger + Names + Send + 'static, G: Gate + Drop + Send + Sync + 'static>
         &mut self,
         rt: &H,
         command: &Command,
-    ) -> Result<(), AllocError> {
+    ) -> Result<(), AllocError>
+        ensures { OnOk result (self.new.lacks ≡ false → Puts (IsPerformed (command_of command.now)) self.old.receipts.items self.new.receipts.items) }
+    {
         match command {
             Command::Happen(event) => self.happen(rt, event),
             Command::Sync => self.sync(rt),
@@ -78,18 +100,25 @@ impl<L: Ledger + Names + Send + 'static, G: Gate + Drop + Send + Sync + 'static>
         &mut self,
         rt: &H,
         event: &Event,
-    ) -> Result<(), AllocError> {
-        if !matches!(event, Event::Deliver { .. } | Event::Lose { .. }) {
-            self.post(rt, event)?;
+    ) -> Result<(), AllocError>
+        ensures { OnOk result (self.new.lacks ≡ false → Puts (IsPerformed (rule.Happen (event_of event.now))) self.old.receipts.items self.new.receipts.items) }
+    {
+        match event {
+            Event::Deliver { .. } | Event::Lose { .. } => Ok(()),
+            _ => {
+                self.post(rt, event)?;
+                Ok(())
+            }
         }
-        Ok(())
     }
 
     // All silos see what they haven't, up to a refusal.
     fn sync<H: Threads + Wait + Copy + Drop + Send + 'static>(
         &mut self,
         rt: &H,
-    ) -> Result<(), AllocError> {
+    ) -> Result<(), AllocError>
+        ensures { OnOk result (self.new.lacks ≡ false → Puts (IsPerformed rule.Sync) self.old.receipts.items self.new.receipts.items) }
+    {
         let sights = self.cluster.sights(rt)?;
         for sight in &sights {
             if !self.post(rt, sight)? {
@@ -104,7 +133,10 @@ impl<L: Ledger + Names + Send + 'static, G: Gate + Drop + Send + Sync + 'static>
         &mut self,
         rt: &H,
         event: &Event,
-    ) -> Result<bool, AllocError> {
+    ) -> Result<bool, AllocError>
+        ensures posted { IfOk result (λ accepted. self.new.lacks ≡ false → IsPosted (event_of event.now) accepted self.old.receipts.items self.new.receipts.items) }
+        ensures lacking { self.new.lacks ≡ false → self.old.lacks ≡ false }
+    {
         if self.lacks {
             return Ok(false);
         }

@@ -5,6 +5,7 @@ mod close;
 mod driver;
 mod held;
 mod lines;
+mod order;
 mod play;
 mod print;
 mod script;

@@ -2,7 +2,7 @@
 
 ghost use Rattle.std.specs.Prelude.{[], Bool, IfOk, IfSome, MatchResult, Some};
 ghost use Rattle.script_loop.specs.Calls.{ReadsInTurn};
-ghost use Rattle.script_loop.specs.Endings.{Ends};
+ghost use Rattle.script_loop.specs.Endings.{Ends, LeavesPlayer};
 ghost use Rattle.console_threads.specs.Held.{is_read_well};
 
 use crate::held::Held;
@@ -24,6 +24,7 @@ pub(crate) fn play_lines<P: LinePlayer, R: Source>(
 ) -> Result<Lines, AllocError>
     ensures ends { IfOk result (λ lines. IfSome (R.remaining reader.old) (λ script.
         Ends script (P.output player.old 1) (R.remaining reader.new) (Some []) (Some lines.text.items) lines.ended)) }
+    ensures made { IfOk result (λ lines. IfSome (R.remaining reader.old) (λ script. LeavesPlayer P.makes script player.old player.new lines.ended)) }
     ensures reads { MatchResult result
         (λ lines. ReadsInTurn R.reads reader.old reader.new (is_read_well lines.ended))
         (λ _. (well : Bool) × ReadsInTurn R.reads reader.old reader.new well) }

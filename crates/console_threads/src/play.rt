@@ -1,6 +1,8 @@
-ghost use Rattle.std.specs.Prelude.{◌≡◌, IfErr, IfOk, IfSome, MatchResult};
+ghost use Rattle.std.specs.Prelude.{◌≡◌, IfErr, IfOk, IfSome, MatchResult, map};
 ghost use Rattle.cluster_journal.specs.Journal.{IsJournaled};
 ghost use Rattle.console_threads.specs.Endings.{IsUnclosed};
+ghost use Rattle.script_commands.specs.CommandModel.{command_of};
+ghost use Rattle.threaded_play.specs.CarriedOut.{CarriesOut};
 ghost use Rattle.threaded_play.specs.Endings.{Ends, MakesCalls, TellsCauses};
 
 use crate::driver::Driver;
@@ -84,6 +86,7 @@ fn run<
     requires whole { L.parts ≡ PARTS }
     requires names { tokens.1 ≡ L.names }
     ensures journaled { IfOk result (λ board. IsJournaled settings board.journal board.world) }
+    ensures carried { IfOk result (λ board. CarriesOut board.journal (map command_of commands.now)) }
     ensures unclosed { IfErr result IsUnclosed }
     ensures told { MatchResult result (λ _. errors.new ≡ errors.old) (λ ended. TellsCauses E.writes E.contents ended errors.old errors.new) }
 {

@@ -1,11 +1,10 @@
 //! Lines read as commands, which are kept until the whole script is read.
 
-ghost use Rattle.std.specs.Prelude.{◌≡◌, IfOk, OnErr, OnOk, map};
+ghost use Rattle.std.specs.Prelude.{◌≡◌, IfNone, IfOk, OnErr, OnOk, map};
 ghost use Rattle.script_commands.specs.CommandModel.{command_of};
-ghost use Rattle.script_loop.specs.Lines.{PlaysLine};
-ghost use Rattle.script_rules.specs.Script.{read_line};
-ghost use Rattle.console_threads.specs.Kept.{with_line};
-ghost use Rattle.threaded_play.specs.Faults.{faults_alone, long_lines_are_faults, nothing_is_wrong};
+ghost use Rattle.script_loop.specs.Lines.{IsPassedOver, PlaysLine};
+ghost use Rattle.console_threads.specs.Kept.{KeepsLine};
+ghost use Rattle.threaded_play.specs.Faults.{faults_alone, long_lines_are_faults, nothing_is_wrong, passed_lines_are_quiet};
 
 use script_commands::{Command, ReadError, read_command};
 use script_loop::{LineFault, LinePlayer};
@@ -21,7 +20,13 @@ pub(crate) struct Script {
 impl LinePlayer for Script {
     ghost output = { λ _. faults_alone };
 
+    ghost makes = { λ before line after. KeepsLine line (map command_of before.commands.items) (map command_of after.commands.items) };
+
+    ghost passes_over = { IsPassedOver };
+
     ghost nothing = { λ _. nothing_is_wrong };
+
+    ghost passes_quietly = { λ _. passed_lines_are_quiet };
 
     ghost too_long = { λ _. long_lines_are_faults };
 
@@ -33,8 +38,10 @@ impl LinePlayer for Script {
         out: &mut Vec<u8>,
     ) -> Result<Option<LineFault>, AllocError>
         ensures played { IfOk result (PlaysLine faults_alone faults_alone number line.now out.old.items out.new.items) }
-        ensures kept { OnOk result (map command_of self.new.commands.items ≡ with_line (read_line line.now) (map command_of self.old.commands.items)) }
+        ensures made { IfOk result (λ fault. IfNone fault (KeepsLine line.now (map command_of self.old.commands.items) (map command_of self.new.commands.items))) }
+        ensures kept { OnOk result (KeepsLine line.now (map command_of self.old.commands.items) (map command_of self.new.commands.items)) }
         ensures unwritten { OnErr result (out.new.items ≡ out.old.items) }
+        ensures memory { OnErr result (¬ (IsPassedOver line.now)) }
     {
         match read_command(alloc, line) {
             Ok(None) => Ok(None),

@@ -21,7 +21,7 @@ status_of Lacking = 3
 
 -- what is written behind what the sink had: all that the script comes to; where a write breaks the play a beginning of it; else nothing
 abbrev pub Writes : Settings → (script : List ℕ) → (begun written : Option (List ℕ)) → Ended → Type 0
-Writes settings script begun written ended.Played = (text : List ℕ) × TellsWorld settings text × Appends begun written text
+Writes settings script begun written ended.Played = (text : List ℕ) × TellsWorld settings script text × Appends begun written text
 Writes settings script begun written (ended.Faulted fault) = Appends begun written (faults_alone 1 (lines_of script)).text
 Writes settings script begun written ended.TooLong = Keeps begun written
 Writes settings script begun written ended.OutOfMemory = ⊥

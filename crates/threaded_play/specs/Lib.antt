@@ -1,3 +1,4 @@
 pub mod Faults
+pub mod CarriedOut
 pub mod Printed
 pub mod Endings

@@ -11,6 +11,7 @@ use Rattle.script_rules.specs.Script.{lines_of}
 use Rattle.script_rules.specs.Show.{show_lines}
 use Rattle.texts.specs.Printed.{text_of_lines}
 use Rattle.script_loop.specs.Lines.{no_output}
+use Rattle.threaded_play.specs.CarriedOut.{CarriesOut, commands_of}
 use Rattle.threaded_play.specs.Faults.{faults_alone}
 
 -- the line that tells how many events there were
@@ -21,16 +22,18 @@ journal_line count = codes "journal " ++ decimal count
 abbrev pub world_lines : List EntryValue → World → List (List ℕ)
 world_lines journal world = journal_line (length journal) ∷ (verdict_line (verdict (dump_of world)) ∷ show_lines world)
 
--- the text tells a world that the events of its journal leave, from the first world of the settings on; `check` finds it right
-pub record TellsWorld (settings : Settings) (text : List ℕ) : Type 0 where
+-- the text tells a world that the events of its journal leave, from the first world of the settings on; `check` finds it right, and the
+-- script's commands were carried out
+pub record TellsWorld (settings : Settings) (script text : List ℕ) : Type 0 where
   pub journal : List EntryValue
   pub world : World
   pub journaled : IsJournaled settings journal world
   pub right : verdict (dump_of world) ≡ None
+  pub carried : CarriesOut journal (commands_of (lines_of script))
   pub told : text ≡ text_of_lines (world_lines journal world)
 
 -- the text is what a script comes to: the line of its first fault, or without any a world
 abbrev pub IsPrinted : Settings → (script text : List ℕ) → Type 0
 IsPrinted settings script text =
     (faults_alone 1 (lines_of script) ≡ record { text = text; status = 2 })
-    ⊎ ((faults_alone 1 (lines_of script) ≡ no_output) × TellsWorld settings text)
+    ⊎ ((faults_alone 1 (lines_of script) ≡ no_output) × TellsWorld settings script text)

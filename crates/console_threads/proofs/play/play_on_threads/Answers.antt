@@ -1,4 +1,9 @@
+use Rattle.std.proofs.Common.{List, map, subst}
+use Rattle.script_commands.specs.CommandModel.{command_of}
+use Rattle.script_commands.specs.declared.command.Command.{Command}
+use Rattle.threaded_play.specs.CarriedOut.{CarriesOut}
 use Rattle.console_threads.proofs.Closed.{told_lacking, told_nothing}
+use Rattle.console_threads.proofs.Endings.{script_ends}
 use Rattle.console_threads.proofs.play.play_on_threads.Goals as goal
 
 -- what its closing told
@@ -10,3 +15,15 @@ returns-in_default-clause-told g c =
 pub returns-in-Ok-closed-clause-told : goal.returns-in-Ok-closed-clause-told
 returns-in-Ok-closed-clause-told g c =
     told_nothing g.E.Sink.writes g.E.Sink.contents c.print.result c.args.errors.now c.run-closed.new.errors c.in-Ok-closed.ensures.told
+
+-- the commands that were kept of the script's lines were carried out
+pub returns-in-Ok-closed-clause-ends : goal.returns-in-Ok-closed-clause-ends
+returns-in-Ok-closed-clause-ends g c =
+    let board = c.in-Ok-closed.board in
+    let lines = c.in-Ok.lines in
+    let script = c.play_lines-lines.new.player in
+    script_ends (g.R.Source.remaining c.args.reader.now) c.args.settings board.journal board.world lines.text.items lines.ended (record { commands = c.new.result }) script
+    (g.R.Source.remaining c.play_lines-lines.new.reader) (g.W.Sink.contents c.args.writer.now) (g.W.Sink.contents c.print.new.writer) c.print.result
+    c.new.ensures.items c.in-Ok-closed.ensures.journaled
+    (subst (λ (l : List Command). CarriesOut board.journal (map command_of l)) c.deref.ensures.value c.in-Ok-closed.ensures.carried)
+    c.in-Ok.ensures.ends c.in-Ok.ensures.made c.print.ensures.ends

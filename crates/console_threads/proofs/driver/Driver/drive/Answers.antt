@@ -1,0 +1,20 @@
+use Rattle.std.proofs.Common.{◌+◌, drop, map}
+use Rattle.script_commands.specs.CommandModel.{command_of}
+use Rattle.console_threads.proofs.Posted.{all_performed, none_left, one_left, one_performed}
+use Rattle.console_threads.proofs.driver.Driver.drive.Goals as goal
+
+pub loop-command-preserved : goal.loop-command-preserved
+loop-command-preserved g c =
+    let commands = c.args.commands.now in
+    let index = c.loop-command.command-index in
+    let command = c.command-item.result in
+    one_performed (map command_of commands) (map command_of (drop index commands)) (map command_of (drop (index + 1) commands)) (command_of command)
+    c.args.self.now.receipts.items c.loop-command.self.receipts.items c.carry_out.new.self.receipts.items
+    (one_left command_of commands index command c.loop-command-test.true c.command-item.is) (c.carry_out.ensures c.if-self.false) c.loop-command.invariant
+
+pub returns : goal.returns
+returns g c = λ all.
+    let commands = c.args.commands.now in
+    let index = c.loop-command.command-index in
+    all_performed (map command_of commands) (map command_of (drop index commands)) c.args.self.now.receipts.items c.loop-command.self.receipts.items
+    (none_left command_of commands index c.loop-command-test.false) c.loop-command.invariant
