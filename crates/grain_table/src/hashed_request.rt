@@ -43,6 +43,21 @@ impl HashedRequest {
         ensures { result ≡ record { sender = sender; version = version; number = number; hash = hash_grain hashing (grain_of act); act = act } }
     {
         let hash = hashing.hash_grain(grain_of(&act));
+        HashedRequest::hashed(hashing, sender, version, number, hash, act)
+    }
+
+    /// A request of these parts, where the hash of its grain is known already.
+    pub fn hashed(
+        hashing: Hashing,
+        sender: SiloAddress,
+        version: u64,
+        number: u64,
+        hash: u32,
+        act: Act,
+    ) -> HashedRequest
+        requires { hash ≡ hash_grain hashing (grain_of act) }
+        ensures { result ≡ record { sender = sender; version = version; number = number; hash = hash; act = act } }
+    {
         let request = Request {
             sender,
             version,
@@ -144,8 +159,8 @@ impl HashedRequest {
     }
 }
 
-// The grain that an act is about.
-fn grain_of(act: &Act) -> &GrainId
+/// The grain that an act is about.
+pub fn grain_of(act: &Act) -> &GrainId
     ensures { result.now ≡ grain_of act.now }
 {
     match act {

@@ -8,5 +8,5 @@ mod hashed_request;
 mod table;
 
 pub use alive::is_dead_in;
-pub use hashed_request::HashedRequest;
+pub use hashed_request::{HashedRequest, grain_of};
 pub use table::Table;

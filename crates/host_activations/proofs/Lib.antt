@@ -25,6 +25,7 @@ pub mod Ordered
 pub mod Changes
 pub mod ByCount
 pub mod Indexed
+pub mod Hashes
 pub mod SameHeld
 pub mod Tables
 pub mod FirmCounts

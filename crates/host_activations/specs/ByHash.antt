@@ -1,6 +1,6 @@
 -- The activations in order of hash: under the hash of each one's grain and its count, the index at which it stands.
-use Rattle.std.specs.Prelude.{◌≡◌, ◌↔◌, ℕ, List, Some, slice_get}
-use Rattle.std.specs.Map.{lookup}
+use Rattle.std.specs.Prelude.{◌≡◌, ◌↔◌, ℕ, List, Some, map, slice_get}
+use Rattle.std.specs.Map.{keys_of, lookup}
 use Rattle.std.specs.BTreeMap.{is_at}
 use Rattle.std.specs.Option.{option_map}
 use Rattle.std.specs.Ordering.{nat_cmp, on, then_cmp}
@@ -29,7 +29,12 @@ abbrev pub AreByHash : Hashing → List (Grain × Held) → List (HashedCount ×
 AreByHash hashing es by_hash =
     (key : HashedCount) (index : ℕ) → lookup (is_at (hashed_count_cmp key)) by_hash ≡ Some index ↔ option_map (key_of hashing) (slice_get es index) ≡ Some key
 
+-- the hashes of the activations' grains
+abbrev pub hashes_of : Hashing → List (Grain × Held) → List ℕ
+hashes_of hashing es = map (hash_grain hashing) (keys_of es)
+
 -- what the fields of activations keep
-pub record AreKept (hashing : Hashing) (next_count : ℕ) (es : List (Grain × Held)) (hashed : List (HashedCount × ℕ)) : Type 0 where
+pub record AreKept (hashing : Hashing) (next_count : ℕ) (es : List (Grain × Held)) (hashes : List ℕ) (hashed : List (HashedCount × ℕ)) : Type 0 where
   pub begun : AreBegun next_count es
+  pub are_hashes : hashes ≡ hashes_of hashing es
   pub by_hash : AreByHash hashing es hashed

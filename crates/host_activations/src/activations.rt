@@ -1,17 +1,18 @@
 ghost use Rattle.std.specs.BTreeMap.{is_at};
 ghost use Rattle.std.specs.List.{IsDistinct};
 ghost use Rattle.std.specs.Map.{keys_of, lookup, remove_entry, set_value};
-ghost use Rattle.std.specs.Prelude.{⊤, ◌≡◌, ◌+◌, ◌≤◌, ◌^◌, ◌++◌, [], ◌∷◌, if◌then◌else◌, None, Some, IfOk, IsSome, MatchOption, OnOk, OnErr, length, slice_get};
+ghost use Rattle.std.specs.Prelude.{⊤, ◌≡◌, ◌+◌, ◌<◌, ◌≤◌, ◌^◌, ◌++◌, [], ◌∷◌, if◌then◌else◌, None, Some, IfOk, IsSome, MatchOption, OnOk, OnErr, length, slice_get};
 ghost use Rattle.directory_rules.specs.declared.Phase.TheVariants.{Asking};
 ghost use Rattle.silo_address.specs.Grain.{Grain, grain_cmp, grain_eq};
 ghost use Rattle.host_activations.specs.Begun.{IsNext};
-ghost use Rattle.host_activations.specs.ByHash.{AreByHash, hashed_count_cmp, key_of};
+ghost use Rattle.hash_ring.specs.Hash.{hash_grain};
+ghost use Rattle.host_activations.specs.ByHash.{AreByHash, hashed_count_cmp, hashes_of, key_of};
 
 mod firm;
 mod order;
 mod same;
 
-use crate::by_hash::{ByHash, HashedCount, key_of};
+use crate::by_hash::{ByHash, HashedCount};
 use crate::kept::{Kept, held_at, held_of};
 use directory_rules::{Held, Phase, Settings};
 pub use firm::entry_on;
@@ -31,6 +32,8 @@ pub struct Activations {
     next_count: u64,
     map: GrainMap<Kept>,
     hashing: Hashing,
+    // The hashes of their grains, by index, so that a grain is hashed once, as its activation begins.
+    hashes: Vec<u32>,
     by_hash: ByHash,
 }
 
@@ -44,7 +47,7 @@ impl Model for Activations {
 
     ghost view = { λ a. record { next_count = a.next_count; entries = in_order a.map } };
 
-    ghost invariant = { λ a. AreKept a.hashing a.next_count a.map a.by_hash.entries };
+    ghost invariant = { λ a. AreKept a.hashing a.next_count a.map a.hashes.items a.by_hash.entries };
 }
 
 impl Activations {
@@ -57,6 +60,7 @@ impl Activations {
             next_count: 1,
             map: GrainMap::new(alloc),
             hashing: settings.hashing(),
+            hashes: Vec::new(alloc),
             by_hash: BTreeMap::new(alloc),
         }
     }
@@ -104,6 +108,7 @@ impl Activations {
             count: self.next_count,
         };
         let asking = Phase::Asking(number);
+        self.hashes.reserve(1)?;
         put_in(
             &mut self.map,
             &mut self.by_hash,
@@ -112,6 +117,7 @@ impl Activations {
             asking,
             previous,
         )?;
+        self.hashes.push_reserved(key.hash);
         self.map.apart();
         self.next_count += 1;
         Ok(())
@@ -130,8 +136,27 @@ impl Activations {
     pub fn end(&mut self, grain: &GrainId)
         ensures { self.new ≡ record self.old { entries = remove_entry (is_at (grain_cmp grain.now)) self.old.entries } }
     {
-        take_out(self.hashing, &mut self.map, &mut self.by_hash, grain);
+        take_out(
+            self.hashing,
+            &mut self.map,
+            &mut self.hashes,
+            &mut self.by_hash,
+            grain,
+        );
         self.map.apart();
+    }
+
+    /// The hash of a grain. Takes it as it is known where the grain has an activation, and where the hashing is the one by which
+    /// the activations are in order; otherwise hashes the grain.
+    pub fn hash_of(&self, hashing: Hashing, grain: &GrainId) -> u32
+        ensures { result ≡ hash_grain hashing grain.now }
+    {
+        if self.hashing.same(&hashing) {
+            if let Some((index, _)) = held_of(&self.map, grain) {
+                return hash_at(&self.hashes, index);
+            }
+        }
+        hashing.hash_grain(grain)
     }
 
     /// A law: each grain has one activation, and the next count is one that may be the next.
@@ -147,11 +172,13 @@ impl Activations {
         ensures { IfOk result (λ activations. activations ≡ self.now) }
     {
         let map = self.map.copy()?;
+        let hashes = self.hashes.clone()?;
         let by_hash = self.by_hash.clone()?;
         Ok(Activations {
             next_count: self.next_count,
             map,
             hashing: self.hashing,
+            hashes,
             by_hash,
         })
     }
@@ -209,31 +236,70 @@ fn put_in(
     }
 }
 
-// What is held of the grain, if anything, goes; the last one takes its room.
-fn take_out(hashing: Hashing, map: &mut GrainMap<Kept>, by_hash: &mut ByHash, grain: &GrainId)
-    requires { AreByHash hashing map.old by_hash.old.entries }
+// What is held of the grain, if anything, goes, and so does its hash; the last one takes its room.
+fn take_out(
+    hashing: Hashing,
+    map: &mut GrainMap<Kept>,
+    hashes: &mut Vec<u32>,
+    by_hash: &mut ByHash,
+    grain: &GrainId,
+)
+    requires hashes { hashes.old.items ≡ hashes_of hashing map.old }
+    requires by_hash { AreByHash hashing map.old by_hash.old.entries }
     ensures gone { (q : Grain) → lookup (is_at (grain_cmp q)) map.new ≡ (if is_at (grain_cmp grain.now) q then None else lookup (is_at (grain_cmp q)) map.old) }
+    ensures hashes { hashes.new.items ≡ hashes_of hashing map.new }
     ensures by_hash { AreByHash hashing map.new by_hash.new.entries }
 {
     map.apart();
     let Some((index, held)) = held_of(map, grain) else {
         return;
     };
-    let key = key_of(hashing, grain, &held);
+    let key = HashedCount {
+        hash: hash_at(hashes, index),
+        count: held.count,
+    };
     map.swap_remove(index);
+    hashes.swap_remove(index);
     by_hash.remove(&key);
-    note_index(hashing, map, by_hash, index);
+    note_index(hashing, map, hashes, by_hash, index);
 }
 
 // The activation that stands at the index now, if there is one, is found there by its hash.
-fn note_index(hashing: Hashing, map: &GrainMap<Kept>, by_hash: &mut ByHash, index: usize)
-    requires { MatchOption (slice_get map.now index) ⊤ (λ e. IsSome (lookup (is_at (hashed_count_cmp (key_of hashing e))) by_hash.old.entries)) }
+fn note_index(
+    hashing: Hashing,
+    map: &GrainMap<Kept>,
+    hashes: &Vec<u32>,
+    by_hash: &mut ByHash,
+    index: usize,
+)
+    requires hashes { hashes.now.items ≡ hashes_of hashing map.now }
+    requires there { MatchOption (slice_get map.now index) ⊤ (λ e. IsSome (lookup (is_at (hashed_count_cmp (key_of hashing e))) by_hash.old.entries)) }
     ensures { MatchOption (slice_get map.now index) (by_hash.new.entries ≡ by_hash.old.entries) (λ e. (q : HashedCount) → lookup (is_at (hashed_count_cmp q)) by_hash.new.entries
         ≡ (if is_at (hashed_count_cmp (key_of hashing e)) q then Some index else lookup (is_at (hashed_count_cmp q)) by_hash.old.entries)) }
 {
-    if let Some((grain, held)) = held_at(map, index) {
-        let key = key_of(hashing, &grain, &held);
-        let put: Result<_, _> = by_hash.insert(key, index);
-        put.unwrap();
+    if let Some((_, held)) = held_at(map, index) {
+        let key = HashedCount {
+            hash: hash_at(hashes, index),
+            count: held.count,
+        };
+        move_to(by_hash, key, index);
     }
+}
+
+// What stands under the key, where something does, is this index from now on.
+fn move_to(by_hash: &mut ByHash, key: HashedCount, index: usize)
+    requires { IsSome (lookup (is_at (hashed_count_cmp key)) by_hash.old.entries) }
+    ensures { (q : HashedCount) → lookup (is_at (hashed_count_cmp q)) by_hash.new.entries
+        ≡ (if is_at (hashed_count_cmp key) q then Some index else lookup (is_at (hashed_count_cmp q)) by_hash.old.entries) }
+{
+    let put: Result<_, _> = by_hash.insert(key, index);
+    put.unwrap();
+}
+
+// The hash at the index.
+fn hash_at(hashes: &Vec<u32>, index: usize) -> u32
+    requires { index < length hashes.now.items }
+    ensures { slice_get hashes.now.items index ≡ Some result }
+{
+    hashes[index]
 }

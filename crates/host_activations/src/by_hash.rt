@@ -1,11 +1,7 @@
 //! Activations in order of hash.
 ghost use Rattle.std.specs.Prelude.{◌≡◌};
-ghost use Rattle.host_activations.specs.ByHash.{key_of};
 ghost use Rattle.host_activations.specs.Stretch.{end_at, first_at};
 
-use directory_rules::Held;
-use hash_ring::Hashing;
-use silo_address::GrainId;
 use std::collections::BTreeMap;
 use std::ops::Bound;
 
@@ -21,16 +17,6 @@ pub(crate) struct HashedCount {
 
 /// Activations in order of hash: under each hashed count the index at which the activation stands in a map.
 pub(crate) type ByHash = BTreeMap<HashedCount, usize>;
-
-/// The hashed count of an activation.
-pub(crate) fn key_of(hashing: Hashing, grain: &GrainId, held: &Held) -> HashedCount
-    ensures { result ≡ key_of hashing (grain.now, held.now) }
-{
-    HashedCount {
-        hash: hashing.hash_grain(grain),
-        count: held.count,
-    }
-}
 
 /// What no hashed count with that hash or a higher one is below.
 pub(crate) fn first_at(hash: u32) -> HashedCount

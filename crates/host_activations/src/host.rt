@@ -1,5 +1,6 @@
 ghost use Rattle.std.specs.Prelude.{◌≡◌, IfOk, length};
 ghost use Rattle.directory_rules.specs.Host.{held_of, new_host};
+ghost use Rattle.hash_ring.specs.Hash.{hash_grain};
 
 mod begin;
 mod end;
@@ -12,6 +13,7 @@ mod telling;
 use crate::Activations;
 use crate::asked::Asked;
 use directory_rules::{Held, Settings};
+use hash_ring::Hashing;
 pub use renewal::Renewal;
 use silo_address::{GrainId, SiloAddress};
 use std::alloc::{AllocError, Global};
@@ -84,6 +86,13 @@ impl Host {
         ensures { result ≡ held_of self.now grain.now }
     {
         self.held.get(grain)
+    }
+
+    /// The hash of a grain. It needn't be hashed again where the host holds an activation of it, and was set up with that hashing.
+    pub fn hash_of(&self, hashing: Hashing, grain: &GrainId) -> u32
+        ensures { result ≡ hash_grain hashing grain.now }
+    {
+        self.held.hash_of(hashing, grain)
     }
 
     /// How many activations the host holds.

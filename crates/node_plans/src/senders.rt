@@ -11,7 +11,7 @@ use crate::plan::list_of;
 use directory_letters::{Body, Letter};
 use directory_rules::{Act, PieceState, Settings};
 use grain_partition::{Holding, Piece};
-use grain_table::HashedRequest;
+use grain_table::{HashedRequest, grain_of};
 use hash_ring::Ring;
 use host_activations::Host;
 use membership_view::View;
@@ -165,7 +165,9 @@ impl Sender<'_> {
         ensures { result ≡ request_of (sending self.now) number act }
     {
         let hashing = self.settings.hashing();
-        HashedRequest::of(hashing, self.host.silo(), self.view.version(), number, act)
+        let hash = self.host.hash_of(hashing, grain_of(&act));
+        let version = self.view.version();
+        HashedRequest::hashed(hashing, self.host.silo(), version, number, hash, act)
     }
 
     // Who owns a hash, by the ring of the view seen.

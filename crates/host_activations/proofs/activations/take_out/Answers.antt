@@ -4,18 +4,26 @@ use Rattle.std.specs.BTreeMap.{is_at}
 use Rattle.std.specs.Prelude.{slice_get}
 use Rattle.host_activations.specs.ByHash.{hashed_count_cmp}
 use Rattle.host_activations.proofs.Changes.{Gives, gives_out}
+use Rattle.host_activations.proofs.Hashes.{ended_hashes, has_hash, its_key}
 use Rattle.host_activations.proofs.Indexed.{at_some, ended_by_hash, none_gone, still_there}
 use Rattle.host_activations.proofs.activations.take_out.Goals as goal
 
 pub returns-in_default-clause-gone : goal.returns-in_default-clause-gone
 returns-in_default-clause-gone c = none_gone c.args.map.now c.args.grain.now (sym c.in_default.ensures.value)
 
+pub hash_at-requires : goal.hash_at-requires
+hash_at-requires c = has_hash c.args.hashing c.args.map.now c.args.hashes.now.items c.requires.hashes c.in-Some.index _ c.in-Some.ensures.entry
+
 pub note_index-requires : goal.note_index-requires
 note_index-requires c =
+    let key = its_key c.args.hashing c.args.map.now c.args.hashes.now.items c.requires.hashes c.in-Some.index _ c.in-Some.ensures.entry c.hash_at.result c.hash_at.ensures in
     let new : c.swap_remove.new.self ≡ swap_remove c.args.map.now c.in-Some.index (c.args.grain.now, c.in-Some.held) =
     at_some _ (λ e. c.swap_remove.new.self ≡ swap_remove c.args.map.now c.in-Some.index e) (slice_get c.args.map.now c.in-Some.index) (c.args.grain.now, c.in-Some.held) c.in-Some.ensures.entry c.swap_remove.ensures in
-    still_there c.args.hashing c.args.map.now c.args.by_hash.now.entries c.requires c.in-Some.index (c.args.grain.now, c.in-Some.held) c.in-Some.ensures.entry c.swap_remove.new.self new c.remove.new.self.entries
-    (λ q. c.remove.ensures.updates.0 q ∙ ap (λ k. cond (is_at (hashed_count_cmp k) q) None (lookup (is_at (hashed_count_cmp q)) c.args.by_hash.now.entries)) c.key_of-key.ensures)
+    record {
+      hashes = ended_hashes c.args.hashing c.args.map.now c.args.hashes.now.items c.requires.hashes c.in-Some.index (c.args.grain.now, c.in-Some.held) c.in-Some.ensures.entry c.swap_remove.new.self new _ c.swap_remove-2.new.self.items c.swap_remove-2.ensures.items;
+      there = still_there c.args.hashing c.args.map.now c.args.by_hash.now.entries c.requires.by_hash c.in-Some.index (c.args.grain.now, c.in-Some.held) c.in-Some.ensures.entry c.swap_remove.new.self new c.remove.new.self.entries
+          (λ q. c.remove.ensures.updates.0 q ∙ ap (λ k. cond (is_at (hashed_count_cmp k) q) None (lookup (is_at (hashed_count_cmp q)) c.args.by_hash.now.entries)) key);
+    }
 
 pub returns-clause-gone : goal.returns-clause-gone
 returns-clause-gone c =
@@ -25,8 +33,15 @@ returns-clause-gone c =
 
 pub returns-clause-by_hash : goal.returns-clause-by_hash
 returns-clause-by_hash c =
+    let key = its_key c.args.hashing c.args.map.now c.args.hashes.now.items c.requires.hashes c.in-Some.index _ c.in-Some.ensures.entry c.hash_at.result c.hash_at.ensures in
     let new : c.swap_remove.new.self ≡ swap_remove c.args.map.now c.in-Some.index (c.args.grain.now, c.in-Some.held) =
     at_some _ (λ e. c.swap_remove.new.self ≡ swap_remove c.args.map.now c.in-Some.index e) (slice_get c.args.map.now c.in-Some.index) (c.args.grain.now, c.in-Some.held) c.in-Some.ensures.entry c.swap_remove.ensures in
-    ended_by_hash c.args.hashing c.args.map.now c.args.by_hash.now.entries c.requires c.in-Some.index (c.args.grain.now, c.in-Some.held) c.in-Some.ensures.entry c.swap_remove.new.self new c.remove.new.self.entries
-    (λ q. c.remove.ensures.updates.0 q ∙ ap (λ k. cond (is_at (hashed_count_cmp k) q) None (lookup (is_at (hashed_count_cmp q)) c.args.by_hash.now.entries)) c.key_of-key.ensures)
+    ended_by_hash c.args.hashing c.args.map.now c.args.by_hash.now.entries c.requires.by_hash c.in-Some.index (c.args.grain.now, c.in-Some.held) c.in-Some.ensures.entry c.swap_remove.new.self new c.remove.new.self.entries
+    (λ q. c.remove.ensures.updates.0 q ∙ ap (λ k. cond (is_at (hashed_count_cmp k) q) None (lookup (is_at (hashed_count_cmp q)) c.args.by_hash.now.entries)) key)
     c.note_index.new.by_hash.entries c.note_index.ensures
+
+pub returns-clause-hashes : goal.returns-clause-hashes
+returns-clause-hashes c =
+    let new : c.swap_remove.new.self ≡ swap_remove c.args.map.now c.in-Some.index (c.args.grain.now, c.in-Some.held) =
+    at_some _ (λ e. c.swap_remove.new.self ≡ swap_remove c.args.map.now c.in-Some.index e) (slice_get c.args.map.now c.in-Some.index) (c.args.grain.now, c.in-Some.held) c.in-Some.ensures.entry c.swap_remove.ensures in
+    ended_hashes c.args.hashing c.args.map.now c.args.hashes.now.items c.requires.hashes c.in-Some.index (c.args.grain.now, c.in-Some.held) c.in-Some.ensures.entry c.swap_remove.new.self new _ c.swap_remove-2.new.self.items c.swap_remove-2.ensures.items

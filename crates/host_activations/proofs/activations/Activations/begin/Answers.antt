@@ -7,6 +7,7 @@ use Rattle.host_activations.specs.Activations.{ActivationsValue}
 use Rattle.host_activations.specs.ByHash.{hashed_count_cmp}
 use Rattle.host_activations.specs.InOrder.{in_order}
 use Rattle.host_activations.proofs.Changes.{at, begun_are, begun_told}
+use Rattle.host_activations.proofs.Hashes.{begun_hashes}
 use Rattle.host_activations.proofs.Indexed.{begun_by_hash}
 use Rattle.host_activations.proofs.Ordered.{lookup_in_order}
 use Rattle.host_activations.proofs.activations.Activations.begin.Goals as goal
@@ -22,6 +23,7 @@ invariant_of-self-2 c =
     record {
       begun = begun_are c.self.inside.next_count c.self.inside.map c.self.invariant.begun c.args.grain held none refl
           (subst (λ (v : ActivationsValue). v.next_count ≤ 2 ^ 60) (sym c.self.view_is) c.requires.count) c.put_in.new.map c.in_ok-put_in.ensures.map c.apart.ensures;
+      are_hashes = begun_hashes c.self.inside.hashing c.self.inside.map c.self.inside.hashes.items c.self.invariant.are_hashes c.args.grain held c.put_in.new.map c.in_ok-put_in.ensures.map _ c.hash_grain.ensures _ (c.push_reserved.ensures.items ∙ ap (λ l. l ++ c.hash_grain.result ∷ []) c.in_ok-reserve.ensures.items);
       by_hash = begun_by_hash c.self.inside.hashing c.self.inside.next_count c.self.inside.map c.self.inside.by_hash.entries c.self.invariant.begun c.self.invariant.by_hash c.args.grain held refl
           c.put_in.new.map c.in_ok-put_in.ensures.map c.put_in.new.by_hash.entries
           (λ q. c.in_ok-put_in.ensures.by_hash q
