@@ -1,4 +1,5 @@
-ghost use Rattle.std.specs.Prelude.{◌≡◌, IfErr, IfOk, OnErr, None, length};
+ghost use Rattle.std.specs.Prelude.{◌≡◌, IfErr, IfNone, IfOk, IfSome, Ok, OnErr, None, length};
+ghost use Rattle.directory_rules.specs.Cache.{hint_of};
 ghost use Rattle.directory_rules.specs.Step.{finding, find_grain, forget, silently, started, wake};
 ghost use Rattle.hash_ring.specs.Ring.{is_active_in};
 ghost use Rattle.node_plans.specs.Follows.{Follows};
@@ -7,7 +8,7 @@ ghost use Rattle.node_plans.specs.Plans.{Fits, Sends, step_by};
 
 use crate::{Change, Node, Plan, StepRefusal};
 use directory_rules::{Act, Effect};
-use node_plans::{forget, hint_in};
+use node_plans::{forget, hint_in, use_hint};
 use silo_address::{ActivationId, Entry, GrainId, SiloAddress};
 use std::alloc::{AllocError, Global};
 
@@ -120,6 +121,22 @@ impl Node {
                 Effect::Forgot(*grain)
             }
             None => Effect::NothingCached(*grain),
+        }
+    }
+
+    /// The silo looks a grain up in its cache alone, at once: where that has a hint, what `carry_out` makes of the plan to find it.
+    /// `None` where there is no hint, and then nothing changes. Needs no memory.
+    pub fn find_hint(&mut self, grain: &GrainId) -> Option<Effect>
+        ensures found { IfSome result (λ effect. find_grain self.old grain.now ≡ Ok (silently self.new effect)) }
+        ensures none { IfNone result (hint_of self.old.cache grain.now ≡ None) }
+        ensures unchanged { IfNone result (self.new ≡ self.old) }
+    {
+        match use_hint(&mut self.cache, grain) {
+            Some(activation) => {
+                let grain = *grain;
+                Some(Effect::Cached(Entry { grain, activation }))
+            }
+            None => None,
         }
     }
 

@@ -1,3 +1,4 @@
 pub mod Back
 pub mod Places
 pub mod UnchangedNodes
+pub mod Hinted

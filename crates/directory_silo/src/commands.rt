@@ -6,7 +6,7 @@ ghost use Rattle.directory_node.specs.Memory.{MayLackMemory};
 ghost use Rattle.directory_silo.specs.AnswerModel.{stepped_as};
 ghost use Rattle.directory_silo.specs.Numbers.{silo_refusal_number};
 ghost use Rattle.silo_rules.specs.Steps.{does, receives};
-ghost use Rattle.directory_silo.specs.Heeded.{IsHeeded};
+ghost use Rattle.directory_silo.specs.Heeded.{HasNoHint, IsHeeded};
 ghost use Rattle.silo_rules.specs.Told.{IsNever};
 
 use crate::{Answer, Silo, SiloRefusal};
@@ -39,13 +39,20 @@ impl Silo {
     }
 
     /// The grain is looked up: the cache tells its activation, or its owner is asked. Refused by 901, 902, 806, 805
-    /// (`docs/RULES.md#the-world`).
+    /// (`docs/RULES.md#the-world`). Needs no memory where the cache tells it.
     pub fn find(&mut self, grain: &GrainId) -> Result<Answer, SiloRefusal>
-        ensures told { Follows (stepped_as self.new) silo_refusal_number IsOk (does self.old (Finds grain.now)) result }
+        ensures told { Follows (stepped_as self.new) silo_refusal_number (HasNoHint self.old grain.now) (does self.old (Finds grain.now)) result }
         ensures membership { self.new.membership ≡ self.old.membership }
         ensures unchanged { OnErr result (self.new ≡ self.old) }
     {
-        self.does(&Input::Finds(grain))
+        self.may_step()?;
+        if let Some(effect) = self.node.find_hint(grain) {
+            return Ok(Answer {
+                letters: Vec::new(self.alloc),
+                effect,
+            });
+        }
+        self.takes(&Input::Finds(grain))
     }
 
     /// What the cache has of the grain is forgotten. Refused by 901, 902 (`docs/RULES.md#the-world`). Needs no memory.

@@ -1,6 +1,6 @@
 //! A step of the silo's node is planned, which changes nothing yet, and then carried out.
 ghost use Rattle.std.specs.Prelude.{◌≡◌, IfErr, IfOk, IsOk, IsSome, None, OnErr, OnOk, Result, ℕ};
-ghost use Rattle.directory_rules.specs.Input.{Receives};
+ghost use Rattle.directory_rules.specs.Input.{Receives, step};
 ghost use Rattle.directory_rules.specs.Letter.{kind_of};
 ghost use Rattle.directory_rules.specs.Step.{Stepped};
 ghost use Rattle.directory_node.specs.Follows.{Follows, RefusesBy};
@@ -26,8 +26,18 @@ impl Silo {
         ensures membership { self.new.membership ≡ self.old.membership }
         ensures unchanged { OnErr result (self.new ≡ self.old) }
     {
-        self.whole();
         self.may_step()?;
+        self.takes(input)
+    }
+
+    // The same where nothing bars the silo.
+    pub(crate) fn takes(&mut self, input: &Input<'_>) -> Result<Answer, SiloRefusal>
+        requires { IsNoSight (input_of input.now) }
+        ensures told { Follows (stepped_as self.new) silo_refusal_number IsOk (step self.old.node (input_of input.now)) result }
+        ensures membership { self.new.membership ≡ self.old.membership }
+        ensures unchanged { OnErr result (self.new ≡ self.old) }
+    {
+        self.whole();
         let plan = match self.node.plan(self.alloc, input) {
             Ok(plan) => plan,
             Err(refusal) => return Err(SiloRefusal::of_node(refusal)),

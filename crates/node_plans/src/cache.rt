@@ -47,12 +47,14 @@ pub fn learn(cache: &mut Option<Cache>, entry: Entry) -> Result<(), AllocError>
     }
 }
 
-/// The hint of the grain is the most recent one, if there is one.
-pub fn use_hint(cache: &mut Option<Cache>, grain: &GrainId)
-    ensures { cache_of cache.new ≡ used (cache_of cache.old) grain.now }
+/// What the cache has for the grain, if anything; that hint is the most recent one from now on.
+pub fn use_hint(cache: &mut Option<Cache>, grain: &GrainId) -> Option<ActivationId>
+    ensures hint { result ≡ hint_of (cache_of cache.old) grain.now }
+    ensures used { cache_of cache.new ≡ used (cache_of cache.old) grain.now }
 {
-    if let Some(cache) = cache {
-        cache.find(grain);
+    match cache {
+        Some(cache) => cache.find(grain),
+        None => None,
     }
 }
 

@@ -2,7 +2,7 @@ use Rattle.directory_node.specs.InputModel.{input_of}
 use Rattle.directory_node.specs.Plans.{step_by}
 use Rattle.directory_silo.specs.SiloModel.{silo_of}
 use Rattle.silo_rules.proofs.Whole.{input_kept}
-use Rattle.directory_silo.proofs.silo.Silo.does.Goals as goal
+use Rattle.directory_silo.proofs.silo.Silo.takes.Goals as goal
 
 pub take-requires-clause-leaves : goal.take-requires-clause-leaves
 take-requires-clause-leaves c =
