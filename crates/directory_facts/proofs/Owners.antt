@@ -19,7 +19,7 @@ use Rattle.directory_rules.specs.declared.piece_state.PieceState.TheVariants as 
 use Rattle.directory_rules.specs.Settings.{Settings}
 use Rattle.directory_rules.specs.Piece.{Piece}
 use Rattle.directory_rules.specs.Sight.{is_next}
-use Rattle.directory_rules.specs.Snapshot.{Snapshot, Page, ShelfAnswer, Hands_page, Has_none, Is_behind, page_count, page_of, page_from, is_snapshot, shelf_answer}
+use Rattle.directory_rules.specs.Snapshot.{Snapshot, Page, Hands_page, Has_none, Is_behind, page_count, page_of, page_from, is_snapshot, shelf_answer}
 use Rattle.directory_rules.proofs.Cases.{on_bool}
 use Rattle.directory_rules.specs.Host.{Host, outstanding, entry_of, next_held, with_started, with_closing, with_find, without_find, without_held, confirmed, renewed}
 use Rattle.directory_rules.specs.Letter.{Letter, Body, Request_letter, Offer_letter, Query_letter}

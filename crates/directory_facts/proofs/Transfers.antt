@@ -1,11 +1,9 @@
 -- A snapshot's pages complete a gathering with its entries; the last page, and the last report, settle their piece with what is had then.
-use Rattle.std.proofs.Common.{arith, ◌≡◌, refl, sym, ap, subst, ◌∙◌, ℕ, zero, suc, ◌+◌, ◌-◌, ◌*◌, ◌/◌, ◌<◌, ◌≤◌, List, [], ◌∷◌, ◌++◌, length, take, drop, map}
+use Rattle.std.proofs.Common.{arith, ◌≡◌, refl, sym, ap, subst, ◌∙◌, ℕ, zero, suc, ◌+◌, ◌*◌, ◌/◌, ◌<◌, ◌≤◌, List, [], ◌∷◌, ◌++◌, length, take, drop, map}
 use Rattle.std.specs.Prelude.{◌==◌, ◌&&◌, ◌||◌, not, nat_lt, nat_le, Bool, true, false, cond, is_some, if◌then◌else◌, Option, Some, None, fold}
 use Rattle.std.specs.Ordering.{nat_cmp}
 use Rattle.std.specs.Cmp.Lexicographic.{pointwise}
 use Rattle.std.specs.List.{list_all, range_with_len}
-use Rattle.std.specs.Map.{lookup}
-use Rattle.std.specs.BTreeMap.{is_at}
 use Rattle.std.proofs.lemmas.Bool.{eq-eqb, eqb-false, lt-ltb, ltb-true, le-leb}
 use Rattle.std.proofs.lemmas.List.{length-take, length-drop}
 use Rattle.std.proofs.lemmas.Cmp.{nat_cmp_total}
@@ -20,17 +18,16 @@ use Rattle.directory_rules.specs.declared.piece_state.PieceState.TheVariants.{Se
 use Rattle.directory_rules.specs.Settings.{page_size}
 use Rattle.directory_rules.specs.Piece.{Piece}
 use Rattle.directory_rules.specs.Table.{Table, table_of, rise_by_grain, lie_in}
-use Rattle.directory_rules.specs.Snapshot.{Snapshot, Page, page_count, page_entries, page_of, digest_of}
+use Rattle.directory_rules.specs.Snapshot.{Snapshot, page_count, page_entries, page_of, digest_of}
 use Rattle.directory_rules.specs.Gatherings.{Gathering, Whole, Gathered, Wants_page, Has_all, Refuses, new_gathering, with_page, is_in_turn, completed, gathered, agrees, is_entry_count}
-use Rattle.directory_rules.specs.Recovery.{Report, Has_union, recovered}
-use Rattle.directory_rules.specs.Letter.{Letter}
+use Rattle.directory_rules.specs.Recovery.{recovered}
 use Rattle.directory_rules.specs.Node.{Node}
 use Rattle.directory_rules.specs.Sent.{gathering_of, recovery_of}
 use Rattle.directory_rules.specs.Step.{silently}
 use Rattle.directory_rules.specs.declared.effect.Effect.TheVariants as effect
-use Rattle.directory_rules.specs.Transfer.{piece_at, has_range, is_awaiting_from, is_recovering, awaits, recovers, with_settled, gathered_by, recovered_by, is_page_awaited, paged, is_report_awaited, reported}
+use Rattle.directory_rules.specs.Transfer.{piece_at, has_range, is_awaiting_from, is_recovering, awaits, recovers, with_settled, gathered_by, recovered_by}
 use Rattle.directory_rules.proofs.Cases.{on_bool}
-use Rattle.directory_facts.specs.Transfers.{pages_of, then_page, PagesAreTheSnapshot, IsSettledWith, LastPageSettles, LastReportSettles}
+use Rattle.directory_facts.specs.Transfers.{then_page, PagesAreTheSnapshot, IsSettledWith, LastPageSettles, LastReportSettles}
 use Rattle.directory_facts.proofs.Lookups.{found_set}
 use Rattle.directory_facts.proofs.PagesTaken.{page_more, all_pages}
 
