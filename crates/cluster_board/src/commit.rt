@@ -96,7 +96,7 @@ impl<L: Ledger + Names> Board<L> {
         self.marked.get(silo)
     }
 
-    // Work that nothing but want of memory refuses is carried out.
+    // Work is carried out that is refused only where memory runs out.
     fn carry_out(
         &mut self,
         share: &mut Share<L>,
@@ -212,7 +212,7 @@ fn limit_met<N: Names>(world: &World, job: &Job<N>, plan: &Plan) -> Option<Commi
     None
 }
 
-// The letter of work that nothing but want of memory refuses comes to its receiver. The lent node is let go first, so that the
+// The letter of work that is refused only where memory runs out comes to its receiver. The lent node is let go first, so that the
 // receiver's is changed where it is, unless somebody else holds it; where memory runs out, it is lent again.
 fn deliver<N: Names>(world: &mut World, job: Job<N>, plan: Plan) -> Result<Outcome, Option<Job<N>>>
     requires planned { IsPlanOf job plan }

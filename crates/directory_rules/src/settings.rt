@@ -44,7 +44,8 @@ impl Model for Settings {
 
 impl Settings {
     /// A directory's own settings: how it hashes, how many points a silo has where they are hashed (1 to 128), and how many
-    /// entries a cache keeps (0 to 65536; 0 keeps none). The limits are the greatest. `None` where a number is out of its range.
+    /// entries a cache keeps (0 to 65536; 0 keeps none). Its limits are those of a script's cluster
+    /// (`docs/RULES.md#settings`). `None` where a number is out of its range.
     pub fn of_directory(hashing: Hashing, points: usize, cache: usize) -> Option<Settings>
         ensures exact { IfSome result (λ settings. settings ≡ directory_settings hashing points cache) }
         ensures in_range { IsSome result ↔ ((1 ≤ points) × (points ≤ 128) × (cache ≤ 65536)) }

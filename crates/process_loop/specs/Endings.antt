@@ -67,7 +67,7 @@ pub record LacksMemory (input : List ℕ) (silo : SiloValue) (front chunk text :
   pub answered : text ≡ written_on (lines ++ [] ∷ []) silo
   pub wanted : IsWanted silo lines line front chunk
 
--- where the process stops so for want of memory
+-- where the process stops so because memory runs out
 abbrev pub StopsBefore : (input : List ℕ) → SiloValue → (front chunk text : List ℕ) → Stopped → Type 0
 StopsBefore input silo front chunk text OutOfMemory = LacksMemory input silo front chunk text
 StopsBefore input silo front chunk text other = ⊤
