@@ -111,7 +111,7 @@ hashed_count_crosses = structure hashed_count.the_type (fields hashed_count.the_
 
 activations_cross : Crosses activations.the_row
 activations_cross =
-    modelled activations_inside.the_type _ _ _ _ (number64, (grain_map_crosses kept.the_row kept_crosses, (hashing_crosses, (search (mapped, hashed_count_crosses, number64), tt))))
+    modelled activations_inside.the_type _ _ _ _ (number64, (grain_map_crosses kept.the_row kept_crosses, (hashing_crosses, (listed u32 number32, (search (mapped, hashed_count_crosses, number64), tt)))))
 
 asked_crosses : Crosses asked.the_row
 asked_crosses = choice asked.the_type (variants asked.the_type ((grain_crosses, tt), ((grain_crosses, tt), tt)))
