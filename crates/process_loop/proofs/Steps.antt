@@ -1,11 +1,11 @@
 -- Steps, by what was taken over and what was answered.
-use Rattle.std.proofs.Common.{◌≡◌, ◌⊎◌, ◌==◌, inr, ℕ, zero, suc, ◌<◌, ◌≤◌, Bool, false, List, [], ◌++◌, length, take, drop, Some, ap, arith, refl, ◌∙◌, subst, sym}
+use Rattle.std.proofs.Common.{◌≡◌, ◌⊎◌, ◌==◌, inl, inr, ℕ, zero, suc, ◌<◌, ◌≤◌, Bool, false, List, [], ◌++◌, length, take, drop, Some, Result, Ok, Err, IfOk, IsErr, OnErr, ap, arith, refl, ◌∙◌, subst, sym}
 use Rattle.std.proofs.lemmas.List.{length-drop, length-take, take_all}
 use Rattle.memchr.specs.Find.{IsFirstByte, is_byte}
 use Rattle.texts.specs.Words.{line_feed}
 use Rattle.silo_rules.specs.SiloValue.{SiloValue}
 use Rattle.process_loop.specs.Answering.{AnswersLine, MayLackMemory}
-use Rattle.process_loop.specs.Progress.{HasAnswered, Progress, WantsAnswer, kept, line_taken, most_kept}
+use Rattle.process_loop.specs.Progress.{AnswersOne, HasAnswered, Lacks, Progress, WantsAnswer, kept, line_taken, most_kept}
 use Rattle.process_loop.proofs.Lines.{cut_there}
 
 -- all of a line in the chunk is kept of it
@@ -55,6 +55,25 @@ begun_lacks silo old count found wanted = record {
 pub unkept_lacks : (silo : SiloValue) (old : Progress) (line : List ℕ) (count : ℕ) → IsFirstByte (is_byte line_feed) old.unread (Some count) → old.begun ≡ []
     → length old.unread ≤ most_kept → line ≡ take count old.unread → MayLackMemory silo line → WantsAnswer silo old
 unkept_lacks silo old line count found unkept fits is lacks = begun_lacks silo old count found (inr (subst (MayLackMemory silo) (whole_kept old line count unkept fits is) lacks))
+
+pub answers_there : {E : Type 0} (silo : SiloValue) (old : Progress) (next : SiloValue) (new : Progress) (line : List ℕ) (count : ℕ) (answered : Result Bool E)
+    → IsFirstByte (is_byte line_feed) old.unread (Some count) → old.begun ≡ [] → length old.unread ≤ most_kept → line ≡ take count old.unread → new.left ≡ old.left → new.ended ≡ old.ended
+    → new.unread ≡ drop (suc count) old.unread → new.begun ≡ [] → IfOk answered (λ ends. AnswersLine silo line old.waiting next new.waiting ends)
+    → OnErr answered (new.waiting ≡ old.waiting) → OnErr answered (MayLackMemory silo line) → AnswersOne silo old next new answered
+answers_there silo old next new line count (Ok ends) found unkept fits is left end unread none answers unwritten lacks =
+    answered_there silo old next new line count ends found unkept fits is left end unread none answers
+answers_there silo old next new line count (Err error) found unkept fits is left end unread none answers unwritten lacks =
+    (unwritten, inl (unkept_lacks silo old line count found unkept fits is lacks))
+
+-- or memory ran out
+pub lacks_then : {E : Type 0} (silo : SiloValue) (old : Progress) (next : SiloValue) (new : Progress) (answered : Result Bool E) → IsErr answered → Lacks silo old new → AnswersOne silo old next new answered
+lacks_then silo old next new (Ok ends) is lacks = absurd (cc)
+lacks_then silo old next new (Err error) is lacks = lacks
+
+-- which is so where that was told
+pub lacked : {E : Type 0} (silo : SiloValue) (old : Progress) (next : SiloValue) (found new : Progress) (answered told : Result Bool E) (error : E) → AnswersOne silo old next found answered
+    → told ≡ answered → told ≡ Err error → new ≡ found → Lacks silo old new
+lacked silo old next found new answered told error answers same is at = subst (Lacks silo old) (sym at) (subst (AnswersOne silo old next found) (sym same ∙ is) answers)
 
 -- a line is begun where it isn't empty
 pub some_begun : (size : ℕ) (empty : Bool) → empty ≡ (size == 0) → empty ≡ false → 0 < size

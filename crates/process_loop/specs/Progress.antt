@@ -1,5 +1,5 @@
 -- How far a process has come, and what steps make of that.
-use Rattle.std.specs.Prelude.{◌≡◌, ◌⊎◌, ℕ, suc, ◌+◌, ◌-◌, ◌*◌, ◌<◌, Bool, true, false, if◌then◌else◌, List, [], ◌∷◌, ◌++◌, length, take, drop, None}
+use Rattle.std.specs.Prelude.{◌≡◌, ◌⊎◌, ℕ, suc, ◌+◌, ◌-◌, ◌*◌, ◌<◌, Bool, true, false, if◌then◌else◌, List, [], ◌∷◌, ◌++◌, length, take, drop, MatchResult, None, Result}
 use Rattle.memchr.specs.Find.{IsFirstByte, is_byte}
 use Rattle.texts.specs.Words.{line_feed, pieces_at}
 use Rattle.silo_rules.specs.SiloValue.{SiloValue}
@@ -112,11 +112,19 @@ WantsRest at = HasNoEnd at.unread × (0 < length (at.begun ++ at.unread))
 abbrev pub WantsMemory : SiloValue → Progress → Type 0
 WantsMemory silo at = WantsAnswer silo at ⊎ WantsRest at
 
+-- memory ran out
+abbrev pub Lacks : SiloValue → Progress → Progress → Type 0
+Lacks silo old new = (new.waiting ≡ old.waiting) × WantsMemory silo old
+
+-- a line that ended is answered, or memory ran out
+abbrev pub AnswersOne : {E : Type 0} → SiloValue → Progress → SiloValue → Progress → Result Bool E → Type 0
+AnswersOne old_silo old new_silo new answered = MatchResult answered (HasAnswered old_silo old new_silo new) (λ _. Lacks old_silo old new)
+
 -- how a step may stop the process
 abbrev pub StopsStep : SiloValue → Progress → SiloValue → Progress → Stopped → Type 0
 StopsStep old_silo old new_silo new stopped.AtEnd = HasEnded old new
 StopsStep old_silo old new_silo new stopped.Dead = HasAnswered old_silo old new_silo new true
-StopsStep old_silo old new_silo new stopped.OutOfMemory = (new.waiting ≡ old.waiting) × WantsMemory old_silo old
+StopsStep old_silo old new_silo new stopped.OutOfMemory = Lacks old_silo old new
 StopsStep old_silo old new_silo new other = ⊥
 
 -- what a step did

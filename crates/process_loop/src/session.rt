@@ -54,7 +54,7 @@ pub(crate) struct Session {
 }
 
 impl Session {
-    ghost use Rattle.process_loop.specs.Progress.{HasNoEnd, Steps, begun_by, first_progress, line_taken, progress, rest_taken};
+    ghost use Rattle.process_loop.specs.Progress.{AnswersOne, HasNoEnd, Steps, begun_by, first_progress, line_taken, progress, rest_taken};
 
     /// Before the first line.
     pub(crate) fn new(alloc: Global) -> Result<Session, AllocError>
@@ -84,45 +84,54 @@ impl Session {
     }
 
     // Has the line answered whose end stands behind so many bytes.
-    fn answer<P: SiloPlayer>(&mut self, player: &mut P, length: usize) -> Step
-        requires found { IsFirstByte (is_byte line_feed) (progress self.old).unread (Some length) }
-        ensures { Steps (P.silo player.old) (progress self.old) (P.silo player.new) (progress self.new) result }
-    {
-        if self.line.is_empty() {
-            return self.answer_unkept(player, length);
-        }
-        let Ok(()) = self.take_line(length) else {
-            return Step::Stops(Stopped::OutOfMemory);
-        };
-        match player.answer_line(self.alloc, &self.line, &mut self.out) {
-            Ok(ends) => {
-                self.line.clear();
-                if ends {
-                    Step::Stops(Stopped::Dead)
-                } else {
-                    Step::Answered
-                }
-            }
-            Err(_) => Step::Stops(Stopped::OutOfMemory),
-        }
-    }
-
-    // The same of a line that wasn't begun before: it is answered where it was read, so that no memory is wanted to keep it.
-    fn answer_unkept<P: SiloPlayer>(&mut self, player: &mut P, count: usize) -> Step
+    fn answer<P: SiloPlayer>(&mut self, player: &mut P, count: usize) -> Step
         requires found { IsFirstByte (is_byte line_feed) (progress self.old).unread (Some count) }
-        requires within { count < length (progress self.old).unread }
-        requires unkept { self.old.line.items ≡ [] }
         ensures { Steps (P.silo player.old) (progress self.old) (P.silo player.new) (progress self.new) result }
     {
-        let end = self.from + count;
-        let line = unread(&self.chunk, self.from, end);
-        let answered = player.answer_line(self.alloc, line, &mut self.out);
-        self.from = end + 1;
+        let answered = if self.line.is_empty() {
+            self.answer_unkept(player, count)
+        } else {
+            self.answer_kept(player, count)
+        };
         match answered {
             Ok(false) => Step::Answered,
             Ok(true) => Step::Stops(Stopped::Dead),
             Err(_) => Step::Stops(Stopped::OutOfMemory),
         }
+    }
+
+    // Has a line answered that was begun before; whether the process ends by it.
+    fn answer_kept<P: SiloPlayer>(
+        &mut self,
+        player: &mut P,
+        count: usize,
+    ) -> Result<bool, AllocError>
+        requires found { IsFirstByte (is_byte line_feed) (progress self.old).unread (Some count) }
+        requires kept { 0 < length self.old.line.items }
+        ensures { AnswersOne (P.silo player.old) (progress self.old) (P.silo player.new) (progress self.new) result }
+    {
+        self.take_line(count)?;
+        let ends = player.answer_line(self.alloc, &self.line, &mut self.out)?;
+        self.line.clear();
+        Ok(ends)
+    }
+
+    // The same of a line that wasn't begun before: it is answered where it was read, so that no memory is wanted to keep it.
+    fn answer_unkept<P: SiloPlayer>(
+        &mut self,
+        player: &mut P,
+        count: usize,
+    ) -> Result<bool, AllocError>
+        requires found { IsFirstByte (is_byte line_feed) (progress self.old).unread (Some count) }
+        requires within { count < length (progress self.old).unread }
+        requires unkept { self.old.line.items ≡ [] }
+        ensures { AnswersOne (P.silo player.old) (progress self.old) (P.silo player.new) (progress self.new) result }
+    {
+        let end = self.from + count;
+        let line = unread(&self.chunk, self.from, end);
+        let answered = player.answer_line(self.alloc, line, &mut self.out);
+        self.from = end + 1;
+        answered
     }
 
     // What was read begins a line, or goes on with it; at the end of the input it is told that no line feed ends it.
