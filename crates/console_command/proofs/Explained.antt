@@ -7,7 +7,7 @@ use Rattle.console_command.specs.LineRefusal.{IsAnswer}
 use Rattle.console_command.specs.declared.line_error.LineError.{LineError}
 use Rattle.console_command.specs.declared.line_error.LineError.TheVariants as errors
 use Rattle.console_command.specs.Exits.{MakesCalls, WritesAnswer}
-use Rattle.console_command.specs.Program.{AreMistaken, by_fault, by_name}
+use Rattle.console_command.specs.Program.{AreMistaken, DoesInTurn, by_fault, by_name}
 use Rattle.console_command.specs.declared.exit.Exit.{Exit}
 use Rattle.console_command.specs.declared.exit.Exit.TheVariants.{Played, Threaded, Checked, Silo}
 
@@ -32,3 +32,10 @@ is_explained reads writes source old new (Threaded ended) written = absurd writt
 is_explained reads writes source old new (Checked checked) written = absurd written
 is_explained reads writes source old new (Silo stopped) written = absurd written
 is_explained reads writes source old new other written = (refl, written)
+
+-- no more is read then
+pub explained_in_turn : {R W : Type 0} (reads : R → Option (List ℕ) → R → Type 0) (writes : W → List ℕ → Option ℕ → W → Type 0) (words : List Text) (source : R) (old new : W) (exit : Exit)
+    → WritesAnswer writes old new exit → DoesInTurn reads writes words (source, old) (source, new) exit
+explained_in_turn reads writes words source old new (Played ended) written = absurd written
+explained_in_turn reads writes words source old new (Silo stopped) written = absurd written
+explained_in_turn reads writes words source old new other written = tt

@@ -1,11 +1,11 @@
 -- What became of a command line.
-use Rattle.std.specs.Prelude.{◌≡◌, ℕ, List, Option}
+use Rattle.std.specs.Prelude.{⊤, ◌≡◌, ℕ, List, Option}
 use Rattle.clap.specs.Walk.{Text}
 use Rattle.console_command.specs.CommandLine.{AskFor}
 use Rattle.console_command.specs.declared.command_line.Line.TheVariants.{Threads}
 use Rattle.console_command.specs.declared.command_line.Options.{Options}
 use Rattle.console_command.specs.Exits.{MakesCalls}
-use Rattle.console_command.specs.Program.{Does, Streams, chosen_settings}
+use Rattle.console_command.specs.Program.{Does, DoesInTurn, Streams, chosen_settings}
 use Rattle.console_command.specs.Errors.{IsTold}
 use Rattle.console_command.specs.declared.program.Run.{Run}
 use Rattle.console_command.specs.declared.program.Run.TheVariants.{Ended, OnThreads}
@@ -19,6 +19,11 @@ Carries words old new (OnThreads settings) = (options : Options) × AskFor words
 abbrev pub CarriesByCalls : {R W : Type 0} → (reads : R → Option (List ℕ) → R → Type 0) → (writes : W → List ℕ → Option ℕ → W → Type 0) → (old new : R × W) → Run → Type 0
 CarriesByCalls reads writes old new (Ended exit) = MakesCalls reads writes old new exit
 CarriesByCalls reads writes old new (OnThreads settings) = (new.0 ≡ old.0) × (new.1 ≡ old.1)
+
+-- and in turn
+abbrev pub CarriesInTurn : {R W : Type 0} → (reads : R → Option (List ℕ) → R → Type 0) → (writes : W → List ℕ → Option ℕ → W → Type 0) → (words : List Text) → (old new : R × W) → Run → Type 0
+CarriesInTurn reads writes words old new (Ended exit) = DoesInTurn reads writes words old new exit
+CarriesInTurn reads writes words old new (OnThreads settings) = ⊤
 
 -- what is told
 abbrev pub CarriesTold : {E : Type 0} → (writes : E → List ℕ → Option ℕ → E → Type 0) → (contents : E → Option (List ℕ)) → (old new : E) → Run → Type 0

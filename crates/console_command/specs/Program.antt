@@ -1,17 +1,18 @@
 -- What the program does with the words of its command line.
-use Rattle.std.specs.Prelude.{◌≡◌, ℕ, ◌<◌, List, length, Option, IfSome}
+use Rattle.std.specs.Prelude.{⊤, ◌≡◌, ℕ, ◌<◌, List, length, Option, IfSome}
 use Rattle.std.specs.Io.KnownBytes.{Appends}
 use Rattle.clap.specs.Walk.{Text}
 use Rattle.clap.specs.declared.error.kind.ErrorKind.{ErrorKind}
 use Rattle.directory_rules.specs.Settings.{Settings, directory_settings}
 use Rattle.directory_rules.specs.World.{first_world}
-use Rattle.script_loop.specs.Endings.{Ends}
+use Rattle.script_loop.specs.Endings.{Ends, PrintsInTurn}
+use Rattle.script_loop.specs.Lines.{IsPassedOver}
 use Rattle.script_loop.specs.Sent.{WritesFront}
 use Rattle.script_loop.specs.declared.ended.Ended.{Ended}
 use Rattle.silo_address.specs.Silo.{Silo as SiloValue}
 use Rattle.silo_rules.specs.SiloValue.{first_silo}
 use Rattle.process_output.specs.Output.{silo_output}
-use Rattle.process_loop.specs.Endings.{Stops}
+use Rattle.process_loop.specs.Endings.{AnswersInTurn, Stops}
 use Rattle.process_loop.specs.declared.stopped.Stopped.{Stopped}
 use Rattle.silo_player.specs.ProcessSettings.{process_settings}
 use Rattle.console_command.specs.SiloPlay.{WritesOutput}
@@ -38,7 +39,7 @@ chosen_settings options = directory_settings options.hashing options.points opti
 -- the source's script is played to a new cluster, with those settings
 abbrev pub Plays : Options → (old new : Streams) → Ended → Type 0
 Plays options old new ended = IfSome old.rest (λ script.
-    Ends script (lines_played (first_world (chosen_settings options)) 1) new.rest old.output new.output ended)
+    Ends IsPassedOver script (lines_played (first_world (chosen_settings options)) 1) new.rest old.output new.output ended)
 
 -- the settings that the options choose for a silo's process
 abbrev pub chosen_process_settings : Options → Settings
@@ -76,3 +77,11 @@ Does words old new Answered = AskToBeTold words × Prints old new
 Does words old new AnswerBroken = AskToBeTold words × PrintsFront old new
 Does words old new Refused = AreMistaken words × (new ≡ old)
 Does words old new OutOfMemory = new ≡ old
+
+-- and in turn: what the lines read so far print, or what is answered to them, is written before more is read
+abbrev pub DoesInTurn : {R W : Type 0} → (reads : R → Option (List ℕ) → R → Type 0) → (writes : W → List ℕ → Option ℕ → W → Type 0) → (words : List Text) → (old new : R × W) → Exit → Type 0
+DoesInTurn reads writes words old new (Played ended) =
+    (options : Options) × AskFor words (Play options) × PrintsInTurn reads writes (lines_played (first_world (chosen_settings options)) 1) old new ended
+DoesInTurn reads writes words old new (SiloStopped stopped) =
+    (silo : SiloValue) × (options : Options) × AskFor words (Silo silo options) × AnswersInTurn reads writes (first_silo (chosen_process_settings options) silo) old new stopped
+DoesInTurn reads writes words old new other = ⊤

@@ -3,7 +3,8 @@
 ghost use Rattle.std.specs.Prelude.{◌≡◌, ◌≤◌, ◌↔◌, IfSome, IsSome, MatchOption};
 ghost use Rattle.directory_rules.specs.Settings.{directory_settings};
 ghost use Rattle.directory_rules.specs.World.{first_world};
-ghost use Rattle.script_loop.specs.Endings.{Ends, MakesCalls};
+ghost use Rattle.script_loop.specs.Endings.{Ends, MakesCalls, PrintsInTurn};
+ghost use Rattle.script_loop.specs.Lines.{IsPassedOver};
 ghost use Rattle.console_command.specs.Play.{lines_played};
 
 use crate::cluster::Cluster;
@@ -26,10 +27,12 @@ pub fn play_to_new_cluster<R: Source, W: Sink>(
 ) -> Option<Ended>
     ensures in_range { IsSome result ↔ ((1 ≤ points) × (points ≤ 128) × (cache ≤ 65536)) }
     ensures ends { IfSome result (λ ended. IfSome (R.remaining reader.old) (λ script.
-        Ends script (lines_played (first_world (directory_settings hashing points cache)) 1)
+        Ends IsPassedOver script (lines_played (first_world (directory_settings hashing points cache)) 1)
         (R.remaining reader.new) (W.contents writer.old) (W.contents writer.new) ended)) }
     ensures calls { MatchOption result ((reader.new ≡ reader.old) × (writer.new ≡ writer.old))
         (MakesCalls R.reads W.writes (reader.old, writer.old) (reader.new, writer.new)) }
+    ensures in_turn { IfSome result (PrintsInTurn R.reads W.writes
+        (lines_played (first_world (directory_settings hashing points cache)) 1) (reader.old, writer.old) (reader.new, writer.new)) }
 {
     let settings = Settings::of_directory(hashing, points, cache)?;
     Some(play(alloc, World::new(alloc, settings), reader, writer))
@@ -43,8 +46,9 @@ pub fn play<R: Source, W: Sink>(
     writer: &mut W,
 ) -> Ended
     ensures ends { IfSome (R.remaining reader.old) (λ script.
-        Ends script (lines_played world 1) (R.remaining reader.new) (W.contents writer.old) (W.contents writer.new) result) }
+        Ends IsPassedOver script (lines_played world 1) (R.remaining reader.new) (W.contents writer.old) (W.contents writer.new) result) }
     ensures calls { MakesCalls R.reads W.writes (reader.old, writer.old) (reader.new, writer.new) result }
+    ensures in_turn { PrintsInTurn R.reads W.writes (lines_played world 1) (reader.old, writer.old) (reader.new, writer.new) result }
 {
     script_loop::play(alloc, &mut Cluster { world }, reader, writer)
 }

@@ -3,14 +3,17 @@
 ghost use Rattle.std.specs.Prelude.{◌≡◌, List, ℕ, Option, Err, map};
 ghost use Rattle.clap.specs.Walk.{Text};
 ghost use Rattle.console_command.specs.CommandLine.{AreInRange, AskFor, AskToBeTold, IsInRange, Reads};
+ghost use Rattle.console_command.specs.Play.{lines_played};
+ghost use Rattle.directory_rules.specs.World.{first_world};
 ghost use Rattle.script_loop.specs.Endings as play;
 ghost use Rattle.silo_address.specs.Silo.{Silo};
+ghost use Rattle.silo_rules.specs.SiloValue.{first_silo};
 ghost use Rattle.threaded_play.specs.Endings.{IsSent};
 ghost use Rattle.console_command.specs.Exits.{WritesAnswer, exit_without_words};
 ghost use Rattle.process_loop.specs.Endings as process;
-ghost use Rattle.console_command.specs.Program.{Does, Plays, PlaysSilo, chosen_settings};
+ghost use Rattle.console_command.specs.Program.{Does, Plays, PlaysSilo, chosen_process_settings, chosen_settings};
 ghost use Rattle.console_command.specs.Errors.{IsTold, told_without_words};
-ghost use Rattle.console_command.specs.Outcome.{Carries, CarriesByCalls, CarriesTold};
+ghost use Rattle.console_command.specs.Outcome.{Carries, CarriesByCalls, CarriesInTurn, CarriesTold};
 
 use crate::errors::{
     tell, tell_check, tell_end, tell_failed_call, tell_no_memory, tell_silo, tell_threads, words_or,
@@ -42,8 +45,9 @@ pub enum Run {
 }
 
 /// Does what the words of a command line ask for, the program's name first: plays the script that comes from the source, judges the
-/// dump that does, is the process of the silo whose lines come from it, or prints help or the version. What is wrong with the words, and what ends the script or the reading of the dump
-/// too early, is told to the sink of errors. A script that is to be played with a thread per silo is left to the caller.
+/// dump that does, is the process of the silo whose lines come from it, or prints help or the version. What is wrong with the words,
+/// and what ends the script or the reading of the dump too early, is told to the sink of errors. A script that is to be played with a
+/// thread per silo is left to the caller.
 pub fn run_words<S: AsStr, R: Source, W: Sink, E: Sink>(
     alloc: Global,
     words: &[S],
@@ -55,6 +59,7 @@ pub fn run_words<S: AsStr, R: Source, W: Sink, E: Sink>(
         (record { rest = R.remaining source.old; output = W.contents output.old })
         (record { rest = R.remaining source.new; output = W.contents output.new }) result }
     ensures calls { CarriesByCalls R.reads W.writes (source.old, output.old) (source.new, output.new) result }
+    ensures in_turn { CarriesInTurn R.reads W.writes (map S.text words.now) (source.old, output.old) (source.new, output.new) result }
     ensures told { CarriesTold E.writes E.contents errors.old errors.new result }
 {
     match read_line(alloc, words) {
@@ -76,6 +81,7 @@ fn run_line<R: Source, W: Sink, E: Sink>(
         (record { rest = R.remaining source.old; output = W.contents output.old })
         (record { rest = R.remaining source.new; output = W.contents output.new }) result }
     ensures calls { CarriesByCalls R.reads W.writes (source.old, output.old) (source.new, output.new) result }
+    ensures in_turn { (words : List Text) → AskFor words line → CarriesInTurn R.reads W.writes words (source.old, output.old) (source.new, output.new) result }
     ensures told { CarriesTold E.writes E.contents errors.old errors.new result }
 {
     match line {
@@ -118,6 +124,7 @@ fn play<R: Source, W: Sink>(
         (record { rest = R.remaining source.old; output = W.contents output.old })
         (record { rest = R.remaining source.new; output = W.contents output.new }) result }
     ensures calls { play.MakesCalls R.reads W.writes (source.old, output.old) (source.new, output.new) result }
+    ensures in_turn { play.PrintsInTurn R.reads W.writes (lines_played (first_world (chosen_settings options)) 1) (source.old, output.old) (source.new, output.new) result }
 {
     let Options {
         hashing,
@@ -142,6 +149,7 @@ fn play_silo<R: Source, W: Sink>(
         (record { rest = R.remaining source.old; output = W.contents output.old })
         (record { rest = R.remaining source.new; output = W.contents output.new }) result }
     ensures calls { process.MakesCalls R.reads W.writes (source.old, output.old) (source.new, output.new) result }
+    ensures in_turn { process.AnswersInTurn R.reads W.writes (first_silo (chosen_process_settings options) silo) (source.old, output.old) (source.new, output.new) result }
 {
     let Options {
         hashing,

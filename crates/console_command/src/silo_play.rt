@@ -3,7 +3,7 @@
 ghost use Rattle.std.specs.Prelude.{◌≡◌, ◌≤◌, ◌↔◌, IfSome, IsSome, MatchOption};
 ghost use Rattle.silo_rules.specs.SiloValue.{first_silo};
 ghost use Rattle.process_output.specs.Output.{silo_output};
-ghost use Rattle.process_loop.specs.Endings.{MakesCalls, Stops};
+ghost use Rattle.process_loop.specs.Endings.{AnswersInTurn, MakesCalls, Stops};
 ghost use Rattle.silo_player.specs.ProcessSettings.{process_settings};
 ghost use Rattle.console_command.specs.SiloPlay.{WritesOutput};
 
@@ -38,6 +38,8 @@ pub fn play_new_silo<R: Source, W: Sink>(
         (R.remaining reader.new) (W.contents writer.old) (W.contents writer.new) stopped)) }
     ensures calls { MatchOption result ((reader.new ≡ reader.old) × (writer.new ≡ writer.old))
         (MakesCalls R.reads W.writes (reader.old, writer.old) (reader.new, writer.new)) }
+    ensures in_turn { IfSome result (AnswersInTurn R.reads W.writes
+        (first_silo (process_settings hashing points cache) silo) (reader.old, writer.old) (reader.new, writer.new)) }
 {
     let settings = process_settings(hashing, points, cache)?;
     Some(play(alloc, settings, silo, reader, writer))
@@ -54,6 +56,7 @@ fn play<R: Source, W: Sink>(
     ensures stops { IfSome (R.remaining reader.old) (λ input.
         Stops input (first_silo settings silo) (R.remaining reader.new) (W.contents writer.old) (W.contents writer.new) result) }
     ensures calls { MakesCalls R.reads W.writes (reader.old, writer.old) (reader.new, writer.new) result }
+    ensures in_turn { AnswersInTurn R.reads W.writes (first_silo settings silo) (reader.old, writer.old) (reader.new, writer.new) result }
 {
     let Ok(silo) = Silo::new(alloc, settings, silo) else {
         return Stopped::OutOfMemory;

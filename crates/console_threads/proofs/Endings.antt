@@ -11,7 +11,7 @@ use Rattle.texts.specs.Printed.{Output}
 use Rattle.script_output.specs.Spaced.{BeginsWith}
 use Rattle.script_loop.specs.Endings as play
 use Rattle.script_loop.specs.Endings.{LeavesPlayer}
-use Rattle.script_loop.specs.Lines.{no_output}
+use Rattle.script_loop.specs.Lines.{IsPassedOver, no_output}
 use Rattle.script_loop.specs.Sent.{Sends}
 use Rattle.script_loop.specs.declared.ended.Ended.{Ended}
 use Rattle.script_loop.specs.declared.ended.Ended.TheVariants as ended
@@ -40,21 +40,22 @@ silent number (line ∷ lines) text is = go (read_line line) (silent (number + 1
 
 module _ (script : List ℕ) (rest : Option (List ℕ)) (text : List ℕ) (end : Ended) (lines : LinesEnd script rest text end) where
   -- so the script ends, whatever the sink had
-  abbrev alone : play.Ends script (faults_alone 1) rest None None end
-  alone = record { text = lines.text; writes = tt; concludes = lines.concludes; read = lines.read; reads = lines.reads }
+  abbrev alone : play.Ends IsPassedOver script (faults_alone 1) rest None None end
+  alone = record { text = lines.text; writes = tt; concludes = lines.concludes; read = lines.read; reads = lines.reads; memory = lines.memory }
 
 -- a text begins with itself
 whole : (text : List ℕ) → BeginsWith text text
 whole text = record { more = []; joined = sym (append-nil text) }
 
 broken : (script : List ℕ) (rest : Option (List ℕ)) (text : List ℕ) (end : Ended) → BeginsWith text (faults_alone 1 (lines_of script)).text
-    → (lines : play.Ends script (faults_alone 1) rest None None end) → lines.text ≡ text → play.Ends script (faults_alone 1) rest None None ended.Broken
+    → (lines : play.Ends IsPassedOver script (faults_alone 1) rest None None end) → lines.text ≡ text → play.Ends IsPassedOver script (faults_alone 1) rest None None ended.Broken
 broken script rest text end begins lines is = record {
   text = lines.text;
   writes = tt;
   concludes = subst (λ (t : List ℕ). BeginsWith t (faults_alone 1 (lines_of script)).text) (sym is) begins;
   read = lines.read;
   reads = tt;
+  memory = tt;
 }
 
 -- what is sent lacks nothing

@@ -7,6 +7,7 @@ use Rattle.cluster_journal.specs.Journal.{IsJournaled}
 use Rattle.script_rules.specs.Script.{lines_of}
 use Rattle.script_loop.specs.Calls.{WritesText}
 use Rattle.script_loop.specs.Endings as play
+use Rattle.script_loop.specs.Lines.{IsPassedOver}
 use Rattle.script_loop.specs.Sent.{Sends}
 use Rattle.script_loop.specs.declared.ended.Ended.{Ended}
 use Rattle.script_loop.specs.declared.ended.Ended.TheVariants as ended
@@ -33,7 +34,7 @@ unclosed_by refusal.OutOfMemory = threads.Lacking
 
 -- the script's lines end so, and print that text by themselves
 abbrev pub LinesEnd : (script : List ℕ) → (rest : Option (List ℕ)) → (text : List ℕ) → Ended → Type 0
-LinesEnd script rest text end = play.Ends script (faults_alone 1) rest (Some []) (Some text) end
+LinesEnd script rest text end = play.Ends IsPassedOver script (faults_alone 1) rest (Some []) (Some text) end
 
 -- the text tells the world, under whatever settings its journal made it, of whatever script it carries out
 abbrev pub Tells : List EntryValue → World → (text : List ℕ) → Type 0

@@ -23,7 +23,7 @@ pub(crate) fn play_lines<P: LinePlayer, R: Source>(
     reader: &mut R,
 ) -> Result<Lines, AllocError>
     ensures ends { IfOk result (λ lines. IfSome (R.remaining reader.old) (λ script.
-        Ends script (P.output player.old 1) (R.remaining reader.new) (Some []) (Some lines.text.items) lines.ended)) }
+        Ends P.passes_over script (P.output player.old 1) (R.remaining reader.new) (Some []) (Some lines.text.items) lines.ended)) }
     ensures made { IfOk result (λ lines. IfSome (R.remaining reader.old) (λ script. LeavesPlayer P.makes script player.old player.new lines.ended)) }
     ensures reads { MatchResult result
         (λ lines. ReadsInTurn R.reads reader.old reader.new (is_read_well lines.ended))

@@ -26,10 +26,10 @@ use value_marks::{Blocks, Names};
 /// How many blocks of marks a cluster may use: enough for a mark at each event.
 pub const MARK_BLOCKS: usize = 1024;
 
-/// Plays a script to a new cluster of these settings with a thread per silo: once it is read,
-/// this thread posts its events, and workers deliver the letters. All threads are joined, and then it is written what the script comes to: the line of its first fault; or how
-/// many events there were, the verdict on the cluster and the whole directory. Nothing is where something lacks or receipts differ.
-/// Why workers gave up goes to the errors (`docs/RULES.md#threads`).
+/// Plays a script to a new cluster of these settings with a thread per silo: once it is read, this thread posts its events, and
+/// workers deliver the letters. All threads are joined, and then it is written what the script comes to: the line of its first
+/// fault; or how many events there were, the verdict on the cluster and the whole directory. Nothing is where something lacks or
+/// receipts differ. Why workers gave up goes to the errors (`docs/RULES.md#threads`).
 pub fn play_on_threads<
     L: Ledger + Names + Send + 'static,
     H: Threads + Wait + Copy + Drop + Send + 'static,

@@ -7,17 +7,31 @@ use Rattle.script_loop.specs.Lines.{Rule, behind, no_output}
 use Rattle.script_loop.specs.Progress.{HasPlayed, NeedsMore, Progress, first_progress, to_come}
 use Rattle.script_loop.specs.Turns.{PlayedSoFar}
 
--- all that is printed is written where nothing waits
-pub all_sent : (sent waiting : List ℕ) (output whole : Output) → waiting ≡ [] → output ≡ no_output → behind sent (behind waiting output) ≡ whole → sent ≡ whole.text
-all_sent sent waiting output whole none nothing is =
-    let text : sent ++ (waiting ++ output.text) ≡ whole.text = ap (λ (o : Output). o.text) is in
-    let no_text : waiting ++ output.text ≡ [] = ap (λ (t : List ℕ). t ++ output.text) none ∙ ap (λ (o : Output). o.text) nothing in
-    sym (append-nil sent) ∙ (ap (λ (t : List ℕ). sent ++ t) (sym no_text) ∙ text)
+-- a text that is printed, and all is well
+abbrev well : List ℕ → Output
+well text = record { text = text; status = 0 }
+
+-- where nothing is to come, all that is printed was sent, or waits
+whole_output : (sent waiting : List ℕ) (output whole : Output) → output ≡ no_output → behind sent (behind waiting output) ≡ whole → whole ≡ well (sent ++ waiting)
+whole_output sent waiting output whole nothing is =
+    sym is ∙ (ap (λ (o : Output). behind sent (behind waiting o)) nothing ∙ ap (λ (t : List ℕ). well (sent ++ t)) (append-nil waiting))
 
 pub behind_both : (one other : List ℕ) (output : Output) → behind (one ++ other) output ≡ behind one (behind other output)
 behind_both one other output = ap (λ (t : List ℕ). let o : Output = record { text = t; status = output.status } in o) (append_assoc one other output.text)
 
 module _ (first : Rule) where
+  -- what the lines that were played print was sent, or waits
+  pub printed_so_far : (bytes sent : List ℕ) (rule : Rule) (at : Progress) → (so_far : PlayedSoFar first bytes sent rule at) → rule at.line [] ≡ no_output
+      → first 1 so_far.played ≡ record { text = sent ++ at.waiting; status = 0 }
+  printed_so_far bytes sent rule at so_far nothing =
+      whole_output sent at.waiting (rule at.line []) (first 1 so_far.played) nothing (so_far.makes [] ∙ ap (first 1) (append-nil so_far.played))
+
+  -- where nothing waits, it was sent
+  pub sent_so_far : (bytes sent : List ℕ) (rule : Rule) (at : Progress) → (so_far : PlayedSoFar first bytes sent rule at) → rule at.line [] ≡ no_output → at.waiting ≡ []
+      → first 1 so_far.played ≡ record { text = sent; status = 0 }
+  sent_so_far bytes sent rule at so_far nothing none =
+      printed_so_far bytes sent rule at so_far nothing ∙ (ap (λ (t : List ℕ). well (sent ++ t)) none ∙ ap well (append-nil sent))
+
   -- where what is held is a line that is begun and nothing waits, all is written that the lines print
   abbrev pub all_printed : (bytes sent : List ℕ) (rule : Rule) (at : Progress) → PlayedSoFar first bytes sent rule at → rule at.line [] ≡ no_output → IsBegun at.held → at.waiting ≡ []
       → IsPrinted (first 1) bytes sent
@@ -26,7 +40,7 @@ module _ (first : Rule) where
     begun = at.held;
     is_begun = is_begun;
     lines = so_far.lines;
-    printed = all_sent sent at.waiting (rule at.line []) (first 1 so_far.played) none nothing (so_far.makes [] ∙ ap (first 1) (append-nil so_far.played));
+    printed = sym (ap (λ (o : Output). o.text) (sent_so_far bytes sent rule at so_far nothing none));
   }
 
   -- before the first line

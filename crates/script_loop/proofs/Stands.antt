@@ -1,5 +1,5 @@
 -- What steps, reads and writes keep of a play.
-use Rattle.std.proofs.Common.{◌≡◌, ℕ, ◌+◌, ◌≤◌, ◌++◌, List, [], ◌∷◌, length, Option, Some, None, true, ap, arith, refl, sym, ◌∙◌, append_assoc, append-nil, subst}
+use Rattle.std.proofs.Common.{◌≡◌, ℕ, ◌+◌, ◌≤◌, ◌++◌, List, [], ◌∷◌, length, Option, Some, None, true, ap, arith, refl, sym, ◌∙◌, append_assoc, append-nil, inl, inr, subst}
 use Rattle.std.proofs.lemmas.List.{length-append}
 use Rattle.std.specs.Io.KnownBytes.{Appends, Consumes, IsAtEnd, Keeps}
 use Rattle.std.proofs.KnownBytes.{Appends-trans, Appends-nil, Consumes-trans, Consumes-kept}
@@ -8,13 +8,14 @@ use Rattle.texts.specs.Printed.{Output}
 use Rattle.script_output.specs.Spaced.{BeginsWith}
 use Rattle.script_loop.specs.declared.ended.Ended.{Ended}
 use Rattle.script_loop.specs.declared.ended.Ended.TheVariants as ended
-use Rattle.script_loop.specs.Endings.{Concludes, Ends, EndsReading, HasRead, IsBegun, most_read}
+use Rattle.script_loop.specs.Endings.{Concludes, Ends, EndsReading, HasRead, IsBegun, StopsBefore, most_read}
 use Rattle.script_loop.specs.Lines.{Rule, behind, no_output}
-use Rattle.script_loop.specs.Progress.{EndsStep, HasEnded, HasPlayed, MayCome, NeedsMore, Progress, first_progress, to_come}
+use Rattle.script_loop.specs.declared.step.Step.TheVariants.{Ends as StepEnds}
+use Rattle.script_loop.specs.Progress.{EndsStep, HasEnded, HasPlayed, LacksMemory, MayCome, NeedsMore, Progress, first_progress, to_come}
 use Rattle.script_loop.specs.Sent.{WritesFront}
 use Rattle.script_loop.specs.Transfers.{Fills, HasDrained, HasFilled, HasGot}
-use Rattle.script_loop.specs.Turns.{Stands}
-use Rattle.script_loop.proofs.PlayedSoFar.{all_printed, none_played, plays_drained, plays_more, plays_read_on}
+use Rattle.script_loop.specs.Turns.{PlayedSoFar, Stands}
+use Rattle.script_loop.proofs.PlayedSoFar.{all_printed, none_played, plays_drained, plays_more, plays_read_on, printed_so_far, sent_so_far}
 
 -- ---- What was read.
 
@@ -187,12 +188,12 @@ sent_first : (sent : List ℕ) (output whole : Output) → behind sent output �
 sent_first sent output whole is = record { more = output.text; joined = sym (ap (λ (o : Output). o.text) is) }
 
 -- a read failed, or memory ran out, or the script is too long
-pub ends_unread : (first : Rule) (script : List ℕ) (begun read rest written : Option (List ℕ)) (rule : Rule) (at new : Progress) (ended : Ended)
+pub ends_unread : (PassesOver : List ℕ → Type 0) (first : Rule) (script : List ℕ) (begun read rest written : Option (List ℕ)) (rule : Rule) (at new : Progress) (ended : Ended)
     → rule at.line [] ≡ no_output → IsBegun at.held → at.waiting ≡ [] → Fills at read new rest (Some ended)
-    → Stands first script begun rule at read written → Ends script (first 1) rest begun written ended
-ends_unread first script begun read rest written rule at new ended.Played nothing is_begun none fill stands = absurd fill
-ends_unread first script begun read rest written rule at new (ended.Faulted fault) nothing is_begun none fill stands = absurd fill
-ends_unread first script begun read rest written rule at new ended.TooLong nothing is_begun none fill stands =
+    → Stands first script begun rule at read written → Ends PassesOver script (first 1) rest begun written ended
+ends_unread PassesOver first script begun read rest written rule at new ended.Played nothing is_begun none fill stands = absurd fill
+ends_unread PassesOver first script begun read rest written rule at new (ended.Faulted fault) nothing is_begun none fill stands = absurd fill
+ends_unread PassesOver first script begun read rest written rule at new ended.TooLong nothing is_begun none fill stands =
     let h = stands.has_read in
     let before = rest_of script read (h.front ++ h.chunk) h.consumes in
     let now = more_read first script begun rule at read rest written fill.0 nothing is_begun none fill.1 stands in
@@ -203,8 +204,9 @@ ends_unread first script begun read rest written rule at new ended.TooLong nothi
       concludes = sent_first stands.sent _ _ (whole_output first script begun rule at read written before.0 stands before.2);
       read = now;
       reads = omega (arith, fill.2, stands.counted, ap length after.2, length-append ((h.front ++ h.chunk) ++ fill.0) after.0, length-append (h.front ++ h.chunk) fill.0);
+      memory = tt;
     }
-ends_unread first script begun read rest written rule at new ended.OutOfMemory nothing is_begun none fill stands =
+ends_unread PassesOver first script begun read rest written rule at new ended.OutOfMemory nothing is_begun none fill stands =
     let h = stands.has_read in
     let before = rest_of script read (h.front ++ h.chunk) h.consumes in
     record {
@@ -213,8 +215,9 @@ ends_unread first script begun read rest written rule at new ended.OutOfMemory n
       concludes = sent_first stands.sent _ _ (whole_output first script begun rule at read written before.0 stands before.2);
       read = more_read first script begun rule at read rest written fill.0 nothing is_begun none fill.1 stands;
       reads = tt;
+      memory = inr (sent_so_far first (h.front ++ h.chunk) stands.sent rule at stands.plays nothing none);
     }
-ends_unread first script begun read rest written rule at new ended.Broken nothing is_begun none fill stands =
+ends_unread PassesOver first script begun read rest written rule at new ended.Broken nothing is_begun none fill stands =
     let h = stands.has_read in
     let before = rest_of script read (h.front ++ h.chunk) h.consumes in
     record {
@@ -223,29 +226,31 @@ ends_unread first script begun read rest written rule at new ended.Broken nothin
       concludes = sent_first stands.sent _ _ (whole_output first script begun rule at read written before.0 stands before.2);
       read = kept_read (first 1) script read rest stands.sent fill h;
       reads = tt;
+      memory = tt;
     }
 
 -- memory ran out before the first line
-pub ends_at_once : (first : Rule) (script : List ℕ) (begun : Option (List ℕ)) → first 1 [] ≡ no_output
-    → Ends script (first 1) (Some script) begun begun ended.OutOfMemory
-ends_at_once first script begun nothing = record {
+pub ends_at_once : (PassesOver : List ℕ → Type 0) (first : Rule) (script : List ℕ) (begun : Option (List ℕ)) → first 1 [] ≡ no_output
+    → Ends PassesOver script (first 1) (Some script) begun begun ended.OutOfMemory
+ends_at_once PassesOver first script begun nothing = record {
   text = [];
   writes = Appends-nil begun;
   concludes = record { more = (first 1 (lines_of script)).text; joined = refl };
   read = none_read first script nothing;
   reads = tt;
+  memory = inr nothing;
 }
 
 -- a write failed
-pub ends_unwritten : (first : Rule) (script : List ℕ) (begun read before written : Option (List ℕ)) (rule : Rule) (at : Progress) (waiting : List ℕ) (ending : Ended) → ending ≡ ended.Broken
+pub ends_unwritten : (PassesOver : List ℕ → Type 0) (first : Rule) (script : List ℕ) (begun read before written : Option (List ℕ)) (rule : Rule) (at : Progress) (waiting : List ℕ) (ending : Ended) → ending ≡ ended.Broken
     → ((more : List ℕ) → MayCome at more → BeginsWith waiting (to_come rule at (lines_of (at.held ++ more))).text) → WritesFront waiting before written
-    → Stands first script begun rule at read before → Ends script (first 1) read begun written ending
-ends_unwritten first script begun read before written rule at waiting ending is begins front stands =
+    → Stands first script begun rule at read before → Ends PassesOver script (first 1) read begun written ending
+ends_unwritten PassesOver first script begun read before written rule at waiting ending is begins front stands =
     let h = stands.has_read in
     let left = rest_of script read (h.front ++ h.chunk) h.consumes in
     let next = begins left.0 (may_come first script begun rule at read before left.0 left.1 stands) in
     let whole = whole_output first script begun rule at read before left.0 stands left.2 in
-    subst (λ (e : Ended). Ends script (first 1) read begun written e) (sym is) (record {
+    subst (λ (e : Ended). Ends PassesOver script (first 1) read begun written e) (sym is) (record {
       text = stands.sent ++ front.front;
       writes = Appends-trans begun before written _ _ stands.appends front.appends;
       concludes = record {
@@ -256,6 +261,7 @@ ends_unwritten first script begun read before written rule at waiting ending is 
       };
       read = same_read (first 1) script read stands.sent front.front h;
       reads = tt;
+      memory = tt;
     })
 
 -- what waits is a beginning of what is to come
@@ -292,9 +298,28 @@ ends_reading script at read rest bytes whole played ended.OutOfMemory is all at_
 ends_reading script at read rest bytes whole played ended.TooLong is all at_end may counted numbered whole_played = absurd is
 ends_reading script at read rest bytes whole played ended.Broken is all at_end may counted numbered whole_played = absurd is
 
-pub ends_written : (first : Rule) (script : List ℕ) (begun read before written : Option (List ℕ)) (rule : Rule) (at last : Progress) (ended : Ended) → HasEnded rule at last ended
-    → Appends before written last.waiting → Stands first script begun rule at read before → Ends script (first 1) read begun written ended
-ends_written first script begun read before written rule at last ended step drained stands =
+-- where memory lacked for the next line, all is written that the lines before it print
+stops_before : (PassesOver : List ℕ → Type 0) (first : Rule) (script bytes sent : List ℕ) (rule : Rule) (at last : Progress) (rest : List ℕ) (whole : List (List ℕ)) (ended : Ended) → script ≡ bytes ++ rest
+    → MayCome at rest → rule at.line [] ≡ no_output → LacksMemory PassesOver at last (StepEnds ended) → PlayedSoFar first bytes sent rule at
+    → StopsBefore PassesOver (lines_of script) (first 1) whole (sent ++ last.waiting) ended
+stops_before PassesOver first script bytes sent rule at last rest whole ended.OutOfMemory all may nothing lacks plays =
+    let next = lacks.1 rest may in
+    inl (record {
+      front = plays.played;
+      line = next.0;
+      others = next.1;
+      is_of_them = ap lines_of all ∙ (plays.lines rest ∙ ap (λ (ls : List (List ℕ)). plays.played ++ ls) next.2);
+      wanted = next.3;
+      printed = printed_so_far first bytes sent rule at plays nothing ∙ ap (λ (t : List ℕ). let o : Output = record { text = sent ++ t; status = 0 } in o) (sym lacks.0);
+    })
+stops_before PassesOver first script bytes sent rule at last rest whole ended.Played all may nothing lacks plays = tt
+stops_before PassesOver first script bytes sent rule at last rest whole (ended.Faulted fault) all may nothing lacks plays = tt
+stops_before PassesOver first script bytes sent rule at last rest whole ended.TooLong all may nothing lacks plays = tt
+stops_before PassesOver first script bytes sent rule at last rest whole ended.Broken all may nothing lacks plays = tt
+
+pub ends_written : (PassesOver : List ℕ → Type 0) (first : Rule) (script : List ℕ) (begun read before written : Option (List ℕ)) (rule : Rule) (at last : Progress) (ended : Ended) → rule at.line [] ≡ no_output
+    → HasEnded rule at last ended → LacksMemory PassesOver at last (StepEnds ended) → Appends before written last.waiting → Stands first script begun rule at read before → Ends PassesOver script (first 1) read begun written ended
+ends_written PassesOver first script begun read before written rule at last ended nothing step lacks drained stands =
     let h = stands.has_read in
     let left = rest_of script read (h.front ++ h.chunk) h.consumes in
     let may = may_come first script begun rule at read before left.0 left.1 stands in
@@ -305,4 +330,5 @@ ends_written first script begun read before written rule at last ended step drai
           (behind_concluded stands.sent last.waiting (to_come rule at (lines_of (at.held ++ left.0))) ended (step.concludes left.0 may));
       read = same_read (first 1) script read stands.sent last.waiting h;
       reads = ends_reading script at read left.0 (h.front ++ h.chunk) h.whole stands.plays.played ended step.ends left.2 stands.at_end may stands.counted stands.numbered stands.whole_played;
+      memory = stops_before PassesOver first script (h.front ++ h.chunk) stands.sent rule at last left.0 h.whole ended left.2 may nothing lacks stands.plays;
     }

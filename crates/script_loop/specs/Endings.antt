@@ -1,5 +1,5 @@
 -- A script played to its end: what is written of its output, and what was read of it, by the ending.
-use Rattle.std.specs.Prelude.{◌≡◌, ℕ, ◌+◌, ◌<◌, ◌≤◌, ◌⊎◌, true, false, Contains, List, [], ◌++◌, length, Option, Some, ⊤}
+use Rattle.std.specs.Prelude.{◌≡◌, ℕ, ◌+◌, ◌<◌, ◌≤◌, ◌⊎◌, true, false, Contains, List, [], ◌∷◌, ◌++◌, length, Option, Some, ⊤}
 use Rattle.std.specs.Io.KnownBytes.{Appends, Consumes, IsAtEnd}
 use Rattle.texts.specs.Printed.{Output}
 use Rattle.texts.specs.Words.{line_feed}
@@ -62,14 +62,29 @@ EndsReading script rest whole (Faulted fault) = length whole < fault.line
 EndsReading script rest whole TooLong = most_read < length script
 EndsReading script rest whole other = ⊤
 
--- a script whose lines have that output is played and written behind what the sink had before: the source's rest is then
--- `rest`, what the sink has is `written`
-pub record Ends (script : List ℕ) (output : List (List ℕ) → Output) (rest begun written : Option (List ℕ)) (ended : Ended) : Type 0 where
+-- memory lacked at a line that isn't passed over: the text is all that the lines in front of it print, none of which has a fault
+pub record LacksAtLine (PassesOver : List ℕ → Type 0) (lines : List (List ℕ)) (output : List (List ℕ) → Output) (text : List ℕ) : Type 0 where
+  pub front : List (List ℕ)
+  pub line : List ℕ
+  pub others : List (List ℕ)
+  pub is_of_them : lines ≡ front ++ line ∷ others
+  pub wanted : ¬ (PassesOver line)
+  pub printed : output front ≡ record { text = text; status = 0 }
+
+-- where a play stops because memory runs out: at such a line; or by the read behind these whole lines, for what it gave, or before it
+abbrev pub StopsBefore : (PassesOver : List ℕ → Type 0) → (lines : List (List ℕ)) → (output : List (List ℕ) → Output) → (whole : List (List ℕ)) → (text : List ℕ) → Ended → Type 0
+StopsBefore PassesOver lines output whole text OutOfMemory = LacksAtLine PassesOver lines output text ⊎ (output whole ≡ record { text = text; status = 0 })
+StopsBefore PassesOver lines output whole text other = ⊤
+
+-- a script whose lines have that output is played, some of them passed over, and written behind what the sink had before: the
+-- source's rest is then `rest`, what the sink has is `written`
+pub record Ends (PassesOver : List ℕ → Type 0) (script : List ℕ) (output : List (List ℕ) → Output) (rest begun written : Option (List ℕ)) (ended : Ended) : Type 0 where
   pub text : List ℕ
   pub writes : Appends begun written text
   pub concludes : Concludes (output (lines_of script)) text ended
   pub read : HasRead script output rest text
   pub reads : EndsReading script rest read.whole ended
+  pub memory : StopsBefore PassesOver (lines_of script) output read.whole text ended
 
 -- the calls of a play: where it breaks, the last read or the last write failed or a write took nothing; else none did
 abbrev pub MakesCalls : {R W : Type 0} → (reads : R → Option (List ℕ) → R → Type 0) → (writes : W → List ℕ → Option ℕ → W → Type 0) → (old new : R × W) → Ended → Type 0

@@ -95,7 +95,8 @@ StepMakes makes before old after new Wants = after ≡ before
 StepMakes makes before old after new (Ends ended.Played) = PlaysFirst makes before old.held [] after
 StepMakes makes before old after new (Ends other) = ⊤
 
--- memory runs out only where the next line isn't passed over, whatever comes behind what is held
-abbrev pub LacksMemory : (PassesOver : List ℕ → Type 0) → Progress → Step → Type 0
-LacksMemory PassesOver old (Ends ended.OutOfMemory) = (more : List ℕ) → MayCome old more → (line : List ℕ) × (lines : List (List ℕ)) × (lines_of (old.held ++ more) ≡ line ∷ lines) × (¬ (PassesOver line))
-LacksMemory PassesOver old other = ⊤
+-- memory runs out only where the next line isn't passed over, whatever comes behind what is held; and nothing is printed of it then
+abbrev pub LacksMemory : (PassesOver : List ℕ → Type 0) → (old new : Progress) → Step → Type 0
+LacksMemory PassesOver old new (Ends ended.OutOfMemory) = (new.waiting ≡ old.waiting)
+    × ((more : List ℕ) → MayCome old more → (line : List ℕ) × (lines : List (List ℕ)) × (lines_of (old.held ++ more) ≡ line ∷ lines) × (¬ (PassesOver line)))
+LacksMemory PassesOver old new other = ⊤

@@ -27,11 +27,11 @@ pub record Stands (first : Rule) (script : List ℕ) (begun : Option (List ℕ))
   pub whole_played : length has_read.whole ≤ length plays.played
 
 -- a turn: the play goes on, or ends
-abbrev pub Turns : Rule → Progress → (read before : Option (List ℕ)) → Rule → Progress → (rest written : Option (List ℕ)) → Option Ended → Type 0
-Turns rule old read before next new rest written None =
+abbrev pub Turns : (PassesOver : List ℕ → Type 0) → Rule → Progress → (read before : Option (List ℕ)) → Rule → Progress → (rest written : Option (List ℕ)) → Option Ended → Type 0
+Turns PassesOver rule old read before next new rest written None =
     (first : Rule) (script : List ℕ) (begun : Option (List ℕ)) → Stands first script begun rule old read before → Stands first script begun next new rest written
-Turns rule old read before next new rest written (Some ended) =
-    (first : Rule) (script : List ℕ) (begun : Option (List ℕ)) → Stands first script begun rule old read before → Ends script (first 1) rest begun written ended
+Turns PassesOver rule old read before next new rest written (Some ended) =
+    (first : Rule) (script : List ℕ) (begun : Option (List ℕ)) → Stands first script begun rule old read before → Ends PassesOver script (first 1) rest begun written ended
 
 -- the calls so far, by whether the end was reached: if it wasn't, what is called from here on stands in turn with them; else what is written
 abbrev pub InTurnSoFar : {R W : Type 0} → (reads : R → Option (List ℕ) → R → Type 0) → (writes : W → List ℕ → Option ℕ → W → Type 0) → (Due : (bytes text : List ℕ) → Type 0) → (bytes text : List ℕ) → (first now : R × W) → (at_end : Bool) → Type 0

@@ -66,7 +66,7 @@ impl Session {
     pub(crate) fn step<P: LinePlayer>(&mut self, player: &mut P) -> Step
         ensures steps { Steps (P.output player.old) (progress self.old) (P.output player.new) (progress self.new) result }
         ensures made { StepMakes P.makes player.old (progress self.old) player.new (progress self.new) result }
-        ensures memory { LacksMemory P.passes_over (progress self.old) result }
+        ensures memory { LacksMemory P.passes_over (progress self.old) (progress self.new) result }
     {
         let Some((line, rest)) = first_line(tail(&self.bytes, self.start)) else {
             return self.step_without_line_feed(player);
@@ -90,7 +90,7 @@ impl Session {
         requires only { lines_of (progress self.old).held ≡ strip_last carriage_return (progress self.old).held ∷ [] }
         ensures steps { Steps (P.output player.old) (progress self.old) (P.output player.new) (progress self.new) result }
         ensures made { StepMakes P.makes player.old (progress self.old) player.new (progress self.new) result }
-        ensures memory { LacksMemory P.passes_over (progress self.old) result }
+        ensures memory { LacksMemory P.passes_over (progress self.old) (progress self.new) result }
     {
         if self.ended {
             return self.last_step(player);
@@ -115,7 +115,7 @@ impl Session {
         requires ended { self.old.ended ≡ true }
         ensures steps { Steps (P.output player.old) (progress self.old) (P.output player.new) (progress self.new) result }
         ensures made { StepMakes P.makes player.old (progress self.old) player.new (progress self.new) result }
-        ensures memory { LacksMemory P.passes_over (progress self.old) result }
+        ensures memory { LacksMemory P.passes_over (progress self.old) (progress self.new) result }
     {
         let line = without_return(tail(&self.bytes, self.start));
         match player.play_line(self.alloc, self.line, line, &mut self.out) {

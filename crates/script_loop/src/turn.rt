@@ -20,7 +20,7 @@ impl Session {
         reader: &mut R,
         writer: &mut W,
     ) -> Option<Ended>
-        ensures goes { Turns (P.output player.old) (progress self.old) (R.remaining reader.old) (W.contents writer.old)
+        ensures goes { Turns P.passes_over (P.output player.old) (progress self.old) (R.remaining reader.old) (W.contents writer.old)
             (P.output player.new) (progress self.new) (R.remaining reader.new) (W.contents writer.new) result }
         ensures less { IfNone result (work (progress self.new) < work (progress self.old)) }
         ensures calls { AddsCalls R.reads W.writes (P.output player.old) (progress self.old) (reader.old, writer.old)

@@ -5,6 +5,7 @@ use Rattle.directory_rules.specs.Settings.{Settings}
 use Rattle.script_rules.specs.Script.{lines_of}
 use Rattle.script_loop.specs.Calls.{ReadsInTurn, WritesText}
 use Rattle.script_loop.specs.Endings as play
+use Rattle.script_loop.specs.Lines.{IsPassedOver}
 use Rattle.script_loop.specs.Sent.{Sends, WritesFront}
 use Rattle.script_loop.specs.declared.ended.Ended.{Ended}
 use Rattle.script_loop.specs.declared.ended.Ended.TheVariants as ended
@@ -32,7 +33,7 @@ Writes settings script begun written ended.Broken =
 -- a receipt differs, or something lacks, nothing is written.
 abbrev pub Ends : Settings → (script : List ℕ) → (rest begun written : Option (List ℕ)) → ThreadsEnded → Type 0
 Ends settings script rest begun written (Played ended) =
-    play.Ends script (faults_alone 1) rest None None ended × Writes settings script begun written ended
+    play.Ends IsPassedOver script (faults_alone 1) rest None None ended × Writes settings script begun written ended
 Ends settings script rest begun written other = Keeps begun written
 
 -- some text is written, whole or not

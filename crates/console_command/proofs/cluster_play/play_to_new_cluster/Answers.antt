@@ -4,6 +4,9 @@ use Rattle.console_command.proofs.cluster_play.play_to_new_cluster.Goals as goal
 pub returns-clause-ends : goal.returns-clause-ends
 returns-clause-ends g c = search rules
 
+pub returns-clause-in_turn : goal.returns-clause-in_turn
+returns-clause-in_turn g c = search rules
+
 pub returns-clause-calls : goal.returns-clause-calls
 returns-clause-calls g c = c.play.ensures.calls
 

@@ -3,3 +3,6 @@ use Rattle.console_command.proofs.program.play_silo.Goals as goal
 
 pub returns-clause-plays : goal.returns-clause-plays
 returns-clause-plays g c = record { writes = search rules; stops = search rules }
+
+pub returns-clause-in_turn : goal.returns-clause-in_turn
+returns-clause-in_turn g c = search rules

@@ -7,7 +7,7 @@ use Rattle.console_threads.proofs.lines.play_lines.Goals as goal
 pub returns-in_default-clause-ends : goal.returns-in_default-clause-ends
 returns-in_default-clause-ends g c =
     subst (λ (begun : List ℕ). IfSome (g.R.Source.remaining c.args.reader.now) (λ script.
-    Ends script (g.P.LinePlayer.output c.args.player.now 1) (g.R.Source.remaining c.play-ended.new.reader) (Some begun) (Some c.play-ended.new.writer.text.items) c.play-ended.result))
+    Ends g.P.LinePlayer.passes_over script (g.P.LinePlayer.output c.args.player.now 1) (g.R.Source.remaining c.play-ended.new.reader) (Some begun) (Some c.play-ended.new.writer.text.items) c.play-ended.result))
     c.new-held.ensures.text c.play-ended.ensures.ends
 
 pub returns-in_default-clause-reads : goal.returns-in_default-clause-reads

@@ -7,7 +7,7 @@ use Rattle.script_loop.proofs.TurnsTaken.{begins_standing, ends_at_first, ends_b
 use Rattle.script_loop.proofs.script_play.play.Goals as goal
 
 pub returns-in_default-clause-ends : goal.returns-in_default-clause-ends
-returns-in_default-clause-ends g c = ends_at_first (g.P.LinePlayer.output c.args.player.now) _ _ (g.met.P.LinePlayer.nothing c.args.player.now 1)
+returns-in_default-clause-ends g c = ends_at_first g.P.LinePlayer.passes_over (g.P.LinePlayer.output c.args.player.now) _ _ (g.met.P.LinePlayer.nothing c.args.player.now 1)
 
 pub returns-in_default-clause-calls : goal.returns-in_default-clause-calls
 returns-in_default-clause-calls g c = (no_read, no_text)
@@ -31,7 +31,7 @@ turns-preserved g c = record {
 }
 
 pub returns-in-Some-clause-ends : goal.returns-in-Some-clause-ends
-returns-in-Some-clause-ends g c = ends_by_turn (g.P.LinePlayer.output c.args.player.now) (g.P.LinePlayer.output c.turns.player) (g.P.LinePlayer.output c.turn.new.player) _ _ _ _ _ _
+returns-in-Some-clause-ends g c = ends_by_turn g.P.LinePlayer.passes_over (g.P.LinePlayer.output c.args.player.now) (g.P.LinePlayer.output c.turns.player) (g.P.LinePlayer.output c.turn.new.player) _ _ _ _ _ _
     (progress c.turns.session) (progress c.turn.new.self) c.in-Some.ended c.turns.invariant.stands c.in-Some.ensures.goes
 
 pub returns-in-Some-clause-in_turn : goal.returns-in-Some-clause-in_turn

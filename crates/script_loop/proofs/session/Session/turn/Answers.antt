@@ -6,10 +6,10 @@ use Rattle.script_loop.proofs.CallsInTurn.{behind_calls, chunk_made, last_made, 
 use Rattle.script_loop.proofs.session.Session.turn.Goals as goal
 
 pub returns-in-Played-clause-goes : goal.returns-in-Played-clause-goes
-returns-in-Played-clause-goes g c = played_on _ _ _ _ _ _ c.in-Played.ensures.steps
+returns-in-Played-clause-goes g c = played_on g.P.LinePlayer.passes_over _ _ _ _ _ _ c.in-Played.ensures.steps
 
 pub returns-in-Played-2-clause-goes : goal.returns-in-Played-2-clause-goes
-returns-in-Played-2-clause-goes g c = played_and_drained _ _ _ _ _ _ _ _ c.drain.result c.in-Played-2.ensures.steps c.drain.ensures.drains
+returns-in-Played-2-clause-goes g c = played_and_drained g.P.LinePlayer.passes_over _ _ _ _ _ _ _ _ c.drain.result c.in-Played-2.ensures.steps c.drain.ensures.drains
 
 pub returns-in-Played-clause-calls : goal.returns-in-Played-clause-calls
 returns-in-Played-clause-calls g c = none_played g.R.Source.reads g.W.Sink.writes _ _ _ _ _ c.in-Played.ensures.steps
@@ -21,7 +21,7 @@ returns-in-Played-2-clause-calls g c =
     (text_made g.R.Source.reads g.W.Sink.writes _ (progress c.step.new.self) (progress c.drain.new.self) _ _ _ _ _ c.drain.result c.drain.ensures.drains c.drain.ensures.calls)
 
 pub returns-in-None-clause-goes : goal.returns-in-None-clause-goes
-returns-in-None-clause-goes g c = drained_and_filled _ _ _ _ _ _ _ _ _ _ c.fill.result (g.met.P.LinePlayer.nothing c.step.new.player) c.in-Wants.ensures.steps c.in-None.ensures.drains c.fill.ensures.fills
+returns-in-None-clause-goes g c = drained_and_filled g.P.LinePlayer.passes_over _ _ _ _ _ _ _ _ _ _ c.fill.result (g.met.P.LinePlayer.nothing c.step.new.player) c.in-Wants.ensures.steps c.in-None.ensures.drains c.fill.ensures.fills
 
 pub returns-in-None-clause-calls : goal.returns-in-None-clause-calls
 returns-in-None-clause-calls g c =
@@ -39,14 +39,14 @@ returns-in-None-clause-calls g c =
     (begun_still _ _ _ _ _ c.in-Wants.ensures.steps drain.drained) (ap (λ (p : Progress). p.waiting) drain.drained) c.fill.ensures.fills c.fill.ensures.once))
 
 pub returns-in-Some-clause-goes : goal.returns-in-Some-clause-goes
-returns-in-Some-clause-goes g c = waits_unwritten (g.P.LinePlayer.output c.args.player.now) (progress c.args.self.now) (g.P.LinePlayer.output c.step.new.player) (progress c.step.new.self) (progress c.drain-in-Wants.new.self) _ _ _ c.in-Some.ended c.in-Wants.ensures.steps c.in-Some.ensures.drains
+returns-in-Some-clause-goes g c = waits_unwritten g.P.LinePlayer.passes_over (g.P.LinePlayer.output c.args.player.now) (progress c.args.self.now) (g.P.LinePlayer.output c.step.new.player) (progress c.step.new.self) (progress c.drain-in-Wants.new.self) _ _ _ c.in-Some.ended c.in-Wants.ensures.steps c.in-Some.ensures.drains
 
 pub returns-in-Some-clause-calls : goal.returns-in-Some-clause-calls
 returns-in-Some-clause-calls g c =
     text_unmade g.R.Source.reads g.W.Sink.writes (g.P.LinePlayer.output c.args.player.now) (progress c.args.self.now) (g.P.LinePlayer.output c.step.new.player) (progress c.drain-in-Wants.new.self) _ _ _ _ c.in-Some.ended c.in-Some.ensures.drains.1 c.in-Some.ensures.calls
 
 pub returns-in-None-drain-clause-goes : goal.returns-in-None-drain-clause-goes
-returns-in-None-drain-clause-goes g c = ended_and_drained (g.P.LinePlayer.output c.args.player.now) (progress c.args.self.now) (g.P.LinePlayer.output c.step.new.player) (progress c.step.new.self) (progress c.drain-in-Ends.new.self) _ _ _ c.in-Ends.ended c.in-Ends.ensures.steps c.in-None-drain.ensures.drains
+returns-in-None-drain-clause-goes g c = ended_and_drained g.P.LinePlayer.passes_over (g.P.LinePlayer.output c.args.player.now) (progress c.args.self.now) (g.P.LinePlayer.output c.step.new.player) (progress c.step.new.self) (progress c.drain-in-Ends.new.self) _ _ _ c.in-Ends.ended (g.met.P.LinePlayer.nothing c.args.player.now (progress c.args.self.now).line) c.in-Ends.ensures.steps c.in-Ends.ensures.memory c.in-None-drain.ensures.drains
 
 pub returns-in-None-drain-clause-calls : goal.returns-in-None-drain-clause-calls
 returns-in-None-drain-clause-calls g c =
@@ -54,7 +54,7 @@ returns-in-None-drain-clause-calls g c =
     _ _ _ _ c.in-Ends.ended c.in-Ends.ensures.steps.ends c.in-None-drain.ensures.calls
 
 pub returns-in-Some-drain-clause-goes : goal.returns-in-Some-drain-clause-goes
-returns-in-Some-drain-clause-goes g c = ended_unwritten (g.P.LinePlayer.output c.args.player.now) (progress c.args.self.now) (g.P.LinePlayer.output c.step.new.player) (progress c.step.new.self) (progress c.drain-in-Ends.new.self) _ _ _ c.in-Ends.ended c.in-Some-drain.broken c.in-Ends.ensures.steps c.in-Some-drain.ensures.drains
+returns-in-Some-drain-clause-goes g c = ended_unwritten g.P.LinePlayer.passes_over (g.P.LinePlayer.output c.args.player.now) (progress c.args.self.now) (g.P.LinePlayer.output c.step.new.player) (progress c.step.new.self) (progress c.drain-in-Ends.new.self) _ _ _ c.in-Ends.ended c.in-Some-drain.broken c.in-Ends.ensures.steps c.in-Some-drain.ensures.drains
 
 pub fill-requires-clause-written : goal.fill-requires-clause-written
 fill-requires-clause-written g c = ap (λ (p : Progress). p.waiting) c.in-None.ensures.drains.drained
