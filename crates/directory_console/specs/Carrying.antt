@@ -11,7 +11,7 @@ use Rattle.console_command.specs.declared.exit.Exit.{Exit}
 use Rattle.console_command.specs.declared.exit.Exit.TheVariants.{Threaded}
 use Rattle.console_command.specs.Errors.{IsTold}
 use Rattle.console_command.specs.Exits as exits
-use Rattle.console_command.specs.Program.{Does, Streams, chosen_settings}
+use Rattle.console_command.specs.Program.{Does, DoesInTurn, Streams, chosen_settings}
 
 -- what the words ask for is done; a play on threads is one of the settings that its options choose
 abbrev pub IsDone : (words : List Text) → (old new : Streams) → Exit → Type 0
@@ -39,5 +39,6 @@ pub record IsCarriedOut {R W E : Type 0}
   pub exit : Exit
   pub done : IsDone words (record { rest = remaining old.0; output = contents old.1 }) (record { rest = remaining new.0; output = contents new.1 }) exit
   pub calls : MakesCalls reads writes (old.0, old.1) (new.0, new.1) exit
+  pub in_turn : DoesInTurn reads writes words (old.0, old.1) (new.0, new.1) exit
   pub tells : Tells told errors old.2 new.2 exit
   pub status : exit_status code ≡ exits.status_of exit

@@ -1,6 +1,7 @@
 //! From the words of the command line to the exit status, over any streams.
 ghost use Rattle.std.specs.Prelude.{◌≡◌, ◌⊎◌, IfSome, map};
 ghost use Rattle.threaded_play.specs.Endings as threads;
+ghost use Rattle.console_command.specs.Program.{DoesInTurn};
 ghost use Rattle.directory_console.specs.Carrying.{IsCarriedOut, IsDone, MakesCalls, Tells};
 
 use console_command::{Exit, Run, end_threads, run_words};
@@ -47,6 +48,7 @@ fn run<S: AsStr, H: Threads + Wait + Copy + Drop + Send + 'static, R: Source, W:
         (record { rest = R.remaining source.old; output = W.contents output.old })
         (record { rest = R.remaining source.new; output = W.contents output.new }) result }
     ensures calls { MakesCalls R.reads W.writes (source.old, output.old) (source.new, output.new) result }
+    ensures in_turn { DoesInTurn R.reads W.writes (map S.text words.now) (source.old, output.old) (source.new, output.new) result }
     ensures tells { Tells E.writes E.contents errors.old errors.new result }
 {
     match run_words(alloc, words, source, output, errors) {
