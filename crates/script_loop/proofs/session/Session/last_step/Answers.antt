@@ -31,10 +31,13 @@ returns-in-Ok-None-clause-made g c = record {
 }
 
 pub returns-in-Err-clause-memory : goal.returns-in-Err-clause-memory
-returns-in-Err-clause-memory g c = (c.in-Err.ensures.unwritten, λ more may. (
-  c.without_return-line.result.now,
-  [],
-  nothing_more (progress c.args.self.now).held _ more _ (may c.requires.ended) c.requires.only
-      (c.without_return-line.ensures ∙ ap (strip_last carriage_return) c.tail.ensures),
-  c.in-Err.ensures.memory,
-))
+returns-in-Err-clause-memory g c = (
+  c.in-Err.ensures.unwritten,
+  λ more may. (
+    c.without_return-line.result.now,
+    [],
+    nothing_more (progress c.args.self.now).held _ more _ (may c.requires.ended) c.requires.only
+        (c.without_return-line.ensures ∙ ap (strip_last carriage_return) c.tail.ensures),
+    c.in-Err.ensures.memory,
+  ),
+)

@@ -48,10 +48,13 @@ returns-in-Ok-None-clause-made g c =
     }
 
 pub returns-in-Err-clause-memory : goal.returns-in-Err-clause-memory
-returns-in-Err-clause-memory g c = (c.in-Err.ensures.unwritten, λ more may.
-    let rest = c.in-Some.rest.now in (
-      c.in-Some.line.now,
-      lines_of (rest ++ more),
-      first_of (progress c.args.self.now).held c.tail.result.now rest rest _ more c.tail.ensures refl (c.in-Some.ensures.later more),
-      c.in-Err.ensures.memory,
-    ))
+returns-in-Err-clause-memory g c = (
+  c.in-Err.ensures.unwritten,
+  λ more may.
+      let rest = c.in-Some.rest.now in (
+        c.in-Some.line.now,
+        lines_of (rest ++ more),
+        first_of (progress c.args.self.now).held c.tail.result.now rest rest _ more c.tail.ensures refl (c.in-Some.ensures.later more),
+        c.in-Err.ensures.memory,
+      ),
+)

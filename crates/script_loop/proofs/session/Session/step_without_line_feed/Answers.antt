@@ -16,13 +16,16 @@ returns-in-Ok-clause-steps g c = record {
 }
 
 pub returns-in-Err-clause-memory : goal.returns-in-Err-clause-memory
-returns-in-Err-clause-memory g c = (c.in-Err.ensures.unchanged, λ more may.
-    let player = c.args.player.now in
-    let at = progress c.args.self.now in
-    let long = c.long_lines.ensures.too_long at.held more c.requires.none (omega (arith, length-drop c.args.self.now.start c.args.self.now.bytes.items, c.args.self.now.bytes.ok.0, c.len.ensures)) in (
-      long.0,
-      long.1,
-      long.2,
-      long_unpassed (g.P.LinePlayer.passes_over long.0) (g.P.LinePlayer.output player) at.line long.0
-          (g.met.P.LinePlayer.too_long player at.line long.0 [] long.3) (g.met.P.LinePlayer.nothing player (at.line + 1)) (g.met.P.LinePlayer.passes_quietly player at.line long.0 []),
-    ))
+returns-in-Err-clause-memory g c = (
+  c.in-Err.ensures.unchanged,
+  λ more may.
+      let player = c.args.player.now in
+      let at = progress c.args.self.now in
+      let long = c.long_lines.ensures.too_long at.held more c.requires.none (omega (arith, length-drop c.args.self.now.start c.args.self.now.bytes.items, c.args.self.now.bytes.ok.0, c.len.ensures)) in (
+        long.0,
+        long.1,
+        long.2,
+        long_unpassed (g.P.LinePlayer.passes_over long.0) (g.P.LinePlayer.output player) at.line long.0
+            (g.met.P.LinePlayer.too_long player at.line long.0 [] long.3) (g.met.P.LinePlayer.nothing player (at.line + 1)) (g.met.P.LinePlayer.passes_quietly player at.line long.0 []),
+      ),
+)
