@@ -2,7 +2,7 @@ ghost use Rattle.std.specs.Prelude.{◌≡◌, ◌⊎◌, ◌↔◌, ◌∷◌, 
 ghost use Rattle.directory_rules.specs.Event.{Deliver};
 ghost use Rattle.directory_rules.specs.Happens.{happens, node_of};
 ghost use Rattle.directory_rules.specs.Mail.{letter_of};
-ghost use Rattle.directory_core.specs.Applied.{accepted_as};
+ghost use Rattle.directory_rules.specs.World.{accepted_as};
 ghost use Rattle.cluster_board.specs.Commits.{Declines, IsTaken};
 ghost use Rattle.cluster_board.specs.Planned.{IsPlanOf};
 ghost use Rattle.cluster_board.specs.Work.{IsCurrent};

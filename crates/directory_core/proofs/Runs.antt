@@ -8,12 +8,12 @@ use Rattle.directory_rules.specs.Event as rule
 use Rattle.directory_rules.specs.Event.{IsEvent}
 use Rattle.directory_rules.specs.Headline.{MovesPlainly}
 use Rattle.directory_rules.specs.PlainMachine.{IsPlainStep, plain_of, plain_step_of}
-use Rattle.directory_rules.specs.World.{World, Accepted}
+use Rattle.directory_rules.specs.World.{Accepted, World, accepted_as}
 use Rattle.directory_rules.specs.Happens.{happens}
 use Rattle.directory_rules.specs.Run.{run, told_of, world_after}
 use Rattle.directory_rules.specs.declared.Outcome.{Outcome}
 use Rattle.directory_node.specs.Follows.{Follows}
-use Rattle.directory_core.specs.Applied.{IsPlainlyTold, accepted_as}
+use Rattle.directory_core.specs.Applied.{IsPlainlyTold}
 use Rattle.directory_core.specs.PlainSteps.{AllMovePlainly, MovesBy}
 
 run_more_world : (world : World) (events : List rule.Event) (event : rule.Event)

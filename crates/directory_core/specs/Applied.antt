@@ -13,10 +13,6 @@ use Rattle.directory_rules.specs.declared.Happening.TheVariants.{Delivered, Did}
 use Rattle.directory_rules.specs.declared.Outcome.{Outcome}
 use Rattle.directory_node.specs.Memory.{IsIdle, is_quiet}
 
--- an event that tells this outcome and leaves that world
-abbrev pub accepted_as : World → Outcome → Accepted
-accepted_as after outcome = record { outcome = outcome; world = after }
-
 -- accepted, or refused by 909 alone
 abbrev pub IsOkOrFull : Result Accepted ℕ → Type 0
 IsOkOrFull (Ok accepted) = Unit {0}

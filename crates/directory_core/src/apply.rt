@@ -2,9 +2,10 @@ ghost use Rattle.std.specs.Prelude.{◌≡◌, ◌<◌, IfErr, IfOk, OnErr};
 ghost use Rattle.directory_rules.specs.EventModel.{event_of};
 ghost use Rattle.directory_rules.specs.Happens.{attempted, happens};
 ghost use Rattle.directory_rules.specs.Headline.{Headline};
+ghost use Rattle.directory_rules.specs.World.{accepted_as};
 ghost use Rattle.dump_headline.specs.Told.{IsRightlyTold};
 ghost use Rattle.directory_node.specs.Follows.{Follows};
-ghost use Rattle.directory_core.specs.Applied.{IsPlainlyTold, accepted_as, excused};
+ghost use Rattle.directory_core.specs.Applied.{IsPlainlyTold, excused};
 ghost use Rattle.directory_core.specs.Numbers.{IsNumberedUnlessMemory, event_refusal_number};
 ghost use Rattle.directory_core.specs.Whole.{LeavesWorld};
 

@@ -4,7 +4,7 @@ ghost use Rattle.directory_rules.specs.declared.outcome.Happening.TheVariants.{D
 ghost use Rattle.directory_rules.specs.Happens.{counted, deliver, tells};
 ghost use Rattle.directory_rules.specs.Letter.{Letter as LetterValue};
 ghost use Rattle.directory_rules.specs.Mail.{letter_of, with_delivered};
-ghost use Rattle.directory_core.specs.Applied.{accepted_as};
+ghost use Rattle.directory_rules.specs.World.{accepted_as};
 ghost use Rattle.directory_core.specs.Delivery.{Passes};
 ghost use Rattle.directory_core.specs.Whole.{IsWorld, LeavesWorld};
 

@@ -54,3 +54,7 @@ first_world settings = record {
 pub record Accepted : Type 0 where
   pub outcome : Outcome
   pub world : World
+
+-- an event that tells this outcome and leaves that world
+abbrev pub accepted_as : World → Outcome → Accepted
+accepted_as after outcome = record { outcome = outcome; world = after }

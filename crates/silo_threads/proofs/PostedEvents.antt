@@ -2,9 +2,8 @@
 use Rattle.std.proofs.Common.{◌≡◌, ◌+◌, ℕ, Option, Some, None, Result, Ok, Err, IfErr, IfOk, length, refl, subst, sym}
 use Rattle.directory_rules.specs.Event.{Event}
 use Rattle.directory_rules.specs.Happens.{happens}
-use Rattle.directory_rules.specs.World.{World}
+use Rattle.directory_rules.specs.World.{World, accepted_as}
 use Rattle.directory_node.specs.Follows.{Follows, RefusesBy}
-use Rattle.directory_core.specs.Applied.{accepted_as}
 use Rattle.directory_core.specs.Numbers.{IsNumberedUnlessMemory, event_refusal_number}
 use Rattle.directory_core.specs.declared.refusal.EventRefusal.{EventRefusal}
 use Rattle.cluster_journal.specs.declared.entry.Receipt.{Receipt}

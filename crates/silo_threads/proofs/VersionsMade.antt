@@ -3,8 +3,7 @@ use Rattle.std.proofs.Common.{◌≡◌, ◌≤◌, ℕ, Option, Some, None, Res
 use Rattle.directory_rules.specs.Event.{Event}
 use Rattle.directory_rules.specs.declared.outcome.Outcome.{Outcome}
 use Rattle.directory_rules.specs.Happens.{happens}
-use Rattle.directory_rules.specs.World.{Accepted, World}
-use Rattle.directory_core.specs.Applied.{accepted_as}
+use Rattle.directory_rules.specs.World.{Accepted, World, accepted_as}
 use Rattle.directory_headline.proofs.Events.{by_event}
 use Rattle.silo_threads.specs.Followed.{version_made}
 

@@ -4,8 +4,7 @@ use Rattle.std.specs.Prelude.{◌≡◌, ◌+◌, List, Ok, length}
 use Rattle.directory_rules.specs.Event.{Event}
 use Rattle.directory_rules.specs.Happens.{happens}
 use Rattle.directory_rules.specs.Settings.{Settings}
-use Rattle.directory_rules.specs.World.{World}
-use Rattle.directory_core.specs.Applied.{accepted_as}
+use Rattle.directory_rules.specs.World.{World, accepted_as}
 use Rattle.cluster_journal.specs.Entry.{EntryValue}
 use Rattle.cluster_journal.specs.Journal.{IsJournaled}
 use Rattle.cluster_journal.specs.declared.entry.Receipt.{Receipt}

@@ -1,8 +1,8 @@
 use Rattle.std.proofs.Common.{rules, ◌≤◌, ◌<◌, sym, subst, ap, arith}
-use Rattle.directory_rules.specs.World.{World}
+use Rattle.directory_rules.specs.World.{World, accepted_as}
 use Rattle.directory_rules.specs.EventModel.{event_of}
 use Rattle.directory_node.specs.Follows.{Follows}
-use Rattle.directory_core.specs.Applied.{accepted_as, excused}
+use Rattle.directory_core.specs.Applied.{excused}
 use Rattle.directory_core.specs.Numbers.{event_refusal_number}
 use Rattle.directory_core.specs.Whole.{LeavesWorld}
 use Rattle.directory_core.proofs.Happenings.{full, has_room}

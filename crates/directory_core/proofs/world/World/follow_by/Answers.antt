@@ -1,8 +1,9 @@
 use Rattle.std.proofs.Common.{◌≤◌, ◌<◌, sym, subst, ap, arith}
 use Rattle.directory_rules.specs.Settings.{Settings}
 use Rattle.directory_rules.specs.Event.{Deliver}
+use Rattle.directory_rules.specs.World.{accepted_as}
 use Rattle.directory_node.specs.Follows.{Follows}
-use Rattle.directory_core.specs.Applied.{IsOkOfUse, accepted_as}
+use Rattle.directory_core.specs.Applied.{IsOkOfUse}
 use Rattle.directory_core.specs.Delivery.{undelivered_plan_number}
 use Rattle.directory_core.specs.Whole.{LeavesWorld}
 use Rattle.directory_core.proofs.Happenings.{full, has_room}
