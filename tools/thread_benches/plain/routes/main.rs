@@ -1,4 +1,4 @@
-//! What `benches routes` measures, in plain Rust: a ring behind a `RwLock`, read under a guard (`guard`), or an `Arc` of it, which is
+//! What `thread_benches routes` measures, in plain Rust: a ring behind a `RwLock`, read under a guard (`guard`), or an `Arc` of it, which is
 //! cloned under the guard and read after it (`clone`). Threads route hashes while another one publishes rings, with a pause of a
 //! millisecond, without a pause, or not at all.
 //!

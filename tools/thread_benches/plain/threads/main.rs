@@ -1,4 +1,4 @@
-//! The hand-over of `benches threads` alone, in plain Rust: a driver and a thread for each silo, around one mutex and one condvar, with
+//! The hand-over of `thread_benches` alone, in plain Rust: a driver and a thread for each silo, around one mutex and one condvar, with
 //! no work. A look-up is a letter to one silo, whose delivery is a letter back. A silo's thread waits for a letter, lets the lock go,
 //! takes it again and delivers the letter; whoever changes something wakes all.
 //!
