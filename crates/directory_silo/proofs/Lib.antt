@@ -2,3 +2,4 @@ pub mod Back
 pub mod Places
 pub mod UnchangedNodes
 pub mod Hinted
+pub mod Numbered

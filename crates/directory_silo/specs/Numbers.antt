@@ -1,5 +1,5 @@
 -- The numbers by which a silo's refusals are told.
-use Rattle.std.specs.Prelude.{ℕ, Option, Some, None}
+use Rattle.std.specs.Prelude.{◌≡◌, ℕ, IfNone, Option, Some, None}
 use Rattle.membership_view.specs.Refusal.{views_error_number}
 use Rattle.hash_ring.specs.Numbers.{ring_error_number}
 use Rattle.directory_node.specs.Numbers.{step_refusal_number}
@@ -17,3 +17,7 @@ silo_refusal_number (Views refusal) = views_error_number refusal
 silo_refusal_number (Ring refusal) = ring_error_number refusal
 silo_refusal_number (Node refusal) = step_refusal_number refusal
 silo_refusal_number OutOfMemory = None
+
+-- a refusal that has no number is out of memory, told as just that
+abbrev pub IsNumberedUnlessMemory : SiloRefusal → Type 0
+IsNumberedUnlessMemory refusal = IfNone (silo_refusal_number refusal) (refusal ≡ OutOfMemory)

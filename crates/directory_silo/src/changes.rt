@@ -1,8 +1,8 @@
-ghost use Rattle.std.specs.Prelude.{◌≡◌, ◌==◌, ◌+◌, ◌<◌, Err, IsOk, IsTrue, Ok, OnErr, false};
+ghost use Rattle.std.specs.Prelude.{◌≡◌, ◌==◌, ◌+◌, ◌<◌, Err, IfErr, IsOk, IsTrue, Ok, OnErr, false};
 ghost use Rattle.directory_node.specs.Follows.{Follows};
 ghost use Rattle.directory_silo.specs.AnswerModel.{heard_as};
 ghost use Rattle.silo_rules.specs.Membership.{Join, Leave, Die, changed, replaced_by};
-ghost use Rattle.directory_silo.specs.Numbers.{silo_refusal_number};
+ghost use Rattle.directory_silo.specs.Numbers.{IsNumberedUnlessMemory, silo_refusal_number};
 ghost use Rattle.silo_rules.specs.Told.{IsNever, MakesVersion, heard_by, told};
 
 use crate::known::{is_known_death, is_known_join, is_known_leave};
@@ -25,6 +25,7 @@ impl Silo {
         places: &[u32],
     ) -> Result<News, SiloRefusal>
         ensures told { Follows (heard_as self.new) silo_refusal_number (MakesVersion self.old.membership version) (told self.old.node.settings self.old.membership version (Join silo places.now)) result }
+        ensures numbered { IfErr result IsNumberedUnlessMemory }
         ensures node { self.new.node ≡ self.old.node }
         ensures unchanged { OnErr result (self.new ≡ self.old) }
     {
@@ -78,6 +79,7 @@ impl Silo {
     // A join of the next version is told.
     fn admit(&mut self, silo: SiloAddress, places: &[u32]) -> Result<News, SiloRefusal>
         ensures told { Follows (heard_as self.new) silo_refusal_number IsOk (heard_by (changed self.old.node.settings self.old.membership (Join silo places.now)) (replaced_by self.old.membership (Join silo places.now))) result }
+        ensures numbered { IfErr result IsNumberedUnlessMemory }
         ensures node { self.new.node ≡ self.old.node }
         ensures unchanged { OnErr result (self.new ≡ self.old) }
     {

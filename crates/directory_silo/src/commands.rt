@@ -1,10 +1,10 @@
-ghost use Rattle.std.specs.Prelude.{◌≡◌, IsOk, OnErr};
+ghost use Rattle.std.specs.Prelude.{◌≡◌, IfErr, IsOk, OnErr};
 ghost use Rattle.directory_rules.specs.Input.{Wakes, Closes, Finds, Forgets, Nudges, Offers};
 ghost use Rattle.directory_rules.specs.Letter.{kind_of};
 ghost use Rattle.directory_node.specs.Follows.{Follows};
 ghost use Rattle.directory_node.specs.Memory.{MayLackMemory};
 ghost use Rattle.directory_silo.specs.AnswerModel.{stepped_as};
-ghost use Rattle.directory_silo.specs.Numbers.{silo_refusal_number};
+ghost use Rattle.directory_silo.specs.Numbers.{IsNumberedUnlessMemory, silo_refusal_number};
 ghost use Rattle.silo_rules.specs.Steps.{does, receives};
 ghost use Rattle.directory_silo.specs.Heeded.{HasNoHint, IsHeeded};
 ghost use Rattle.silo_rules.specs.Told.{IsNever};
@@ -22,6 +22,7 @@ impl Silo {
     /// (`docs/RULES.md#the-world`).
     pub fn wake(&mut self, grain: &GrainId) -> Result<Answer, SiloRefusal>
         ensures told { Follows (stepped_as self.new) silo_refusal_number IsOk (does self.old (Wakes grain.now)) result }
+        ensures numbered { IfErr result IsNumberedUnlessMemory }
         ensures membership { self.new.membership ≡ self.old.membership }
         ensures unchanged { OnErr result (self.new ≡ self.old) }
     {
@@ -32,6 +33,7 @@ impl Silo {
     /// (`docs/RULES.md#the-world`).
     pub fn close(&mut self, grain: &GrainId) -> Result<Answer, SiloRefusal>
         ensures told { Follows (stepped_as self.new) silo_refusal_number IsOk (does self.old (Closes grain.now)) result }
+        ensures numbered { IfErr result IsNumberedUnlessMemory }
         ensures membership { self.new.membership ≡ self.old.membership }
         ensures unchanged { OnErr result (self.new ≡ self.old) }
     {
@@ -42,6 +44,7 @@ impl Silo {
     /// (`docs/RULES.md#the-world`). Needs no memory where the cache tells it.
     pub fn find(&mut self, grain: &GrainId) -> Result<Answer, SiloRefusal>
         ensures told { Follows (stepped_as self.new) silo_refusal_number (HasNoHint self.old grain.now) (does self.old (Finds grain.now)) result }
+        ensures numbered { IfErr result IsNumberedUnlessMemory }
         ensures membership { self.new.membership ≡ self.old.membership }
         ensures unchanged { OnErr result (self.new ≡ self.old) }
     {
@@ -73,6 +76,7 @@ impl Silo {
     /// 802, 803, 807, 805 (`docs/RULES.md#the-world`).
     pub fn offer(&mut self, grain: &GrainId, to: &SiloAddress) -> Result<Answer, SiloRefusal>
         ensures told { Follows (stepped_as self.new) silo_refusal_number IsOk (does self.old (Offers grain.now to.now)) result }
+        ensures numbered { IfErr result IsNumberedUnlessMemory }
         ensures membership { self.new.membership ≡ self.old.membership }
         ensures unchanged { OnErr result (self.new ≡ self.old) }
     {
@@ -83,6 +87,7 @@ impl Silo {
     /// (`docs/RULES.md#the-world`). Needs memory only where the node waits for something.
     pub fn nudge(&mut self) -> Result<Answer, SiloRefusal>
         ensures told { Follows (stepped_as self.new) silo_refusal_number (MayLackMemory self.old.node Nudges) (does self.old Nudges) result }
+        ensures numbered { IfErr result IsNumberedUnlessMemory }
         ensures membership { self.new.membership ≡ self.old.membership }
         ensures unchanged { OnErr result (self.new ≡ self.old) }
     {
@@ -101,6 +106,7 @@ impl Silo {
     /// (`docs/RULES.md#letters`). Needs memory only where something comes of the letter.
     pub fn receive(&mut self, letter: &Letter) -> Result<Answer, SiloRefusal>
         ensures told { Follows (stepped_as self.new) silo_refusal_number (IsHeeded (kind_of letter.now.body)) (receives self.old letter.now) result }
+        ensures numbered { IfErr result IsNumberedUnlessMemory }
         ensures membership { self.new.membership ≡ self.old.membership }
         ensures unchanged { OnErr result (self.new ≡ self.old) }
     {

@@ -4,7 +4,7 @@ ghost use Rattle.membership_view.specs.Changes.{Leave as LeaveViews, Die as DieV
 ghost use Rattle.hash_ring.specs.Places.{after_add};
 ghost use Rattle.directory_node.specs.Follows.{Follows};
 ghost use Rattle.silo_rules.specs.Membership.{Join, Membership, changed, placed, with_places};
-ghost use Rattle.directory_silo.specs.Numbers.{silo_refusal_number};
+ghost use Rattle.directory_silo.specs.Numbers.{IsNumberedUnlessMemory, silo_refusal_number};
 
 use crate::SiloRefusal;
 use directory_rules::Settings;
@@ -21,6 +21,7 @@ pub(crate) fn join(
     stated: &[u32],
 ) -> Result<Option<SiloAddress>, SiloRefusal>
     ensures made { Follows (λ _. record { views = views.new; places = places.new }) silo_refusal_number IsOk (changed settings.now (record { views = views.old; places = places.old }) (Join silo stated.now)) result }
+    ensures numbered { IfErr result IsNumberedUnlessMemory }
     ensures replaced { IfOk result (λ replaced. replaced ≡ occupant silo views.old.rows) }
     ensures views_unchanged { OnErr result (views.new ≡ views.old) }
     ensures places_unchanged { OnErr result (places.new ≡ places.old) }
@@ -45,6 +46,7 @@ fn put_in(
     requires may { after_join views.old silo ≡ Ok (with_join views.old silo) }
     ensures views { OnOk result (views.new ≡ with_join views.old silo) }
     ensures places { Follows (λ _. places.new) silo_refusal_number IsOk (after_add places.old silo stated.now) result }
+    ensures numbered { IfErr result IsNumberedUnlessMemory }
     ensures replaced { IfOk result (λ joined. joined.replaced ≡ occupant silo views.old.rows) }
     ensures views_unchanged { OnErr result (views.new ≡ views.old) }
     ensures places_unchanged { OnErr result (places.new ≡ places.old) }

@@ -2,7 +2,7 @@ ghost use Rattle.std.specs.Prelude.{◌≡◌};
 ghost use Rattle.hash_ring.specs.Numbers.{ring_error_number};
 ghost use Rattle.membership_view.specs.Refusal.{views_error_number};
 ghost use Rattle.directory_node.specs.Numbers.{step_refusal_number};
-ghost use Rattle.directory_silo.specs.Numbers.{silo_refusal_number};
+ghost use Rattle.directory_silo.specs.Numbers.{IsNumberedUnlessMemory, silo_refusal_number};
 
 use directory_node::StepRefusal;
 use hash_ring::RingError;
@@ -36,7 +36,7 @@ pub enum SiloRefusal {
     /// The silo's node refuses the step.
     #[error("{0}")]
     Node(StepRefusal),
-    /// There was no memory for it.
+    /// There was no memory for it. Whatever ran out of it, this is told.
     #[error("out of memory")]
     OutOfMemory,
 }
@@ -61,7 +61,8 @@ impl SiloRefusal {
 
     // A refusal of membership. Out of memory is one refusal, wherever it was met.
     pub(crate) fn of_views(refusal: ViewsError) -> SiloRefusal
-        ensures { silo_refusal_number result ≡ views_error_number refusal }
+        ensures number { silo_refusal_number result ≡ views_error_number refusal }
+        ensures numbered { IsNumberedUnlessMemory result }
     {
         match refusal {
             ViewsError::OutOfMemory => SiloRefusal::OutOfMemory,
@@ -71,7 +72,8 @@ impl SiloRefusal {
 
     // A refusal of the ring.
     pub(crate) fn of_ring(refusal: RingError) -> SiloRefusal
-        ensures { silo_refusal_number result ≡ ring_error_number refusal }
+        ensures number { silo_refusal_number result ≡ ring_error_number refusal }
+        ensures numbered { IsNumberedUnlessMemory result }
     {
         match refusal {
             RingError::OutOfMemory => SiloRefusal::OutOfMemory,
@@ -81,7 +83,8 @@ impl SiloRefusal {
 
     // A refusal of the silo's node.
     pub(crate) fn of_node(refusal: StepRefusal) -> SiloRefusal
-        ensures { silo_refusal_number result ≡ step_refusal_number refusal }
+        ensures number { silo_refusal_number result ≡ step_refusal_number refusal }
+        ensures numbered { IsNumberedUnlessMemory result }
     {
         match refusal {
             StepRefusal::OutOfMemory => SiloRefusal::OutOfMemory,

@@ -4,7 +4,7 @@ ghost use Rattle.directory_rules.specs.Input.{step};
 ghost use Rattle.directory_node.specs.Follows.{Follows};
 ghost use Rattle.directory_node.specs.Plans.{Fits, step_by};
 ghost use Rattle.directory_silo.specs.AnswerModel.{stepped_as};
-ghost use Rattle.directory_silo.specs.Numbers.{silo_refusal_number};
+ghost use Rattle.directory_silo.specs.Numbers.{IsNumberedUnlessMemory, silo_refusal_number};
 ghost use Rattle.silo_rules.specs.Steps.{is_seeable, sees, sight_of};
 
 use crate::{Answer, Silo, SiloRefusal};
@@ -16,6 +16,7 @@ impl Silo {
     /// skipped. Refused by 901, 902, 903, 904, 805 (`docs/RULES.md#the-world`).
     pub fn see(&mut self, version: u64) -> Result<Answer, SiloRefusal>
         ensures told { Follows (stepped_as self.new) silo_refusal_number IsOk (sees self.old version) result }
+        ensures numbered { IfErr result IsNumberedUnlessMemory }
         ensures membership { self.new.membership ≡ self.old.membership }
         ensures unchanged { OnErr result (self.new ≡ self.old) }
     {
@@ -44,6 +45,7 @@ impl Silo {
         requires newer { self.now.node.view.version < version }
         requires made { version ≤ self.now.membership.views.version }
         ensures planned { Follows (step_by self.now.node) silo_refusal_number IsOk (step self.now.node (sight_of self.now.membership version)) result }
+        ensures numbered { IfErr result IsNumberedUnlessMemory }
         ensures fits { IfOk result (λ plan. Fits plan.change self.now.node) }
     {
         self.whole();

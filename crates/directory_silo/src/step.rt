@@ -7,7 +7,7 @@ ghost use Rattle.directory_node.specs.Follows.{Follows, RefusesBy};
 ghost use Rattle.directory_node.specs.InputModel.{input_of};
 ghost use Rattle.directory_node.specs.Plans.{Fits, changed, step_by};
 ghost use Rattle.directory_silo.specs.AnswerModel.{stepped_as};
-ghost use Rattle.directory_silo.specs.Numbers.{silo_refusal_number};
+ghost use Rattle.directory_silo.specs.Numbers.{IsNumberedUnlessMemory, silo_refusal_number};
 ghost use Rattle.silo_rules.specs.Steps.{barred, does, unless_barred};
 ghost use Rattle.silo_rules.specs.NodeInputs.{IsNoSight};
 ghost use Rattle.directory_silo.specs.Heeded.{IsHeeded};
@@ -23,6 +23,7 @@ impl Silo {
     pub(crate) fn does(&mut self, input: &Input<'_>) -> Result<Answer, SiloRefusal>
         requires { IsNoSight (input_of input.now) }
         ensures told { Follows (stepped_as self.new) silo_refusal_number IsOk (does self.old (input_of input.now)) result }
+        ensures numbered { IfErr result IsNumberedUnlessMemory }
         ensures membership { self.new.membership ≡ self.old.membership }
         ensures unchanged { OnErr result (self.new ≡ self.old) }
     {
@@ -34,6 +35,7 @@ impl Silo {
     pub(crate) fn takes(&mut self, input: &Input<'_>) -> Result<Answer, SiloRefusal>
         requires { IsNoSight (input_of input.now) }
         ensures told { Follows (stepped_as self.new) silo_refusal_number IsOk (step self.old.node (input_of input.now)) result }
+        ensures numbered { IfErr result IsNumberedUnlessMemory }
         ensures membership { self.new.membership ≡ self.old.membership }
         ensures unchanged { OnErr result (self.new ≡ self.old) }
     {
@@ -48,6 +50,7 @@ impl Silo {
     // A letter to the silo comes: 901, 902.
     pub(crate) fn hear(&mut self, letter: &Letter) -> Result<Answer, SiloRefusal>
         ensures told { Follows (stepped_as self.new) silo_refusal_number (IsHeeded (kind_of letter.now.body)) (does self.old (Receives letter.now)) result }
+        ensures numbered { IfErr result IsNumberedUnlessMemory }
         ensures membership { self.new.membership ≡ self.old.membership }
         ensures unchanged { OnErr result (self.new ≡ self.old) }
     {
