@@ -6,11 +6,11 @@ use Rattle.silo_address.specs.Silo.{Silo}
 use Rattle.membership_view.specs.View.{ViewValue}
 use Rattle.membership_view.specs.Views.{ViewsValue, first_views, view_at}
 use Rattle.hash_ring.specs.Places.{PlacesValue}
-use Rattle.hash_ring.specs.Ring.{RingValue, are_added, ring_of}
+use Rattle.hash_ring.specs.Ring.{are_added, ring_of}
 use Rattle.directory_rules.specs.Settings.{Settings, AreSettings}
 use Rattle.directory_rules.specs.Node.{Node}
 use Rattle.directory_rules.specs.Event.{Event, IsEvent}
-use Rattle.directory_rules.specs.World.{World, Accepted, current_ring, first_world}
+use Rattle.directory_rules.specs.World.{World, Accepted, first_world}
 use Rattle.directory_rules.specs.Happens.{happens, node_of}
 use Rattle.directory_rules.specs.Headline.{AfterAnyEvents, Headline, MovesPlainly}
 use Rattle.directory_rules.specs.Laws.{ArePeopled}
@@ -27,6 +27,7 @@ use Rattle.dump_headline.specs.Told.{IsRightlyTold}
 use Rattle.dump_headline.proofs.Theorem.{rightly_told}
 use Rattle.directory_node.specs.Placed.{ArePlaced}
 use Rattle.letter_mail.specs.Mail.{MailValue}
+use Rattle.directory_core.specs.CurrentView.{ring_of_current_view}
 use Rattle.directory_core.specs.Whole.{IsWorld, LeavesWorld}
 
 -- ---- made
@@ -97,11 +98,10 @@ seeing =
     (λ settings events are named silo node there. nodes_see settings events are silo node there)
 
 -- where that is the current version, it is the current ring
-pub current_seen : (world : World) → IsWorld world → (silo : Silo) (node : Node) → node_of world silo ≡ Some node → node.view.version ≡ world.views.version → node.ring.points ≡ current_ring world
+pub current_seen : (world : World) → IsWorld world → (silo : Silo) (node : Node) → node_of world silo ≡ Some node → node.view.version ≡ world.views.version → node.ring ≡ ring_of_current_view world
 current_seen world is silo node there current =
     let sees = seeing world is silo node there in
-    ap (λ (r : RingValue). r.points) sees.ring_is
-    ∙ ap (λ (v : ViewValue). (ring_of v world.places).points) (sees.view_is ∙ ap (λ n. view_at world.views n) current)
+    sees.ring_is ∙ ap (λ (v : ViewValue). ring_of v world.places) (sees.view_is ∙ ap (λ n. view_at world.views n) current)
 
 -- so the places are known that a sight asks for; the same of equal values
 pub placed_sight : (world now : World) → world ≡ now → (version : ℕ) (node : Node) (before view : ViewValue) → IsWorld world → node.ring ≡ ring_of node.view now.places

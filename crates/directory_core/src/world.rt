@@ -14,7 +14,7 @@ ghost use Rattle.grain_partition.specs.Holdings.{are_tidy};
 ghost use Rattle.letter_mail.specs.Mail.{has_fresh, least_fresh_to};
 ghost use Rattle.letter_mail.specs.MailedModel.{letter_seen};
 ghost use Rattle.dump_headline.specs.Told.{IsRightlyTold};
-ghost use Rattle.directory_core.specs.CurrentView.{HasSeenCurrent, IsCurrentSeen};
+ghost use Rattle.directory_core.specs.CurrentView.{HasSeenCurrent, IsCurrentSeen, ring_of_current_view};
 ghost use Rattle.directory_core.specs.WorldMail.{mail_of};
 ghost use Rattle.directory_core.specs.Whole.{IsWorld};
 
@@ -176,7 +176,7 @@ impl World {
 
     /// The ring of the current view. Fails only when memory runs out.
     pub fn current_ring(&self, alloc: Global) -> Result<Ring, AllocError>
-        ensures { IfOk result (λ ring. ring.points ≡ current_ring self.now) }
+        ensures { IfOk result (λ ring. ring ≡ ring_of_current_view self.now) }
     {
         let Some(view) = self.views.view(alloc, self.views.current())? else {
             unreachable!()
@@ -203,7 +203,7 @@ impl World {
     /// The ring of the current view, as a silo has it that has seen the view; `None` only where none has (`docs/RULES.md#memory`).
     /// One look for each silo.
     pub fn seen_ring(&self) -> Option<&Ring>
-        ensures ring { IfSome result (λ ring. ring.now.points ≡ current_ring self.now) }
+        ensures ring { IfSome result (λ ring. ring.now ≡ ring_of_current_view self.now) }
         ensures seen { IsSome result ↔ IsCurrentSeen self.now }
     {
         for silo in self.nodes.keys() {
@@ -216,7 +216,7 @@ impl World {
 
     // The silo's ring, where it has seen the current view.
     fn ring_seen_by(&self, silo: &SiloAddress) -> Option<&Ring>
-        ensures ring { IfSome result (λ ring. ring.now.points ≡ current_ring self.now) }
+        ensures ring { IfSome result (λ ring. ring.now ≡ ring_of_current_view self.now) }
         ensures seen { IsSome result ↔ HasSeenCurrent self.now silo.now }
     {
         self.whole();

@@ -2,7 +2,6 @@ use Rattle.std.proofs.Common.{◌≡◌, Option, refl, sym, ◌∙◌, ap, subst
 use Rattle.std.specs.Prelude.{IsSomeAnd}
 use Rattle.std.specs.Option.{option_copied}
 use Rattle.membership_view.specs.View.{ViewValue}
-use Rattle.hash_ring.specs.Ring.{RingValue}
 use Rattle.directory_rules.specs.Node.{Node}
 use Rattle.directory_core.proofs.Made.{current_seen}
 use Rattle.directory_core.proofs.world.World.ring_seen_by.Goals as goal
@@ -11,8 +10,7 @@ pub returns-clause-ring : goal.returns-clause-ring
 returns-clause-ring c =
     let version_is = ap (λ (v : ViewValue). v.version) c.view.ensures in
     let current : c.in-Some.node.now.view.version ≡ c.args.self.now.views.version = omega (arith, c.if-version-current.false, c.version.ensures, version_is, c.current.ensures) in
-    ap (λ (r : RingValue). r.points) c.ring.ensures
-    ∙ current_seen c.args.self.now c.whole.ensures c.args.silo.now c.in-Some.node.now (sym c.in-Some.ensures) current
+    c.ring.ensures ∙ current_seen c.args.self.now c.whole.ensures c.args.silo.now c.in-Some.node.now (sym c.in-Some.ensures) current
 
 pub returns-clause-seen : goal.returns-clause-seen
 returns-clause-seen c =
