@@ -1,10 +1,10 @@
 -- What steps and reads keep of the answers so far.
-use Rattle.std.proofs.Common.{◌≡◌, ◌++◌, ℕ, List, [], ◌∷◌, false, ap, refl, sym, ◌∙◌, append_assoc, append-nil, subst, Option, Result}
+use Rattle.std.proofs.Common.{◌≡◌, ◌++◌, ℕ, Bool, List, [], ◌∷◌, false, ap, refl, sym, ◌∙◌, append_assoc, append-nil, subst, Option, Result}
 use Rattle.texts.specs.Words.{line_feed, pieces_at}
 use Rattle.silo_rules.specs.SiloValue.{SiloValue}
 use Rattle.process_rules.specs.ReadLine.{Asked}
 use Rattle.process_output.specs.Output.{answered_to, said, written_on}
-use Rattle.process_loop.specs.Answering.{AnswersLine, before_last, ended_lines, ends_on}
+use Rattle.process_loop.specs.Answering.{AnswersLine, before_last, ended_lines, ends_on, silo_after}
 use Rattle.process_loop.specs.Endings.{IsAnswered}
 use Rattle.process_loop.specs.Progress.{HasAnswered, HasNoEnd, NeedsMore, Progress, first_progress, kept}
 use Rattle.process_loop.specs.Turns.{AnswersSoFar}
@@ -36,13 +36,15 @@ module _ (first : SiloValue) where
   answered_goes_on bytes sent silo at so_far =
       ap (λ (ls : List (List ℕ)). ends_on ls first) (sym (append-nil so_far.answered)) ∙ (so_far.goes_on [] ∙ ends_on_nothing silo)
 
+  -- what was sent and what waits is all that is answered to them
+  pub all_before : (bytes sent : List ℕ) (silo : SiloValue) (at : Progress) (so_far : AnswersSoFar first bytes sent silo at) → sent ++ at.waiting ≡ written_on (so_far.answered ++ [] ∷ []) first
+  all_before bytes sent silo at so_far = sym (so_far.makes [] [] ∙ (ap (λ (t : List ℕ). sent ++ (at.waiting ++ t)) (nothing_written silo) ∙ ap (λ (t : List ℕ). sent ++ t) (append-nil at.waiting)))
+
   -- where all that was read is looked at and nothing waits, all is written that is answered to them
   pub all_answered : (bytes sent : List ℕ) (silo : SiloValue) (at : Progress) → AnswersSoFar first bytes sent silo at → at.unread ≡ [] → at.waiting ≡ [] → IsAnswered first bytes sent
   all_answered bytes sent silo at so_far seen none =
       let ended = ended_answered bytes sent silo at so_far (subst HasNoEnd (sym seen) nothing_ends) in
-      sym (ap (λ (ls : List (List ℕ)). written_on (ls ++ [] ∷ []) first) ended
-      ∙ (so_far.makes [] [] ∙ (ap (λ (t : List ℕ). sent ++ (at.waiting ++ t)) (nothing_written silo)
-      ∙ (ap (λ (w : List ℕ). sent ++ (w ++ [])) none ∙ append-nil sent))))
+      sym (append-nil sent) ∙ (ap (λ (w : List ℕ). sent ++ w) (sym none) ∙ (all_before bytes sent silo at so_far ∙ sym (ap (λ (ls : List (List ℕ)). written_on (ls ++ [] ∷ []) first) ended)))
 
   -- ---- What is kept.
 
@@ -59,7 +61,16 @@ module _ (first : SiloValue) where
     brings = sym (after_nothing first);
   })
 
-  -- a line was answered
+  -- a line was answered: the silo is the one after it
+  pub brings_next : (bytes sent : List ℕ) (silo : SiloValue) (old : Progress) (next : SiloValue) (new : Progress) (ends : Bool) → (step : HasAnswered silo old next new ends)
+      → (so_far : AnswersSoFar first bytes sent silo old) → next ≡ silo_after (so_far.answered ++ (so_far.begun ++ step.line) ∷ []) first
+  brings_next bytes sent silo old next new ends step so_far =
+      let line = so_far.begun ++ step.line in
+      let answers = subst (λ (l : List ℕ). AnswersLine silo l old.waiting next new.waiting ends) (kept_line bytes sent silo old so_far step.line) step.answers in
+      answers.silo ∙ (ap (λ (r : Result (Option Asked) ℕ). (answered_to r silo).silo) (said_kept line silo)
+      ∙ (ap (λ (s : SiloValue). (answered_to (said line s) s).silo) so_far.brings ∙ sym (after_next so_far.answered line first)))
+
+  -- and the answers are some more
   pub answers_more : (bytes sent : List ℕ) (silo : SiloValue) (old : Progress) (next : SiloValue) (new : Progress) → HasAnswered silo old next new false
       → AnswersSoFar first bytes sent silo old → AnswersSoFar first bytes sent next new
   answers_more bytes sent silo old next new step so_far =
@@ -82,8 +93,7 @@ module _ (first : SiloValue) where
         goes_on = λ lines.
             ap (λ (ls : List (List ℕ)). ends_on ls first) (append_assoc so_far.answered (line ∷ []) lines)
             ∙ (so_far.goes_on (line ∷ lines) ∙ ends_next line (kept line) lines silo next old.waiting new.waiting same answers);
-        brings = answers.silo ∙ (ap (λ (r : Result (Option Asked) ℕ). (answered_to r silo).silo) same
-            ∙ (ap (λ (s : SiloValue). (answered_to (said line s) s).silo) so_far.brings ∙ sym (after_next so_far.answered line first)));
+        brings = brings_next bytes sent silo old next new false step so_far;
       }
 
   -- a line goes on with all that was read

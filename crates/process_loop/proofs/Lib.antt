@@ -6,4 +6,5 @@ mod AnswersSoFar
 mod Calls
 mod Filled
 mod Stands
+mod SiloLeft
 pub mod TurnsTaken

@@ -1,5 +1,5 @@
 -- Lines cut off at their line feeds, and what each makes of what is written.
-use Rattle.std.proofs.Common.{◌≡◌, ◌≢◌, ℕ, ◌<◌, zero, suc, Bool, true, false, List, [], ◌∷◌, ◌++◌, length, get_or, take, drop, Some, ap, arith, refl, sym, ◌∙◌, append_assoc, append-nil}
+use Rattle.std.proofs.Common.{◌≡◌, ◌≢◌, ℕ, ◌<◌, zero, suc, Bool, true, false, List, [], ◌∷◌, ◌++◌, length, get_or, take, drop, Some, ap, arith, refl, sym, ◌∙◌, append_assoc, append-nil, if◌then◌else◌}
 use Rattle.std.specs.List.{onto_first}
 use Rattle.std.proofs.lemmas.Bool.{eq-eqb, eqb-true}
 use Rattle.memchr.specs.Find.{IsFirstByte, is_byte}
@@ -125,6 +125,20 @@ pub after_next : (lines : List (List ℕ)) (line : List ℕ) (s : SiloValue) →
 unfolding silo_after
 after_next [] line s = refl
 after_next (one ∷ lines) line s = after_next lines line (answered_to (said one s) s).silo
+
+-- where the process doesn't end by some lines, it doesn't end by all but the last of them
+ends_before : (it : Answered) (whole front : SiloValue → Bool) → ends_or it whole ≡ false → (whole it.silo ≡ false → front it.silo ≡ false) → ends_or it front ≡ false
+ends_before it whole front goes_on later = elim it.ends as (λ (b : Bool). (if b then true else whole it.silo) ≡ false → (if b then true else front it.silo) ≡ false) [
+  | true ↦ λ is. absurd (cc)
+  | false ↦ λ is. later is
+] goes_on
+
+pub goes_on_before : (lines : List (List ℕ)) (s : SiloValue) → ends_on lines s ≡ false → ends_on (before_last lines) s ≡ false
+unfolding ends_on
+goes_on_before [] s goes_on = refl
+goes_on_before (last ∷ []) s goes_on = refl
+goes_on_before (line ∷ next ∷ lines) s goes_on =
+    ends_before (answered_to (said line s) s) (ends_on (next ∷ lines)) (ends_on (before_last (next ∷ lines))) goes_on (goes_on_before (next ∷ lines) (answered_to (said line s) s).silo)
 
 pub ends_on_nothing : (s : SiloValue) → ends_on [] s ≡ false
 unfolding ends_on

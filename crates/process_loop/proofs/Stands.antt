@@ -19,7 +19,7 @@ use Rattle.process_loop.specs.Transfers.{Fills, HasDrained, HasFilled}
 use Rattle.process_loop.specs.Turns.{Stands}
 use Rattle.process_loop.proofs.Kept.{lacks_whole, said_kept, unended_kept}
 use Rattle.process_loop.proofs.Lines.{before_the_last, behind_the_begun, ends_on_nothing, ends_there, first_piece, no_end_in_both, nothing_ends, nothing_written, only_piece, written_last}
-use Rattle.process_loop.proofs.AnswersSoFar.{all_answered, answered_goes_on, answers_begun, answers_first, answers_more, answers_read_on, answers_sent, ended_answered, kept_line, pieces_answered}
+use Rattle.process_loop.proofs.AnswersSoFar.{all_answered, all_before, answered_goes_on, answers_begun, answers_first, answers_more, answers_read_on, answers_sent, ended_answered, kept_line, pieces_answered}
 
 -- ---- What was read.
 
@@ -151,11 +151,11 @@ module _ (first : SiloValue) (input : List ℕ) (start : Option (List ℕ)) wher
   -- ---- A process stops.
 
   -- what the source still has
-  rest_of : (read : Option (List ℕ)) (bytes : List ℕ) → Consumes (Some input) read bytes → (rest : List ℕ) × (read ≡ Some rest) × (input ≡ bytes ++ rest)
+  pub rest_of : (read : Option (List ℕ)) (bytes : List ℕ) → Consumes (Some input) read bytes → (rest : List ℕ) × (read ≡ Some rest) × (input ≡ bytes ++ rest)
   rest_of None bytes consumes = absurd consumes
   rest_of (Some rest) bytes consumes = (rest, refl, consumes)
 
-  none_left : (read : Option (List ℕ)) (rest : List ℕ) → read ≡ Some rest → IsAtEnd read → rest ≡ []
+  pub none_left : (read : Option (List ℕ)) (rest : List ℕ) → read ≡ Some rest → IsAtEnd read → rest ≡ []
   none_left None rest is end = absurd (cc)
   none_left (Some xs) rest is end = cc
 
@@ -169,7 +169,7 @@ module _ (first : SiloValue) (input : List ℕ) (start : Option (List ℕ)) wher
       ∙ stands.answers.makes next lines)
 
   -- what was sent, and a beginning of what waits, is a beginning of it
-  begins_by : (sent front waiting later whole : List ℕ) → BeginsWith front waiting → whole ≡ sent ++ (waiting ++ later) → BeginsWith (sent ++ front) whole
+  pub begins_by : (sent front waiting later whole : List ℕ) → BeginsWith front waiting → whole ≡ sent ++ (waiting ++ later) → BeginsWith (sent ++ front) whole
   begins_by sent front waiting later whole begins is = record {
     more = begins.more ++ later;
     joined = is ∙ (ap (λ (w : List ℕ). sent ++ (w ++ later)) begins.joined ∙ (ap (λ (t : List ℕ). sent ++ t) (append_assoc front begins.more later)
@@ -186,7 +186,7 @@ module _ (first : SiloValue) (input : List ℕ) (start : Option (List ℕ)) wher
   all_begins : (text : List ℕ) → BeginsWith text text
   all_begins text = record { more = []; joined = sym (append-nil text) }
 
-  none_begins : (text : List ℕ) → BeginsWith [] text
+  pub none_begins : (text : List ℕ) → BeginsWith [] text
   none_begins text = record { more = text; joined = refl }
 
   -- a read failed, or there were too many
@@ -285,10 +285,10 @@ module _ (first : SiloValue) (input : List ℕ) (start : Option (List ℕ)) wher
       ∙ ends_there line (kept line) (before_last (behind.0 ∷ behind.1)) silo next at.waiting last.waiting (said_kept line silo) answers)
 
   -- the end of the input
-  ended_whole : (read before : Option (List ℕ)) (silo : SiloValue) (at last : Progress) (stands : Stands first input start silo at read before)
-      → HasEnded at last → written_on (pieces_at line_feed input) first ≡ stands.sent ++ last.waiting
+  ended_whole : (read before : Option (List ℕ)) (silo : SiloValue) (at : Progress) (next : SiloValue) (last : Progress) (stands : Stands first input start silo at read before)
+      → HasEnded silo at next last → written_on (pieces_at line_feed input) first ≡ stands.sent ++ last.waiting
   unfolding written_on
-  ended_whole read before silo at last stands step =
+  ended_whole read before silo at next last stands step =
       let held = stands.answers.begun ++ at.unread in
       let left = rest_of read (bytes_read silo at read before stands) stands.has_read.consumes in
       let cut : pieces_at line_feed (held ++ left.0) ≡ held ∷ [] =
@@ -301,7 +301,7 @@ module _ (first : SiloValue) (input : List ℕ) (start : Option (List ℕ)) wher
   -- what was told when the process stopped begins all, or is all of it
   concludes_by : (read before : Option (List ℕ)) (silo : SiloValue) (at : Progress) (next : SiloValue) (last : Progress) (stopping : Stopped) → StopsStep silo at next last stopping
       → (stands : Stands first input start silo at read before) → Concludes (written_on (pieces_at line_feed input) first) (stands.sent ++ last.waiting) stopping
-  concludes_by read before silo at next last stopped.AtEnd step stands = sym (ended_whole read before silo at last stands step)
+  concludes_by read before silo at next last stopped.AtEnd step stands = sym (ended_whole read before silo at next last stands step)
   concludes_by read before silo at next last stopped.Dead step stands = sym (died_whole read before silo at next last stands step)
   concludes_by read before silo at next last stopped.OutOfMemory step stands =
       subst (λ (w : List ℕ). BeginsWith (stands.sent ++ w) (written_on (pieces_at line_feed input) first)) (sym step.0) (waits_begins read before silo at stands)
@@ -330,28 +330,27 @@ module _ (first : SiloValue) (input : List ℕ) (start : Option (List ℕ)) wher
   reading_ends read before silo at next last stopped.Broken step stands = absurd step
 
   -- memory is wanted for the first line that isn't answered: one that ended
-  ended_wants : (read before : Option (List ℕ)) (silo : SiloValue) (at : Progress) (stands : Stands first input start silo at read before) (wants : WantsAnswer silo at)
+  ended_wants : (read before : Option (List ℕ)) (silo : SiloValue) (at : Progress) (next : SiloValue) (stands : Stands first input start silo at read before) (wants : WantsAnswer silo at next)
       → IsWanted first stands.answers.answered (stands.answers.begun ++ wants.line) stands.has_read.front stands.has_read.chunk
-  ended_wants read before silo at stands wants = inr (by wants.wanted (stands.before wants.some))
+  ended_wants read before silo at next stands wants = inr (by wants.wanted (stands.before wants.some))
     where
-      by : ((0 < length at.begun) ⊎ MayLackMemory silo (kept (at.begun ++ wants.line))) → (at.begun ≡ []) ⊎ (pieces_at line_feed stands.has_read.front ≡ stands.answers.answered ++ stands.answers.begun ∷ [])
+      by : (((0 < length at.begun) × (next ≡ silo)) ⊎ MayLackMemory silo (kept (at.begun ++ wants.line))) → (at.begun ≡ []) ⊎ (pieces_at line_feed stands.has_read.front ≡ stands.answers.answered ++ stands.answers.begun ∷ [])
           → MayLackMemory (silo_after stands.answers.answered first) (stands.answers.begun ++ wants.line)
           ⊎ (BeginsOneMore stands.answers.answered stands.has_read.front ⊎ BeginsOneMore stands.answers.answered (bytes_read silo at read before stands))
       by (inr lacks) first_seen =
           let same = kept_line first (bytes_read silo at read before stands) stands.sent silo at stands.answers wants.line in
           inl (subst (λ (s : SiloValue). MayLackMemory s (stands.answers.begun ++ wants.line)) stands.answers.brings
           (lacks_whole (stands.answers.begun ++ wants.line) silo (subst (MayLackMemory silo) same lacks)))
-      by (inl some) (inl none) = absurd (omega (arith, some, ap length none))
-      by (inl some) (inr cut) = inr (inl (stands.answers.begun, cut, omega (arith, some, ap length stands.answers.begun_kept, length-take most_kept stands.answers.begun)))
+      by (inl (some, same)) (inl none) = absurd (omega (arith, some, ap length none))
+      by (inl (some, same)) (inr cut) = inr (inl (stands.answers.begun, cut, omega (arith, some, ap length stands.answers.begun_kept, length-take most_kept stands.answers.begun)))
 
   -- or one that hasn't
-  lacks_by : (read before : Option (List ℕ)) (silo : SiloValue) (at : Progress) (stands : Stands first input start silo at read before) → WantsMemory silo at
+  lacks_by : (read before : Option (List ℕ)) (silo : SiloValue) (at : Progress) (next : SiloValue) (stands : Stands first input start silo at read before) → WantsMemory silo at next
       → LacksMemory input first stands.has_read.front stands.has_read.chunk (stands.sent ++ at.waiting)
-  lacks_by read before silo at stands wants = by wants
+  lacks_by read before silo at next stands wants = by wants
     where
-      all_before : stands.sent ++ at.waiting ≡ written_on (stands.answers.answered ++ [] ∷ []) first
-      all_before = sym (stands.answers.makes [] [] ∙ (ap (λ (t : List ℕ). stands.sent ++ (at.waiting ++ t)) (nothing_written silo)
-          ∙ ap (λ (t : List ℕ). stands.sent ++ t) (append-nil at.waiting)))
+      all_answers : stands.sent ++ at.waiting ≡ written_on (stands.answers.answered ++ [] ∷ []) first
+      all_answers = all_before first (bytes_read silo at read before stands) stands.sent silo at stands.answers
 
       left : (rest : List ℕ) × (read ≡ Some rest) × (input ≡ bytes_read silo at read before stands ++ rest)
       left = rest_of read (bytes_read silo at read before stands) stands.has_read.consumes
@@ -360,7 +359,7 @@ module _ (first : SiloValue) (input : List ℕ) (start : Option (List ℕ)) wher
           → pieces_at line_feed input ≡ stands.answers.answered ++ line ∷ others
       cut_by line others is = ap (pieces_at line_feed) left.2 ∙ (stands.answers.lines left.0 ∙ ap (λ (ps : List (List ℕ)). stands.answers.answered ++ ps) is)
 
-      by : WantsMemory silo at → LacksMemory input first stands.has_read.front stands.has_read.chunk (stands.sent ++ at.waiting)
+      by : WantsMemory silo at next → LacksMemory input first stands.has_read.front stands.has_read.chunk (stands.sent ++ at.waiting)
       by (inl ended) = record {
         lines = stands.answers.answered;
         line = stands.answers.begun ++ ended.line;
@@ -368,10 +367,10 @@ module _ (first : SiloValue) (input : List ℕ) (start : Option (List ℕ)) wher
         is_of_it = cut_by (stands.answers.begun ++ ended.line) (pieces_at line_feed (ended.rest ++ left.0)) (ap (pieces_at line_feed) (append_assoc stands.answers.begun at.unread left.0)
             ∙ behind_the_begun stands.answers.begun (at.unread ++ left.0) ended.line _ stands.answers.no_end (ended.cuts left.0));
         goes_on = answered_goes_on first (bytes_read silo at read before stands) stands.sent silo at stands.answers;
-        answered = all_before;
-        wanted = ended_wants read before silo at stands ended;
+        answered = all_answers;
+        wanted = ended_wants read before silo at next stands ended;
       }
-      by (inr (none, some)) =
+      by (inr (none, some, same)) =
           let begun = stands.answers.begun in
           let held = begun ++ at.unread in
           let behind = first_piece left.0 in
@@ -382,7 +381,7 @@ module _ (first : SiloValue) (input : List ℕ) (start : Option (List ℕ)) wher
             others = behind.1;
             is_of_it = cut_by (held ++ behind.0) behind.1 (behind_the_begun held left.0 behind.0 behind.1 (no_end_in_both begun at.unread stands.answers.no_end none) behind.2);
             goes_on = answered_goes_on first (bytes_read silo at read before stands) stands.sent silo at stands.answers;
-            answered = all_before;
+            answered = all_answers;
             wanted = inr (inr (inr (held, pieces_answered first (bytes_read silo at read before stands) stands.sent silo at stands.answers none, long)));
           }
 
@@ -393,7 +392,7 @@ module _ (first : SiloValue) (input : List ℕ) (start : Option (List ℕ)) wher
   stops_before read before silo at next last stopped.AtEnd step stands = tt
   stops_before read before silo at next last stopped.Dead step stands = tt
   stops_before read before silo at next last stopped.OutOfMemory step stands =
-      subst (λ (w : List ℕ). LacksMemory input first stands.has_read.front stands.has_read.chunk (stands.sent ++ w)) (sym step.0) (lacks_by read before silo at stands step.1)
+      subst (λ (w : List ℕ). LacksMemory input first stands.has_read.front stands.has_read.chunk (stands.sent ++ w)) (sym step.0) (lacks_by read before silo at next stands step.1)
   stops_before read before silo at next last stopped.TooManyReads step stands = absurd step
   stops_before read before silo at next last stopped.Broken step stands = absurd step
 

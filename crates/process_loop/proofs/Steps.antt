@@ -42,9 +42,9 @@ answered_there silo old next new line count ends found unkept fits is left end u
 }
 
 -- memory ran out for a line that ended: it was begun, or is answered where it was read
-pub begun_lacks : (silo : SiloValue) (old : Progress) (count : ℕ) → IsFirstByte (is_byte line_feed) old.unread (Some count)
-    → (0 < length old.begun) ⊎ MayLackMemory silo (kept (old.begun ++ take count old.unread)) → WantsAnswer silo old
-begun_lacks silo old count found wanted = record {
+pub begun_lacks : (silo : SiloValue) (old : Progress) (next : SiloValue) (count : ℕ) → IsFirstByte (is_byte line_feed) old.unread (Some count)
+    → ((0 < length old.begun) × (next ≡ silo)) ⊎ MayLackMemory silo (kept (old.begun ++ take count old.unread)) → WantsAnswer silo old next
+begun_lacks silo old next count found wanted = record {
   some = omega (arith, found.0.high);
   line = take count old.unread;
   rest = drop (suc count) old.unread;
@@ -52,9 +52,9 @@ begun_lacks silo old count found wanted = record {
   wanted = wanted;
 }
 
-pub unkept_lacks : (silo : SiloValue) (old : Progress) (line : List ℕ) (count : ℕ) → IsFirstByte (is_byte line_feed) old.unread (Some count) → old.begun ≡ []
-    → length old.unread ≤ most_kept → line ≡ take count old.unread → MayLackMemory silo line → WantsAnswer silo old
-unkept_lacks silo old line count found unkept fits is lacks = begun_lacks silo old count found (inr (subst (MayLackMemory silo) (whole_kept old line count unkept fits is) lacks))
+pub unkept_lacks : (silo : SiloValue) (old : Progress) (next : SiloValue) (line : List ℕ) (count : ℕ) → IsFirstByte (is_byte line_feed) old.unread (Some count) → old.begun ≡ []
+    → length old.unread ≤ most_kept → line ≡ take count old.unread → MayLackMemory silo line → WantsAnswer silo old next
+unkept_lacks silo old next line count found unkept fits is lacks = begun_lacks silo old next count found (inr (subst (MayLackMemory silo) (whole_kept old line count unkept fits is) lacks))
 
 pub answers_there : {E : Type 0} (silo : SiloValue) (old : Progress) (next : SiloValue) (new : Progress) (line : List ℕ) (count : ℕ) (answered : Result Bool E)
     → IsFirstByte (is_byte line_feed) old.unread (Some count) → old.begun ≡ [] → length old.unread ≤ most_kept → line ≡ take count old.unread → new.left ≡ old.left → new.ended ≡ old.ended
@@ -63,17 +63,18 @@ pub answers_there : {E : Type 0} (silo : SiloValue) (old : Progress) (next : Sil
 answers_there silo old next new line count (Ok ends) found unkept fits is left end unread none answers unwritten lacks =
     answered_there silo old next new line count ends found unkept fits is left end unread none answers
 answers_there silo old next new line count (Err error) found unkept fits is left end unread none answers unwritten lacks =
-    (unwritten, inl (unkept_lacks silo old line count found unkept fits is lacks))
+    (unwritten, inl (unkept_lacks silo old next line count found unkept fits is lacks))
 
 -- or memory ran out
-pub lacks_then : {E : Type 0} (silo : SiloValue) (old : Progress) (next : SiloValue) (new : Progress) (answered : Result Bool E) → IsErr answered → Lacks silo old new → AnswersOne silo old next new answered
+pub lacks_then : {E : Type 0} (silo : SiloValue) (old : Progress) (next : SiloValue) (new : Progress) (answered : Result Bool E) → IsErr answered → Lacks silo old next new → AnswersOne silo old next new answered
 lacks_then silo old next new (Ok ends) is lacks = absurd (cc)
 lacks_then silo old next new (Err error) is lacks = lacks
 
 -- which is so where that was told
-pub lacked : {E : Type 0} (silo : SiloValue) (old : Progress) (next : SiloValue) (found new : Progress) (answered told : Result Bool E) (error : E) → AnswersOne silo old next found answered
-    → told ≡ answered → told ≡ Err error → new ≡ found → Lacks silo old new
-lacked silo old next found new answered told error answers same is at = subst (Lacks silo old) (sym at) (subst (AnswersOne silo old next found) (sym same ∙ is) answers)
+pub lacked : {E : Type 0} (silo : SiloValue) (old : Progress) (next left : SiloValue) (found new : Progress) (answered told : Result Bool E) (error : E) → AnswersOne silo old next found answered
+    → told ≡ answered → told ≡ Err error → left ≡ next → new ≡ found → Lacks silo old left new
+lacked silo old next left found new answered told error answers same is kept at =
+    subst (λ (s : SiloValue). Lacks silo old s new) (sym kept) (subst (Lacks silo old next) (sym at) (subst (AnswersOne silo old next found) (sym same ∙ is) answers))
 
 -- a line is begun where it isn't empty
 pub some_begun : (size : ℕ) (empty : Bool) → empty ≡ (size == 0) → empty ≡ false → 0 < size

@@ -9,7 +9,7 @@ use Rattle.script_loop.specs.Endings.{most_at_once}
 use Rattle.process_output.specs.Output.{written_on}
 use Rattle.process_loop.specs.declared.stopped.Stopped.{Stopped}
 use Rattle.process_loop.specs.declared.stopped.Stopped.TheVariants.{AtEnd, Dead, TooManyReads, OutOfMemory, Broken}
-use Rattle.process_loop.specs.Answering.{MayLackMemory, ended_lines, ends_on, silo_after}
+use Rattle.process_loop.specs.Answering.{MayLackMemory, before_last, ended_lines, ends_on, silo_after}
 
 -- the exit status
 abbrev pub status_of : Stopped → ℕ
@@ -81,6 +81,46 @@ pub record Stops (input : List ℕ) (silo : SiloValue) (rest begun written : Opt
   pub read : HasRead input silo rest text
   pub reads : EndsReading (read.front ++ read.chunk) silo rest stopped
   pub memory : StopsBefore input silo read.front read.chunk text stopped
+
+-- up to where lines were answered: all of them, by which the process doesn't end; up to the one by which it ends; no further than that, where it
+-- breaks; or some by which it doesn't end
+abbrev pub EndsAnswers : (lines others : List (List ℕ)) → SiloValue → Stopped → Type 0
+EndsAnswers lines others silo AtEnd = (ends_on lines silo ≡ false) × (others ≡ [])
+EndsAnswers lines others silo Dead = (ends_on lines silo ≡ true) × (ends_on (before_last lines) silo ≡ false)
+EndsAnswers lines others silo Broken = ends_on (before_last lines) silo ≡ false
+EndsAnswers lines others silo other = ends_on lines silo ≡ false
+
+-- by the lines that were answered the process doesn't end, and memory may run out at the one behind them
+abbrev pub MayLackBehind : (lines others : List (List ℕ)) → SiloValue → Type 0
+MayLackBehind lines [] silo = ⊥
+MayLackBehind lines (line ∷ others) silo = (ends_on lines silo ≡ false) × MayLackMemory (silo_after lines silo) line
+
+-- the silo is the one after the lines that were answered; another one only where memory ran out at the line behind them, also if a write
+-- failed then
+abbrev pub IsSiloAfter : (lines others : List (List ℕ)) → (before after : SiloValue) → Stopped → Type 0
+IsSiloAfter lines others before after OutOfMemory = (after ≡ silo_after lines before) ⊎ MayLackBehind lines others before
+IsSiloAfter lines others before after Broken = (after ≡ silo_after lines before) ⊎ MayLackBehind lines others before
+IsSiloAfter lines others before after other = after ≡ silo_after lines before
+
+-- the text is all that is answered to the lines; at the end what no line feed ended is told behind it; where the process breaks it is a
+-- beginning, of more than that only where no other line ended
+abbrev pub WritesAnswers : (others : List (List ℕ)) → (answers text : List ℕ) → Stopped → Type 0
+WritesAnswers others answers text AtEnd = BeginsWith answers text
+WritesAnswers others answers text Broken = BeginsWith text answers ⊎ (others ≡ [])
+WritesAnswers others answers text other = text ≡ answers
+
+-- the text answers the first of the lines that a line feed ended in the input, and the silo is the one after them
+pub record AnswersFirst (input : List ℕ) (before after : SiloValue) (text : List ℕ) (stopped : Stopped) : Type 0 where
+  pub lines : List (List ℕ)
+  pub others : List (List ℕ)
+  pub is_of_it : ended_lines input ≡ lines ++ others
+  pub ends : EndsAnswers lines others before stopped
+  pub is_after : IsSiloAfter lines others before after stopped
+  pub answers : WritesAnswers others (written_on (lines ++ [] ∷ []) before) text stopped
+
+-- the silo that is left is the one after the lines that are answered by what is written behind what the sink had before
+abbrev pub LeavesSilo : (input : List ℕ) → (before after : SiloValue) → (begun written : Option (List ℕ)) → Stopped → Type 0
+LeavesSilo input before after begun written stopped = (text : List ℕ) × Appends begun written text × AnswersFirst input before after text stopped
 
 -- the calls of a process: where it breaks, the last read or the last write failed or a write took nothing; else none did
 abbrev pub MakesCalls : {R W : Type 0} → (reads : R → Option (List ℕ) → R → Type 0) → (writes : W → List ℕ → Option ℕ → W → Type 0) → (old new : R × W) → Stopped → Type 0

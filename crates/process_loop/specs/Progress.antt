@@ -92,39 +92,40 @@ pub record NeedsMore (old_silo : SiloValue) (old : Progress) (new_silo : SiloVal
   pub seen : new.unread ≡ []
 
 -- the input is at its end, and what no line feed ended is told
-pub record HasEnded (old new : Progress) : Type 0 where
+pub record HasEnded (old_silo : SiloValue) (old : Progress) (new_silo : SiloValue) (new : Progress) : Type 0 where
+  pub same_silo : new_silo ≡ old_silo
   pub ended : old.ended ≡ true
   pub none : HasNoEnd old.unread
   pub told : new.waiting ≡ old.waiting ++ after_last (unended_fault (kept (old.begun ++ old.unread)))
 
--- memory is wanted for a line that ended: to keep it, where it was begun before; or to answer it
-pub record WantsAnswer (silo : SiloValue) (at : Progress) : Type 0 where
+-- memory is wanted for a line that ended: to keep it, where it was begun before; or to answer it, by which the silo may change
+pub record WantsAnswer (old_silo : SiloValue) (at : Progress) (new_silo : SiloValue) : Type 0 where
   pub some : 0 < length at.unread
   pub line : List ℕ
   pub rest : List ℕ
   pub cuts : Cuts at.unread line rest
-  pub wanted : (0 < length at.begun) ⊎ MayLackMemory silo (kept (at.begun ++ line))
+  pub wanted : ((0 < length at.begun) × (new_silo ≡ old_silo)) ⊎ MayLackMemory old_silo (kept (at.begun ++ line))
 
 -- for one that hasn't ended: to keep it, or to tell so
-abbrev pub WantsRest : Progress → Type 0
-WantsRest at = HasNoEnd at.unread × (0 < length (at.begun ++ at.unread))
+abbrev pub WantsRest : SiloValue → Progress → SiloValue → Type 0
+WantsRest old_silo at new_silo = HasNoEnd at.unread × (0 < length (at.begun ++ at.unread)) × (new_silo ≡ old_silo)
 
-abbrev pub WantsMemory : SiloValue → Progress → Type 0
-WantsMemory silo at = WantsAnswer silo at ⊎ WantsRest at
+abbrev pub WantsMemory : SiloValue → Progress → SiloValue → Type 0
+WantsMemory old_silo at new_silo = WantsAnswer old_silo at new_silo ⊎ WantsRest old_silo at new_silo
 
 -- memory ran out
-abbrev pub Lacks : SiloValue → Progress → Progress → Type 0
-Lacks silo old new = (new.waiting ≡ old.waiting) × WantsMemory silo old
+abbrev pub Lacks : SiloValue → Progress → SiloValue → Progress → Type 0
+Lacks old_silo old new_silo new = (new.waiting ≡ old.waiting) × WantsMemory old_silo old new_silo
 
 -- a line that ended is answered, or memory ran out
 abbrev pub AnswersOne : {E : Type 0} → SiloValue → Progress → SiloValue → Progress → Result Bool E → Type 0
-AnswersOne old_silo old new_silo new answered = MatchResult answered (HasAnswered old_silo old new_silo new) (λ _. Lacks old_silo old new)
+AnswersOne old_silo old new_silo new answered = MatchResult answered (HasAnswered old_silo old new_silo new) (λ _. Lacks old_silo old new_silo new)
 
 -- how a step may stop the process
 abbrev pub StopsStep : SiloValue → Progress → SiloValue → Progress → Stopped → Type 0
-StopsStep old_silo old new_silo new stopped.AtEnd = HasEnded old new
+StopsStep old_silo old new_silo new stopped.AtEnd = HasEnded old_silo old new_silo new
 StopsStep old_silo old new_silo new stopped.Dead = HasAnswered old_silo old new_silo new true
-StopsStep old_silo old new_silo new stopped.OutOfMemory = Lacks old_silo old new
+StopsStep old_silo old new_silo new stopped.OutOfMemory = Lacks old_silo old new_silo new
 StopsStep old_silo old new_silo new other = ⊥
 
 -- what a step did

@@ -7,7 +7,7 @@ use Rattle.script_loop.specs.Turns.{InTurnSoFar}
 use Rattle.process_output.specs.Output.{written_on}
 use Rattle.process_loop.specs.declared.stopped.Stopped.{Stopped}
 use Rattle.process_loop.specs.Answering.{ends_on, silo_after}
-use Rattle.process_loop.specs.Endings.{AnswersInTurn, HasRead, IsAnswered, Stops, most_reads}
+use Rattle.process_loop.specs.Endings.{AnswersInTurn, HasRead, IsAnswered, LeavesSilo, Stops, most_reads}
 use Rattle.process_loop.specs.Progress.{HasNoEnd, Progress, kept}
 
 -- the answers so far: the lines of the bytes that were read are those that were answered, and those of the line that is begun and of what is
@@ -38,7 +38,7 @@ abbrev pub Turns : SiloValue → Progress → (read before : Option (List ℕ)) 
 Turns silo old read before next new rest written None =
     (first : SiloValue) (input : List ℕ) (start : Option (List ℕ)) → Stands first input start silo old read before → Stands first input start next new rest written
 Turns silo old read before next new rest written (Some stopped) =
-    (first : SiloValue) (input : List ℕ) (start : Option (List ℕ)) → Stands first input start silo old read before → Stops input first rest start written stopped
+    (first : SiloValue) (input : List ℕ) (start : Option (List ℕ)) → Stands first input start silo old read before → Stops input first rest start written stopped × LeavesSilo input first next start written stopped
 
 -- the calls so far, which read those bytes and wrote those answers
 pub record CallsSoFar {R W : Type 0} (reads : R → Option (List ℕ) → R → Type 0) (writes : W → List ℕ → Option ℕ → W → Type 0) (first : SiloValue) (start : R × W) (silo : SiloValue) (at : Progress) (now : R × W) : Type 0 where

@@ -16,7 +16,7 @@ returns g c =
 pub returns-in_err-take_line : goal.returns-in_err-take_line
 returns-in_err-take_line g c = lacks_then (g.P.SiloPlayer.silo c.args.player.now) (progress c.args.self.now) _ _ c.from_residual.result c.from_residual.ensures.0 (
   ap (λ (p : Progress). p.waiting) c.in_err-take_line.ensures.unchanged,
-  inl (begun_lacks (g.P.SiloPlayer.silo c.args.player.now) (progress c.args.self.now) c.args.count c.requires.found (inl c.requires.kept)),
+  inl (begun_lacks (g.P.SiloPlayer.silo c.args.player.now) (progress c.args.self.now) _ c.args.count c.requires.found (inl (c.requires.kept, refl))),
 )
 
 pub returns-in_err-ends : goal.returns-in_err-ends
@@ -25,6 +25,6 @@ returns-in_err-ends g c =
     let waits : c.take_line.new.self.out.items ≡ c.args.self.now.out.items = ap (λ (p : Progress). p.waiting) taken in
     lacks_then (g.P.SiloPlayer.silo c.args.player.now) (progress c.args.self.now) _ _ c.from_residual-in_err-ends.result c.from_residual-in_err-ends.ensures.0 (
       ◌∙◌ {A = List ℕ} c.in_err-ends.ensures.unwritten waits,
-      inl (begun_lacks (g.P.SiloPlayer.silo c.args.player.now) (progress c.args.self.now) c.args.count c.requires.found
+      inl (begun_lacks (g.P.SiloPlayer.silo c.args.player.now) (progress c.args.self.now) _ c.args.count c.requires.found
           (inr (subst (MayLackMemory (g.P.SiloPlayer.silo c.args.player.now)) (c.deref.ensures.value ∙ ap (λ (p : Progress). p.begun) taken) c.in_err-ends.ensures.memory))),
     )
