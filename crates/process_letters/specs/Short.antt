@@ -9,7 +9,7 @@ IsShort Page = ⊥
 IsShort Report = ⊥
 IsShort other = ⊤
 
--- a letter was read, and it has such a list
+-- a letter was read, and it has such a list, be it empty
 abbrev pub HasEntries : Result Letter ℕ → Type 0
 HasEntries (Ok letter) = ¬ (IsShort (kind_of letter.body))
 HasEntries (Err fault) = ⊥

@@ -16,8 +16,8 @@ use directory_rules::{LetterKind, Reply};
 use hash_ring::Hashing;
 use std::alloc::Global;
 
-/// Reads what stands behind `letter` in a line, grains being hashed so: the letter, or the first fault. Memory is taken for the entries
-/// of a page or a report alone, and that it runs out is told only where the line has no fault.
+/// Reads what stands behind `letter` in a line, grains being hashed so: the letter, or the first fault. Memory may run out only at a page
+/// or a report, and that it does is told only where the line has no fault.
 /// (`docs/RULES.md#lines-of-a-silos-process`)
 #[tactic(auto, using(crate::proofs::Forms::fronts))]
 pub fn read_letter(alloc: Global, hashing: Hashing, words: &[u8]) -> Result<Letter, LineError>

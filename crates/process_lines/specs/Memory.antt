@@ -4,7 +4,7 @@ use Rattle.directory_rules.specs.Letter.{kind_of}
 use Rattle.process_rules.specs.ReadLine.{Asked, Joined, Receive}
 use Rattle.process_letters.specs.Short.{IsShort}
 
--- what is asked for has a list: it is a join with places, or a letter with entries
+-- what is asked for has a list: it is a join with places, or a letter that tells entries, be there any or none
 abbrev pub HasList : Asked → Type 0
 HasList (Joined version silo (place ∷ places)) = ⊤
 HasList (Receive letter) = ¬ (IsShort (kind_of letter.body))
