@@ -1,4 +1,4 @@
--- Where a plan may run out of memory: only where something is to be made of the input.
+-- Where a plan may run out of memory, only where something is to be made of the input; and where carrying it out may.
 use Rattle.std.specs.Prelude.{◌≡◌, ◌⊎◌, ◌==◌, ◌&&◌, ℕ, Bool, true, false, IsOk, Result, length}
 use Rattle.std.specs.List.{list_all}
 use Rattle.directory_rules.specs.declared.effect.Effect.{Effect}
@@ -12,6 +12,8 @@ use Rattle.directory_rules.specs.Node.{Node}
 use Rattle.directory_rules.specs.Receive.{received}
 use Rattle.directory_rules.specs.Sight.{is_settled}
 use Rattle.directory_rules.specs.Step.{Stepped}
+use Rattle.node_plans.specs.declared.plan.Change.{Change}
+use Rattle.node_plans.specs.declared.plan.Change.TheVariants as change
 use Rattle.node_plans.specs.Plans.{Sends, answer_count}
 
 -- whether letters of the kind only tell something: that a request wasn't served, which stays outstanding, or which view another
@@ -61,3 +63,26 @@ MayLackMemory node (Forgets grain) outcome = ⊥
 MayLackMemory node Nudges outcome = IsOk outcome × (is_quiet node ≡ false)
 MayLackMemory node (Offers grain to) outcome = Sends 1 outcome
 MayLackMemory node (Receives letter) outcome = Sends (answer_count node letter.body) outcome × Counts node letter
+
+-- a change for which memory may be needed: something that the node keeps grows
+abbrev pub NeedsMemory : Change → Type 0
+NeedsMemory change.Nothing = ⊥
+NeedsMemory (change.Sees sight) = Unit {0}
+NeedsMemory (change.Renews renewal) = ⊥
+NeedsMemory (change.Starts grain previous) = Unit {0}
+NeedsMemory (change.Closes grain) = Unit {0}
+NeedsMemory (change.Asks grain) = Unit {0}
+NeedsMemory (change.Serves request) = Unit {0}
+NeedsMemory (change.Confirms number) = ⊥
+NeedsMemory (change.Yields number entry) = Unit {0}
+NeedsMemory (change.Ends number) = ⊥
+NeedsMemory (change.EndsFind number) = ⊥
+NeedsMemory (change.Learns number entry) = Unit {0}
+NeedsMemory (change.UsesHint grain) = ⊥
+NeedsMemory (change.Forgets grain activation) = ⊥
+NeedsMemory (change.Discards version range to) = ⊥
+NeedsMemory (change.Gathers page) = Unit {0}
+NeedsMemory (change.GathersAnew range) = Unit {0}
+NeedsMemory (change.Installs range entries) = ⊥
+NeedsMemory (change.Recovers recovery) = Unit {0}
+NeedsMemory (change.Counts report) = Unit {0}

@@ -4,6 +4,7 @@ ghost use Rattle.directory_rules.specs.Cache.{learnt};
 ghost use Rattle.directory_rules.specs.Host.{asking_under, closing_under, without_find};
 ghost use Rattle.directory_rules.specs.Reply.{yielded_by};
 ghost use Rattle.node_plans.specs.Plans.{Fits, changed, without};
+ghost use Rattle.directory_node.specs.Memory.{NeedsMemory};
 
 use crate::{Change, Node};
 use grain_table::HashedRequest;
@@ -12,11 +13,13 @@ use silo_address::Entry;
 use std::alloc::AllocError;
 
 impl Node {
-    /// Makes the change of a plan of this node. Fails only when memory runs out, and then changes nothing.
+    /// Makes the change of a plan of this node. Fails only when memory runs out at a change by which something grows, and then
+    /// changes nothing.
     pub fn carry_out(&mut self, change: Change) -> Result<(), AllocError>
         requires fits { Fits change self.old }
         ensures made { OnOk result (self.new ≡ changed change self.old) }
         ensures unchanged { OnErr result (self.new ≡ self.old) }
+        ensures memory { OnErr result (NeedsMemory change) }
     {
         match change {
             Change::Nothing => Ok(()),

@@ -1,4 +1,4 @@
-ghost use Rattle.std.specs.Prelude.{◌≡◌, IfErr, IfNone, IfOk, IfSome, Ok, OnErr, None, length};
+ghost use Rattle.std.specs.Prelude.{◌≡◌, ◌↔◌, IfErr, IfNone, IfOk, IfSome, Ok, OnErr, None, length};
 ghost use Rattle.directory_rules.specs.Cache.{hint_of};
 ghost use Rattle.directory_rules.specs.Step.{finding, find_grain, forget, silently, started, wake};
 ghost use Rattle.hash_ring.specs.Ring.{is_active_in};
@@ -125,10 +125,10 @@ impl Node {
     }
 
     /// The silo looks a grain up in its cache alone, at once: where that has a hint, what `carry_out` makes of the plan to find it.
-    /// `None` where there is no hint, and then nothing changes. Needs no memory.
+    /// `None` just where there is no hint, and then nothing changes. Needs no memory.
     pub fn find_hint(&mut self, grain: &GrainId) -> Option<Effect>
         ensures found { IfSome result (λ effect. find_grain self.old grain.now ≡ Ok (silently self.new effect)) }
-        ensures none { IfNone result (hint_of self.old.cache grain.now ≡ None) }
+        ensures none { (result ≡ None) ↔ (hint_of self.old.cache grain.now ≡ None) }
         ensures unchanged { IfNone result (self.new ≡ self.old) }
     {
         match use_hint(&mut self.cache, grain) {

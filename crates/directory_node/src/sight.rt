@@ -56,8 +56,8 @@ impl Node {
 
     /// The silo's step at the sight of a view, by what this changes of the ring: the plan that `plan` makes of the sight, without
     /// making the ring and the arcs anew. Refused by 903 where the silo has seen this version or a later one, then by 805 where its
-    /// requests can get no new numbers. What it plans is the rule's sight by any places by which the transition is that of the
-    /// sight (`docs/RULES.md#the-world`).
+    /// requests can get no new numbers, whatever the transition is. What it plans is the rule's sight by any places by which the
+    /// transition is that of the sight (`docs/RULES.md#the-world`).
     pub fn plan_sight_by(
         &self,
         alloc: Global,
@@ -66,6 +66,8 @@ impl Node {
         transition: &Transition,
     ) -> Result<Plan, StepRefusal>
         ensures planned { (places : PlacesValue) → (self.now.view.version < view.now.version → IsOfSight self.now before.now view.now places transition.now) → Follows (step_by self.now) step_refusal_number IsOk (see self.now before.now view.now places) result }
+        ensures accepted { IfOk result (λ _. (places : PlacesValue) → IsOk (see self.now before.now view.now places)) }
+        ensures refused { IfErr result (λ refusal. (places : PlacesValue) → RefusesBy IsOk (step_refusal_number refusal) (see self.now before.now view.now places)) }
         ensures fits { IfOk result (λ plan. Fits plan.change self.now) }
     {
         self.may_see(view)?;

@@ -99,10 +99,11 @@ impl Mail {
         least
     }
 
-    /// Letters are sent, under the next numbers. Fails only when memory runs out.
+    /// Letters are sent, under the next numbers. Fails only where there are letters and memory runs out.
     pub fn post(&mut self, letters: Vec<Letter>) -> Result<(), AllocError>
         ensures posted { OnOk result (self.new ≡ with_posted self.old letters.items) }
         ensures unchanged { OnErr result (self.new ≡ self.old) }
+        ensures memory { OnErr result (¬ (letters.items ≡ [])) }
     {
         let before = self.slots.len();
         match put_all(

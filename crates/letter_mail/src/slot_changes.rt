@@ -1,5 +1,5 @@
 //! Letters put behind the slots, and taken away there.
-ghost use Rattle.std.specs.Prelude.{◌≡◌, ◌∷◌, [], ◌-◌, ◌<◌, ◌≤◌, OnOk, length, take};
+ghost use Rattle.std.specs.Prelude.{◌≡◌, ◌∷◌, [], ◌-◌, ◌<◌, ◌≤◌, OnErr, OnOk, length, take};
 ghost use Rattle.std.specs.Map.{keys_of};
 ghost use Rattle.letter_mail.specs.KeptLetters.{Grows};
 ghost use Rattle.letter_mail.specs.Slots.{AreKept};
@@ -17,7 +17,7 @@ use silo_address::SiloAddress;
 use std::alloc::{AllocError, Global};
 use std::collections::BTreeMap;
 
-// Letters go behind the slots, each of them fresh. Where memory runs out those before it stand there.
+// Letters go behind the slots, each of them fresh. Where memory runs out, at one of them, those before it stand there.
 pub(crate) fn put_all(
     alloc: Global,
     grains: &mut GrainMap<()>,
@@ -32,6 +32,7 @@ pub(crate) fn put_all(
     ensures behind { Grows slots.old.items slots.new.items }
     ensures grown { Grows (keys_of grains.old) (keys_of grains.new) }
     ensures put { OnOk result (mail_in (keys_of grains.new) slots.new.items ≡ with_posted (mail_in (keys_of grains.old) slots.old.items) letters.items) }
+    ensures memory { OnErr result (¬ (letters.items ≡ [])) }
 {
     for letter in letters {
         put(alloc, grains, slots, queues, letter)?;
