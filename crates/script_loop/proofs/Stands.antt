@@ -86,7 +86,7 @@ more_read first script begun rule at read rest written got nothing is_begun none
       begun = at.held;
       is_begun = is_begun;
       lines = stands.plays.lines;
-      written = record { more = []; joined = printed.printed ∙ sym (append-nil (first 1 stands.plays.played).text) };
+      written = record { more = []; joined = ap (λ (o : Output). o.text) (sym printed.printed) ∙ sym (append-nil (first 1 stands.plays.played).text) };
     }
 
 -- ---- A play goes on.

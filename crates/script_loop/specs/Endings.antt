@@ -92,15 +92,15 @@ MakesCalls reads writes old new Broken =
     (ReadsInTurn reads old.0 new.0 false × WritesTexts writes old.1 new.1 true) ⊎ (ReadsInTurn reads old.0 new.0 true × WritesTexts writes old.1 new.1 false)
 MakesCalls reads writes old new other = ReadsInTurn reads old.0 new.0 true × WritesTexts writes old.1 new.1 true
 
--- the bytes are whole lines, and then one that is begun; and the text is all that the whole lines print
+-- the bytes are whole lines, none with a fault, and then one that is begun; and the text is all that the whole lines print
 pub record IsPrinted (output : List (List ℕ) → Output) (bytes text : List ℕ) : Type 0 where
   pub whole : List (List ℕ)
   pub begun : List ℕ
   pub is_begun : IsBegun begun
   pub lines : (more : List ℕ) → lines_of (bytes ++ more) ≡ whole ++ lines_of (begun ++ more)
-  pub printed : text ≡ (output whole).text
+  pub printed : output whole ≡ record { text = text; status = 0 }
 
--- the calls of a play in turn: more is read only where all is written that the whole lines of what was read print
+-- the calls of a play in turn: more is read only where no whole line of what was read has a fault, and all is written that they print
 abbrev pub PrintsInTurn : {R W : Type 0} → (reads : R → Option (List ℕ) → R → Type 0) → (writes : W → List ℕ → Option ℕ → W → Type 0) → (output : List (List ℕ) → Output) → (old new : R × W) → Ended → Type 0
 PrintsInTurn reads writes output old new Broken = InTurn reads writes (IsPrinted output) [] [] old.0 old.1 new.0 new.1 false
 PrintsInTurn reads writes output old new other = InTurn reads writes (IsPrinted output) [] [] old.0 old.1 new.0 new.1 true
