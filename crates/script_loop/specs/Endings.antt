@@ -55,12 +55,20 @@ pub record HasRead (script : List ℕ) (output : List (List ℕ) → Output) (re
   pub lines : (more : List ℕ) → lines_of (front ++ more) ≡ whole ++ lines_of (begun ++ more)
   pub written : BeginsWith (output whole).text text
 
--- where the reading ends: at the script's end; by the read that made the line with the fault whole; or behind the limit
+-- what was read of all bytes is no more than there may be
+pub record StaysWithin (all : List ℕ) (rest : Option (List ℕ)) : Type 0 where
+  pub bytes : List ℕ
+  pub consumes : Consumes (Some all) rest bytes
+  pub fits : length bytes ≤ most_read
+
+-- where the reading ends: at the script's end; by the read that made the line with the fault whole; behind the limit; or, where memory
+-- runs out, within it
 abbrev pub EndsReading : (script : List ℕ) → (rest : Option (List ℕ)) → (whole : List (List ℕ)) → Ended → Type 0
 EndsReading script rest whole Played = (length script ≤ most_read) × IsAtEnd rest
 EndsReading script rest whole (Faulted fault) = length whole < fault.line
 EndsReading script rest whole TooLong = most_read < length script
-EndsReading script rest whole other = ⊤
+EndsReading script rest whole OutOfMemory = StaysWithin script rest
+EndsReading script rest whole Broken = ⊤
 
 -- memory lacked at a line that isn't passed over: the text is all that the lines in front of it print, none of which has a fault
 pub record LacksAtLine (PassesOver : List ℕ → Type 0) (lines : List (List ℕ)) (output : List (List ℕ) → Output) (text : List ℕ) : Type 0 where
