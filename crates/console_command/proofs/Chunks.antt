@@ -43,9 +43,9 @@ kept_unread (Some all) before now bytes read kept fits = record {
 -- a chunk that can't be put behind it
 pub not_taken : (first before now : Option (List ℕ)) (bytes chunk : List ℕ) (unread : Unread) → Consumes first before bytes → Consumes before now chunk
     → length bytes ≤ most_read → length chunk ≤ most_at_once → (unread ≡ TooLong → most_read < length bytes + length chunk)
-    → IfSome first (λ all. IsUnread all now unread)
-not_taken None before now bytes chunk unread read got fits small long = tt
-not_taken (Some all) before now bytes chunk unread read got fits small long = go unread long
+    → (unread ≡ OutOfMemory → length bytes + length chunk ≤ most_read) → IfSome first (λ all. IsUnread all now unread)
+not_taken None before now bytes chunk unread read got fits small long within = tt
+not_taken (Some all) before now bytes chunk unread read got fits small long within = go unread long within
   where
     has_read : HasRead all now
     has_read = record {
@@ -60,10 +60,10 @@ not_taken (Some all) before now bytes chunk unread read got fits small long = go
     longer None consumed = absurd consumed
     longer (Some rest) consumed = omega (arith, ap length consumed, length-append (bytes ++ chunk) rest, length-append bytes chunk)
 
-    go : (unread : Unread) → (unread ≡ TooLong → most_read < length bytes + length chunk) → IsUnread all now unread
-    go TooLong long = (has_read, omega (arith, long refl, longer now has_read.consumes))
-    go OutOfMemory long = has_read
-    go Broken long = has_read
+    go : (unread : Unread) → (unread ≡ TooLong → most_read < length bytes + length chunk) → (unread ≡ OutOfMemory → length bytes + length chunk ≤ most_read) → IsUnread all now unread
+    go TooLong long within = (has_read, omega (arith, long refl, longer now has_read.consumes))
+    go OutOfMemory long within = (has_read, record { bytes = bytes ++ chunk; consumes = has_read.consumes; fits = omega (arith, within refl, length-append bytes chunk) })
+    go Broken long within = has_read
 
 -- ---- The calls that read them.
 

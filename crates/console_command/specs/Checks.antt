@@ -5,7 +5,7 @@ use Rattle.texts.specs.Printed.{Output}
 use Rattle.dump_rules.specs.Judged.{judged_text}
 use Rattle.script_output.specs.Spaced.{BeginsWith}
 use Rattle.script_loop.specs.Calls.{ReadsInTurn, WritesText}
-use Rattle.script_loop.specs.Endings.{most_read}
+use Rattle.script_loop.specs.Endings.{StaysWithin, most_read}
 use Rattle.console_command.specs.Source.{HasRead}
 use Rattle.console_command.specs.declared.checked.Checked.{Checked}
 use Rattle.console_command.specs.declared.checked.Checked.TheVariants.{Right, Faulty, TooLong, OutOfMemory, Broken}
@@ -25,12 +25,13 @@ Concludes said text Faulty = said ≡ record { text = text; status = 1 }
 Concludes said text Broken = BeginsWith text said.text
 Concludes said text other = text ≡ []
 
--- where the reading ends: at the end of the bytes, or behind the limit
+-- where the reading ends: at the end of the bytes; behind the limit; or, where memory runs out, within it
 abbrev pub EndsReading : (bytes : List ℕ) → (rest : Option (List ℕ)) → Checked → Type 0
 EndsReading bytes rest Right = (length bytes ≤ most_read) × IsAtEnd rest
 EndsReading bytes rest Faulty = (length bytes ≤ most_read) × IsAtEnd rest
 EndsReading bytes rest TooLong = most_read < length bytes
-EndsReading bytes rest other = ⊤
+EndsReading bytes rest OutOfMemory = StaysWithin bytes rest
+EndsReading bytes rest Broken = ⊤
 
 -- bytes are judged, and what is said of them is written behind what the sink had before: the source's rest is then `rest`, what the
 -- sink has is `written`

@@ -1,7 +1,7 @@
 -- All that a source has, read to its end.
 use Rattle.std.specs.Prelude.{◌≡◌, ℕ, ◌<◌, ◌≤◌, Bool, true, false, List, ◌++◌, length, Option, Some, Result, Ok, Err}
 use Rattle.std.specs.Io.KnownBytes.{Consumes, IsAtEnd}
-use Rattle.script_loop.specs.Endings.{most_at_once, most_read}
+use Rattle.script_loop.specs.Endings.{StaysWithin, most_at_once, most_read}
 use Rattle.console_command.specs.declared.source.Unread.{Unread}
 use Rattle.console_command.specs.declared.source.Unread.TheVariants.{TooLong, OutOfMemory, Broken}
 
@@ -20,10 +20,10 @@ pub record HasRead (all : List ℕ) (rest : Option (List ℕ)) : Type 0 where
   pub front_fits : length front ≤ most_read
   pub chunk_fits : length chunk ≤ most_at_once
 
--- why not all is read: where there are too many bytes, there are
+-- why not all is read: where there are too many bytes, there are; where memory runs out, it is within as many as there may be
 abbrev pub IsUnread : (all : List ℕ) → (rest : Option (List ℕ)) → Unread → Type 0
 IsUnread all rest TooLong = HasRead all rest × (most_read < length all)
-IsUnread all rest OutOfMemory = HasRead all rest
+IsUnread all rest OutOfMemory = HasRead all rest × StaysWithin all rest
 IsUnread all rest Broken = HasRead all rest
 
 -- whether the reads were well, where not all is read; and whether they were

@@ -10,8 +10,8 @@ use script_loop::{Sink, Source, send};
 use std::alloc::Global;
 
 /// Reads a dump to its end, judges it, and writes what is said of it: one line. A dump may have 268435456 bytes; the read that goes
-/// on behind them ends the check. No read or write is tried again, and a write that takes nothing is a failure
-/// (`docs/RULES.md#the-dump-and-the-verdict`).
+/// on behind them ends the check, whether there is memory or not. No read or write is tried again, and a write that takes nothing
+/// is a failure (`docs/RULES.md#the-dump-and-the-verdict`).
 pub fn judge<R: Source, W: Sink>(alloc: Global, reader: &mut R, writer: &mut W) -> Checked
     ensures checks { IfSome (R.remaining reader.old) (λ bytes. Checks bytes (R.remaining reader.new) (W.contents writer.old) (W.contents writer.new) result) }
     ensures calls { MakesCalls R.reads W.writes (reader.old, writer.old) (reader.new, writer.new) result }

@@ -58,6 +58,7 @@ fn take_in(bytes: &mut Vec<u8>, chunk: &[u8]) -> Result<(), Unread>
     ensures taken { OnOk result (bytes.new.items ≡ bytes.old.items ++ chunk.now) }
     ensures fits { OnOk result (vec_len bytes.new ≤ 268435456) }
     ensures too_long { IsErrOf result Unread.TooLong → 268435456 < vec_len bytes.old + length chunk.now }
+    ensures within { IsErrOf result Unread.OutOfMemory → vec_len bytes.old + length chunk.now ≤ 268435456 }
     ensures unbroken { IsErrOf result Unread.Broken → ⊥ }
 {
     if chunk.len() > MOST_READ - bytes.len() {

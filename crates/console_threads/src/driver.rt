@@ -1,7 +1,7 @@
 //! Commands carried out by a cluster that runs.
 
 ghost use Rattle.std.specs.Prelude.{◌≡◌, ◌+◌, [], IfOk, OnOk, false, map};
-ghost use Rattle.console_threads.specs.Driven.{IsPerformed, IsPosted, Puts};
+ghost use Rattle.console_threads.specs.Driven.{IsFollowed, IsPerformed, IsPosted, Puts};
 ghost use Rattle.directory_rules.specs.EventModel.{event_of};
 ghost use Rattle.script_commands.specs.CommandModel.{command_of};
 ghost use Rattle.script_rules.specs.Script as rule;
@@ -128,13 +128,15 @@ impl<L: Ledger + Names + Send + 'static, G: Gate + Drop + Send + Sync + 'static>
         Ok(())
     }
 
-    // Posts an event, and keeps its receipt: whether it was accepted. Fails only when memory runs out.
+    // Posts an event, and keeps its receipt: whether it was accepted. What should follow it and couldn't be had lacks from then on.
+    // Fails only when memory runs out.
     fn post<H: Threads + Wait + Copy + Drop + Send + 'static>(
         &mut self,
         rt: &H,
         event: &Event,
     ) -> Result<bool, AllocError>
         ensures posted { IfOk result (λ accepted. self.new.lacks ≡ false → IsPosted (event_of event.now) accepted self.old.receipts.items self.new.receipts.items) }
+        ensures followed { IfOk result (λ accepted. self.new.lacks ≡ false → IsFollowed (event_of event.now) accepted self.old.cluster self.new.cluster) }
         ensures lacking { self.new.lacks ≡ false → self.old.lacks ≡ false }
     {
         if self.lacks {

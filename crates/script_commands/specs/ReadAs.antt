@@ -22,12 +22,17 @@ abbrev pub Reads : {A B : Type 0} → (A → B) → Result A ReadError → Resul
 Reads view (Ok value) rule = rule ≡ Ok (view value)
 Reads view (Err error) rule = Fails error rule
 
--- the line asks for a join, the only command that takes memory
-abbrev pub IsJoin : Result (Option script.Command) ℕ → Type 0
-IsJoin (Ok (Some (script.Happen (event.Join silo places)))) = ⊤
-IsJoin line = ⊥
-
 -- places were read, and there are some
 abbrev pub HasPlaces : Result (List ℕ) ℕ → Type 0
 HasPlaces (Ok (place ∷ places)) = ⊤
 HasPlaces read = ⊥
+
+-- a join with places was read
+abbrev pub ListsPlaces : Result script.Command ℕ → Type 0
+ListsPlaces (Ok (script.Happen (event.Join silo (place ∷ places)))) = ⊤
+ListsPlaces read = ⊥
+
+-- the line asks for a join with places, the only command that takes memory
+abbrev pub IsJoinWithPlaces : Result (Option script.Command) ℕ → Type 0
+IsJoinWithPlaces (Ok (Some command)) = ListsPlaces (Ok command)
+IsJoinWithPlaces line = ⊥

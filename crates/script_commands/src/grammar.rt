@@ -1,13 +1,13 @@
 //! What stands behind the name of a command.
 
-ghost use Rattle.std.specs.Prelude.{◌≡◌, ℕ, List};
+ghost use Rattle.std.specs.Prelude.{◌≡◌, ℕ, IsErrOf, List};
 ghost use Rattle.silo_address.specs.Silo.{Silo};
 ghost use Rattle.silo_address.specs.Grain.{Grain};
 ghost use Rattle.directory_rules.specs.declared.policy.Policy.{Policy};
 ghost use Rattle.directory_rules.specs.Event as rule;
 ghost use Rattle.texts.specs.Words.{words_in};
 ghost use Rattle.script_rules.specs.Script as script;
-ghost use Rattle.script_commands.specs.ReadAs.{Reads, told};
+ghost use Rattle.script_commands.specs.ReadAs.{ListsPlaces, Reads, told};
 
 use crate::places::places_in;
 use crate::words::{only_three_words, only_two_words, only_word, split_word};
@@ -175,7 +175,8 @@ pub(crate) fn a_silo_and_places(
     alloc: Global,
     words: &[u8],
 ) -> Result<(SiloAddress, Vec<u32>), ReadError>
-    ensures { (of : Silo → List ℕ → rule.Event) → Reads (λ parts. script.Happen (of parts.0 parts.1.items)) result (script.a_silo_and_places of (words_in words.now)) }
+    ensures reads { (of : Silo → List ℕ → rule.Event) → Reads (λ parts. script.Happen (of parts.0 parts.1.items)) result (script.a_silo_and_places of (words_in words.now)) }
+    ensures memory { IsErrOf result ReadError.OutOfMemory → ListsPlaces (script.a_silo_and_places rule.Join (words_in words.now)) }
 {
     let Some((silo, places)) = split_word(words) else {
         return Err(ReadError::Fault(ScriptFault::WordCount));

@@ -2,7 +2,7 @@ ghost use Rattle.std.specs.List.{list_all};
 ghost use Rattle.std.specs.Prelude.{◌≡◌, IsErrOf, option_map};
 ghost use Rattle.script_rules.specs.Script as script;
 ghost use Rattle.script_commands.specs.CommandModel.{command_of};
-ghost use Rattle.script_commands.specs.ReadAs.{IsJoin, Reads};
+ghost use Rattle.script_commands.specs.ReadAs.{IsJoinWithPlaces, Reads};
 
 use crate::verbs::command_named;
 use crate::words::split_word;
@@ -13,11 +13,11 @@ use std::alloc::Global;
 const LONGEST_LINE: usize = 8192;
 
 /// Reads a line, given without its end: a command, nothing, or the first fault of the line. Memory is taken for the places
-/// of a join alone, and that it runs out is told only where the line has no fault. (`docs/RULES.md#scripts`)
+/// of a join alone, and that it runs out is told only of a join with places, where the line has no fault. (`docs/RULES.md#scripts`)
 #[tactic(auto, unfolding(script_rules::specs::Script::read_line))]
 pub fn read_command(alloc: Global, line: &[u8]) -> Result<Option<Command>, ReadError>
     ensures reads { Reads (option_map command_of) result (script.read_line line.now) }
-    ensures memory { IsErrOf result ReadError.OutOfMemory → IsJoin (script.read_line line.now) }
+    ensures memory { IsErrOf result ReadError.OutOfMemory → IsJoinWithPlaces (script.read_line line.now) }
 {
     if line.len() > LONGEST_LINE {
         return Err(ReadError::Fault(ScriptFault::LineTooLong));

@@ -7,7 +7,7 @@ ghost use Rattle.directory_rules.specs.Event as event;
 ghost use Rattle.texts.specs.Words.{words_in};
 ghost use Rattle.script_rules.specs.Script as script;
 ghost use Rattle.script_commands.specs.CommandModel.{command_of};
-ghost use Rattle.script_commands.specs.ReadAs.{IsJoin, Reads, told};
+ghost use Rattle.script_commands.specs.ReadAs.{IsJoinWithPlaces, ListsPlaces, Reads, told};
 
 use crate::grammar::{
     a_hash, a_letter, a_silo, a_silo_a_grain_and_a_silo, a_silo_a_policy_and_a_grain,
@@ -24,7 +24,7 @@ pub(crate) const COMMANDS: &str =
 /// The command of that verb, with the words behind it.
 pub(crate) fn command_named(alloc: Global, verb: &[u8], words: &[u8]) -> Result<Command, ReadError>
     ensures reads { Reads (λ command. Some (command_of command)) result (script.command_if_known (lookup (bytes_eq verb.now) script.commands) (words_in words.now)) }
-    ensures memory { IsErrOf result ReadError.OutOfMemory → IsJoin (script.command_if_known (lookup (bytes_eq verb.now) script.commands) (words_in words.now)) }
+    ensures memory { IsErrOf result ReadError.OutOfMemory → IsJoinWithPlaces (script.command_if_known (lookup (bytes_eq verb.now) script.commands) (words_in words.now)) }
 {
     if verb == b"join".as_slice() {
         return join(alloc, words);
@@ -63,7 +63,8 @@ fn other_command(verb: &[u8], words: &[u8]) -> Result<Command, ScriptFault>
 }
 
 fn join(alloc: Global, words: &[u8]) -> Result<Command, ReadError>
-    ensures { Reads command_of result (script.a_silo_and_places event.Join (words_in words.now)) }
+    ensures reads { Reads command_of result (script.a_silo_and_places event.Join (words_in words.now)) }
+    ensures memory { IsErrOf result ReadError.OutOfMemory → ListsPlaces (script.a_silo_and_places event.Join (words_in words.now)) }
 {
     let (silo, places) = a_silo_and_places(alloc, words)?;
     Ok(Command::Happen(Event::Join { silo, places }))

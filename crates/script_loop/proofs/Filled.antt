@@ -26,7 +26,7 @@ taken_in old new read rest chunk n None consumes ends within room taken = record
   at_end = λ over. ends (omega (arith, ap length (taken.at_end over), length-take-le n chunk within)) (omega arith);
 }
 taken_in old new read rest chunk n (Some ended.TooLong) consumes ends within room taken = (take n chunk, has_got read rest chunk n consumes within room, taken)
-taken_in old new read rest chunk n (Some ended.OutOfMemory) consumes ends within room taken = (take n chunk, has_got read rest chunk n consumes within room)
+taken_in old new read rest chunk n (Some ended.OutOfMemory) consumes ends within room taken = (take n chunk, has_got read rest chunk n consumes within room, taken.1)
 taken_in old new read rest chunk n (Some ended.Broken) consumes ends within room taken = absurd taken
 taken_in old new read rest chunk n (Some ended.Played) consumes ends within room taken = absurd taken
 taken_in old new read rest chunk n (Some (ended.Faulted fault)) consumes ends within room taken = absurd taken
@@ -46,7 +46,7 @@ read_once {R} reads before after old new got put result same once taken = made r
     made : (result : Option Ended) → TakesIn old got new result → ReadsOnce reads before after old new result
     made None taken = (got, once, taken.held, taken.at_end, taken.goes_on)
     made (Some ended.TooLong) taken = (got, once, omega arith)
-    made (Some ended.OutOfMemory) taken = (got, once, taken)
+    made (Some ended.OutOfMemory) taken = (got, once, taken.0)
     made (Some ended.Broken) taken = absurd taken
     made (Some ended.Played) taken = absurd taken
     made (Some (ended.Faulted fault)) taken = absurd taken

@@ -40,7 +40,7 @@ module _ (first : Rule) where
     begun = at.held;
     is_begun = is_begun;
     lines = so_far.lines;
-    printed = sym (ap (λ (o : Output). o.text) (sent_so_far bytes sent rule at so_far nothing none));
+    printed = sent_so_far bytes sent rule at so_far nothing none;
   }
 
   -- before the first line

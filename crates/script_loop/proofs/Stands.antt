@@ -86,7 +86,7 @@ more_read first script begun rule at read rest written got nothing is_begun none
       begun = at.held;
       is_begun = is_begun;
       lines = stands.plays.lines;
-      written = record { more = []; joined = printed.printed ∙ sym (append-nil (first 1 stands.plays.played).text) };
+      written = record { more = []; joined = ap (λ (o : Output). o.text) (sym printed.printed) ∙ sym (append-nil (first 1 stands.plays.played).text) };
     }
 
 -- ---- A play goes on.
@@ -209,12 +209,17 @@ ends_unread PassesOver first script begun read rest written rule at new ended.To
 ends_unread PassesOver first script begun read rest written rule at new ended.OutOfMemory nothing is_begun none fill stands =
     let h = stands.has_read in
     let before = rest_of script read (h.front ++ h.chunk) h.consumes in
+    let now = more_read first script begun rule at read rest written fill.0 nothing is_begun none fill.1 stands in
     record {
       text = stands.sent;
       writes = stands.appends;
       concludes = sent_first stands.sent _ _ (whole_output first script begun rule at read written before.0 stands before.2);
-      read = more_read first script begun rule at read rest written fill.0 nothing is_begun none fill.1 stands;
-      reads = tt;
+      read = now;
+      reads = record {
+        bytes = (h.front ++ h.chunk) ++ fill.0;
+        consumes = now.consumes;
+        fits = omega (arith, fill.2, stands.counted, length-append (h.front ++ h.chunk) fill.0);
+      };
       memory = inr (sent_so_far first (h.front ++ h.chunk) stands.sent rule at stands.plays nothing none);
     }
 ends_unread PassesOver first script begun read rest written rule at new ended.Broken nothing is_begun none fill stands =
@@ -237,7 +242,7 @@ ends_at_once PassesOver first script begun nothing = record {
   writes = Appends-nil begun;
   concludes = record { more = (first 1 (lines_of script)).text; joined = refl };
   read = none_read first script nothing;
-  reads = tt;
+  reads = record { bytes = []; consumes = refl; fits = omega arith };
   memory = inr nothing;
 }
 
@@ -289,14 +294,15 @@ behind_concluded sent text output (ended.Faulted fault) is =
 
 -- the reading ends where the step said
 ends_reading : (script : List ℕ) (at : Progress) (read : Option (List ℕ)) (rest bytes : List ℕ) (whole played : List (List ℕ)) (ended : Ended) → EndsStep at ended
-    → script ≡ bytes ++ rest → (at.ended ≡ true → IsAtEnd read) → (at.ended ≡ true → rest ≡ []) → length bytes + at.left ≡ most_read → at.line ≡ length played + 1
+    → Consumes (Some script) read bytes → script ≡ bytes ++ rest → (at.ended ≡ true → IsAtEnd read) → (at.ended ≡ true → rest ≡ []) → length bytes + at.left ≡ most_read → at.line ≡ length played + 1
     → length whole ≤ length played → EndsReading script read whole ended
-ends_reading script at read rest bytes whole played ended.Played is all at_end may counted numbered whole_played =
+ends_reading script at read rest bytes whole played ended.Played is consumes all at_end may counted numbered whole_played =
     (omega (arith, counted, ap length all, ap length (may is), length-append bytes rest), at_end is)
-ends_reading script at read rest bytes whole played (ended.Faulted fault) is all at_end may counted numbered whole_played = omega arith
-ends_reading script at read rest bytes whole played ended.OutOfMemory is all at_end may counted numbered whole_played = tt
-ends_reading script at read rest bytes whole played ended.TooLong is all at_end may counted numbered whole_played = absurd is
-ends_reading script at read rest bytes whole played ended.Broken is all at_end may counted numbered whole_played = absurd is
+ends_reading script at read rest bytes whole played (ended.Faulted fault) is consumes all at_end may counted numbered whole_played = omega arith
+ends_reading script at read rest bytes whole played ended.OutOfMemory is consumes all at_end may counted numbered whole_played =
+    record { bytes = bytes; consumes = consumes; fits = omega arith }
+ends_reading script at read rest bytes whole played ended.TooLong is consumes all at_end may counted numbered whole_played = absurd is
+ends_reading script at read rest bytes whole played ended.Broken is consumes all at_end may counted numbered whole_played = absurd is
 
 -- where memory lacked for the next line, all is written that the lines before it print
 stops_before : (PassesOver : List ℕ → Type 0) (first : Rule) (script bytes sent : List ℕ) (rule : Rule) (at last : Progress) (rest : List ℕ) (whole : List (List ℕ)) (ended : Ended) → script ≡ bytes ++ rest
@@ -329,6 +335,6 @@ ends_written PassesOver first script begun read before written rule at last ende
       concludes = subst (λ (o : Output). Concludes o (stands.sent ++ last.waiting) ended) (whole_output first script begun rule at read before left.0 stands left.2)
           (behind_concluded stands.sent last.waiting (to_come rule at (lines_of (at.held ++ left.0))) ended (step.concludes left.0 may));
       read = same_read (first 1) script read stands.sent last.waiting h;
-      reads = ends_reading script at read left.0 (h.front ++ h.chunk) h.whole stands.plays.played ended step.ends left.2 stands.at_end may stands.counted stands.numbered stands.whole_played;
+      reads = ends_reading script at read left.0 (h.front ++ h.chunk) h.whole stands.plays.played ended step.ends h.consumes left.2 stands.at_end may stands.counted stands.numbered stands.whole_played;
       memory = stops_before PassesOver first script (h.front ++ h.chunk) stands.sent rule at last left.0 h.whole ended left.2 may nothing lacks stands.plays;
     }

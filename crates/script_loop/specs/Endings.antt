@@ -55,12 +55,20 @@ pub record HasRead (script : List ℕ) (output : List (List ℕ) → Output) (re
   pub lines : (more : List ℕ) → lines_of (front ++ more) ≡ whole ++ lines_of (begun ++ more)
   pub written : BeginsWith (output whole).text text
 
--- where the reading ends: at the script's end; by the read that made the line with the fault whole; or behind the limit
+-- what was read of all bytes is no more than there may be
+pub record StaysWithin (all : List ℕ) (rest : Option (List ℕ)) : Type 0 where
+  pub bytes : List ℕ
+  pub consumes : Consumes (Some all) rest bytes
+  pub fits : length bytes ≤ most_read
+
+-- where the reading ends: at the script's end; by the read that made the line with the fault whole; behind the limit; or, where memory
+-- runs out, within it
 abbrev pub EndsReading : (script : List ℕ) → (rest : Option (List ℕ)) → (whole : List (List ℕ)) → Ended → Type 0
 EndsReading script rest whole Played = (length script ≤ most_read) × IsAtEnd rest
 EndsReading script rest whole (Faulted fault) = length whole < fault.line
 EndsReading script rest whole TooLong = most_read < length script
-EndsReading script rest whole other = ⊤
+EndsReading script rest whole OutOfMemory = StaysWithin script rest
+EndsReading script rest whole Broken = ⊤
 
 -- memory lacked at a line that isn't passed over: the text is all that the lines in front of it print, none of which has a fault
 pub record LacksAtLine (PassesOver : List ℕ → Type 0) (lines : List (List ℕ)) (output : List (List ℕ) → Output) (text : List ℕ) : Type 0 where
@@ -92,15 +100,15 @@ MakesCalls reads writes old new Broken =
     (ReadsInTurn reads old.0 new.0 false × WritesTexts writes old.1 new.1 true) ⊎ (ReadsInTurn reads old.0 new.0 true × WritesTexts writes old.1 new.1 false)
 MakesCalls reads writes old new other = ReadsInTurn reads old.0 new.0 true × WritesTexts writes old.1 new.1 true
 
--- the bytes are whole lines, and then one that is begun; and the text is all that the whole lines print
+-- the bytes are whole lines, none with a fault, and then one that is begun; and the text is all that the whole lines print
 pub record IsPrinted (output : List (List ℕ) → Output) (bytes text : List ℕ) : Type 0 where
   pub whole : List (List ℕ)
   pub begun : List ℕ
   pub is_begun : IsBegun begun
   pub lines : (more : List ℕ) → lines_of (bytes ++ more) ≡ whole ++ lines_of (begun ++ more)
-  pub printed : text ≡ (output whole).text
+  pub printed : output whole ≡ record { text = text; status = 0 }
 
--- the calls of a play in turn: more is read only where all is written that the whole lines of what was read print
+-- the calls of a play in turn: more is read only where no whole line of what was read has a fault, and all is written that they print
 abbrev pub PrintsInTurn : {R W : Type 0} → (reads : R → Option (List ℕ) → R → Type 0) → (writes : W → List ℕ → Option ℕ → W → Type 0) → (output : List (List ℕ) → Output) → (old new : R × W) → Ended → Type 0
 PrintsInTurn reads writes output old new Broken = InTurn reads writes (IsPrinted output) [] [] old.0 old.1 new.0 new.1 false
 PrintsInTurn reads writes output old new other = InTurn reads writes (IsPrinted output) [] [] old.0 old.1 new.0 new.1 true

@@ -29,7 +29,7 @@ pub record HasTakenIn (old : Progress) (got : List ℕ) (new : Progress) : Type 
 abbrev pub TakesIn : Progress → List ℕ → Progress → Option Ended → Type 0
 TakesIn old got new None = HasTakenIn old got new
 TakesIn old got new (Some ended.TooLong) = old.left < length got
-TakesIn old got new (Some ended.OutOfMemory) = 0 < length got
+TakesIn old got new (Some ended.OutOfMemory) = (0 < length got) × (length got ≤ old.left)
 TakesIn old got new (Some other) = ⊥
 
 -- a chunk was read
@@ -51,7 +51,7 @@ pub record HasFilled (old : Progress) (read : Option (List ℕ)) (new : Progress
 abbrev pub Fills : Progress → Option (List ℕ) → Progress → Option (List ℕ) → Option Ended → Type 0
 Fills old read new rest None = HasFilled old read new rest
 Fills old read new rest (Some ended.TooLong) = (got : List ℕ) × HasGot read rest got × (old.left < length got)
-Fills old read new rest (Some ended.OutOfMemory) = (got : List ℕ) × HasGot read rest got
+Fills old read new rest (Some ended.OutOfMemory) = (got : List ℕ) × HasGot read rest got × (length got ≤ old.left)
 Fills old read new rest (Some ended.Broken) = Keeps read rest
 Fills old read new rest (Some other) = ⊥
 

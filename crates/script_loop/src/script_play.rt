@@ -10,10 +10,10 @@ use std::alloc::Global;
 /// Has a script played, from its first line on.
 ///
 /// All that is printed by a line is written before the source is asked for more, and it is asked only where no line that is
-/// there is still to be played. A script may have 268435456 bytes; the read that goes on behind them ends it. No read or write
-/// is tried again, and a write that takes nothing is a failure. Where memory runs out, all is written that is printed by the lines
-/// before one for which it lacked: it may lack before anything is read, at a line that isn't passed over, or to take in what was
-/// read last.
+/// there is still to be played. A script may have 268435456 bytes; the read that goes on behind them ends it, whether there is
+/// memory or not. No read or write is tried again, and a write that takes nothing is a failure. Where memory runs out, all is
+/// written that is printed by the lines before one for which it lacked: it may lack before anything is read, at a line that isn't
+/// passed over, or to take in what was read last.
 pub fn play<P: LinePlayer, R: Source, W: Sink>(
     alloc: Global,
     player: &mut P,

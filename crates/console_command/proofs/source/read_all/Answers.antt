@@ -43,6 +43,7 @@ returns-in-Err-clause-unread g c =
     not_taken _ _ _ c.chunks.bytes.items (take c.in-Ok.count chunk) c.in-Err.unread c.chunks.invariant.consumes c.in-Ok.ensures.bytes.0
     (omega (arith, c.chunks.invariant.fits, c.chunks.bytes.ok.0)) (omega (arith, room, length-take-le c.in-Ok.count chunk c.in-Ok.ensures.bound.0, c.in-Ok.ensures.bound.0))
     (λ long. omega (arith, c.in-Err.ensures.too_long (ap Err long), c.chunks.bytes.ok.0, ap (λ l. length (take c.in-Ok.count l)) whole))
+    (λ lacks. omega (arith, c.in-Err.ensures.within (ap Err lacks), c.chunks.bytes.ok.0, ap (λ l. length (take c.in-Ok.count l)) whole))
 
 pub returns-in_default-clause-calls : goal.returns-in_default-clause-calls
 returns-in_default-clause-calls g c = read_broken g.R.Source.reads _ c.chunks.reader c.read_chunk.new.self c.in_default.ensures.once c.chunks.invariant.calls
