@@ -1,5 +1,6 @@
 -- What follows an event that was accepted: at a join a worker, at each change of membership a publication.
 use Rattle.std.specs.Prelude.{◌≡◌, ℕ, ◌+◌, ◌<◌, ◌≤◌, ◌⊎◌, IfSome, Option, Some, None}
+use Rattle.silo_address.specs.Silo.{Silo}
 use Rattle.membership_view.specs.View.{ViewValue}
 use Rattle.hash_ring.specs.Places.{PlacesValue}
 use Rattle.hash_ring.specs.Ring.{ring_of}
@@ -13,6 +14,11 @@ use Rattle.silo_threads.specs.Cluster.{ClusterValue}
 use Rattle.silo_workers.specs.Moments.{IsReceiptAt, Moment}
 use Rattle.silo_threads.specs.declared.fault.Lack.{Lack}
 use Rattle.silo_threads.specs.declared.fault.Lack.TheVariants.{Thread, Publication}
+
+-- the event is the silo's join
+abbrev pub Joins : Event → Silo → Type 0
+Joins (Join its places) silo = its ≡ silo
+Joins other silo = ⊥
 
 -- the ring of the view is published, unless that of its version or a later one was
 abbrev pub Shows : ViewValue → PlacesValue → PublisherValue → PublisherValue → Type 0

@@ -1,5 +1,6 @@
 //! Workers' threads.
 ghost use Rattle.std.specs.Prelude.{◌≡◌, ◌+◌, ◌<◌, ◌≤◌, IfErr, OnOk, vec_capacity, vec_len};
+ghost use Rattle.silo_workers.specs.Delivered.{HasDelivered};
 
 use crate::Lack;
 use crate::cluster::MOST_WORKERS;
@@ -81,6 +82,8 @@ fn employ<L: Ledger + Names, G: Gate + Drop, R: Wait + Drop>(
     rt: R,
     desk: Desk<L, G>,
     tally: Tally<L>,
-) -> Tally<L> {
+) -> Tally<L>
+    ensures { HasDelivered desk.silo tally.receipts.items result.receipts.items }
+{
     work(&rt, desk.alloc, &desk.site, desk.silo, tally, &desk.causes)
 }
