@@ -12,6 +12,7 @@ use Rattle.cluster_journal.specs.declared.entry.Receipt.{Receipt}
 use Rattle.published_rings.specs.Ends.{PublisherValue, after_publishing}
 use Rattle.silo_threads.specs.Cluster.{ClusterValue}
 use Rattle.silo_workers.specs.Moments.{IsReceiptAt, Moment}
+use Rattle.silo_threads.specs.declared.cluster.TheConstants.{MOST_WORKERS}
 use Rattle.silo_threads.specs.declared.fault.Lack.{Lack}
 use Rattle.silo_threads.specs.declared.fault.Lack.TheVariants.{Thread, Publication}
 
@@ -56,11 +57,15 @@ pub record HasPublished (receipt : Receipt) (before after : PublisherValue) : Ty
   pub shown : Shows (current_view world) world.places before after
   pub up_to_date : IsUpTo receipt after
 
+-- a worker lacks its thread: it is one more, but has ended; or there were as many as may ever be, and none is more
+abbrev pub LacksThread : ℕ → ℕ → Type 0
+LacksThread before after = (after ≡ before + 1) ⊎ ((MOST_WORKERS ≤ before) × (after ≡ before))
+
 -- after a join there is one worker more, and a publication, but for what lacks; without a thread nothing is published
 abbrev pub HasJoined : Receipt → ClusterValue → ClusterValue → Option Lack → Type 0
 HasJoined receipt before after None = (after.workers ≡ before.workers + 1) × HasPublished receipt before.published after.published
 HasJoined receipt before after (Some Publication) = after ≡ record before { workers = before.workers + 1 }
-HasJoined receipt before after (Some Thread) = after.published ≡ before.published
+HasJoined receipt before after (Some Thread) = LacksThread before.workers after.workers × (after.published ≡ before.published)
 
 -- after a leave or a death there is a publication, unless it lacks; no worker more or less
 abbrev pub HasChanged : Receipt → ClusterValue → ClusterValue → Option Lack → Type 0
