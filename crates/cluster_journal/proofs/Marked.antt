@@ -1,5 +1,5 @@
 -- Receipts that have come, and the entries that are marked for them.
-use Rattle.std.proofs.Common.{◌≡◌, ◌≢◌, ℕ, ◌+◌, ◌-◌, ◌<◌, List, Bool, true, false, length, get_or}
+use Rattle.std.proofs.Common.{◌≡◌, ℕ, ◌+◌, ◌-◌, ◌<◌, List, Bool, true, false, length, get_or}
 use Rattle.cluster_journal.specs.Agreement.{HaveTwoNumbers, Stands}
 use Rattle.cluster_journal.specs.Entry.{EntryValue}
 use Rattle.cluster_journal.specs.declared.entry.Receipt.{Receipt}

@@ -1,5 +1,4 @@
 -- How what the code keeps of an event is an entry of the journal.
-use Rattle.directory_rules.specs.Event.{Event}
 use Rattle.directory_rules.specs.EventModel.{event_of}
 use Rattle.cluster_journal.specs.Entry.{EntryValue}
 use Rattle.cluster_journal.specs.Short.{entry_by}

@@ -1,4 +1,4 @@
-ghost use Rattle.std.specs.Prelude.{◌≡◌, ◌↔◌, All, AllPairs, IfOk, IsTrue, false, length, replicate};
+ghost use Rattle.std.specs.Prelude.{◌≡◌, ◌↔◌, All, AllPairs, IfOk, IsTrue, OnErr, false, length, replicate};
 ghost use Rattle.std.specs.Option.{option_copied};
 ghost use Rattle.cluster_journal.specs.Agreement.{Agree, HaveTwoNumbers, Stands};
 ghost use Rattle.cluster_journal.specs.Journal.{entry_at};
@@ -7,9 +7,11 @@ use crate::{Entry, Receipt};
 use std::alloc::{AllocError, Global};
 
 /// Whether the receipts are just those of the journal: each one's event and outcome are the journal's at its number, no two have
-/// one number, and there are as many as entries. One look at each. Fails only when memory runs out, of which it takes a byte an entry.
+/// one number, and there are as many as entries. One look at each. Fails only when memory runs out, of which it takes a byte an entry
+/// where there are as many receipts.
 pub fn agree(alloc: Global, journal: &[Entry], receipts: &[Receipt]) -> Result<bool, AllocError>
-    ensures { IfOk result (λ agree. IsTrue agree ↔ Agree journal.now receipts.now) }
+    ensures agree { IfOk result (λ agree. IsTrue agree ↔ Agree journal.now receipts.now) }
+    ensures memory { OnErr result (length receipts.now ≡ length journal.now) }
 {
     if receipts.len() != journal.len() {
         return Ok(false);

@@ -1,5 +1,5 @@
 -- Receipts that are taken for those of a journal, or aren't.
-use Rattle.std.specs.Prelude.{ℕ, List, Option, Some, None}
+use Rattle.std.specs.Prelude.{◌≡◌, ℕ, List, Option, Some, None, length}
 use Rattle.cluster_journal.specs.Agreement.{Agree}
 use Rattle.cluster_journal.specs.Entry.{EntryValue}
 use Rattle.cluster_journal.specs.declared.entry.Receipt.{Receipt}
@@ -11,7 +11,8 @@ abbrev pub close_refusal_number : CloseRefusal → Option ℕ
 close_refusal_number ReceiptDiffers = Some 953
 close_refusal_number OutOfMemory = None
 
--- when each refusal comes: 953 only where the receipts don't agree with the journal, out of memory whenever there is none
+-- when each refusal comes: 953 only where the receipts don't agree with the journal, out of memory only where there are as many
+-- receipts as entries
 abbrev pub Declines : List EntryValue → List Receipt → CloseRefusal → Type 0
 Declines journal receipts ReceiptDiffers = ¬ (Agree journal receipts)
-Declines journal receipts OutOfMemory = Unit {0}
+Declines journal receipts OutOfMemory = length receipts ≡ length journal

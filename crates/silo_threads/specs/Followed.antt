@@ -1,5 +1,6 @@
 -- What follows an event that was accepted: at a join a worker, at each change of membership a publication.
 use Rattle.std.specs.Prelude.{◌≡◌, ℕ, ◌+◌, ◌<◌, ◌≤◌, ◌⊎◌, IfSome, Option, Some, None}
+use Rattle.silo_address.specs.Silo.{Silo}
 use Rattle.membership_view.specs.View.{ViewValue}
 use Rattle.hash_ring.specs.Places.{PlacesValue}
 use Rattle.hash_ring.specs.Ring.{ring_of}
@@ -11,8 +12,14 @@ use Rattle.cluster_journal.specs.declared.entry.Receipt.{Receipt}
 use Rattle.published_rings.specs.Ends.{PublisherValue, after_publishing}
 use Rattle.silo_threads.specs.Cluster.{ClusterValue}
 use Rattle.silo_workers.specs.Moments.{IsReceiptAt, Moment}
+use Rattle.silo_threads.specs.declared.cluster.TheConstants.{MOST_WORKERS}
 use Rattle.silo_threads.specs.declared.fault.Lack.{Lack}
 use Rattle.silo_threads.specs.declared.fault.Lack.TheVariants.{Thread, Publication}
+
+-- the event is the silo's join
+abbrev pub Joins : Event → Silo → Type 0
+Joins (Join its places) silo = its ≡ silo
+Joins other silo = ⊥
 
 -- the ring of the view is published, unless that of its version or a later one was
 abbrev pub Shows : ViewValue → PlacesValue → PublisherValue → PublisherValue → Type 0
@@ -50,11 +57,15 @@ pub record HasPublished (receipt : Receipt) (before after : PublisherValue) : Ty
   pub shown : Shows (current_view world) world.places before after
   pub up_to_date : IsUpTo receipt after
 
+-- a worker lacks its thread: it is one more, but has ended; or there were as many as may ever be, and none is more
+abbrev pub LacksThread : ℕ → ℕ → Type 0
+LacksThread before after = (after ≡ before + 1) ⊎ ((MOST_WORKERS ≤ before) × (after ≡ before))
+
 -- after a join there is one worker more, and a publication, but for what lacks; without a thread nothing is published
 abbrev pub HasJoined : Receipt → ClusterValue → ClusterValue → Option Lack → Type 0
 HasJoined receipt before after None = (after.workers ≡ before.workers + 1) × HasPublished receipt before.published after.published
 HasJoined receipt before after (Some Publication) = after ≡ record before { workers = before.workers + 1 }
-HasJoined receipt before after (Some Thread) = after.published ≡ before.published
+HasJoined receipt before after (Some Thread) = LacksThread before.workers after.workers × (after.published ≡ before.published)
 
 -- after a leave or a death there is a publication, unless it lacks; no worker more or less
 abbrev pub HasChanged : Receipt → ClusterValue → ClusterValue → Option Lack → Type 0

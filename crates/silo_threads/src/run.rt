@@ -1,6 +1,6 @@
 ghost use Rattle.std.specs.Prelude.{◌≡◌, ◌+◌, ◌<◌, ◌≤◌, IfErr, IfOk, None, OnErr, OnOk};
 ghost use Rattle.directory_rules.specs.EventModel.{event_of};
-ghost use Rattle.silo_threads.specs.Followed.{HasChanged, HasFollowed, HasJoined, HasLeft};
+ghost use Rattle.silo_threads.specs.Followed.{HasChanged, HasFollowed, HasJoined, HasLeft, Joins};
 ghost use Rattle.silo_threads.specs.Replies.{IsReceiptOf, IsRefusalOf};
 
 use crate::cluster::{MOST_WORKERS, PARTS};
@@ -55,7 +55,7 @@ impl<L: Ledger + Names + Send + 'static, G: Gate + Drop + Send + Sync + 'static>
         }
     }
 
-    // A silo joins.
+    // That silo joins.
     fn join<R: Threads + Wait + Copy + Drop + Send + 'static>(
         &mut self,
         rt: &R,
@@ -63,7 +63,8 @@ impl<L: Ledger + Names + Send + 'static, G: Gate + Drop + Send + Sync + 'static>
         event: &Event,
         silo: SiloAddress,
     ) -> Result<Ran, EventRefusal>
-        requires { share.old.parts + self.old.workers ≡ PARTS }
+        requires its { Joins (event_of event.now) silo }
+        requires parts { share.old.parts + self.old.workers ≡ PARTS }
         ensures receipt { IfOk result (λ ran. IsReceiptOf (event_of event.now) ran.receipt) }
         ensures followed { IfOk result (λ ran. HasJoined ran.receipt self.old self.new ran.lack) }
         ensures refused { IfErr result (IsRefusalOf (event_of event.now)) }
@@ -144,7 +145,9 @@ impl<L: Ledger + Names + Send + 'static, G: Gate + Drop + Send + Sync + 'static>
     }
 
     // What the worker of a silo takes with it.
-    fn desk_for(&self, silo: SiloAddress) -> Result<Desk<L, G>, AllocError> {
+    fn desk_for(&self, silo: SiloAddress) -> Result<Desk<L, G>, AllocError>
+        ensures { IfOk result (λ desk. desk.silo ≡ silo) }
+    {
         Ok(Desk {
             alloc: self.alloc,
             silo,

@@ -1,5 +1,7 @@
 //! Workers' threads.
-ghost use Rattle.std.specs.Prelude.{◌≡◌, ◌+◌, ◌<◌, ◌≤◌, IfErr, OnOk, vec_capacity, vec_len};
+ghost use Rattle.std.specs.Prelude.{◌≡◌, ◌+◌, ◌<◌, ◌≤◌, IfErr, OnErr, OnOk, vec_capacity, vec_len};
+ghost use Rattle.silo_workers.specs.Delivered.{HasDelivered};
+ghost use Rattle.silo_threads.specs.Followed.{LacksThread};
 
 use crate::Lack;
 use crate::cluster::MOST_WORKERS;
@@ -49,6 +51,7 @@ pub(crate) fn start<
     ensures few { vec_len workers.new ≤ MOST_WORKERS }
     ensures one { OnOk result (vec_len workers.new ≡ vec_len workers.old + 1) }
     ensures lack { IfErr result (λ lack. lack ≡ Lack.Thread) }
+    ensures thread { OnErr result (LacksThread (vec_len workers.old) (vec_len workers.new)) }
 {
     if workers.len() >= MOST_WORKERS {
         stop(rt, site);
@@ -81,6 +84,8 @@ fn employ<L: Ledger + Names, G: Gate + Drop, R: Wait + Drop>(
     rt: R,
     desk: Desk<L, G>,
     tally: Tally<L>,
-) -> Tally<L> {
+) -> Tally<L>
+    ensures { HasDelivered desk.silo tally.receipts.items result.receipts.items }
+{
     work(&rt, desk.alloc, &desk.site, desk.silo, tally, &desk.causes)
 }

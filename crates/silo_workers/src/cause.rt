@@ -1,3 +1,6 @@
+ghost use Rattle.std.specs.Prelude.{◌≡◌};
+ghost use Rattle.silo_workers.specs.Causes.{cause_of};
+
 use cluster_board::CommitRefusal;
 use thiserror::Error;
 
@@ -17,7 +20,9 @@ pub enum Cause {
 
 impl Cause {
     // Why a worker gives up after that refusal; `None` where it lends again.
-    pub(crate) fn of(refusal: CommitRefusal) -> Option<Cause> {
+    pub(crate) fn of(refusal: CommitRefusal) -> Option<Cause>
+        ensures { result ≡ cause_of refusal }
+    {
         match refusal {
             CommitRefusal::StaleWork => None,
             CommitRefusal::JournalFull => Some(Cause::JournalFull),

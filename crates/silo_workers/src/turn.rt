@@ -1,5 +1,6 @@
 //! A worker's turn: a letter to its silo is lent, prepared and committed.
-ghost use Rattle.std.specs.Prelude.{◌≡◌, ◌<◌, IfOk, IfSome, vec_capacity, vec_len};
+ghost use Rattle.std.specs.Prelude.{◌≡◌, ◌<◌, IfOk, IfSome, MatchResult, None, Some, vec_capacity, vec_len};
+ghost use Rattle.silo_workers.specs.Causes.{cause_of};
 ghost use Rattle.silo_workers.specs.Delivered.{HasDelivered};
 
 use crate::{Cause, Gate, Site, Tally};
@@ -103,7 +104,9 @@ fn commit<L: Ledger + Names, G: Gate + Drop, R: Wait>(
 }
 
 // What is left of work that wasn't committed is let go, while nobody has the lock. Fails where the worker has to give up.
-fn let_go<L: Ledger + Names>(uncommitted: Uncommitted<L>) -> Result<(), Cause> {
+fn let_go<L: Ledger + Names>(uncommitted: Uncommitted<L>) -> Result<(), Cause>
+    ensures { MatchResult result (λ _. cause_of uncommitted.refusal ≡ None) (λ cause. cause_of uncommitted.refusal ≡ Some cause) }
+{
     let Uncommitted { refusal, job, node } = uncommitted;
     if let Some(job) = job {
         job.give_back();
