@@ -40,11 +40,13 @@ module _ (first : SiloValue) where
   pub all_before : (bytes sent : List ℕ) (silo : SiloValue) (at : Progress) (so_far : AnswersSoFar first bytes sent silo at) → sent ++ at.waiting ≡ written_on (so_far.answered ++ [] ∷ []) first
   all_before bytes sent silo at so_far = sym (so_far.makes [] [] ∙ (ap (λ (t : List ℕ). sent ++ (at.waiting ++ t)) (nothing_written silo) ∙ ap (λ (t : List ℕ). sent ++ t) (append-nil at.waiting)))
 
-  -- where all that was read is looked at and nothing waits, all is written that is answered to them
+  -- where all that was read is looked at and nothing waits, the process doesn't end by them, and all is written that is answered to them
   pub all_answered : (bytes sent : List ℕ) (silo : SiloValue) (at : Progress) → AnswersSoFar first bytes sent silo at → at.unread ≡ [] → at.waiting ≡ [] → IsAnswered first bytes sent
   all_answered bytes sent silo at so_far seen none =
-      let ended = ended_answered bytes sent silo at so_far (subst HasNoEnd (sym seen) nothing_ends) in
-      sym (append-nil sent) ∙ (ap (λ (w : List ℕ). sent ++ w) (sym none) ∙ (all_before bytes sent silo at so_far ∙ sym (ap (λ (ls : List (List ℕ)). written_on (ls ++ [] ∷ []) first) ended)))
+      let ended = ended_answered bytes sent silo at so_far (subst HasNoEnd (sym seen) nothing_ends) in (
+        ap (λ (ls : List (List ℕ)). ends_on ls first) ended ∙ answered_goes_on bytes sent silo at so_far,
+        sym (append-nil sent) ∙ (ap (λ (w : List ℕ). sent ++ w) (sym none) ∙ (all_before bytes sent silo at so_far ∙ sym (ap (λ (ls : List (List ℕ)). written_on (ls ++ [] ∷ []) first) ended))),
+      )
 
   -- ---- What is kept.
 

@@ -69,14 +69,14 @@ module _ (first : SiloValue) (input : List ℕ) (start : Option (List ℕ)) wher
       → (stands : Stands first input start silo at read written) → HasRead input first rest stands.sent
   more_read silo at read rest written got seen none chunk stands =
       let bytes = bytes_read silo at read written stands in
-      let none_unread : HasNoEnd at.unread = subst HasNoEnd (sym seen) nothing_ends in
+      let answered = all_answered first bytes stands.sent silo at stands.answers seen none in
       record {
         front = bytes;
         chunk = got;
         consumes = Consumes-trans (Some input) read rest bytes got stands.has_read.consumes chunk.consumes;
         chunk_fits = chunk.fits;
-        goes_on = ap (λ (ls : List (List ℕ)). ends_on ls first) (ended_answered first bytes stands.sent silo at stands.answers none_unread) ∙ answered_goes_on first bytes stands.sent silo at stands.answers;
-        written = record { more = []; joined = all_answered first bytes stands.sent silo at stands.answers seen none ∙ sym (append-nil (written_on (ended_lines bytes ++ [] ∷ []) first)) };
+        goes_on = answered.0;
+        written = record { more = []; joined = answered.1 ∙ sym (append-nil (written_on (ended_lines bytes ++ [] ∷ []) first)) };
       }
 
   -- ---- A process goes on.

@@ -128,11 +128,12 @@ MakesCalls reads writes old new Broken =
     (ReadsInTurn reads old.0 new.0 false × WritesTexts writes old.1 new.1 true) ⊎ (ReadsInTurn reads old.0 new.0 true × WritesTexts writes old.1 new.1 false)
 MakesCalls reads writes old new other = ReadsInTurn reads old.0 new.0 true × WritesTexts writes old.1 new.1 true
 
--- the text is all that is answered to the lines that ended in the bytes
+-- the process doesn't end by the lines that ended in the bytes, and the text is all that is answered to them
 abbrev pub IsAnswered : SiloValue → (bytes text : List ℕ) → Type 0
-IsAnswered silo bytes text = text ≡ written_on (ended_lines bytes ++ [] ∷ []) silo
+IsAnswered silo bytes text = (ends_on (ended_lines bytes) silo ≡ false) × (text ≡ written_on (ended_lines bytes ++ [] ∷ []) silo)
 
--- the calls of a process in turn: more is read only where all is written that is answered to the lines that ended in what was read
+-- the calls of a process in turn: more is read only where the process doesn't end by the lines that ended in what was read, and all is written
+-- that is answered to them
 abbrev pub AnswersInTurn : {R W : Type 0} → (reads : R → Option (List ℕ) → R → Type 0) → (writes : W → List ℕ → Option ℕ → W → Type 0) → SiloValue → (old new : R × W) → Stopped → Type 0
 AnswersInTurn reads writes silo old new Broken = InTurn reads writes (IsAnswered silo) [] [] old.0 old.1 new.0 new.1 false
 AnswersInTurn reads writes silo old new other = InTurn reads writes (IsAnswered silo) [] [] old.0 old.1 new.0 new.1 true
