@@ -1,9 +1,9 @@
 //! What changes make of the views and of the places (`docs/RULES.md#a-silo-by-itself`).
-ghost use Rattle.std.specs.Prelude.{◌≡◌, IfErr, IfOk, IfSome, IsOk, IsTrue, OnErr, OnOk, Ok};
-ghost use Rattle.membership_view.specs.Changes.{Leave as LeaveViews, Die as DieViews, after, after_join, occupant, with_join};
+ghost use Rattle.std.specs.Prelude.{◌≡◌, IfErr, IfOk, IsOk, OnErr, OnOk, Ok};
+ghost use Rattle.membership_view.specs.Changes.{after_join, occupant, with_join};
 ghost use Rattle.hash_ring.specs.Places.{after_add};
 ghost use Rattle.directory_node.specs.Follows.{Follows};
-ghost use Rattle.silo_rules.specs.Membership.{Join, Membership, changed, placed, with_places};
+ghost use Rattle.silo_rules.specs.Membership.{Join, changed};
 ghost use Rattle.directory_silo.specs.Numbers.{IsNumberedUnlessMemory, silo_refusal_number};
 
 use crate::SiloRefusal;

@@ -1,4 +1,4 @@
-ghost use Rattle.std.specs.Prelude.{◌≡◌, ◌≤◌, ◌<◌, IfErr, IfOk, IsOk, OnErr, true};
+ghost use Rattle.std.specs.Prelude.{◌≡◌, ◌≤◌, ◌<◌, IfErr, IfOk, IsOk, OnErr};
 ghost use Rattle.membership_view.specs.Views.{view_at};
 ghost use Rattle.directory_rules.specs.Input.{step};
 ghost use Rattle.directory_node.specs.Follows.{Follows};
