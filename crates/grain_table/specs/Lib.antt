@@ -2,3 +2,4 @@ pub mod Table
 pub mod Hashed
 pub mod KeyBytes
 pub mod Stretch
+pub mod Memory
