@@ -6,3 +6,4 @@ pub mod Sight
 pub mod Kept
 pub mod Seen
 pub mod BySilo
+pub mod Memory

@@ -1,5 +1,5 @@
 ghost use Rattle.std.specs.Map.Iter.{ShowsInOrder, deref_pair};
-ghost use Rattle.std.specs.Prelude.{◌≡◌, ◌↔◌, ℕ, [], ◌≤◌, ◌^◌, IsTrue, IsSome, IsOk, IsErr, IfOk, OnOk, OnErr, MatchResult, length, option_copied, false};
+ghost use Rattle.std.specs.Prelude.{◌≡◌, ◌↔◌, ◌⊎◌, ℕ, [], ◌≤◌, ◌^◌, IsTrue, IsSome, IfOk, OnOk, OnErr, MatchResult, length, option_copied};
 ghost use Rattle.std.specs.Map.{lookup};
 ghost use Rattle.std.specs.Ordering.{nat_cmp};
 ghost use Rattle.std.specs.BTreeMap.{insert_entry, is_at};
@@ -10,7 +10,8 @@ ghost use Rattle.directory_rules.specs.declared.PieceState.TheVariants.{Recoveri
 ghost use Rattle.directory_rules.specs.Sight.{all_entries, pieces_after, sealed, was_settled};
 ghost use Rattle.grain_partition.specs.Holdings.{ArePieces, HasPiece, IsHolding, tidied, settled_entries};
 ghost use Rattle.grain_partition.specs.Seen.{pieces_seen};
-ghost use Rattle.grain_partition.specs.Served.{IsTurnOf};
+ghost use Rattle.grain_partition.specs.Memory.{IsUnserved, MayLackMemory};
+ghost use Rattle.grain_partition.specs.Served.{IsTurnOf, PutsIn};
 ghost use Rattle.grain_partition.specs.Settled.{LiesSettled};
 ghost use Rattle.grain_partition.specs.Sight.{AreOfRings};
 
@@ -107,13 +108,13 @@ impl Holding {
     }
 
     /// Serves a request: answers it, and makes its change. A sender's Registers and Deregisters are served by rising numbers,
-    /// so that a late copy of one changes nothing. Fails only when memory runs out, and then changes nothing; a Find and a retry
-    /// need none (`docs/RULES.md#requests`).
+    /// so that a late copy of one changes nothing. Fails only when memory runs out, which it may only at a Register or Deregister that
+    /// is served and is the first one of its sender at this version, or puts an entry in; then it changes nothing
+    /// (`docs/RULES.md#requests`).
     pub fn serve(&mut self, request: &HashedRequest) -> Result<Reply, AllocError>
         ensures served { IfOk result (λ reply. answered self.old request.now ≡ record { reply = reply; holding = self.new }) }
         ensures unchanged { OnErr result (self.new ≡ self.old) }
-        ensures find_succeeds { is_numbered request.now.act ≡ false → IsOk result }
-        ensures retry_succeeds { IsErr (serving_piece self.old request.now) → IsOk result }
+        ensures memory { OnErr result (MayLackMemory self.old request.now) }
     {
         self.whole();
         let asked = request.request();
@@ -135,6 +136,7 @@ impl Holding {
         ensures turned { IfOk result (IsTurnOf request.now.act start self.old.pieces self.new.pieces) }
         ensures noted { OnOk result (self.new ≡ record self.old { served = insert_entry silo_cmp self.old.served request.now.sender request.now.number; pieces = self.new.pieces }) }
         ensures unchanged { OnErr result (self.new ≡ self.old) }
+        ensures memory { OnErr result (IsUnserved request.now.sender self.old.served ⊎ PutsIn request.now.act start self.old.pieces) }
     {
         serve_numbered(&mut self.pieces, &mut self.served, start, request)
     }
