@@ -26,6 +26,7 @@ returns-in-Err-WrongVersion c =
       left = λ none. same;
       unchanged = tt;
       memory = tt;
+      entries = tt;
       in_order = c.get_mut.ensures.ordered;
     }
 
@@ -45,6 +46,7 @@ returns-in-Err-Stranger c =
       left = λ none. same;
       unchanged = tt;
       memory = tt;
+      entries = tt;
       in_order = c.get_mut.ensures.ordered;
     }
 
@@ -64,6 +66,7 @@ returns-in-Err-Twice c =
       left = λ none. same;
       unchanged = tt;
       memory = tt;
+      entries = tt;
       in_order = c.get_mut.ensures.ordered;
     }
 
