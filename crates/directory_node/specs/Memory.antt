@@ -1,10 +1,11 @@
 -- Where a plan may run out of memory, only where something is to be made of the input; and where carrying it out may.
-use Rattle.std.specs.Prelude.{◌≡◌, ◌⊎◌, ◌==◌, ◌&&◌, ℕ, Bool, true, false, IsOk, Result, length}
+use Rattle.std.specs.Prelude.{◌≡◌, ◌≢◌, ◌⊎◌, ◌==◌, ◌&&◌, ℕ, Bool, true, false, [], IsOk, None, Result, length}
 use Rattle.std.specs.List.{list_all}
 use Rattle.directory_rules.specs.declared.effect.Effect.{Effect}
 use Rattle.directory_rules.specs.declared.effect.Effect.TheVariants.{Ignored}
 use Rattle.directory_rules.specs.declared.letter_kind.LetterKind.{LetterKind}
 use Rattle.directory_rules.specs.declared.letter_kind.LetterKind.TheVariants.{Register, Deregister, Find, Registered, Taken, Removed, Absent, Found, Nothing, Retry, Ask, Page, Missing, Done, Query, Report, Behind, Ahead, Offer}
+use Rattle.directory_rules.specs.Cache.{hint_of}
 use Rattle.directory_rules.specs.Host.{outstanding}
 use Rattle.directory_rules.specs.Input.{Input, Sees, Wakes, Closes, Finds, Forgets, Nudges, Offers, Receives}
 use Rattle.directory_rules.specs.Letter.{Letter, kind_of}
@@ -12,6 +13,7 @@ use Rattle.directory_rules.specs.Node.{Node}
 use Rattle.directory_rules.specs.Receive.{received}
 use Rattle.directory_rules.specs.Sight.{is_settled}
 use Rattle.directory_rules.specs.Step.{Stepped}
+use Rattle.grain_partition.specs.Memory as holding
 use Rattle.node_plans.specs.declared.plan.Change.{Change}
 use Rattle.node_plans.specs.declared.plan.Change.TheVariants as change
 use Rattle.node_plans.specs.Plans.{Sends, answer_count}
@@ -64,25 +66,25 @@ MayLackMemory node Nudges outcome = IsOk outcome × (is_quiet node ≡ false)
 MayLackMemory node (Offers grain to) outcome = Sends 1 outcome
 MayLackMemory node (Receives letter) outcome = Sends (answer_count node letter.body) outcome × Counts node letter
 
--- a change for which memory may be needed: something that the node keeps grows
-abbrev pub NeedsMemory : Change → Type 0
-NeedsMemory change.Nothing = ⊥
-NeedsMemory (change.Sees sight) = Unit {0}
-NeedsMemory (change.Renews renewal) = ⊥
-NeedsMemory (change.Starts grain previous) = Unit {0}
-NeedsMemory (change.Closes grain) = Unit {0}
-NeedsMemory (change.Asks grain) = Unit {0}
-NeedsMemory (change.Serves request) = Unit {0}
-NeedsMemory (change.Confirms number) = ⊥
-NeedsMemory (change.Yields number entry) = Unit {0}
-NeedsMemory (change.Ends number) = ⊥
-NeedsMemory (change.EndsFind number) = ⊥
-NeedsMemory (change.Learns number entry) = Unit {0}
-NeedsMemory (change.UsesHint grain) = ⊥
-NeedsMemory (change.Forgets grain activation) = ⊥
-NeedsMemory (change.Discards version range to) = ⊥
-NeedsMemory (change.Gathers page) = Unit {0}
-NeedsMemory (change.GathersAnew range) = Unit {0}
-NeedsMemory (change.Installs range entries) = ⊥
-NeedsMemory (change.Recovers recovery) = Unit {0}
-NeedsMemory (change.Counts report) = Unit {0}
+-- where a change of a node may need memory: something that the node keeps grows
+abbrev pub NeedsMemory : Change → Node → Type 0
+NeedsMemory change.Nothing node = ⊥
+NeedsMemory (change.Sees sight) node = Unit {0}
+NeedsMemory (change.Renews renewal) node = ⊥
+NeedsMemory (change.Starts grain previous) node = Unit {0}
+NeedsMemory (change.Closes grain) node = Unit {0}
+NeedsMemory (change.Asks grain) node = Unit {0}
+NeedsMemory (change.Serves request) node = holding.MayLackMemory node.holding request
+NeedsMemory (change.Confirms number) node = ⊥
+NeedsMemory (change.Yields number entry) node = hint_of node.cache entry.grain ≡ None
+NeedsMemory (change.Ends number) node = ⊥
+NeedsMemory (change.EndsFind number) node = ⊥
+NeedsMemory (change.Learns number entry) node = hint_of node.cache entry.grain ≡ None
+NeedsMemory (change.UsesHint grain) node = ⊥
+NeedsMemory (change.Forgets grain activation) node = ⊥
+NeedsMemory (change.Discards version range to) node = ⊥
+NeedsMemory (change.Gathers page) node = Unit {0}
+NeedsMemory (change.GathersAnew range) node = Unit {0}
+NeedsMemory (change.Installs range entries) node = ⊥
+NeedsMemory (change.Recovers recovery) node = Unit {0}
+NeedsMemory (change.Counts report) node = report.entries ≢ []

@@ -1,7 +1,7 @@
 ghost use Rattle.std.specs.BTreeMap.{is_at};
 ghost use Rattle.std.specs.Map.{lookup};
 ghost use Rattle.std.specs.Ordering.{nat_cmp};
-ghost use Rattle.std.specs.Prelude.{◌≡◌, if◌then◌else◌, IsTrue, IfOk, OnOk, OnErr, Ok, Some, length, true};
+ghost use Rattle.std.specs.Prelude.{◌≡◌, ◌≢◌, [], if◌then◌else◌, IsTrue, IfOk, OnOk, OnErr, Ok, Some, length, true};
 ghost use Rattle.directory_rules.specs.Recovery.{Recovery as RecoveryValue, recovered};
 ghost use Rattle.directory_rules.specs.Table.{lie_in, rise_by_grain};
 ghost use Rattle.directory_rules.specs.Sent.{recovery_of};
@@ -120,6 +120,7 @@ impl Node {
         requires recovers { has_range is_recovering report.now.range (piece_at self.old report.now.range) ≡ true }
         ensures made { OnOk result (self.new ≡ (recovered_by (recovered (recovery_of self.old report.now.range) report.now) report.now.range self.old).node) }
         ensures unchanged { OnErr result (self.new ≡ self.old) }
+        ensures entries { OnErr result (report.now.entries ≢ []) }
     {
         if take_report(&mut self.recoveries, report)? {
             self.settle_recovered(report.range());
