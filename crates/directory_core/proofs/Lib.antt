@@ -5,6 +5,5 @@ pub mod Tidied
 pub mod Happenings
 pub mod Runs
 pub mod CurrentView
-pub mod Numbered
 pub mod Idle
 pub mod Unchanged

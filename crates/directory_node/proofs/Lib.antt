@@ -1,2 +1,3 @@
 pub mod Ignored
 pub mod Quiet
+pub mod Numbered

@@ -2,4 +2,3 @@ pub mod Back
 pub mod Places
 pub mod UnchangedNodes
 pub mod Hinted
-pub mod Numbered
