@@ -1,3 +1,4 @@
 pub mod Ignored
 pub mod Quiet
 pub mod Numbered
+pub mod SightBy

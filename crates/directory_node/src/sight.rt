@@ -18,6 +18,7 @@ ghost use Rattle.node_plans.specs.Plans.{Fits, FitsSight, step_by};
 ghost use Rattle.node_plans.specs.Sender.{ahead, wants_of};
 ghost use Rattle.node_plans.specs.Transition.{IsOfSight};
 ghost use Rattle.directory_node.specs.Memory.{MayLackMemory};
+ghost use Rattle.directory_node.specs.SightBy.{sight_by};
 ghost use Rattle.hash_ring.specs.Places.{PlacesValue};
 ghost use Rattle.membership_view.specs.View.{ViewValue};
 
@@ -57,7 +58,8 @@ impl Node {
     /// The silo's step at the sight of a view, by what this changes of the ring: the plan that `plan` makes of the sight, without
     /// making the ring and the arcs anew. Refused by 903 where the silo has seen this version or a later one, then by 805 where its
     /// requests can get no new numbers, whatever the transition is. What it plans is the rule's sight by any places by which the
-    /// transition is that of the sight (`docs/RULES.md#the-world`).
+    /// transition is that of the sight. Of any other transition it plans that sight with the transition's ring in place of the
+    /// view's, and with its arcs in place of those between the two rings (`docs/RULES.md#the-world`).
     pub fn plan_sight_by(
         &self,
         alloc: Global,
@@ -66,6 +68,7 @@ impl Node {
         transition: &Transition,
     ) -> Result<Plan, StepRefusal>
         ensures planned { (places : PlacesValue) → (self.now.view.version < view.now.version → IsOfSight self.now before.now view.now places transition.now) → Follows (step_by self.now) step_refusal_number IsOk (see self.now before.now view.now places) result }
+        ensures whatever { IfOk result (λ plan. (places : PlacesValue) → step_by self.now plan ≡ sight_by self.now before.now view.now places transition.now) }
         ensures accepted { IfOk result (λ _. (places : PlacesValue) → IsOk (see self.now before.now view.now places)) }
         ensures refused { IfErr result (λ refusal. (places : PlacesValue) → RefusesBy IsOk (step_refusal_number refusal) (see self.now before.now view.now places)) }
         ensures fits { IfOk result (λ plan. Fits plan.change self.now) }
@@ -148,6 +151,7 @@ impl Node {
     ) -> Result<Plan, AllocError>
         requires newer { self.now.view.version < view.now.version }
         requires numbers { has_numbers self.now.settings self.now.host (length (outstanding self.now.host)) ≡ true }
+        ensures whatever { IfOk result (λ plan. (places : PlacesValue) → step_by self.now plan ≡ sight_by self.now before.now view.now places transition.now) }
         ensures planned { IfOk result (λ plan. (places : PlacesValue) → IsOfSight self.now before.now view.now places transition.now → step_by self.now plan ≡ sight (is_next self.now.view before.now view.now self.now.host.silo) self.now before.now view.now places) }
         ensures fits { IfOk result (λ plan. Fits plan.change self.now) }
     {
