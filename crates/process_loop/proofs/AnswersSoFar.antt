@@ -9,7 +9,7 @@ use Rattle.process_loop.specs.Endings.{IsAnswered}
 use Rattle.process_loop.specs.Progress.{HasAnswered, HasNoEnd, NeedsMore, Progress, first_progress, kept}
 use Rattle.process_loop.specs.Turns.{AnswersSoFar}
 use Rattle.process_loop.proofs.Kept.{kept_again, said_kept}
-use Rattle.process_loop.proofs.Lines.{after_next, after_nothing, before_the_last, behind_the_begun, ends_next, ends_on_nothing, no_end_in_both, nothing_ends, nothing_written, only_piece, written_next}
+use Rattle.process_loop.proofs.Lines.{after_next, after_nothing, before_the_last, begun_ends, ends_next, ends_on_nothing, no_end_in_both, nothing_ends, nothing_written, only_piece, written_next}
 
 module _ (first : SiloValue) where
   -- ---- What they say of the bytes.
@@ -85,9 +85,8 @@ module _ (first : SiloValue) where
         begun_kept = step.none_begun;
         no_end = nothing_ends;
         lines = λ more.
-            so_far.lines more ∙ (ap (λ (bs : List ℕ). so_far.answered ++ pieces_at line_feed bs) (append_assoc so_far.begun old.unread more)
-            ∙ (ap (λ (ps : List (List ℕ)). so_far.answered ++ ps) (behind_the_begun so_far.begun (old.unread ++ more) step.line (pieces_at line_feed (new.unread ++ more)) so_far.no_end (step.cuts more))
-            ∙ sym (append_assoc so_far.answered (line ∷ []) (pieces_at line_feed (new.unread ++ more)))));
+            so_far.lines more ∙ (ap (λ (ps : List (List ℕ)). so_far.answered ++ ps) (begun_ends so_far.begun old.unread step.line new.unread more so_far.no_end step.cuts)
+            ∙ sym (append_assoc so_far.answered (line ∷ []) (pieces_at line_feed (new.unread ++ more))));
         makes = λ after lines.
             ap (λ (ls : List (List ℕ)). written_on ls first) (append_assoc so_far.answered (line ∷ []) (after ∷ lines))
             ∙ (so_far.makes line (after ∷ lines)

@@ -48,6 +48,12 @@ pub behind_the_begun : (begun bytes first : List ℕ) (others : List (List ℕ))
     → pieces_at line_feed (begun ++ bytes) ≡ (begun ++ first) ∷ others
 behind_the_begun begun bytes first others none is = onto_the_first begun bytes first others (no_feed begun none) is
 
+-- where it ends in what is unread, it is cut there, whatever comes behind
+pub begun_ends : (begun unread line rest more : List ℕ) → HasNoEnd begun → Cuts unread line rest
+    → pieces_at line_feed ((begun ++ unread) ++ more) ≡ (begun ++ line) ∷ pieces_at line_feed (rest ++ more)
+begun_ends begun unread line rest more none cuts =
+    ap (pieces_at line_feed) (append_assoc begun unread more) ∙ behind_the_begun begun (unread ++ more) line (pieces_at line_feed (rest ++ more)) none (cuts more)
+
 -- there is a first piece
 pub first_piece : (bytes : List ℕ) → (first : List ℕ) × (others : List (List ℕ)) × (pieces_at line_feed bytes ≡ first ∷ others)
 first_piece bytes = pieces_at-front line_feed [] bytes (λ k below is. absurd (omega arith))

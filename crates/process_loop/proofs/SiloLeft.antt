@@ -13,11 +13,11 @@ use Rattle.process_loop.specs.declared.stopped.Stopped.{Stopped}
 use Rattle.process_loop.specs.declared.stopped.Stopped.TheVariants as stopped
 use Rattle.process_loop.specs.Answering.{AnswersLine, MayLackMemory, before_last, ended_lines, ends_on, silo_after}
 use Rattle.process_loop.specs.Endings.{AnswersFirst, EndsAnswers, IsSiloAfter, LeavesSilo, WritesAnswers}
-use Rattle.process_loop.specs.Progress.{HasAnswered, HasEnded, Progress, StopsStep, WantsAnswer, WantsMemory, kept}
+use Rattle.process_loop.specs.Progress.{Cuts, HasAnswered, HasEnded, Progress, StopsStep, WantsAnswer, WantsMemory, kept}
 use Rattle.process_loop.specs.Transfers.{Fills}
 use Rattle.process_loop.specs.Turns.{Stands}
 use Rattle.process_loop.proofs.Kept.{lacks_whole, said_kept}
-use Rattle.process_loop.proofs.Lines.{before_the_last, behind_the_begun, ends_on_nothing, ends_there, first_piece, goes_on_before, nothing_written, written_last}
+use Rattle.process_loop.proofs.Lines.{before_the_last, begun_ends, ends_on_nothing, ends_there, first_piece, goes_on_before, nothing_written, written_last}
 use Rattle.process_loop.proofs.AnswersSoFar.{all_before, answered_goes_on, brings_next, ended_answered, kept_line}
 use Rattle.process_loop.proofs.Stands.{begins_by, bytes_read, none_begins, none_left, rest_of}
 
@@ -90,6 +90,18 @@ module _ (first : SiloValue) (input : List ℕ) (start : Option (List ℕ)) wher
       ∙ (ap before_last (stands.answers.lines rest ∙ ap (λ (ps : List (List ℕ)). stands.answers.answered ++ ps) cut)
       ∙ before_the_last stands.answers.answered next lines)
 
+  -- where the line that is begun ends in what is unread, it is the one behind those that were answered
+  ended_next : (silo : SiloValue) (at : Progress) (read written : Option (List ℕ)) (stands : Stands first input start silo at read written) (line rest : List ℕ) → Cuts at.unread line rest
+      → (others : List (List ℕ)) × (ended_lines input ≡ stands.answers.answered ++ (stands.answers.begun ++ line) ∷ others)
+  ended_next silo at read written stands line rest cuts =
+      let left = rest_of first input start read (bytes_read first input start silo at read written stands) stands.has_read.consumes in
+      let behind = first_piece (rest ++ left.0) in
+      let whole = stands.answers.begun ++ line in (
+        before_last (behind.0 ∷ behind.1),
+        ended_by silo at read written stands left.0 whole (behind.0 ∷ behind.1) left.2
+            (begun_ends stands.answers.begun at.unread line rest left.0 stands.answers.no_end cuts ∙ ap (λ (ps : List (List ℕ)). whole ∷ ps) behind.2),
+      )
+
   -- the process stopped behind a line by which it goes on
   leaves_answered : (read written : Option (List ℕ)) (silo : SiloValue) (at : Progress) (text : List ℕ) (stopping : Stopped)
       → ((lines others : List (List ℕ)) → ends_on lines first ≡ false → EndsAnswers lines others first stopping)
@@ -160,17 +172,13 @@ module _ (first : SiloValue) (input : List ℕ) (start : Option (List ℕ)) wher
       let bytes = bytes_read first input start silo at read before stands in
       let answered = stands.answers.answered in
       let line = stands.answers.begun ++ step.line in
-      let left = rest_of first input start read bytes stands.has_read.consumes in
-      let behind = first_piece (last.unread ++ left.0) in
-      let cut : pieces_at line_feed ((stands.answers.begun ++ at.unread) ++ left.0) ≡ line ∷ (behind.0 ∷ behind.1) =
-      ap (pieces_at line_feed) (append_assoc stands.answers.begun at.unread left.0)
-      ∙ (behind_the_begun stands.answers.begun (at.unread ++ left.0) step.line _ stands.answers.no_end (step.cuts left.0) ∙ ap (λ (ps : List (List ℕ)). line ∷ ps) behind.2) in
+      let next_one = ended_next silo at read before stands step.line last.unread step.cuts in
       let answers = subst (λ (l : List ℕ). AnswersLine silo l at.waiting next last.waiting true) (kept_line first bytes stands.sent silo at stands.answers step.line) step.answers in
       let before_it : before_last (answered ++ line ∷ []) ≡ answered = before_the_last answered line [] ∙ append-nil answered in
       record {
         lines = answered ++ line ∷ [];
-        others = before_last (behind.0 ∷ behind.1);
-        is_of_it = ended_by silo at read before stands left.0 line (behind.0 ∷ behind.1) left.2 cut ∙ sym (append_assoc answered (line ∷ []) (before_last (behind.0 ∷ behind.1)));
+        others = next_one.0;
+        is_of_it = next_one.1 ∙ sym (append_assoc answered (line ∷ []) next_one.0);
         ends = (
           stands.answers.goes_on (line ∷ []) ∙ ends_there line (kept line) [] silo next at.waiting last.waiting (said_kept line silo) answers,
           ap (λ (ls : List (List ℕ)). ends_on ls first) before_it ∙ answered_goes_on first bytes stands.sent silo at stands.answers,
@@ -192,17 +200,13 @@ module _ (first : SiloValue) (input : List ℕ) (start : Option (List ℕ)) wher
   leaves_lacking read before silo at next wants lacks stands =
       let bytes = bytes_read first input start silo at read before stands in
       let line = stands.answers.begun ++ wants.line in
-      let left = rest_of first input start read bytes stands.has_read.consumes in
-      let behind = first_piece (wants.rest ++ left.0) in
-      let cut : pieces_at line_feed ((stands.answers.begun ++ at.unread) ++ left.0) ≡ line ∷ (behind.0 ∷ behind.1) =
-      ap (pieces_at line_feed) (append_assoc stands.answers.begun at.unread left.0)
-      ∙ (behind_the_begun stands.answers.begun (at.unread ++ left.0) wants.line _ stands.answers.no_end (wants.cuts left.0) ∙ ap (λ (ps : List (List ℕ)). line ∷ ps) behind.2) in
+      let next_one = ended_next silo at read before stands wants.line wants.rest wants.cuts in
       let whole = lacks_whole line silo (subst (MayLackMemory silo) (kept_line first bytes stands.sent silo at stands.answers wants.line) lacks) in
       let goes_on = answered_goes_on first bytes stands.sent silo at stands.answers in
       record {
         lines = stands.answers.answered;
-        others = line ∷ before_last (behind.0 ∷ behind.1);
-        is_of_it = ended_by silo at read before stands left.0 line (behind.0 ∷ behind.1) left.2 cut;
+        others = line ∷ next_one.0;
+        is_of_it = next_one.1;
         ends = goes_on;
         is_after = inr (goes_on, subst (λ (s : SiloValue). MayLackMemory s line) stands.answers.brings whole);
         answers = all_before first bytes stands.sent silo at stands.answers;

@@ -18,7 +18,7 @@ use Rattle.process_loop.specs.Progress.{HasAnswered, HasEnded, HasNoEnd, NeedsMo
 use Rattle.process_loop.specs.Transfers.{Fills, HasDrained, HasFilled}
 use Rattle.process_loop.specs.Turns.{Stands}
 use Rattle.process_loop.proofs.Kept.{lacks_whole, said_kept, unended_kept}
-use Rattle.process_loop.proofs.Lines.{before_the_last, behind_the_begun, ends_on_nothing, ends_there, first_piece, no_end_in_both, nothing_ends, nothing_written, only_piece, written_last}
+use Rattle.process_loop.proofs.Lines.{before_the_last, begun_ends, behind_the_begun, ends_on_nothing, ends_there, first_piece, no_end_in_both, nothing_ends, nothing_written, only_piece, written_last}
 use Rattle.process_loop.proofs.AnswersSoFar.{all_answered, all_before, answered_goes_on, answers_begun, answers_first, answers_more, answers_read_on, answers_sent, ended_answered, kept_line, pieces_answered}
 
 -- ---- What was read.
@@ -263,8 +263,7 @@ module _ (first : SiloValue) (input : List ℕ) (start : Option (List ℕ)) wher
       let left = rest_of read (bytes_read silo at read before stands) stands.has_read.consumes in
       let behind = first_piece (last.unread ++ left.0) in
       let cut : pieces_at line_feed ((stands.answers.begun ++ at.unread) ++ left.0) ≡ line ∷ (behind.0 ∷ behind.1) =
-      ap (pieces_at line_feed) (append_assoc stands.answers.begun at.unread left.0)
-      ∙ (behind_the_begun stands.answers.begun (at.unread ++ left.0) step.line _ stands.answers.no_end (step.cuts left.0) ∙ ap (λ (ps : List (List ℕ)). line ∷ ps) behind.2) in
+      begun_ends stands.answers.begun at.unread step.line last.unread left.0 stands.answers.no_end step.cuts ∙ ap (λ (ps : List (List ℕ)). line ∷ ps) behind.2 in
       let answers = subst (λ (l : List ℕ). AnswersLine silo l at.waiting next last.waiting true) (kept_line first (bytes_read silo at read before stands) stands.sent silo at stands.answers step.line) step.answers in
       whole_by silo at read before stands left.0 line (behind.0 ∷ behind.1) left.2 cut
       ∙ ap (λ (t : List ℕ). stands.sent ++ t) (sym (written_last line (kept line) behind.0 behind.1 silo next at.waiting last.waiting (said_kept line silo) answers))
@@ -277,8 +276,7 @@ module _ (first : SiloValue) (input : List ℕ) (start : Option (List ℕ)) wher
       let behind = first_piece (last.unread ++ []) in
       let cut : pieces_at line_feed bytes ≡ stands.answers.answered ++ line ∷ (behind.0 ∷ behind.1) =
       ap (pieces_at line_feed) (sym (append-nil bytes)) ∙ (stands.answers.lines []
-      ∙ (ap (λ (bs : List ℕ). stands.answers.answered ++ pieces_at line_feed bs) (append_assoc stands.answers.begun at.unread [])
-      ∙ ap (λ (ps : List (List ℕ)). stands.answers.answered ++ ps) (behind_the_begun stands.answers.begun (at.unread ++ []) step.line _ stands.answers.no_end (step.cuts []) ∙ ap (λ (ps : List (List ℕ)). line ∷ ps) behind.2))) in
+      ∙ ap (λ (ps : List (List ℕ)). stands.answers.answered ++ ps) (begun_ends stands.answers.begun at.unread step.line last.unread [] stands.answers.no_end step.cuts ∙ ap (λ (ps : List (List ℕ)). line ∷ ps) behind.2)) in
       let answers = subst (λ (l : List ℕ). AnswersLine silo l at.waiting next last.waiting true) (kept_line first (bytes_read silo at read before stands) stands.sent silo at stands.answers step.line) step.answers in
       ap (λ (ls : List (List ℕ)). ends_on ls first) (ap before_last cut ∙ before_the_last stands.answers.answered line (behind.0 ∷ behind.1))
       ∙ (stands.answers.goes_on (line ∷ before_last (behind.0 ∷ behind.1))
@@ -364,8 +362,7 @@ module _ (first : SiloValue) (input : List ℕ) (start : Option (List ℕ)) wher
         lines = stands.answers.answered;
         line = stands.answers.begun ++ ended.line;
         others = pieces_at line_feed (ended.rest ++ left.0);
-        is_of_it = cut_by (stands.answers.begun ++ ended.line) (pieces_at line_feed (ended.rest ++ left.0)) (ap (pieces_at line_feed) (append_assoc stands.answers.begun at.unread left.0)
-            ∙ behind_the_begun stands.answers.begun (at.unread ++ left.0) ended.line _ stands.answers.no_end (ended.cuts left.0));
+        is_of_it = cut_by (stands.answers.begun ++ ended.line) (pieces_at line_feed (ended.rest ++ left.0)) (begun_ends stands.answers.begun at.unread ended.line ended.rest left.0 stands.answers.no_end ended.cuts);
         goes_on = answered_goes_on first (bytes_read silo at read before stands) stands.sent silo at stands.answers;
         answered = all_answers;
         wanted = ended_wants read before silo at next stands ended;
