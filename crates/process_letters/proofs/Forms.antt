@@ -1,18 +1,13 @@
 -- How many words a form has, and what that decides.
-use Rattle.std.proofs.Common.{◌≡◌, ℕ, Result, Err, List, [], ◌∷◌, Some, None, Ok, IsOk, IsErrOf, refl, ap, sym, subst, ◌∙◌}
+use Rattle.std.proofs.Common.{◌≡◌, ℕ, Result, Err, List, [], ◌∷◌, Some, None, refl, ap, sym, ◌∙◌}
 use Rattle.hash_ring.specs.declared.hashing.Hashing.{Hashing}
 use Rattle.directory_rules.specs.declared.act.Act.TheVariants as act
 use Rattle.directory_rules.specs.declared.letter_kind.LetterKind.{LetterKind}
 use Rattle.directory_rules.specs.declared.letter_kind.LetterKind.TheVariants.{Page, Report}
-use Rattle.directory_rules.specs.Letter.{Letter}
-use Rattle.process_rules.specs.ReadLetter.{Head, form_of, a_number_and_an_entry, a_page, a_register, are_pairs, head_of_words, kind_among, kinds, letter_by, page_for, read_letter, request_of}
+use Rattle.process_rules.specs.ReadLetter.{Head, a_number_and_an_entry, a_page, a_register, are_pairs, head_of_words, kind_among, kinds, letter_by, page_for, read_letter, request_of}
 use Rattle.script_commands.specs.WordCounts.{only_three_words}
 use Rattle.process_letters.specs.Fronts.{Four, four_in, only_four_words}
-use Rattle.process_rules.proofs.FormsAgain.{form_gave}
-use Rattle.process_letters.specs.declared.fault.LineError.{LineError}
-use Rattle.process_letters.specs.declared.fault.LineError.TheVariants.{OutOfMemory}
-use Rattle.process_letters.specs.ReadAs.{Reads}
-use Rattle.process_letters.specs.Short.{HasEntries, IsShort}
+use Rattle.process_letters.specs.Short.{IsShort}
 
 -- a Register that has not four words names no activation that it replaces
 pub register_without : (hashing : Hashing) (head : Result Head ℕ) (words : List (List ℕ)) → only_four_words words ≡ None
@@ -53,17 +48,7 @@ short_kind Page other another = absurd (other refl)
 short_kind Report other another = absurd (another refl)
 short_kind short other another = tt
 
--- memory runs out at a letter with entries, if it does where the rule reads one
-entries_by : (kind : LetterKind) (hashing : Hashing) (head : Result Head ℕ) (words : List (List ℕ)) (read : Result Letter ℕ) → ¬ (IsShort kind) → form_of hashing kind head words ≡ read → IsOk read → HasEntries read
-entries_by named hashing head words (Ok letter) long is ok = λ short. long (subst IsShort (sym (form_gave hashing head letter named words is).kind_is) short)
-entries_by named hashing head words (Err fault) long is ok = cc ok
-
-pub entries_needed : (kind : LetterKind) (hashing : Hashing) (head : Result Head ℕ) (words : List (List ℕ)) (result : Result Letter LineError) → ¬ (IsShort kind)
-    → Reads (λ letter. letter) result (form_of hashing kind head words) → IsErrOf result OutOfMemory → HasEntries (form_of hashing kind head words)
-entries_needed named hashing head words result long reads memory =
-    entries_by named hashing head words (form_of hashing named head words) long refl (subst (λ (r : Result Letter LineError). Reads (λ letter. letter) r (form_of hashing named head words)) memory reads)
-
-pub ruleset by_kind = (short_kind, entries_needed)
+pub ruleset by_kind = (short_kind)
 
 -- ---- the first four words
 abbrev four_parts : Four → List (List ℕ)

@@ -1,15 +1,22 @@
--- Letters whose length is bounded: they have no list of entries.
-use Rattle.std.specs.Prelude.{⊤, ℕ, Result, Ok, Err}
-use Rattle.directory_rules.specs.Letter.{Letter, kind_of}
+-- Letters whose length is bounded, since they have no list of entries, and those that tell some.
+use Rattle.std.specs.Prelude.{⊤, ◌≢◌, ℕ, List, [], Result, Ok, Err}
+use Rattle.silo_address.specs.declared.Entry.{Entry}
+use Rattle.directory_rules.specs.Letter.{Letter}
 use Rattle.directory_rules.specs.declared.letter_kind.LetterKind.{LetterKind}
 use Rattle.directory_rules.specs.declared.letter_kind.LetterKind.TheVariants.{Page, Report}
+use Rattle.process_rules.specs.Entries.{TellsEntries}
 
 abbrev pub IsShort : LetterKind → Type 0
 IsShort Page = ⊥
 IsShort Report = ⊥
 IsShort other = ⊤
 
--- a letter was read, and it has such a list, be it empty
+-- entries were read, at least one
+abbrev pub AreEntries : Result (List Entry) ℕ → Type 0
+AreEntries (Ok entries) = entries ≢ []
+AreEntries (Err fault) = ⊥
+
+-- a letter was read, and it tells at least one
 abbrev pub HasEntries : Result Letter ℕ → Type 0
-HasEntries (Ok letter) = ¬ (IsShort (kind_of letter.body))
+HasEntries (Ok letter) = TellsEntries letter.body
 HasEntries (Err fault) = ⊥

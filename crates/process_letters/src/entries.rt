@@ -1,9 +1,10 @@
 //! The entries of a page or a report.
 
-ghost use Rattle.std.specs.Prelude.{◌≡◌};
+ghost use Rattle.std.specs.Prelude.{◌≡◌, IsErrOf};
 ghost use Rattle.texts.specs.Words.{words_in};
 ghost use Rattle.process_rules.specs.ReadLetter as rule;
 ghost use Rattle.process_letters.specs.ReadAs.{Fails, Reads};
+ghost use Rattle.process_letters.specs.Short.{AreEntries};
 
 use crate::words::entry_of_words;
 use crate::{LineError, LineFault};
@@ -26,10 +27,11 @@ pub(crate) fn are_pairs(words: &[u8]) -> bool
     true
 }
 
-/// The entries that the words tell.
+/// The entries that the words tell. Memory may run out only where they tell one.
 #[tactic(auto, using(crate::proofs::EachEntry::entry_by_entry))]
 pub(crate) fn entries_in(alloc: Global, words: &[u8]) -> Result<Vec<Entry>, LineError>
-    ensures { Reads (λ entries. entries.items) result (rule.entries_in (words_in words.now)) }
+    ensures reads { Reads (λ entries. entries.items) result (rule.entries_in (words_in words.now)) }
+    ensures memory { IsErrOf result LineError.OutOfMemory → AreEntries (rule.entries_in (words_in words.now)) }
 {
     let mut entries = Vec::new(alloc);
     let mut rest = words;

@@ -17,7 +17,7 @@ use hash_ring::Hashing;
 use std::alloc::Global;
 
 /// Reads what stands behind `letter` in a line, grains being hashed so: the letter, or the first fault. Memory may run out only at a page
-/// or a report, and that it does is told only where the line has no fault.
+/// or a report that tells an entry, and that it does is told only where the line has no fault.
 /// (`docs/RULES.md#lines-of-a-silos-process`)
 #[tactic(auto, using(crate::proofs::Forms::fronts))]
 pub fn read_letter(alloc: Global, hashing: Hashing, words: &[u8]) -> Result<Letter, LineError>

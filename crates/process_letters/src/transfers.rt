@@ -1,11 +1,12 @@
 //! Letters of transfers and recoveries.
 
-ghost use Rattle.std.specs.Prelude.{◌≡◌, true};
+ghost use Rattle.std.specs.Prelude.{◌≡◌, true, IsErrOf};
 ghost use Rattle.directory_rules.specs.Letter as letters;
 ghost use Rattle.texts.specs.Words.{words_in};
 ghost use Rattle.process_rules.specs.ReadLetter as rule;
 ghost use Rattle.process_letters.specs.Made.{OfARange};
 ghost use Rattle.process_letters.specs.ReadAs.{Reads, head_of, told};
+ghost use Rattle.process_letters.specs.Short.{HasEntries};
 
 use crate::entries::{are_pairs, entries_in};
 use crate::head::Head;
@@ -85,7 +86,8 @@ pub(crate) fn a_page(
     head: Result<Head, LineFault>,
     words: &[u8],
 ) -> Result<Letter, LineError>
-    ensures { Reads (λ letter. letter) result (rule.a_page (told head_of head) (words_in words.now)) }
+    ensures reads { Reads (λ letter. letter) result (rule.a_page (told head_of head) (words_in words.now)) }
+    ensures memory { IsErrOf result LineError.OutOfMemory → HasEntries (rule.a_page (told head_of head) (words_in words.now)) }
 {
     let Some(front) = four_words(words) else {
         return Err(LineError::Fault(LineFault::WordCount));
@@ -102,7 +104,9 @@ fn page_of(
     head: Result<Head, LineFault>,
     front: &FourWords<'_>,
 ) -> Result<Letter, LineError>
-    ensures { Reads (λ letter. letter) result
+    ensures reads { Reads (λ letter. letter) result
+        (rule.page_for true (told head_of head) front.now.first.now front.now.second.now front.now.third.now front.now.fourth.now (words_in front.now.behind.now)) }
+    ensures memory { IsErrOf result LineError.OutOfMemory → HasEntries
         (rule.page_for true (told head_of head) front.now.first.now front.now.second.now front.now.third.now front.now.fourth.now (words_in front.now.behind.now)) }
 {
     let head = head?;
@@ -121,7 +125,8 @@ pub(crate) fn a_report(
     head: Result<Head, LineFault>,
     words: &[u8],
 ) -> Result<Letter, LineError>
-    ensures { Reads (λ letter. letter) result (rule.a_report (told head_of head) (words_in words.now)) }
+    ensures reads { Reads (λ letter. letter) result (rule.a_report (told head_of head) (words_in words.now)) }
+    ensures memory { IsErrOf result LineError.OutOfMemory → HasEntries (rule.a_report (told head_of head) (words_in words.now)) }
 {
     let Some((range, behind)) = split_word(words) else {
         return Err(LineError::Fault(LineFault::WordCount));

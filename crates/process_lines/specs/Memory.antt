@@ -1,16 +1,15 @@
 -- Lines that take memory to read.
 use Rattle.std.specs.Prelude.{⊤, ℕ, ◌∷◌, Option, Some, Result, Ok, Err}
-use Rattle.directory_rules.specs.Letter.{kind_of}
+use Rattle.process_rules.specs.Entries.{TellsEntries}
 use Rattle.process_rules.specs.ReadLine.{Asked, Joined, Receive}
-use Rattle.process_letters.specs.Short.{IsShort}
 
--- what is asked for has a list: it is a join with places, or a letter that tells entries, be there any or none
+-- what is asked for has a list that isn't empty: it is a join with places, or a letter that tells entries
 abbrev pub HasList : Asked → Type 0
 HasList (Joined version silo (place ∷ places)) = ⊤
-HasList (Receive letter) = ¬ (IsShort (kind_of letter.body))
+HasList (Receive letter) = TellsEntries letter.body
 HasList other = ⊥
 
--- the words were read, and what they ask for has a list
+-- the words were read, and what they ask for has one
 abbrev pub WordsNeedMemory : Result Asked ℕ → Type 0
 WordsNeedMemory (Ok asked) = HasList asked
 WordsNeedMemory (Err fault) = ⊥

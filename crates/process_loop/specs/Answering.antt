@@ -1,9 +1,9 @@
 -- Lines answered one by one.
-use Rattle.std.specs.Prelude.{◌≡◌, ◌≢◌, ◌⊎◌, ⊤, ℕ, Bool, true, false, if◌then◌else◌, List, [], ◌∷◌, ◌++◌, Option, Some, Result, Ok}
+use Rattle.std.specs.Prelude.{◌≡◌, ◌≢◌, ◌⊎◌, ℕ, Bool, true, false, if◌then◌else◌, List, [], ◌∷◌, ◌++◌, Option, Some, Result, Ok}
 use Rattle.texts.specs.Printed.{text_of_lines}
 use Rattle.texts.specs.Words.{line_feed, pieces_at}
 use Rattle.silo_rules.specs.SiloValue.{SiloValue}
-use Rattle.directory_rules.specs.Letter.{Body, Page_letter, Report_letter}
+use Rattle.process_rules.specs.Entries.{TellsEntries}
 use Rattle.process_rules.specs.ReadLine.{Asked, Receive}
 use Rattle.process_output.specs.Answer.{Answered}
 use Rattle.process_output.specs.Output.{answered_to, said}
@@ -14,19 +14,13 @@ pub record AnswersLine (old : SiloValue) (line before : List ℕ) (new : SiloVal
   pub text : after ≡ before ++ text_of_lines (answered_to (said line old) old).lines
   pub stops : ends ≡ (answered_to (said line old) old).ends
 
--- a letter that says so has a list of entries
-abbrev pub HasEntries : Body → Type 0
-HasEntries (Page_letter page) = ⊤
-HasEntries (Report_letter report) = ⊤
-HasEntries other = ⊥
-
--- a line that says so brings a letter with such a list, be it to this silo or to another one
+-- a line that says so brings a letter that tells entries, be it to this silo or to another one
 abbrev pub BringsEntries : Result (Option Asked) ℕ → Type 0
-BringsEntries (Ok (Some (Receive letter))) = HasEntries letter.body
+BringsEntries (Ok (Some (Receive letter))) = TellsEntries letter.body
 BringsEntries other = ⊥
 
--- where memory may run out at a line, by the silo before it: where something is printed of it, or where it brings a list of entries. So
--- at none that says nothing.
+-- where memory may run out at a line, by the silo before it: where something is printed of it, or where it brings entries. So at none
+-- that says nothing.
 abbrev pub MayLackMemory : SiloValue → (line : List ℕ) → Type 0
 MayLackMemory s line = ((answered_to (said line s) s).lines ≢ []) ⊎ BringsEntries (said line s)
 

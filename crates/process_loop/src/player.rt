@@ -12,8 +12,8 @@ pub trait SiloPlayer {
     ghost silo: { Self → SiloValue };
 
     /// Answers a line, given without its line feed: does what it asks for, and writes what that prints behind what is written already;
-    /// whether the process ends there. Fails only when memory runs out, and only where something is printed of the line or it brings a list
-    /// of entries; then nothing is written, and the player may have changed.
+    /// whether the process ends there. Fails only when memory runs out, and only where something is printed of the line or it brings
+    /// entries; then nothing is written, and the player may have changed.
     fn answer_line(
         &mut self,
         alloc: Global,

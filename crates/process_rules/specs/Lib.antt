@@ -3,3 +3,4 @@ pub mod ReadLetter
 pub mod Told
 pub mod ReadLine
 pub mod InRange
+pub mod Entries

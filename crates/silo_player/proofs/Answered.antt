@@ -8,21 +8,15 @@ use Rattle.silo_address.specs.Silo.{Silo}
 use Rattle.membership_view.specs.declared.status.Status.{Status}
 use Rattle.membership_view.specs.declared.status.Status.TheVariants as status
 use Rattle.hash_ring.specs.declared.hashing.Hashing.{Hashing}
-use Rattle.directory_rules.specs.declared.act.Act.{Act}
-use Rattle.directory_rules.specs.declared.act.Act.TheVariants as act
-use Rattle.directory_rules.specs.declared.reply.Reply.{Reply}
-use Rattle.directory_rules.specs.declared.reply.Reply.TheVariants as reply
-use Rattle.directory_rules.specs.Letter.{Body, Page_letter, Reply_letter, Report_letter, Request_letter, act_kind, kind_of, reply_kind}
 use Rattle.silo_rules.specs.Membership.{Change, Join}
 use Rattle.silo_rules.specs.SiloValue.{SiloValue, own_status}
 use Rattle.silo_rules.specs.Told.{Heard, told}
 use Rattle.process_rules.specs.ReadLine.{Asked, Joined, Receive, read_silo_line}
-use Rattle.process_letters.specs.Short.{IsShort}
 use Rattle.process_lines.specs.Memory.{LineNeedsMemory}
 use Rattle.process_output.specs.Answer.{answered, heard, printing, unless_dead}
 use Rattle.process_output.specs.Happened.{news_words}
 use Rattle.process_output.specs.Output.{answered_to, fault_line, said}
-use Rattle.process_loop.specs.Answering.{AnswersLine, BringsEntries, HasEntries, MayLackMemory}
+use Rattle.process_loop.specs.Answering.{AnswersLine, BringsEntries, MayLackMemory}
 
 -- what the line says, by equal hashing and an equal line
 pub said_so : (s : SiloValue) (line stripped : List ℕ) (hashing : Hashing) (read : Result (Option Asked) ℕ) → hashing ≡ s.node.settings.hashing
@@ -77,32 +71,10 @@ join_prints : (version : ℕ) (silo : Silo) (places : List ℕ) (s : SiloValue) 
 unfolding answered
 join_prints version silo places s = told_or_refused (told s.node.settings s.membership version (Join silo places)) version (Join silo places) s
 
--- a letter that isn't short has entries
-request_short : (act : Act) → IsShort (act_kind act)
-request_short (act.Register entry previous) = tt
-request_short (act.Deregister entry) = tt
-request_short (act.Find grain) = tt
-
-reply_short : (reply : Reply) → IsShort (reply_kind reply)
-reply_short (reply.Registered entry) = tt
-reply_short (reply.Taken entry) = tt
-reply_short reply.Removed = tt
-reply_short reply.Absent = tt
-reply_short (reply.Found entry) = tt
-reply_short reply.Nothing = tt
-reply_short (reply.Retry why) = tt
-
-entries_of : (body : Body) → ¬ (IsShort (kind_of body)) → HasEntries body
-entries_of (Page_letter page) long = tt
-entries_of (Report_letter report) long = tt
-entries_of (Request_letter request) long = absurd (long (request_short request.act))
-entries_of (Reply_letter number told) long = absurd (long (reply_short told))
-entries_of other long = absurd (long tt)
-
--- a list that is read takes memory: so does what is printed of a join, or the letter has entries
+-- a list that is read takes memory: so does what is printed of a join, or the letter tells entries
 list_lacks : (s : SiloValue) (read : Result (Option Asked) ℕ) → LineNeedsMemory read → ((answered_to read s).lines ≢ []) ⊎ BringsEntries read
 list_lacks s (Ok (Some (Joined version silo (place ∷ places)))) needs = inl (join_prints version silo (place ∷ places) s)
-list_lacks s (Ok (Some (Receive letter))) needs = inr (entries_of letter.body needs)
+list_lacks s (Ok (Some (Receive letter))) needs = inr needs
 list_lacks s other needs = absurd needs
 
 pub unread_lacks : (s : SiloValue) (line : List ℕ) (read : Result (Option Asked) ℕ) → said line s ≡ read → LineNeedsMemory read → MayLackMemory s line
