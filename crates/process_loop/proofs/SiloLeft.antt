@@ -3,7 +3,7 @@ use Rattle.std.proofs.Common.{◌≡◌, inl, inr, ℕ, ◌++◌, List, [], ◌�
 use Rattle.texts.specs.Words.{line_feed, pieces_at}
 use Rattle.silo_rules.specs.SiloValue.{SiloValue}
 use Rattle.std.specs.Io.KnownBytes.{Appends}
-use Rattle.std.proofs.KnownBytes.{Appends-nil, Appends-trans}
+use Rattle.std.proofs.KnownBytes.{Appends-nil, Appends-trans, Consumes-kept, Consumes-trans}
 use Rattle.script_output.specs.Spaced.{BeginsWith}
 use Rattle.script_output.proofs.Fronts.{begins_with_the_first}
 use Rattle.script_loop.specs.Sent.{WritesFront}
@@ -17,7 +17,7 @@ use Rattle.process_loop.specs.Progress.{Cuts, HasAnswered, HasEnded, Progress, S
 use Rattle.process_loop.specs.Transfers.{Fills}
 use Rattle.process_loop.specs.Turns.{Stands}
 use Rattle.process_loop.proofs.Kept.{lacks_whole, said_kept}
-use Rattle.process_loop.proofs.Lines.{before_the_last, begun_ends, ends_on_nothing, ends_there, first_piece, goes_on_before, nothing_written, written_last}
+use Rattle.process_loop.proofs.Lines.{before_the_last, begun_ends, ends_on_nothing, ends_there, first_piece, goes_on_before, nothing_ends, nothing_written, only_piece, written_last}
 use Rattle.process_loop.proofs.AnswersSoFar.{all_before, answered_goes_on, brings_next, ended_answered, kept_line}
 use Rattle.process_loop.proofs.Stands.{begins_by, bytes_read, none_begins, none_left, rest_of}
 
@@ -53,27 +53,33 @@ breaks_text lines others first answers text front stopped.OutOfMemory ends write
 breaks_text lines others first answers text front stopped.Broken ends (inl fits) begins = inl (begins_with_the_first front text answers begins fits)
 breaks_text lines others first answers text front stopped.Broken ends (inr all) begins = inr all
 
-pub breaks_then : (input : List ℕ) (first after : SiloValue) (text front : List ℕ) (stopping : Stopped) → BeginsWith front text → AnswersFirst input first after text stopping
-    → AnswersFirst input first after front stopped.Broken
-breaks_then input first after text front stopping begins so = record {
+pub breaks_then : (input bytes : List ℕ) (first after : SiloValue) (text front : List ℕ) (stopping : Stopped) → BeginsWith front text → AnswersFirst input bytes first after text stopping
+    → AnswersFirst input bytes first after front stopped.Broken
+breaks_then input bytes first after text front stopping begins so = record {
   lines = so.lines;
   others = so.others;
   is_of_it = so.is_of_it;
+  unanswered = so.unanswered;
+  were_read = so.were_read;
   ends = breaks_ends so.lines so.others first stopping so.ends;
-  is_after = breaks_after so.lines so.others first after stopping so.is_after;
+  is_after = breaks_after so.lines so.unanswered first after stopping so.is_after;
   answers = breaks_text so.lines so.others first (written_on (so.lines ++ [] ∷ []) first) text front stopping so.ends so.answers begins;
 }
 
 -- before the first line
-pub leaves_first : (input : List ℕ) (first : SiloValue) (start : Option (List ℕ)) → LeavesSilo input first first start start stopped.OutOfMemory
+pub leaves_first : (input : List ℕ) (first : SiloValue) (start : Option (List ℕ)) → LeavesSilo input first first (Some input) start start stopped.OutOfMemory
 unfolding silo_after
 leaves_first input first start = (
+  [],
+  refl,
   [],
   Appends-nil start,
   record {
     lines = [];
     others = ended_lines input;
     is_of_it = refl;
+    unanswered = [];
+    were_read = ap before_last (only_piece [] nothing_ends);
     ends = ends_on_nothing first;
     is_after = inl refl;
     answers = sym (nothing_written first);
@@ -81,43 +87,59 @@ leaves_first input first start = (
 )
 
 module _ (first : SiloValue) (input : List ℕ) (start : Option (List ℕ)) where
-  -- the lines that ended in the input are those that were answered, and those from the next one on
-  ended_by : (silo : SiloValue) (at : Progress) (read written : Option (List ℕ)) (stands : Stands first input start silo at read written) (rest next : List ℕ) (lines : List (List ℕ))
-      → input ≡ bytes_read first input start silo at read written stands ++ rest → pieces_at line_feed ((stands.answers.begun ++ at.unread) ++ rest) ≡ next ∷ lines
-      → ended_lines input ≡ stands.answers.answered ++ before_last (next ∷ lines)
-  ended_by silo at read written stands rest next lines is cut =
+  -- the lines that ended in what was read, or in more, are those that were answered, and those from the next one on
+  ended_by : (silo : SiloValue) (at : Progress) (read written : Option (List ℕ)) (stands : Stands first input start silo at read written) (whole rest next : List ℕ) (lines : List (List ℕ))
+      → whole ≡ bytes_read first input start silo at read written stands ++ rest → pieces_at line_feed ((stands.answers.begun ++ at.unread) ++ rest) ≡ next ∷ lines
+      → ended_lines whole ≡ stands.answers.answered ++ before_last (next ∷ lines)
+  ended_by silo at read written stands whole rest next lines is cut =
       ap ended_lines is
       ∙ (ap before_last (stands.answers.lines rest ∙ ap (λ (ps : List (List ℕ)). stands.answers.answered ++ ps) cut)
       ∙ before_the_last stands.answers.answered next lines)
 
   -- where the line that is begun ends in what is unread, it is the one behind those that were answered
   ended_next : (silo : SiloValue) (at : Progress) (read written : Option (List ℕ)) (stands : Stands first input start silo at read written) (line rest : List ℕ) → Cuts at.unread line rest
-      → (others : List (List ℕ)) × (ended_lines input ≡ stands.answers.answered ++ (stands.answers.begun ++ line) ∷ others)
-  ended_next silo at read written stands line rest cuts =
-      let left = rest_of first input start read (bytes_read first input start silo at read written stands) stands.has_read.consumes in
-      let behind = first_piece (rest ++ left.0) in
-      let whole = stands.answers.begun ++ line in (
+      → (whole later : List ℕ) → whole ≡ bytes_read first input start silo at read written stands ++ later
+      → (others : List (List ℕ)) × (ended_lines whole ≡ stands.answers.answered ++ (stands.answers.begun ++ line) ∷ others)
+  ended_next silo at read written stands line rest cuts whole later is =
+      let behind = first_piece (rest ++ later) in
+      let next = stands.answers.begun ++ line in (
         before_last (behind.0 ∷ behind.1),
-        ended_by silo at read written stands left.0 whole (behind.0 ∷ behind.1) left.2
-            (begun_ends stands.answers.begun at.unread line rest left.0 stands.answers.no_end cuts ∙ ap (λ (ps : List (List ℕ)). whole ∷ ps) behind.2),
+        ended_by silo at read written stands whole later next (behind.0 ∷ behind.1) is
+            (begun_ends stands.answers.begun at.unread line rest later stands.answers.no_end cuts ∙ ap (λ (ps : List (List ℕ)). next ∷ ps) behind.2),
       )
+
+  -- and where it need not end there, they come first
+  ended_first : (silo : SiloValue) (at : Progress) (read written : Option (List ℕ)) (stands : Stands first input start silo at read written) (whole later : List ℕ)
+      → whole ≡ bytes_read first input start silo at read written stands ++ later → (others : List (List ℕ)) × (ended_lines whole ≡ stands.answers.answered ++ others)
+  ended_first silo at read written stands whole later is =
+      let cut = first_piece ((stands.answers.begun ++ at.unread) ++ later) in
+      (before_last (cut.0 ∷ cut.1), ended_by silo at read written stands whole later cut.0 cut.1 is cut.2)
+
+  -- what was read, and nothing more
+  no_more : (silo : SiloValue) (at : Progress) (read written : Option (List ℕ)) (stands : Stands first input start silo at read written)
+      → bytes_read first input start silo at read written stands ≡ bytes_read first input start silo at read written stands ++ []
+  no_more silo at read written stands = sym (append-nil (bytes_read first input start silo at read written stands))
 
   -- the process stopped behind a line by which it goes on
   leaves_answered : (read written : Option (List ℕ)) (silo : SiloValue) (at : Progress) (text : List ℕ) (stopping : Stopped)
       → ((lines others : List (List ℕ)) → ends_on lines first ≡ false → EndsAnswers lines others first stopping)
       → ((others : List (List ℕ)) (answers : List ℕ) → text ≡ answers → WritesAnswers others answers text stopping)
-      → (stands : Stands first input start silo at read written) → text ≡ stands.sent ++ at.waiting → AnswersFirst input first silo text stopping
-  leaves_answered read written silo at text stopping ends writes stands is =
+      → (stands : Stands first input start silo at read written) → (more later : List ℕ) → more ≡ bytes_read first input start silo at read written stands ++ later
+      → text ≡ stands.sent ++ at.waiting → AnswersFirst input more first silo text stopping
+  leaves_answered read written silo at text stopping ends writes stands more later has_more is =
       let bytes = bytes_read first input start silo at read written stands in
       let left = rest_of first input start read bytes stands.has_read.consumes in
-      let cut = first_piece ((stands.answers.begun ++ at.unread) ++ left.0) in
+      let all = ended_first silo at read written stands input left.0 left.2 in
+      let seen = ended_first silo at read written stands more later has_more in
       record {
         lines = stands.answers.answered;
-        others = before_last (cut.0 ∷ cut.1);
-        is_of_it = ended_by silo at read written stands left.0 cut.0 cut.1 left.2 cut.2;
-        ends = ends stands.answers.answered (before_last (cut.0 ∷ cut.1)) (answered_goes_on first bytes stands.sent silo at stands.answers);
-        is_after = is_after_by stands.answers.answered (before_last (cut.0 ∷ cut.1)) first silo stopping stands.answers.brings;
-        answers = writes (before_last (cut.0 ∷ cut.1)) _ (is ∙ all_before first bytes stands.sent silo at stands.answers);
+        others = all.0;
+        is_of_it = all.1;
+        unanswered = seen.0;
+        were_read = seen.1;
+        ends = ends stands.answers.answered all.0 (answered_goes_on first bytes stands.sent silo at stands.answers);
+        is_after = is_after_by stands.answers.answered seen.0 first silo stopping stands.answers.brings;
+        answers = writes all.0 _ (is ∙ all_before first bytes stands.sent silo at stands.answers);
       }
 
   -- what was sent, and a beginning of what waits, is a beginning of both
@@ -126,36 +148,52 @@ module _ (first : SiloValue) (input : List ℕ) (start : Option (List ℕ)) wher
 
   -- a write failed
   pub leaves_broken : (read before written : Option (List ℕ)) (silo : SiloValue) (at : Progress) → WritesFront at.waiting before written → Stands first input start silo at read before
-      → LeavesSilo input first silo start written stopped.Broken
+      → LeavesSilo input first silo read start written stopped.Broken
   leaves_broken read before written silo at front stands =
       let all = stands.sent ++ at.waiting in
-      let so = leaves_answered read before silo at all stopped.TooManyReads (λ lines others goes_on. goes_on) (λ others answers is. is) stands refl in
-      (stands.sent ++ front.front, Appends-trans start before written _ _ stands.appends front.appends, breaks_then input first silo all _ stopped.TooManyReads (sent_front stands.sent front.front at.waiting front.begins) so)
+      let bytes = bytes_read first input start silo at read before stands in
+      let so = leaves_answered read before silo at all stopped.TooManyReads (λ lines others goes_on. goes_on) (λ others answers is. is) stands bytes [] (no_more silo at read before stands) refl in (
+        bytes,
+        stands.has_read.consumes,
+        stands.sent ++ front.front,
+        Appends-trans start before written _ _ stands.appends front.appends,
+        breaks_then input bytes first silo all _ stopped.TooManyReads (sent_front stands.sent front.front at.waiting front.begins) so,
+      )
 
   -- a read failed, or there were too many
   pub leaves_unread : (read rest written : Option (List ℕ)) (silo : SiloValue) (at new : Progress) (stopping : Stopped) → at.waiting ≡ [] → Fills at read new rest (Some stopping)
-      → Stands first input start silo at read written → LeavesSilo input first silo start written stopping
+      → Stands first input start silo at read written → LeavesSilo input first silo rest start written stopping
   leaves_unread read rest written silo at new stopped.AtEnd none fill stands = absurd fill
   leaves_unread read rest written silo at new stopped.Dead none fill stands = absurd fill
   leaves_unread read rest written silo at new stopped.OutOfMemory none fill stands = absurd fill
   leaves_unread read rest written silo at new stopped.TooManyReads none fill stands =
       let all = sym (append-nil stands.sent) ∙ ap (λ (w : List ℕ). stands.sent ++ w) (sym none) in
-      (stands.sent, stands.appends, leaves_answered read written silo at stands.sent stopped.TooManyReads (λ lines others goes_on. goes_on) (λ others answers is. is) stands all)
+      let bytes = bytes_read first input start silo at read written stands in (
+        bytes ++ fill.0,
+        Consumes-trans (Some input) read rest bytes fill.0 stands.has_read.consumes fill.1.consumes,
+        stands.sent,
+        stands.appends,
+        leaves_answered read written silo at stands.sent stopped.TooManyReads (λ lines others goes_on. goes_on) (λ others answers is. is) stands (bytes ++ fill.0) fill.0 refl all,
+      )
   leaves_unread read rest written silo at new stopped.Broken none fill stands =
-      leaves_broken read written written silo at (record { front = []; begins = none_begins first input start at.waiting; appends = Appends-nil written }) stands
+      let it = leaves_broken read written written silo at (record { front = []; begins = none_begins first input start at.waiting; appends = Appends-nil written }) stands in
+      (it.0, Consumes-kept (Some input) read rest it.0 it.1 fill, it.2, it.3, it.4)
 
   -- the end of the input
   leaves_ended : (read before : Option (List ℕ)) (silo : SiloValue) (at : Progress) (next : SiloValue) (last : Progress) → HasEnded silo at next last
-      → (stands : Stands first input start silo at read before) → AnswersFirst input first next (stands.sent ++ last.waiting) stopped.AtEnd
+      → (stands : Stands first input start silo at read before) → AnswersFirst input (bytes_read first input start silo at read before stands) first next (stands.sent ++ last.waiting) stopped.AtEnd
   leaves_ended read before silo at next last step stands =
       let bytes = bytes_read first input start silo at read before stands in
       let left = rest_of first input start read bytes stands.has_read.consumes in
       let whole : input ≡ bytes = left.2 ∙ (ap (λ (bs : List ℕ). bytes ++ bs) (none_left first input start read left.0 left.1 (stands.at_end step.ended)) ∙ append-nil bytes) in
       let told = after_last (unended_fault (kept (at.begun ++ at.unread))) in
+      let all = ended_answered first bytes stands.sent silo at stands.answers step.none ∙ sym (append-nil stands.answers.answered) in
       record {
         lines = stands.answers.answered;
         others = [];
-        is_of_it = ap ended_lines whole ∙ (ended_answered first bytes stands.sent silo at stands.answers step.none ∙ sym (append-nil stands.answers.answered));
+        is_of_it = ap ended_lines whole ∙ all;
+        unanswered = [];
+        were_read = all;
         ends = (answered_goes_on first bytes stands.sent silo at stands.answers, refl);
         is_after = step.same_silo ∙ stands.answers.brings;
         answers = record {
@@ -167,18 +205,22 @@ module _ (first : SiloValue) (input : List ℕ) (start : Option (List ℕ)) wher
 
   -- the line by which the process ends
   leaves_dead : (read before : Option (List ℕ)) (silo : SiloValue) (at : Progress) (next : SiloValue) (last : Progress) → HasAnswered silo at next last true
-      → (stands : Stands first input start silo at read before) → AnswersFirst input first next (stands.sent ++ last.waiting) stopped.Dead
+      → (stands : Stands first input start silo at read before) → AnswersFirst input (bytes_read first input start silo at read before stands) first next (stands.sent ++ last.waiting) stopped.Dead
   leaves_dead read before silo at next last step stands =
       let bytes = bytes_read first input start silo at read before stands in
       let answered = stands.answers.answered in
       let line = stands.answers.begun ++ step.line in
-      let next_one = ended_next silo at read before stands step.line last.unread step.cuts in
+      let left = rest_of first input start read bytes stands.has_read.consumes in
+      let all = ended_next silo at read before stands step.line last.unread step.cuts input left.0 left.2 in
+      let seen = ended_next silo at read before stands step.line last.unread step.cuts bytes [] (no_more silo at read before stands) in
       let answers = subst (λ (l : List ℕ). AnswersLine silo l at.waiting next last.waiting true) (kept_line first bytes stands.sent silo at stands.answers step.line) step.answers in
       let before_it : before_last (answered ++ line ∷ []) ≡ answered = before_the_last answered line [] ∙ append-nil answered in
       record {
         lines = answered ++ line ∷ [];
-        others = next_one.0;
-        is_of_it = next_one.1 ∙ sym (append_assoc answered (line ∷ []) next_one.0);
+        others = all.0;
+        is_of_it = all.1 ∙ sym (append_assoc answered (line ∷ []) all.0);
+        unanswered = seen.0;
+        were_read = seen.1 ∙ sym (append_assoc answered (line ∷ []) seen.0);
         ends = (
           stands.answers.goes_on (line ∷ []) ∙ ends_there line (kept line) [] silo next at.waiting last.waiting (said_kept line silo) answers,
           ap (λ (ls : List (List ℕ)). ends_on ls first) before_it ∙ answered_goes_on first bytes stands.sent silo at stands.answers,
@@ -190,30 +232,36 @@ module _ (first : SiloValue) (input : List ℕ) (start : Option (List ℕ)) wher
 
   -- memory ran out, where the silo is as it was
   leaves_same : (read before : Option (List ℕ)) (silo : SiloValue) (at : Progress) (next : SiloValue) → next ≡ silo
-      → (stands : Stands first input start silo at read before) → AnswersFirst input first next (stands.sent ++ at.waiting) stopped.OutOfMemory
-  leaves_same read before silo at next same stands = subst (λ (s : SiloValue). AnswersFirst input first s (stands.sent ++ at.waiting) stopped.OutOfMemory) (sym same)
-      (leaves_answered read before silo at (stands.sent ++ at.waiting) stopped.OutOfMemory (λ lines others goes_on. goes_on) (λ others answers is. is) stands refl)
+      → (stands : Stands first input start silo at read before) → AnswersFirst input (bytes_read first input start silo at read before stands) first next (stands.sent ++ at.waiting) stopped.OutOfMemory
+  leaves_same read before silo at next same stands =
+      let bytes = bytes_read first input start silo at read before stands in
+      subst (λ (s : SiloValue). AnswersFirst input bytes first s (stands.sent ++ at.waiting) stopped.OutOfMemory) (sym same)
+      (leaves_answered read before silo at (stands.sent ++ at.waiting) stopped.OutOfMemory (λ lines others goes_on. goes_on) (λ others answers is. is) stands bytes [] (no_more silo at read before stands) refl)
 
   -- or may have changed by the line for which it lacked
   leaves_lacking : (read before : Option (List ℕ)) (silo : SiloValue) (at : Progress) (next : SiloValue) (wants : WantsAnswer silo at next) → MayLackMemory silo (kept (at.begun ++ wants.line))
-      → (stands : Stands first input start silo at read before) → AnswersFirst input first next (stands.sent ++ at.waiting) stopped.OutOfMemory
+      → (stands : Stands first input start silo at read before) → AnswersFirst input (bytes_read first input start silo at read before stands) first next (stands.sent ++ at.waiting) stopped.OutOfMemory
   leaves_lacking read before silo at next wants lacks stands =
       let bytes = bytes_read first input start silo at read before stands in
       let line = stands.answers.begun ++ wants.line in
-      let next_one = ended_next silo at read before stands wants.line wants.rest wants.cuts in
+      let left = rest_of first input start read bytes stands.has_read.consumes in
+      let all = ended_next silo at read before stands wants.line wants.rest wants.cuts input left.0 left.2 in
+      let seen = ended_next silo at read before stands wants.line wants.rest wants.cuts bytes [] (no_more silo at read before stands) in
       let whole = lacks_whole line silo (subst (MayLackMemory silo) (kept_line first bytes stands.sent silo at stands.answers wants.line) lacks) in
       let goes_on = answered_goes_on first bytes stands.sent silo at stands.answers in
       record {
         lines = stands.answers.answered;
-        others = line ∷ next_one.0;
-        is_of_it = next_one.1;
+        others = line ∷ all.0;
+        is_of_it = all.1;
+        unanswered = line ∷ seen.0;
+        were_read = seen.1;
         ends = goes_on;
         is_after = inr (goes_on, subst (λ (s : SiloValue). MayLackMemory s line) stands.answers.brings whole);
         answers = all_before first bytes stands.sent silo at stands.answers;
       }
 
   leaves_wanting : (read before : Option (List ℕ)) (silo : SiloValue) (at : Progress) (next : SiloValue) → WantsMemory silo at next
-      → (stands : Stands first input start silo at read before) → AnswersFirst input first next (stands.sent ++ at.waiting) stopped.OutOfMemory
+      → (stands : Stands first input start silo at read before) → AnswersFirst input (bytes_read first input start silo at read before stands) first next (stands.sent ++ at.waiting) stopped.OutOfMemory
   leaves_wanting read before silo at next (inl ended) stands = elim ended.wanted [
     | inl unkept ↦ leaves_same read before silo at next unkept.1 stands
     | inr lacks ↦ leaves_lacking read before silo at next ended lacks stands
@@ -222,25 +270,27 @@ module _ (first : SiloValue) (input : List ℕ) (start : Option (List ℕ)) wher
 
   -- the step stopped the process
   stopped_by : (read before : Option (List ℕ)) (silo : SiloValue) (at : Progress) (next : SiloValue) (last : Progress) (stopping : Stopped) → StopsStep silo at next last stopping
-      → (stands : Stands first input start silo at read before) → AnswersFirst input first next (stands.sent ++ last.waiting) stopping
+      → (stands : Stands first input start silo at read before) → AnswersFirst input (bytes_read first input start silo at read before stands) first next (stands.sent ++ last.waiting) stopping
   stopped_by read before silo at next last stopped.AtEnd step stands = leaves_ended read before silo at next last step stands
   stopped_by read before silo at next last stopped.Dead step stands = leaves_dead read before silo at next last step stands
   stopped_by read before silo at next last stopped.OutOfMemory step stands =
-      subst (λ (w : List ℕ). AnswersFirst input first next (stands.sent ++ w) stopped.OutOfMemory) (sym step.0) (leaves_wanting read before silo at next step.1 stands)
+      subst (λ (w : List ℕ). AnswersFirst input (bytes_read first input start silo at read before stands) first next (stands.sent ++ w) stopped.OutOfMemory) (sym step.0) (leaves_wanting read before silo at next step.1 stands)
   stopped_by read before silo at next last stopped.TooManyReads step stands = absurd step
   stopped_by read before silo at next last stopped.Broken step stands = absurd step
 
   -- and what waited was written
   pub leaves_by : (read before written : Option (List ℕ)) (silo : SiloValue) (at : Progress) (next : SiloValue) (last : Progress) (stopping : Stopped) → StopsStep silo at next last stopping
-      → Appends before written last.waiting → Stands first input start silo at read before → LeavesSilo input first next start written stopping
+      → Appends before written last.waiting → Stands first input start silo at read before → LeavesSilo input first next read start written stopping
   leaves_by read before written silo at next last stopping step drained stands =
-      (stands.sent ++ last.waiting, Appends-trans start before written _ _ stands.appends drained, stopped_by read before silo at next last stopping step stands)
+      (bytes_read first input start silo at read before stands, stands.has_read.consumes, stands.sent ++ last.waiting, Appends-trans start before written _ _ stands.appends drained, stopped_by read before silo at next last stopping step stands)
 
   -- or the write failed
   pub leaves_unwritten : (read before written : Option (List ℕ)) (silo : SiloValue) (at : Progress) (next : SiloValue) (last : Progress) (stopping : Stopped) → StopsStep silo at next last stopping
-      → WritesFront last.waiting before written → Stands first input start silo at read before → LeavesSilo input first next start written stopped.Broken
+      → WritesFront last.waiting before written → Stands first input start silo at read before → LeavesSilo input first next read start written stopped.Broken
   leaves_unwritten read before written silo at next last stopping step front stands = (
+    bytes_read first input start silo at read before stands,
+    stands.has_read.consumes,
     stands.sent ++ front.front,
     Appends-trans start before written _ _ stands.appends front.appends,
-    breaks_then input first next (stands.sent ++ last.waiting) _ stopping (sent_front stands.sent front.front last.waiting front.begins) (stopped_by read before silo at next last stopping step stands),
+    breaks_then input (bytes_read first input start silo at read before stands) first next (stands.sent ++ last.waiting) _ stopping (sent_front stands.sent front.front last.waiting front.begins) (stopped_by read before silo at next last stopping step stands),
   )

@@ -17,10 +17,10 @@ answered_on silo old next new read before step = λ first input start stands. st
 
 -- a write failed
 breaks_off : (first : SiloValue) (input : List ℕ) (start read before written : Option (List ℕ)) (silo : SiloValue) (at : Progress) (stopping : Stopped)
-    → WritesFront at.waiting before written × (stopping ≡ stopped.Broken) → Stands first input start silo at read before → Stops input first read start written stopping × LeavesSilo input first silo start written stopping
+    → WritesFront at.waiting before written × (stopping ≡ stopped.Broken) → Stands first input start silo at read before → Stops input first read start written stopping × LeavesSilo input first silo read start written stopping
 breaks_off first input start read before written silo at stopping drain stands = (
   stops_unwritten first input start read before written silo at at.waiting stopping drain.1 (waits_begins first input start read before silo at) drain.0 stands,
-  subst (LeavesSilo input first silo start written) (sym drain.1) (leaves_broken first input start read before written silo at drain.0 stands),
+  subst (LeavesSilo input first silo read start written) (sym drain.1) (leaves_broken first input start read before written silo at drain.0 stands),
 )
 
 -- and what waits written
@@ -68,7 +68,7 @@ pub stopped_unwritten : (silo : SiloValue) (old : Progress) (next : SiloValue) (
     → Drains late before new written (Some broken) → Turns silo old read before next new read written (Some broken)
 stopped_unwritten silo old next late new read before written stopping broken step drain = λ first input start stands. (
   stops_unwritten first input start read before written silo old late.waiting broken drain.1 (stopping_begins first input start read before silo old next late stopping step) drain.0 stands,
-  subst (LeavesSilo input first next start written) (sym drain.1) (leaves_unwritten first input start read before written silo old next late stopping step drain.0 stands),
+  subst (LeavesSilo input first next read start written) (sym drain.1) (leaves_unwritten first input start read before written silo old next late stopping step drain.0 stands),
 )
 
 -- before the first turn
@@ -81,12 +81,12 @@ pub stops_at_first : (first : SiloValue) (read start : Option (List ℕ)) → If
 stops_at_first first None start = tt
 stops_at_first first (Some input) start = stops_at_once first input start
 
-pub leaves_at_first : (first : SiloValue) (read start : Option (List ℕ)) → IfSome read (λ input. LeavesSilo input first first start start stopped.OutOfMemory)
+pub leaves_at_first : (first : SiloValue) (read start : Option (List ℕ)) → IfSome read (λ input. LeavesSilo input first first read start start stopped.OutOfMemory)
 leaves_at_first first None start = tt
 leaves_at_first first (Some input) start = leaves_first input first start
 
 -- a turn stops the process
 pub stops_by_turn : (first silo next : SiloValue) (whole read before rest start written : Option (List ℕ)) (old new : Progress) (stopping : Stopped) → IfSome whole (λ input. Stands first input start silo old read before)
-    → Turns silo old read before next new rest written (Some stopping) → IfSome whole (λ input. Stops input first rest start written stopping) × IfSome whole (λ input. LeavesSilo input first next start written stopping)
+    → Turns silo old read before next new rest written (Some stopping) → IfSome whole (λ input. Stops input first rest start written stopping) × IfSome whole (λ input. LeavesSilo input first next rest start written stopping)
 stops_by_turn first silo next None read before rest start written old new stopping stands turn = (tt, tt)
 stops_by_turn first silo next (Some input) read before rest start written old new stopping stands turn = turn first input start stands

@@ -109,18 +109,23 @@ WritesAnswers others answers text AtEnd = BeginsWith answers text
 WritesAnswers others answers text Broken = BeginsWith text answers ⊎ (others ≡ [])
 WritesAnswers others answers text other = text ≡ answers
 
--- the text answers the first of the lines that a line feed ended in the input, and the silo is the one after them
-pub record AnswersFirst (input : List ℕ) (before after : SiloValue) (text : List ℕ) (stopped : Stopped) : Type 0 where
+-- the text answers the first of the lines that a line feed ended in the input, and the silo is the one after them; no line was answered that
+-- hadn't been read, nor is the one for which memory ran out
+pub record AnswersFirst (input bytes : List ℕ) (before after : SiloValue) (text : List ℕ) (stopped : Stopped) : Type 0 where
   pub lines : List (List ℕ)
   pub others : List (List ℕ)
   pub is_of_it : ended_lines input ≡ lines ++ others
+  pub unanswered : List (List ℕ)
+  pub were_read : ended_lines bytes ≡ lines ++ unanswered
   pub ends : EndsAnswers lines others before stopped
-  pub is_after : IsSiloAfter lines others before after stopped
+  pub is_after : IsSiloAfter lines unanswered before after stopped
   pub answers : WritesAnswers others (written_on (lines ++ [] ∷ []) before) text stopped
 
--- the silo that is left is the one after the lines that are answered by what is written behind what the sink had before
-abbrev pub LeavesSilo : (input : List ℕ) → (before after : SiloValue) → (begun written : Option (List ℕ)) → Stopped → Type 0
-LeavesSilo input before after begun written stopped = (text : List ℕ) × Appends begun written text × AnswersFirst input before after text stopped
+-- the silo that is left is the one after the lines that are answered by what is written behind what the sink had before, of the bytes in
+-- front of what the source still has
+abbrev pub LeavesSilo : (input : List ℕ) → (before after : SiloValue) → (rest begun written : Option (List ℕ)) → Stopped → Type 0
+LeavesSilo input before after rest begun written stopped =
+    (bytes : List ℕ) × Consumes (Some input) rest bytes × (text : List ℕ) × Appends begun written text × AnswersFirst input bytes before after text stopped
 
 -- the calls of a process: where it breaks, the last read or the last write failed or a write took nothing; else none did
 abbrev pub MakesCalls : {R W : Type 0} → (reads : R → Option (List ℕ) → R → Type 0) → (writes : W → List ℕ → Option ℕ → W → Type 0) → (old new : R × W) → Stopped → Type 0

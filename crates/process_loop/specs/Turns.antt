@@ -38,7 +38,7 @@ abbrev pub Turns : SiloValue → Progress → (read before : Option (List ℕ)) 
 Turns silo old read before next new rest written None =
     (first : SiloValue) (input : List ℕ) (start : Option (List ℕ)) → Stands first input start silo old read before → Stands first input start next new rest written
 Turns silo old read before next new rest written (Some stopped) =
-    (first : SiloValue) (input : List ℕ) (start : Option (List ℕ)) → Stands first input start silo old read before → Stops input first rest start written stopped × LeavesSilo input first next start written stopped
+    (first : SiloValue) (input : List ℕ) (start : Option (List ℕ)) → Stands first input start silo old read before → Stops input first rest start written stopped × LeavesSilo input first next rest start written stopped
 
 -- the calls so far, which read those bytes and wrote those answers
 pub record CallsSoFar {R W : Type 0} (reads : R → Option (List ℕ) → R → Type 0) (writes : W → List ℕ → Option ℕ → W → Type 0) (first : SiloValue) (start : R × W) (silo : SiloValue) (at : Progress) (now : R × W) : Type 0 where

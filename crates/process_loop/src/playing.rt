@@ -17,7 +17,8 @@ use std::alloc::Global;
 /// that takes nothing is a failure.
 ///
 /// The player is left as it is after the lines that were answered, the first of those that a line feed ended: all of them at the end of the
-/// input, or those up to the one by which the silo is dead. It may have changed by one more only where memory ran out for that one.
+/// input, or those up to the one by which the silo is dead, and never one that hadn't been read. It may have changed by one more only where
+/// memory ran out for that one.
 pub fn play<P: SiloPlayer, R: Source, W: Sink>(
     alloc: Global,
     player: &mut P,
@@ -27,7 +28,7 @@ pub fn play<P: SiloPlayer, R: Source, W: Sink>(
     ensures stops { IfSome (R.remaining reader.old) (λ input.
         Stops input (P.silo player.old) (R.remaining reader.new) (W.contents writer.old) (W.contents writer.new) result) }
     ensures leaves { IfSome (R.remaining reader.old) (λ input.
-        LeavesSilo input (P.silo player.old) (P.silo player.new) (W.contents writer.old) (W.contents writer.new) result) }
+        LeavesSilo input (P.silo player.old) (P.silo player.new) (R.remaining reader.new) (W.contents writer.old) (W.contents writer.new) result) }
     ensures calls { MakesCalls R.reads W.writes (reader.old, writer.old) (reader.new, writer.new) result }
     ensures in_turn { AnswersInTurn R.reads W.writes (P.silo player.old) (reader.old, writer.old) (reader.new, writer.new) result }
 {
