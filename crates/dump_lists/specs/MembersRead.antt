@@ -1,7 +1,7 @@
 -- The members of an object, read one after another, in any order.
 use Rattle.std.specs.Prelude.{◌≡◌, ℕ, suc, true, false, List, ◌∷◌, bytes_eq, Option, Some, None}
 use Rattle.std.specs.List.{list_any}
-use Rattle.json.specs.Token.{Token, key}
+use Rattle.json.specs.Token.{Token, begin_object, key}
 use Rattle.serde_json.specs.Data.{Data, object, Members, put}
 use Rattle.serde_json.specs.Events.{members_len}
 use Rattle.serde_json.specs.Find.{get_member}
@@ -34,6 +34,10 @@ pub record IsRead {S : Type 0} (stands : S → Members → Type 0) (names : S �
   pub with_it : (found : Members) → stands old found → stands new (put name value found)
   pub same_names : names new ≡ names old
   pub one_more : many new ≡ suc (many old)
+
+-- the tokens begin with the brace that opens an object
+abbrev pub BeginsObject : List Token → Type 0
+BeginsObject tokens = (rest : List Token) × (tokens ≡ begin_object ∷ rest)
 
 -- the tokens begin with an object: what has been read stands for its members, which are as many
 pub record AreRead {S : Type 0} (stands : S → Members → Type 0) (names : S → List (List ℕ)) (many : S → ℕ) (deep : ℕ) (old new : S) (tokens rest : List Token) : Type 0 where

@@ -1,11 +1,12 @@
 //! The members of an object, read from its text in any order, each once.
 
-ghost use Rattle.std.specs.Prelude.{◌≡◌, ℕ, ◌+◌, max, List, [], ◌∷◌, Some, None, IfOk, OnOk};
+ghost use Rattle.std.specs.Prelude.{◌≡◌, ◌≢◌, ℕ, ◌+◌, max, List, [], ◌∷◌, Some, None, Err, IfOk, IsErrOf, OnOk};
 ghost use Rattle.std.specs.Bool.{OnFalse, OnTrue};
 ghost use Rattle.json.specs.Token.{key};
 ghost use Rattle.serde_json.specs.Data.{Data, Members, no_members, put};
 ghost use Rattle.dump_lists.specs.MemberNames.{text_of_name};
-ghost use Rattle.dump_lists.specs.MembersRead.{AreRead, IsApart, IsRead, Stands, filled};
+ghost use Rattle.dump_lists.specs.MembersRead.{AreRead, BeginsObject, IsApart, IsRead, Stands, filled};
+ghost use Rattle.dump_lists.specs.declared.error.ReadError.TheVariants.{NotADump, OutOfMemory};
 
 use crate::ReadError;
 use crate::member_name::MemberName;
@@ -45,7 +46,9 @@ impl<'a> ReadMembers<'a> for NoMember {
 
     ghost deep = { 0 };
 
-    fn read_next(&mut self, _alloc: Global, _reader: &mut PlainText<'a>) -> Result<(), ReadError> {
+    fn read_next(&mut self, _alloc: Global, _reader: &mut PlainText<'a>) -> Result<(), ReadError>
+        ensures { result ≡ Err NotADump }
+    {
         Err(ReadError::NotADump)
     }
 
@@ -87,6 +90,7 @@ impl<T: Drop, R: Drop> Member<T, R> {
     pub(crate) fn read(self) -> Result<(T, R), ReadError>
         ensures value { IfOk result (λ parts. self.value ≡ Some parts.0) }
         ensures others { IfOk result (λ parts. self.others ≡ parts.1) }
+        ensures needs_no_memory { result ≢ Err OutOfMemory }
     {
         let Member { value, others, .. } = self;
         match value {
@@ -121,7 +125,7 @@ impl<'a, T: ReadText<'a>, R: ReadMembers<'a>> ReadMembers<'a> for Member<T, R> {
     }
 }
 
-/// Reads all members of the object that comes next.
+/// Reads all members of the object that comes next. Where none does, no memory is needed to tell.
 pub(crate) fn read_members<'a, M: ReadMembers<'a>>(
     alloc: Global,
     members: &mut M,
@@ -129,7 +133,8 @@ pub(crate) fn read_members<'a, M: ReadMembers<'a>>(
 ) -> Result<(), ReadError>
     requires none { M.stands members.old no_members }
     requires unread { M.many members.old ≡ 0 }
-    ensures { OnOk result (AreRead M.stands M.names M.many M.deep members.old members.new reader.old reader.new) }
+    ensures read { OnOk result (AreRead M.stands M.names M.many M.deep members.old members.new reader.old reader.new) }
+    ensures memory { IsErrOf result OutOfMemory → BeginsObject reader.old }
 {
     reader.begin_members()?;
     'members: while !reader.take_end_object() {

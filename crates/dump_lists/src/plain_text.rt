@@ -4,7 +4,7 @@
 //! Strings are lent from the text. Only one in which bytes are escaped gets bytes of its own. Escapes of codes from 128 on and short
 //! ones of control characters are refused, since no text of a dump needs them.
 
-ghost use Rattle.std.specs.Prelude.{◌≡◌, ◌<◌, ◌≤◌, [], ◌∷◌, ◌++◌, IfOk, IfSome, OnOk, None, Some, length, true};
+ghost use Rattle.std.specs.Prelude.{◌≡◌, ◌≢◌, ◌<◌, ◌≤◌, [], ◌∷◌, ◌++◌, Err, IfOk, IfSome, OnOk, None, Some, length, true};
 ghost use Rattle.std.specs.Bool.{OnFalse, OnTrue};
 ghost use Rattle.std.specs.List.{list_all};
 ghost use Rattle.std.specs.Cow.{cow_slice_items};
@@ -14,6 +14,7 @@ ghost use Rattle.json.specs.Word.{is_space};
 ghost use Rattle.json.specs.Token.{begin_array, begin_object, end_array, end_object, key, string};
 ghost use Rattle.dump_rules.specs.Values.{number_in};
 ghost use Rattle.dump_lists.specs.Straight.{Tells};
+ghost use Rattle.dump_lists.specs.declared.error.ReadError.TheVariants.{OutOfMemory};
 ghost use Rattle.dump_lists.specs.PlainText.{AreDigitsOf, IsBegun, IsNamed, IsQuoted, StandsFor, behind_blanks, ends_value, is_plain_byte, keeps_its_meaning};
 
 use crate::ReadError;
@@ -66,7 +67,8 @@ impl<'a> PlainText<'a> {
 
     /// Takes the brace that opens an object.
     pub(crate) fn begin_members(&mut self) -> Result<(), ReadError>
-        ensures { OnOk result (self.old ≡ begin_object ∷ self.new) }
+        ensures taken { OnOk result (self.old ≡ begin_object ∷ self.new) }
+        ensures needs_no_memory { result ≢ Err OutOfMemory }
     {
         let rest = opened(self.rest, self.place, b'{')?;
         self.rest = rest;
@@ -89,7 +91,8 @@ impl<'a> PlainText<'a> {
 
     /// Takes the bracket that opens a list.
     pub(crate) fn begin_items(&mut self) -> Result<(), ReadError>
-        ensures { OnOk result (self.old ≡ begin_array ∷ self.new) }
+        ensures taken { OnOk result (self.old ≡ begin_array ∷ self.new) }
+        ensures needs_no_memory { result ≢ Err OutOfMemory }
     {
         let rest = opened(self.rest, self.place, b'[')?;
         self.rest = rest;
@@ -112,7 +115,8 @@ impl<'a> PlainText<'a> {
 
     /// Takes the bracket that closes a list.
     pub(crate) fn end_items(&mut self) -> Result<(), ReadError>
-        ensures { OnOk result (after_end_array self.old ≡ Some self.new) }
+        ensures taken { OnOk result (after_end_array self.old ≡ Some self.new) }
+        ensures needs_no_memory { result ≢ Err OutOfMemory }
     {
         if self.take_end_array() {
             Ok(())
@@ -155,7 +159,8 @@ impl<'a> PlainText<'a> {
 
     /// Takes a number below 2^64 that is written in digits alone.
     pub(crate) fn number(&mut self) -> Result<u64, ReadError>
-        ensures { IfOk result (λ value. Tells number_in 0 self.old value self.new) }
+        ensures taken { IfOk result (λ value. Tells number_in 0 self.old value self.new) }
+        ensures needs_no_memory { result ≢ Err OutOfMemory }
     {
         let Some(begun) = begun(self.rest, self.place) else {
             return Err(ReadError::NotADump);
@@ -184,7 +189,8 @@ impl<'a> PlainText<'a> {
 /// The bytes behind the mark with which a value or a name begins.
 #[inline(always)]
 fn opened(bytes: &[u8], place: Place, mark: u8) -> Result<&[u8], ReadError>
-    ensures { IfOk result (λ rest. IsBegun place bytes.now (mark ∷ rest.now)) }
+    ensures begun { IfOk result (λ rest. IsBegun place bytes.now (mark ∷ rest.now)) }
+    ensures needs_no_memory { result ≢ Err OutOfMemory }
 {
     let Some(begun) = begun(bytes, place) else {
         return Err(ReadError::NotADump);

@@ -1,11 +1,12 @@
 //! What stands in a dump, read from its text: numbers, names, ranges and words.
 
-ghost use Rattle.std.specs.Prelude.{◌≡◌, ℕ, Some, Option, IfOk};
+ghost use Rattle.std.specs.Prelude.{◌≡◌, ◌≢◌, ℕ, Some, Option, Err, IfOk};
 ghost use Rattle.serde_json.specs.Data.{Data};
 ghost use Rattle.dump_rules.specs.DumpIn.{hashing_in, phase_in, state_in};
 ghost use Rattle.dump_rules.specs.Values.{activation_in, from_in, grain_in, number_in, range_in, silo_in};
 ghost use Rattle.dump_lists.specs.DumpModel.{phase_of, state_of};
-ghost use Rattle.dump_lists.specs.Straight.{TellsBy};
+ghost use Rattle.dump_lists.specs.Straight.{Tells, TellsBy};
+ghost use Rattle.dump_lists.specs.declared.error.ReadError.TheVariants.{OutOfMemory};
 
 use crate::plain_text::PlainText;
 use crate::{LentGrain, Phase, ReadError, State, named};
@@ -31,7 +32,10 @@ impl<'a> ReadText<'a> for u64 {
     ghost deep = { 0 };
 
     #[inline(always)]
-    fn read_text(_alloc: Global, reader: &mut PlainText<'a>) -> Result<u64, ReadError> {
+    fn read_text(_alloc: Global, reader: &mut PlainText<'a>) -> Result<u64, ReadError>
+        ensures told { IfOk result (λ number. Tells number_in 0 reader.old number reader.new) }
+        ensures needs_no_memory { result ≢ Err OutOfMemory }
+    {
         reader.number()
     }
 }

@@ -2,12 +2,15 @@
 //! each once, with blanks between the tokens or none, and with bytes of texts escaped or not. A refusal from here other than want of
 //! memory says only that the text isn't written so: it may tell a dump in which a member stands twice or its name is escaped.
 
-ghost use Rattle.std.specs.Prelude.{◌≡◌, ℕ, suc, Option, Some, IfOk};
+ghost use Rattle.std.specs.Prelude.{◌≡◌, ◌≢◌, ℕ, suc, Option, Some, Err, IfOk, IsErrOf};
+ghost use Rattle.json.specs.Lex.{tokens};
 ghost use Rattle.serde_json.specs.Data.{Data};
 ghost use Rattle.serde_json.specs.Read.{read as read_json};
 ghost use Rattle.dump_rules.specs.DumpIn.{dump_in, entry_in, held_in, node_in, piece_in, point_in, row_in};
 ghost use Rattle.dump_rules.specs.Values.{list_in, number_in};
+ghost use Rattle.dump_lists.specs.MembersRead.{BeginsObject};
 ghost use Rattle.dump_lists.specs.Straight.{TellItems, Tells};
+ghost use Rattle.dump_lists.specs.declared.error.ReadError.TheVariants.{OutOfMemory};
 
 use crate::member_name::MemberName;
 use crate::members::{Member, NoMember, read_members};
@@ -18,9 +21,11 @@ use std::alloc::Global;
 
 /// Reads the dump that the text tells as JSON (`docs/RULES.md#the-dump-and-the-verdict`). Its grains are lent from the text, but for
 /// names with escapes, and its lists may still be no dump. An error other than `OutOfMemory`, which comes only when memory runs out,
-/// says nothing of the text: it may tell a dump that is written otherwise.
+/// says nothing of the text: it may tell a dump that is written otherwise. No memory is needed where the text doesn't begin with an
+/// object.
 pub fn read_straight(alloc: Global, text: &str) -> Result<Dump<'_>, ReadError>
-    ensures { IfOk result (λ dump. (value : Data) × (read_json text.now ≡ Some value) × (dump_in value ≡ Some dump)) }
+    ensures read { IfOk result (λ dump. (value : Data) × (read_json text.now ≡ Some value) × (dump_in value ≡ Some dump)) }
+    ensures memory { IsErrOf result OutOfMemory → BeginsObject (tokens text.now) }
 {
     let mut reader = PlainText::new(alloc, text);
     let dump = Dump::read_text(alloc, &mut reader)?;
@@ -35,7 +40,10 @@ impl<'a> ReadText<'a> for Dump<'a> {
 
     ghost deep = { 7 };
 
-    fn read_text(alloc: Global, reader: &mut PlainText<'a>) -> Result<Dump<'a>, ReadError> {
+    fn read_text(alloc: Global, reader: &mut PlainText<'a>) -> Result<Dump<'a>, ReadError>
+        ensures told { IfOk result (λ dump. Tells dump_in 7 reader.old dump reader.new) }
+        ensures memory { IsErrOf result OutOfMemory → BeginsObject reader.old }
+    {
         let rows = Member::unread(MemberName::Rows, NoMember);
         let points = Member::unread(MemberName::Points, rows);
         let nodes = Member::unread(MemberName::Nodes, points);
@@ -73,7 +81,10 @@ impl<'a> ReadItem<'a> for u64 {
 
     ghost deep = { 0 };
 
-    fn read_item(_alloc: Global, reader: &mut PlainText<'a>) -> Result<u64, ReadError> {
+    fn read_item(_alloc: Global, reader: &mut PlainText<'a>) -> Result<u64, ReadError>
+        ensures told { IfOk result (λ number. Tells number_in 0 reader.old number reader.new) }
+        ensures needs_no_memory { result ≢ Err OutOfMemory }
+    {
         reader.number()
     }
 }

@@ -17,7 +17,7 @@ members-preserved g c =
     let same : c.take_end_object.new.self ≡ c.members.reader = grind arith in
     one_more g.M.ReadMembers.stands g.M.ReadMembers.names g.M.ReadMembers.many g.M.ReadMembers.deep _ _ _ _ _ _ c.members.invariant (subst (λ ts. IsRead g.M.ReadMembers.stands g.M.ReadMembers.names g.M.ReadMembers.many g.M.ReadMembers.deep c.members.members c.read_next.new.self ts c.read_next.new.reader) same c.in_ok-read_next.ensures)
 
-pub returns : goal.returns
-returns g c =
+pub returns-clause-read : goal.returns-clause-read
+returns-clause-read g c =
     let over : c.members.reader ≡ Token.end_object ∷ c.take_end_object.new.self = grind arith in
-    all_read g.M.ReadMembers.stands g.M.ReadMembers.names g.M.ReadMembers.many g.M.ReadMembers.deep _ _ _ _ _ _ c.in_ok-begin_members.ensures c.members.invariant over
+    all_read g.M.ReadMembers.stands g.M.ReadMembers.names g.M.ReadMembers.many g.M.ReadMembers.deep _ _ _ _ _ _ c.in_ok-begin_members.ensures.taken c.members.invariant over

@@ -7,4 +7,4 @@ pub returns-in-Ok : goal.returns-in-Ok
 returns-in-Ok c =
     let same : c.in-Ok.text.now ≡ c.args.bytes.now = grind arith in
     let is : IsUtf8 c.args.bytes.now = grind arith in
-    straight_told c.read_straight.result c.args.bytes.now c.in-Ok.text.now same is c.read_straight.ensures
+    straight_told c.read_straight.result c.args.bytes.now c.in-Ok.text.now same is c.read_straight.ensures.read

@@ -6,8 +6,8 @@ use Rattle.dump_lists.proofs.Along.{number_told}
 use Rattle.serde_json.proofs.Numbers.{number_of-decimal}
 use Rattle.dump_lists.proofs.plain_text.PlainText.number.Goals as goal
 
-pub returns : goal.returns
-returns c =
+pub returns-clause-taken : goal.returns-clause-taken
+returns-clause-taken c =
     let found = c.in-Ok.ensures.found in
     let most = found.0 in
     let begun = c.in-Some.begun.now in

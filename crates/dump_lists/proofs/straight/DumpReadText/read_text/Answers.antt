@@ -8,9 +8,9 @@ use Rattle.dump_lists.proofs.MembersTold.{begun_behind, first_same, member_tells
 use Rattle.dump_lists.proofs.Told.{whole_told}
 use Rattle.dump_lists.proofs.straight.DumpReadText.read_text.Goals as goal
 
-pub returns : goal.returns
-returns c =
-    let r = c.in_ok-read_members.ensures in
+pub returns-clause-told : goal.returns-clause-told
+returns-clause-told c =
+    let r = c.in_ok-read_members.ensures.read in
     let m = c.read_members.new.members in
     let begun-1 = c.unread-members.ensures in
     let begun-2 = begun_behind _ _ _ _ _ begun-1 c.unread-hashing.ensures in

@@ -11,7 +11,7 @@ use Rattle.dump_lists.proofs.straight.HeldReadItem.read_item.Goals as goal
 
 pub returns : goal.returns
 returns c =
-    let r = c.in_ok-read_members.ensures in
+    let r = c.in_ok-read_members.ensures.read in
     let m = c.read_members.new.members in
     let begun-1 = c.unread-members.ensures in
     let begun-2 = begun_behind _ _ _ _ _ begun-1 c.unread-grain.ensures in
