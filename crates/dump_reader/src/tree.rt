@@ -1,11 +1,12 @@
 //! The dump that a value tells, list by list.
 
-ghost use Rattle.std.specs.Prelude.{Option, codes};
+ghost use Rattle.std.specs.Prelude.{◌≢◌, Err, Option, codes};
 ghost use Rattle.serde_json.specs.Data.{Data};
 ghost use Rattle.serde_json.specs.View.{members_view, view};
 ghost use Rattle.dump_rules.specs.DumpIn.{dump_in, entry_in, held_in, node_in, piece_in, point_in, row_in};
 ghost use Rattle.dump_rules.specs.Values.{list_in, member_in, number_in, silo_in};
 ghost use Rattle.dump_lists.specs.ReadAs.{IsReading, IsReadingBy};
+ghost use Rattle.dump_lists.specs.declared.error.ReadError.TheVariants.{OutOfMemory};
 
 use crate::values::{
     activation, from, grain, hashing, items, member, members_of, number, phase, range, silo, state,
@@ -72,14 +73,16 @@ fn list_member<T: ReadJson>(
 
 /// The number under that name.
 fn number_member(members: &Map<String, Value>, name: &str) -> Result<u64, ReadError>
-    ensures { IsReading result (member_in number_in name.now (members_view members.now.entries)) }
+    ensures read { IsReading result (member_in number_in name.now (members_view members.now.entries)) }
+    ensures needs_no_memory { result ≢ Err OutOfMemory }
 {
     number(member(members, name)?)
 }
 
 /// The silo under its name.
 fn silo_member(members: &Map<String, Value>) -> Result<SiloAddress, ReadError>
-    ensures { IsReading result (member_in silo_in (codes "silo") (members_view members.now.entries)) }
+    ensures read { IsReading result (member_in silo_in (codes "silo") (members_view members.now.entries)) }
+    ensures needs_no_memory { result ≢ Err OutOfMemory }
 {
     silo(member(members, "silo")?)
 }
@@ -161,7 +164,10 @@ impl ReadJson for Held<'static> {
 impl ReadJson for ListedPoint {
     ghost reads = { point_in };
 
-    fn read(_alloc: Global, value: &Value) -> Result<ListedPoint, ReadError> {
+    fn read(_alloc: Global, value: &Value) -> Result<ListedPoint, ReadError>
+        ensures read { IsReading result (point_in (view value.now)) }
+        ensures needs_no_memory { result ≢ Err OutOfMemory }
+    {
         let (place, silo_text, index) = three_items(value)?;
         let place = number(place)?;
         let silo = silo(silo_text)?;
@@ -184,7 +190,10 @@ impl ReadJson for Entry<'static> {
 impl ReadJson for u64 {
     ghost reads = { number_in };
 
-    fn read(_alloc: Global, value: &Value) -> Result<u64, ReadError> {
+    fn read(_alloc: Global, value: &Value) -> Result<u64, ReadError>
+        ensures read { IsReading result (number_in (view value.now)) }
+        ensures needs_no_memory { result ≢ Err OutOfMemory }
+    {
         number(value)
     }
 }

@@ -11,7 +11,7 @@ loop-value-preserved g c =
 pub returns-in_err-item : goal.returns-in_err-item
 returns-in_err-item g c =
     passed_on _ _ _ _ _ c.from_residual-in_err-item.ensures.1 c.in_err-item.ensures
-    (list_unread g.T.ReadJson.reads _ _ _ _ _ c.in_ok-values.ensures c.loop-value-test.true c.value-item.is c.loop-value.invariant)
+    (list_unread g.T.ReadJson.reads _ _ _ _ _ c.in_ok-values.ensures.read c.loop-value-test.true c.value-item.is c.loop-value.invariant)
 
 pub returns : goal.returns
-returns g c = list_read g.T.ReadJson.reads _ _ _ _ c.in_ok-values.ensures (omega (arith, c.loop-value-test.false)) c.loop-value.invariant
+returns g c = list_read g.T.ReadJson.reads _ _ _ _ c.in_ok-values.ensures.read (omega (arith, c.loop-value-test.false)) c.loop-value.invariant

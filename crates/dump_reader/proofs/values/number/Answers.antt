@@ -1,5 +1,5 @@
 use Rattle.std.proofs.Common.{rules}
 use Rattle.dump_reader.proofs.values.number.Goals as goal
 
-pub returns : goal.returns
-returns c = search rules
+pub returns-clause-read : goal.returns-clause-read
+returns-clause-read c = search rules
