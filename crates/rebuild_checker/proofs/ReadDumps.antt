@@ -1,41 +1,53 @@
 -- The dump that bytes tell.
-use Rattle.std.proofs.Common.{◌≡◌, ◌⊎◌, inl, inr, ℕ, cond, Bool, true, false, List, Some, None, Result, Ok, Err, IfOk, refl, sym, ◌∙◌, ap}
+use Rattle.std.proofs.Common.{◌≡◌, ◌≢◌, ◌⊎◌, inl, inr, ℕ, cond, Bool, true, false, List, [], ◌∷◌, Some, None, Result, Err, refl, sym, ◌∙◌, ap}
 use Rattle.std.specs.Str.{IsUtf8, is_utf8}
 use Rattle.std.proofs.lemmas.Str.{IsUtf8-from_is_utf8, is_utf8-from_IsUtf8}
+use Rattle.json.specs.Json.{value}
+use Rattle.json.specs.Lex.{lex, punctuate, tokens}
 use Rattle.serde_json.specs.Data.{Data}
 use Rattle.serde_json.specs.Read.{read}
 use Rattle.dump_rules.specs.Dump.{DumpValue}
-use Rattle.dump_rules.specs.DumpIn.{dump_in}
-use Rattle.dump_rules.specs.Judged.{value_in}
-use Rattle.dump_lists.specs.ReadAs.{IsReading}
-use Rattle.rebuild_checker.specs.Told.{lists_told, told_lists, told_value}
+use Rattle.dump_lists.specs.MembersRead.{BeginsObject}
+use Rattle.rebuild_checker.specs.Told.{lists_told, text_told, told_value}
 use Rattle.dump_lists.specs.declared.error.ReadError.{ReadError}
-use Rattle.dump_lists.specs.declared.error.ReadError.TheVariants.{NotJson, NotADump, OutOfMemory}
+use Rattle.dump_lists.specs.declared.error.ReadError.TheVariants.{NotJson, OutOfMemory}
 
--- bytes that tell a value
-pub value_told : (bytes : List ℕ) (value : Data) → IsUtf8 bytes → read bytes ≡ Some value → value_in bytes ≡ Some value
-value_told bytes value text is = ap (λ t. cond t (read bytes) None) (is_utf8-from_IsUtf8 bytes text) ∙ is
+-- the empty text has no token, and so tells no value and begins with no object
+no_tokens : tokens [] ≡ []
+unfolding lex punctuate
+no_tokens = refl
 
-pub dump_told : (result : Result DumpValue ReadError) (bytes : List ℕ) (value : Data)
-    → value_in bytes ≡ Some value → IsReading result (dump_in value) → (result ≡ Err OutOfMemory) ⊎ (result ≡ lists_told bytes)
-dump_told (Ok dump) bytes value is reads = inr (sym (ap told_value is ∙ ap told_lists reads))
-dump_told (Err NotJson) bytes value is reads = absurd reads
-dump_told (Err NotADump) bytes value is reads = inr (sym (ap told_value is ∙ ap told_lists reads))
-dump_told (Err OutOfMemory) bytes value is reads = inl refl
+no_value : read [] ≡ None
+unfolding lex punctuate value
+no_value = refl
 
--- bytes that tell none
-pub nothing_told : (error : ReadError) (bytes : List ℕ) (memory : Type 0)
-    → (error ≡ OutOfMemory) ⊎ ((error ≡ NotJson) × ¬ memory) → (¬ memory → IsUtf8 bytes → read bytes ≡ None)
-    → let result : Result DumpValue ReadError = Err error in (result ≡ Err OutOfMemory) ⊎ (result ≡ lists_told bytes)
-nothing_told error bytes memory (inl out) none = inl (ap (λ e. Err e) out)
-nothing_told error bytes memory (inr (is, other)) none = inr (ap (λ e. Err e) is ∙ sym (ap told_value (by (is_utf8 bytes) refl)))
+pub nothing_read : (text : List ℕ) (told : Data) → text ≡ [] → read text ≡ Some told → ⊥
+nothing_read text told empty is =
+    let none : None ≡ Some told = sym no_value ∙ ap read (sym empty) ∙ is in
+    absurd (cc)
+
+no_front : {A : Type 0} (x : A) (xs : List A) → [] ≢ x ∷ xs
+no_front x xs is = absurd (cc)
+
+pub no_object : (text : List ℕ) → text ≡ [] → ¬ (BeginsObject (tokens text))
+no_object text empty object = no_front _ object.0 (sym no_tokens ∙ ap tokens (sym empty) ∙ object.1)
+
+-- bytes that are a text, and bytes that are none
+pub text_in : (result : Result DumpValue ReadError) (bytes text : List ℕ) → text ≡ bytes → IsUtf8 bytes
+    → (result ≡ Err OutOfMemory) ⊎ (result ≡ text_told text) → (result ≡ Err OutOfMemory) ⊎ (result ≡ lists_told bytes)
+text_in result bytes text same utf8 (inl out) = inl out
+text_in result bytes text same utf8 (inr is) =
+    inr (is ∙ ap text_told same ∙ sym (ap (λ t. told_value (cond t (read bytes) None)) (is_utf8-from_IsUtf8 bytes utf8)))
+
+pub no_text : (bytes : List ℕ) → ¬ (IsUtf8 bytes) → lists_told bytes ≡ Err NotJson
+no_text bytes broken = by (is_utf8 bytes) refl
   where
-    by : (t : Bool) → is_utf8 bytes ≡ t → value_in bytes ≡ None
-    by true text = ap (λ t. cond t (read bytes) None) text ∙ none other (IsUtf8-from_is_utf8 bytes text)
-    by false broken = ap (λ t. cond t (read bytes) None) broken
+    by : (t : Bool) → is_utf8 bytes ≡ t → lists_told bytes ≡ Err NotJson
+    by true text = absurd (broken (IsUtf8-from_is_utf8 bytes text))
+    by false other = ap (λ t. told_value (cond t (read bytes) None)) other
 
--- a dump that was read straight from bytes that are a text
-pub straight_told : (result : Result DumpValue ReadError) (bytes text : List ℕ) → text ≡ bytes → IsUtf8 bytes
-    → IfOk result (λ dump. (value : Data) × (read text ≡ Some value) × (dump_in value ≡ Some dump)) → IfOk result (λ dump. lists_told bytes ≡ Ok dump)
-straight_told (Ok dump) bytes text same is one = ap told_value (value_told bytes one.0 is (ap read (sym same) ∙ one.1)) ∙ ap told_lists one.2
-straight_told (Err error) bytes text same is one = tt
+-- what the empty text tells
+pub nothing_told : (result : Result DumpValue ReadError) (text : List ℕ)
+    → (result ≡ Err OutOfMemory) ⊎ (result ≡ text_told text) → (text ≡ [] → result ≢ Err OutOfMemory) → text ≡ [] → result ≡ Err NotJson
+nothing_told result text (inl out) memory empty = absurd (memory empty out)
+nothing_told result text (inr is) memory empty = is ∙ ap text_told empty ∙ ap told_value no_value

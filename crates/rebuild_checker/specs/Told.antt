@@ -1,6 +1,7 @@
 -- The dump that bytes tell, as it is read.
 use Rattle.std.specs.Prelude.{ℕ, if◌then◌else◌, List, Option, Some, None, Result, Ok, Err}
 use Rattle.serde_json.specs.Data.{Data}
+use Rattle.serde_json.specs.Read.{read}
 use Rattle.dump_rules.specs.Dump.{DumpValue}
 use Rattle.dump_rules.specs.DumpIn.{dump_in}
 use Rattle.dump_rules.specs.DumpShape.{is_dump}
@@ -17,6 +18,10 @@ told_lists (Some dump) = Ok dump
 abbrev pub told_value : Option Data → Result DumpValue ReadError
 told_value None = Err NotJson
 told_value (Some value) = told_lists (dump_in value)
+
+-- the lists that a text tells
+abbrev pub text_told : List ℕ → Result DumpValue ReadError
+text_told text = told_value (read text)
 
 -- the lists that bytes tell
 abbrev pub lists_told : List ℕ → Result DumpValue ReadError

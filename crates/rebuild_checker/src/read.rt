@@ -1,9 +1,9 @@
 //! Dumps read from bytes: straight from their text, or else by way of a tree of JSON values.
 
-ghost use Rattle.std.specs.Prelude.{◌≡◌, ◌⊎◌, Ok, Err, IfOk, IsTrue};
+ghost use Rattle.std.specs.Prelude.{◌≡◌, ◌≢◌, ◌⊎◌, [], Err, IfOk, IsTrue, IsUtf8};
 ghost use Rattle.serde_json.specs.Errors.{IsMemory};
 ghost use Rattle.dump_rules.specs.DumpShape as rule;
-ghost use Rattle.rebuild_checker.specs.Told.{lists_told, told};
+ghost use Rattle.rebuild_checker.specs.Told.{lists_told, text_told, told};
 
 use dump_lists::{Dump, ReadError, read_straight};
 use dump_reader::{is_dump, read_tree};
@@ -12,11 +12,14 @@ use simdutf8::basic::from_utf8;
 use std::alloc::Global;
 
 /// Reads the dump that bytes tell: they have to be UTF-8 and one JSON value, nested at most 127 deep, else they are refused by 971; and the
-/// value has to tell lists that are a dump, else they are refused by 972 (`docs/RULES.md#the-dump-and-the-verdict`). Costs the reading of
-/// the bytes, and a logarithm for each row, piece, entry and activation.
+/// value has to tell lists that are a dump, else they are refused by 972 (`docs/RULES.md#the-dump-and-the-verdict`). Without memory that
+/// may not be told, but bytes that are no UTF-8, and no bytes at all, are refused by 971, whether there is memory or not. Costs the reading
+/// of the bytes, and a logarithm for each row, piece, entry and activation.
 pub fn read_dump(alloc: Global, bytes: &[u8]) -> Result<Dump<'_>, ReadError>
     ensures told { (result ≡ Err ReadError.OutOfMemory) ⊎ (result ≡ told bytes.now) }
     ensures is_dump { IfOk result (λ dump. IsTrue (rule.is_dump dump)) }
+    ensures not_utf8 { ¬ (IsUtf8 bytes.now) → result ≡ Err ReadError.NotJson }
+    ensures empty { bytes.now ≡ [] → result ≡ Err ReadError.NotJson }
 {
     let dump = read_lists(alloc, bytes)?;
     if !is_dump(alloc, &dump)? {
@@ -27,30 +30,35 @@ pub fn read_dump(alloc: Global, bytes: &[u8]) -> Result<Dump<'_>, ReadError>
 
 /// The lists that bytes tell, which may be no dump.
 fn read_lists(alloc: Global, bytes: &[u8]) -> Result<Dump<'_>, ReadError>
-    ensures { (result ≡ Err ReadError.OutOfMemory) ⊎ (result ≡ lists_told bytes.now) }
-{
-    match straight(alloc, bytes) {
-        Err(ReadError::NotJson | ReadError::NotADump) => {}
-        read => return read,
-    }
-    by_value(alloc, bytes)
-}
-
-/// The lists that bytes tell, read straight from them. Its grains are lent from them, but for names with escapes.
-fn straight(alloc: Global, bytes: &[u8]) -> Result<Dump<'_>, ReadError>
-    ensures { IfOk result (λ dump. lists_told bytes.now ≡ Ok dump) }
+    ensures told { (result ≡ Err ReadError.OutOfMemory) ⊎ (result ≡ lists_told bytes.now) }
+    ensures not_utf8 { ¬ (IsUtf8 bytes.now) → result ≡ Err ReadError.NotJson }
+    ensures empty { bytes.now ≡ [] → result ≡ Err ReadError.NotJson }
 {
     match from_utf8(bytes) {
-        Ok(text) => read_straight(alloc, text),
+        Ok(text) => read_text(alloc, text),
         Err(_) => Err(ReadError::NotJson),
     }
 }
 
-/// The lists that bytes tell, however it is written. It lends nothing from them.
-fn by_value(alloc: Global, bytes: &[u8]) -> Result<Dump<'static>, ReadError>
-    ensures { (result ≡ Err ReadError.OutOfMemory) ⊎ (result ≡ lists_told bytes.now) }
+/// The lists that a text tells, straight from it if it is written so. Then its grains are lent from it, but for names with escapes.
+fn read_text(alloc: Global, text: &str) -> Result<Dump<'_>, ReadError>
+    ensures told { (result ≡ Err ReadError.OutOfMemory) ⊎ (result ≡ text_told text.now) }
+    ensures empty { text.now ≡ [] → result ≢ Err ReadError.OutOfMemory }
 {
-    match Value::from_slice(alloc, bytes) {
+    match read_straight(alloc, text) {
+        Ok(dump) => return Ok(dump),
+        Err(ReadError::OutOfMemory) => return Err(ReadError::OutOfMemory),
+        Err(ReadError::NotJson | ReadError::NotADump) => {}
+    }
+    by_value(alloc, text)
+}
+
+/// The lists that a text tells, however it is written. It lends nothing from it.
+fn by_value(alloc: Global, text: &str) -> Result<Dump<'static>, ReadError>
+    ensures told { (result ≡ Err ReadError.OutOfMemory) ⊎ (result ≡ text_told text.now) }
+    ensures empty { text.now ≡ [] → result ≢ Err ReadError.OutOfMemory }
+{
+    match Value::from_str(alloc, text) {
         Ok(value) => read_tree(alloc, &value),
         Err(failure) => Err(read_error(failure)),
     }
@@ -58,7 +66,7 @@ fn by_value(alloc: Global, bytes: &[u8]) -> Result<Dump<'static>, ReadError>
 
 /// Why no JSON value was read.
 fn read_error(failure: serde_json::Error) -> ReadError
-    ensures { (result ≡ ReadError.OutOfMemory) ⊎ ((result ≡ ReadError.NotJson) × ¬ (IsMemory failure)) }
+    ensures { ((result ≡ ReadError.OutOfMemory) × IsMemory failure) ⊎ ((result ≡ ReadError.NotJson) × ¬ (IsMemory failure)) }
 {
     if failure.is_memory() {
         ReadError::OutOfMemory
