@@ -7,28 +7,34 @@ use crate::{Entry, Receipt};
 use std::alloc::{AllocError, Global};
 
 /// Whether the receipts are just those of the journal: each one's event and outcome are the journal's at its number, no two have
-/// one number, and there are as many as entries. One look at each. Fails only when memory runs out, of which it takes a byte an entry
-/// where there are as many receipts.
+/// one number, and there are as many as entries. Two looks at each. Fails only when memory runs out, of which it takes a byte an entry,
+/// where all is right but that two may have one number.
 pub fn agree(alloc: Global, journal: &[Entry], receipts: &[Receipt]) -> Result<bool, AllocError>
     ensures agree { IfOk result (λ agree. IsTrue agree ↔ Agree journal.now receipts.now) }
-    ensures memory { OnErr result (length receipts.now ≡ length journal.now) }
+    ensures stand { OnErr result (All (Stands journal.now) receipts.now) }
+    ensures many { OnErr result (length receipts.now ≡ length journal.now) }
 {
-    if receipts.len() != journal.len() {
+    if receipts.len() != journal.len() || !all_stand(journal, receipts) {
         return Ok(false);
     }
     let mut given = vec![in alloc; false; journal.len()]?;
-    Ok(stand_apart(journal, receipts, &mut given))
+    Ok(are_apart(journal, receipts, &mut given))
 }
 
-// Whether each receipt stands in the journal, and no two have one number: an entry is marked as given once its receipt has come.
-fn stand_apart(journal: &[Entry], receipts: &[Receipt], given: &mut [bool]) -> bool
-    requires { given.old ≡ replicate (length journal.now) false }
-    ensures { IsTrue result ↔ (All (Stands journal.now) receipts.now × AllPairs HaveTwoNumbers receipts.now) }
+// Whether each receipt's entry is the journal's at its number.
+fn all_stand(journal: &[Entry], receipts: &[Receipt]) -> bool
+    ensures { IsTrue result ↔ All (Stands journal.now) receipts.now }
+{
+    receipts.iter().all(|receipt| stands(journal, receipt))
+}
+
+// Whether no two receipts, whose entries are the journal's, have one number: an entry is marked as given once its receipt has come.
+fn are_apart(journal: &[Entry], receipts: &[Receipt], given: &mut [bool]) -> bool
+    requires stand { All (Stands journal.now) receipts.now }
+    requires none { given.old ≡ replicate (length journal.now) false }
+    ensures { IsTrue result ↔ AllPairs HaveTwoNumbers receipts.now }
 {
     for receipt in receipts {
-        if !stands(journal, receipt) {
-            return false;
-        }
         let index = (receipt.number - 1) as usize;
         if given[index] {
             return false;
