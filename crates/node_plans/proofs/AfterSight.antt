@@ -1,11 +1,10 @@
 -- What a sight leaves is what the rule says, and keeps what every node keeps.
 use Rattle.std.proofs.Common.{◌≡◌, refl, sym, ap, subst, ◌∙◌, ℕ, ◌<◌, ◌≤◌, List, [], ◌++◌, true, false, arith}
-use Rattle.std.specs.Prelude.{All, Bool, cond, filter, flat_map, not}
+use Rattle.std.specs.Prelude.{All, Bool, filter, flat_map, not}
 use Rattle.std.proofs.lemmas.List.Elements.{All-nil, All-append, All-filter, All-weaker}
 use Rattle.membership_view.specs.View.{ViewValue}
 use Rattle.hash_ring.specs.Places.{PlacesValue}
 use Rattle.hash_ring.specs.Ring.{ring_of}
-use Rattle.range_moves.specs.Arcs.{arcs_of}
 use Rattle.range_moves.specs.declared.RingArc.{RingArc}
 use Rattle.directory_rules.specs.Cache.{cache_seeing}
 use Rattle.directory_rules.specs.Host.{outstanding, renewed}
@@ -18,9 +17,8 @@ use Rattle.directory_rules.specs.Sight.{pieces_after, sealed, shelf_after}
 use Rattle.directory_rules.specs.Snapshot.{Snapshot}
 use Rattle.directory_rules.specs.Letter.{Letter}
 use Rattle.directory_rules.specs.declared.Effect.{Effect}
-use Rattle.directory_rules.specs.declared.Effect.TheVariants.{Next, Skip, Nudged}
-use Rattle.directory_rules.specs.Step.{Stepped, compared_points, having_nudged, having_seen, new_gatherings, new_recoveries, node_after}
-use Rattle.directory_rules.specs.Step as rule
+use Rattle.directory_rules.specs.declared.Effect.TheVariants.{Nudged}
+use Rattle.directory_rules.specs.Step.{Stepped, having_nudged, new_gatherings, new_recoveries, node_after}
 use Rattle.directory_rules.specs.Table.{rise_by_grain}
 use Rattle.directory_rules.proofs.Seals.{all_handed}
 use Rattle.grain_partition.specs.Holdings.{ArePieces}
@@ -131,17 +129,7 @@ fits_if node sight view seen same =
       renewal = renewal;
     })
 
--- the rule's step
-pub sight_is : (node : Node) (sight : Sight) → FitsSight sight node → (next : Bool) (before view : ViewValue) (places : PlacesValue) (letters : List Letter) (effect : Effect)
-    → sight.next ≡ next → sight.view ≡ view → sight.transition.ring ≡ ring_of view places → sight.transition.arcs ≡ arcs_of (compared_points next node before places) (ring_of view places).points
-    → letters ≡ all_wants (seen_by sight node) ++ all_requests (seen_by sight node) → effect ≡ cond next Next Skip
-    → stepped (seen_by sight node) letters effect ≡ rule.sight next node before view places
-sight_is node sight fits next before view places letters effect n v r a sent told =
-    (λ i. stepped (seen_by sight node) (sent i) (told i))
-    ∙ ap (λ (x : Node). having_seen next x) (seen_is node sight fits view places (arcs_of (compared_points next node before places) (ring_of view places).points) v r a)
-    ∙ ap (λ b. having_seen next (node_after b node view places (arcs_of (compared_points next node before places) (ring_of view places).points))) n
-
--- and that of a nudge
+-- the rule's nudge
 pub nudge_is : (node : Node) (letters : List Letter) → letters ≡ flat_map (λ e. request_letters node e.0 e.1) (outstanding (renewed node.host)) ++ all_wants node
     → stepped (record node { host = renewed node.host }) letters Nudged ≡ having_nudged (record node { host = renewed node.host })
 nudge_is node letters sent =
