@@ -1,21 +1,27 @@
--- Receipts of commands that were carried out, once they stand in a journal: its entries are of those commands.
-use Rattle.std.proofs.Common.{◌≡◌, ◌∙◌, ◌+◌, ◌<◌, ◌≤◌, ◌↔◌, ℕ, Bool, true, false, IsTrue, Result, Ok, Err, List, [], ◌∷◌, ◌++◌, length, get_or, ap, arith, refl, sym, subst}
+-- Receipts of commands that were carried out, once they stand in a journal: its entries are of those commands, and the others of deliveries.
+use Rattle.std.proofs.Common.{◌≡◌, ◌∙◌, ◌+◌, ◌-◌, ◌<◌, ◌≤◌, ◌⊎◌, ◌↔◌, ℕ, Bool, true, false, IsTrue, Option, Some, Result, Ok, Err, List, [], ◌∷◌, ◌++◌, length, get_or, ap, arith, inl, inr, refl, sym, subst}
+use Rattle.std.proofs.Math.Seq.{get_or-append_right}
 use Rattle.std.specs.Prelude.{All, IfOk, OnOk, nat_lt}
-use Rattle.std.specs.List.{AllByRecursion, IsAllAdjacentAnswer}
+use Rattle.std.specs.Option.{unwrap_or}
+use Rattle.std.specs.List.{AllByRecursion, Any, IsAllAdjacentAnswer}
 use Rattle.std.specs.List.Sorted.{IsStrictlyIncreasing}
 use Rattle.std.proofs.lemmas.Bool.{ltb-false, ltb-true}
+use Rattle.std.proofs.lemmas.Bool.Decides.{leb_tells}
 use Rattle.std.proofs.lemmas.List.{get_or-map, get_or_append_left, length-append, length-map, map-append}
 use Rattle.std.proofs.lemmas.List.Elements.{recursion_from_All}
 use Rattle.directory_rules.specs.Event.{Event}
 use Rattle.cluster_board.specs.Board.{BoardValue}
 use Rattle.cluster_journal.specs.Agreement.{Agree, Stands}
 use Rattle.cluster_journal.specs.Entry.{EntryValue}
+use Rattle.cluster_journal.specs.Journal.{entry_at}
 use Rattle.cluster_journal.specs.declared.entry.Receipt.{Receipt}
 use Rattle.script_rules.specs.Script.{Command}
+use Rattle.silo_threads.specs.Cluster.{ClusterValue}
 use Rattle.silo_threads.specs.Replies.{IsReceiptOf}
-use Rattle.silo_threads.specs.Tallied.{HasMore}
-use Rattle.threaded_play.specs.CarriedOut.{AreCarriedOut, ArePosted, CarriesOut, IsEntered, no_command, then_command}
+use Rattle.silo_threads.specs.Tallied.{HasMore, IsDeliveryToOneOf}
+use Rattle.threaded_play.specs.CarriedOut.{AreCarriedOut, ArePosted, CarriesOut, HasDeliveriesBeside, IsDelivery, IsEntered, no_command, then_command}
 use Rattle.console_threads.specs.Driven.{Puts, numbers_of}
+use Rattle.console_threads.proofs.EachEntry.{each_entry_has_its_receipt}
 
 -- ---- In their order.
 
@@ -85,28 +91,63 @@ module _ (journal : List EntryValue) where
 
   -- those of a driver that had none before
   pub carries_out : (commands : List Command) (before receipts : List Receipt) → before ≡ [] → Puts (AreCarriedOut IsReceiptOf commands) before receipts
-      → All (Stands journal) receipts → IsStrictlyIncreasing (numbers_of receipts) → CarriesOut journal commands
-  carries_out commands before receipts none puts stand ascending =
+      → All (Stands journal) receipts → IsStrictlyIncreasing (numbers_of receipts) → HasDeliveriesBeside journal (numbers_of receipts) → CarriesOut journal commands
+  carries_out commands before receipts none puts stand ascending beside =
       let is : receipts ≡ puts.more = puts.kept ∙ ap (λ (l : List Receipt). l ++ puts.more) none in
       record {
         numbers = numbers_of receipts;
         ascending = ascending;
         carried = carried commands receipts (subst (AreCarriedOut IsReceiptOf commands) (sym is) puts.its) (recursion_from_All (Stands journal) receipts stand);
+        beside = beside;
       }
 
   -- ---- The driver's are among all.
 
-  within_all : (receipts all : List Receipt) (amount total : ℕ) → HasMore receipts all amount total → (k : ℕ) → k < length receipts → k < length all
-  within_all receipts all amount total has k within =
-      let many = ap (λ (l : List Receipt). length l) has.kept ∙ length-append receipts has.more in
-      omega (within, many, arith)
+  module _ (cluster : ClusterValue) (receipts all : List Receipt) (amount total : ℕ) (has : HasMore cluster.workers receipts all amount total) (agree : Agree journal all) where
+    many : length all ≡ length receipts + length has.more
+    many = ap (λ (l : List Receipt). length l) has.kept ∙ length-append receipts has.more
 
-  same_place : (receipts all : List Receipt) (amount total : ℕ) → HasMore receipts all amount total → (k : ℕ) (d : Receipt) → k < length receipts → get_or all k d ≡ get_or receipts k d
-  same_place receipts all amount total has k d within = ap (λ (l : List Receipt). get_or l k d) has.kept ∙ get_or_append_left receipts has.more d k within
+    within_all : (k : ℕ) → k < length receipts → k < length all
+    within_all k within = let its = many in omega (within, its, arith)
 
-  pub stand_among_all : (receipts all : List Receipt) (amount total : ℕ) → HasMore receipts all amount total → Agree journal all → All (Stands journal) receipts
-  stand_among_all receipts all amount total has agree = λ k d within.
-      subst (Stands journal) (same_place receipts all amount total has k d within) (agree.stand k d (within_all receipts all amount total has k within))
+    same_place : (k : ℕ) (d : Receipt) → k < length receipts → get_or all k d ≡ get_or receipts k d
+    same_place k d within = ap (λ (l : List Receipt). get_or l k d) has.kept ∙ get_or_append_left receipts has.more d k within
+
+    pub stand_among_all : All (Stands journal) receipts
+    stand_among_all = λ k d within. subst (Stands journal) (same_place k d within) (agree.stand k d (within_all k within))
+
+    -- ---- The others are the silos' deliveries.
+
+    -- the entry that a receipt is of
+    its_entry : (receipt : Receipt) (number : ℕ) (entry : EntryValue) → Stands journal receipt → receipt.number ≡ number → entry_at journal number ≡ Some entry → receipt.entry ≡ entry
+    its_entry receipt number entry stands same at = ap (λ (o : Option EntryValue). unwrap_or o receipt.entry) (sym stands ∙ (ap (entry_at journal) same ∙ at))
+
+    delivery : (receipt : Receipt) (entry : EntryValue) → IsDeliveryToOneOf cluster.workers receipt → receipt.entry ≡ entry → IsDelivery entry.event
+    delivery receipt entry delivered is = subst (λ (e : EntryValue). IsDelivery e.event) is (subst IsDelivery (sym delivered.4.told.its) tt)
+
+    -- a receipt behind the driver's is of a delivery
+    behind : (k : ℕ) (receipt : Receipt) → length receipts ≤ k → k < length all → get_or all k receipt ≡ receipt → IsDeliveryToOneOf cluster.workers receipt
+    behind k receipt later within is =
+        let its = many in
+        let place = ap (λ (l : List Receipt). get_or l k receipt) (sym has.kept) in
+        subst (IsDeliveryToOneOf cluster.workers) (sym (get_or-append_right receipts has.more k receipt later) ∙ (place ∙ is)) (has.its (k - length receipts) receipt (omega (within, later, its, arith)))
+
+    pub deliveries_beside : HasDeliveriesBeside journal (numbers_of receipts)
+    deliveries_beside number entry at =
+        let found = each_entry_has_its_receipt journal all number entry agree at in
+        let k = found.0 in
+        let receipt = found.1 in
+        elim (leb_tells (length receipts) k) as (λ _. Any (λ one. one ≡ number) (numbers_of receipts) ⊎ IsDelivery entry.event) [
+          | inr less ↦
+              let sooner = less.1 in
+              let same = get_or-map (λ (r : Receipt). r.number) receipts k receipt number sooner ∙ (ap (λ (r : Receipt). r.number) (sym (same_place k receipt sooner) ∙ found.3) ∙ found.4) in
+              let within = length-map receipts (λ (r : Receipt). r.number) in
+              inl (k, number, omega (sooner, within, arith), same, refl)
+          | inl more ↦
+              let later = more.1 in
+              let delivered = behind k receipt later found.2 found.3 in
+              inr (delivery receipt entry delivered (its_entry receipt number entry (subst (Stands journal) found.3 (agree.stand k receipt found.2)) found.4 at))
+        ]
 
 -- ---- Of a cluster that was closed.
 
@@ -117,6 +158,7 @@ either_way (Err error) P p = tt
 
 pub closed_carries_out : {E : Type 0} (closed : Result BoardValue E) (commands : List Command) (before receipts : List Receipt) (lacks : Bool) → before ≡ []
     → (lacks ≡ false → Puts (AreCarriedOut IsReceiptOf commands) before receipts) → OnOk closed (lacks ≡ false) → IfOk closed (λ board. All (Stands board.journal) receipts)
-    → OnOk closed (IsStrictlyIncreasing (numbers_of receipts)) → IfOk closed (λ board. CarriesOut board.journal commands)
-closed_carries_out (Ok board) commands before receipts lacks none puts all stand ascending = carries_out board.journal commands before receipts none (puts all) stand ascending
-closed_carries_out (Err error) commands before receipts lacks none puts all stand ascending = tt
+    → OnOk closed (IsStrictlyIncreasing (numbers_of receipts)) → IfOk closed (λ board. HasDeliveriesBeside board.journal (numbers_of receipts))
+    → IfOk closed (λ board. CarriesOut board.journal commands)
+closed_carries_out (Ok board) commands before receipts lacks none puts all stand ascending beside = carries_out board.journal commands before receipts none (puts all) stand ascending beside
+closed_carries_out (Err error) commands before receipts lacks none puts all stand ascending beside = tt

@@ -2,6 +2,7 @@ mod Commands
 mod Faulted
 mod SoFar
 mod Posted
+mod EachEntry
 mod Entered
 mod Closed
 mod Lost

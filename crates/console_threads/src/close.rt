@@ -5,6 +5,7 @@ ghost use Rattle.std.specs.List.Sorted.{IsStrictlyIncreasing};
 ghost use Rattle.cluster_journal.specs.Agreement.{Agree, Stands};
 ghost use Rattle.console_threads.specs.Driven.{numbers_of};
 ghost use Rattle.cluster_journal.specs.Journal.{IsJournaled};
+ghost use Rattle.threaded_play.specs.CarriedOut.{HasDeliveriesBeside};
 ghost use Rattle.threaded_play.specs.Endings.{IsSent, TellsCauses};
 ghost use Rattle.console_threads.specs.Endings.{IsUnclosed, unclosed_by};
 
@@ -38,6 +39,7 @@ impl<L: Ledger + Names> Driver<L, OpenGate> {
         ensures lacked_nothing { OnOk result (self.lacks ≡ false) }
         ensures stand { IfOk result (λ board. All (Stands board.journal) self.receipts.items) }
         ensures ascending { OnOk result (IsStrictlyIncreasing (numbers_of self.receipts.items)) }
+        ensures beside { IfOk result (λ board. HasDeliveriesBeside board.journal (numbers_of self.receipts.items)) }
         ensures journaled { IfOk result (λ board. IsJournaled settings board.journal board.world) }
         ensures unclosed { IfErr result IsUnclosed }
         ensures told { MatchResult result (λ _. errors.new ≡ errors.old) (λ ended. TellsCauses E.writes E.contents ended errors.old errors.new) }

@@ -1,6 +1,6 @@
 //! Commands carried out by a cluster that runs.
 
-ghost use Rattle.std.specs.Prelude.{◌≡◌, ◌+◌, [], IfOk, OnOk, false, map};
+ghost use Rattle.std.specs.Prelude.{◌≡◌, ◌+◌, [], IfOk, OnOk, false, length, map};
 ghost use Rattle.console_threads.specs.Driven.{IsFollowed, IsPerformed, IsPosted, Puts};
 ghost use Rattle.directory_rules.specs.EventModel.{event_of};
 ghost use Rattle.script_commands.specs.CommandModel.{command_of};
@@ -27,13 +27,13 @@ pub(crate) struct Driver<L: Ledger + Names, G: Gate + Drop> {
     pub(crate) receipts: Vec<Receipt>,
     // Whether memory, a thread or a publication couldn't be had; nothing is posted from then on.
     pub(crate) lacks: bool,
-    pub(crate) ghost whole: { share.parts + cluster.workers ≡ PARTS },
+    pub(crate) ghost whole: { share.parts + length cluster.workers ≡ PARTS },
 }
 
 impl<L: Ledger + Names, G: Gate + Drop> Driver<L, G> {
     /// Before the first command.
     pub(crate) fn new(alloc: Global, cluster: Cluster<L, G>, share: Share<L>) -> Driver<L, G>
-        requires { share.parts + cluster.workers ≡ PARTS }
+        requires { share.parts + length cluster.workers ≡ PARTS }
         ensures { result.receipts.items ≡ [] }
     {
         Driver {

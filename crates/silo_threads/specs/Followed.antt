@@ -1,5 +1,5 @@
 -- What follows an event that was accepted: at a join a worker, at each change of membership a publication.
-use Rattle.std.specs.Prelude.{◌≡◌, ℕ, ◌+◌, ◌<◌, ◌≤◌, ◌⊎◌, IfSome, Option, Some, None}
+use Rattle.std.specs.Prelude.{◌≡◌, ℕ, ◌++◌, ◌<◌, ◌≤◌, ◌⊎◌, IfSome, List, [], ◌∷◌, Option, Some, None, length}
 use Rattle.silo_address.specs.Silo.{Silo}
 use Rattle.membership_view.specs.View.{ViewValue}
 use Rattle.hash_ring.specs.Places.{PlacesValue}
@@ -57,15 +57,19 @@ pub record HasPublished (receipt : Receipt) (before after : PublisherValue) : Ty
   pub shown : Shows (current_view world) world.places before after
   pub up_to_date : IsUpTo receipt after
 
--- a worker lacks its thread: it is one more, but has ended; or there were as many as may ever be, and none is more
-abbrev pub LacksThread : ℕ → ℕ → Type 0
-LacksThread before after = (after ≡ before + 1) ⊎ ((MOST_WORKERS ≤ before) × (after ≡ before))
+-- a silo has a worker too, behind those of the silos before
+abbrev pub with_worker : List Silo → Silo → List Silo
+with_worker workers silo = workers ++ silo ∷ []
 
--- after a join there is one worker more, and a publication, but for what lacks; without a thread nothing is published
-abbrev pub HasJoined : Receipt → ClusterValue → ClusterValue → Option Lack → Type 0
-HasJoined receipt before after None = (after.workers ≡ before.workers + 1) × HasPublished receipt before.published after.published
-HasJoined receipt before after (Some Publication) = after ≡ record before { workers = before.workers + 1 }
-HasJoined receipt before after (Some Thread) = LacksThread before.workers after.workers × (after.published ≡ before.published)
+-- the silo's worker lacks its thread: it is one more, but has ended; or there were as many as may ever be, and none is more
+abbrev pub LacksThread : Silo → List Silo → List Silo → Type 0
+LacksThread silo before after = (after ≡ with_worker before silo) ⊎ ((MOST_WORKERS ≤ length before) × (after ≡ before))
+
+-- after a join the silo has a worker, and there is a publication, but for what lacks; without a thread nothing is published
+abbrev pub HasJoined : Silo → Receipt → ClusterValue → ClusterValue → Option Lack → Type 0
+HasJoined silo receipt before after None = (after.workers ≡ with_worker before.workers silo) × HasPublished receipt before.published after.published
+HasJoined silo receipt before after (Some Publication) = after ≡ record before { workers = with_worker before.workers silo }
+HasJoined silo receipt before after (Some Thread) = LacksThread silo before.workers after.workers × (after.published ≡ before.published)
 
 -- after a leave or a death there is a publication, unless it lacks; no worker more or less
 abbrev pub HasChanged : Receipt → ClusterValue → ClusterValue → Option Lack → Type 0
@@ -79,7 +83,7 @@ HasStayed before after lack = (after ≡ before) × (lack ≡ None)
 
 -- what follows the event that the receipt is of
 abbrev pub HasFollowed : Event → Receipt → ClusterValue → ClusterValue → Option Lack → Type 0
-HasFollowed (Join silo places) receipt before after lack = HasJoined receipt before after lack
+HasFollowed (Join silo places) receipt before after lack = HasJoined silo receipt before after lack
 HasFollowed (Leave silo) receipt before after lack = HasChanged receipt before after lack
 HasFollowed (Kill silo) receipt before after lack = HasChanged receipt before after lack
 HasFollowed (See silo version) receipt before after lack = HasStayed before after lack

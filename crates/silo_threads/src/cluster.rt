@@ -40,7 +40,7 @@ impl<L: Ledger + Names, G: Gate + Drop> Model for Cluster<L, G> {
 
     ghost Value = { ClusterValue };
 
-    ghost view = { λ c. record { workers = vec_len c.workers; published = c.publisher } };
+    ghost view = { λ c. record { workers = c.workers.items; published = c.publisher } };
 
     ghost invariant = { λ c. vec_len c.workers ≤ MOST_WORKERS };
 }

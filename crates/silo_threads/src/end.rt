@@ -1,5 +1,6 @@
 //! The end of a cluster: its threads are joined.
-ghost use Rattle.std.specs.Prelude.{◌≡◌, ◌+◌, IfOk, OnOk, vec_len};
+ghost use Rattle.std.specs.Prelude.{◌≡◌, ◌+◌, All, IfOk, OnOk, length, vec_len};
+ghost use Rattle.silo_workers.specs.Delivered.{IsDeliveryTo};
 ghost use Rattle.silo_threads.specs.Tallied.{HasMore};
 
 use crate::cluster::PARTS;
@@ -14,8 +15,8 @@ use std::thread::Threads;
 use value_marks::Names;
 
 impl<L: Ledger + Names, G: Gate + Drop> Cluster<L, G> {
-    /// Stops all workers, joins their threads, ends the publisher, and puts the workers' parts of the share and their receipts to the
-    /// caller's, who has all other parts. Fails where memory runs out, but not before all threads are joined
+    /// Stops all workers, joins their threads, ends the publisher, and puts the workers' parts of the share and their receipts, each of
+    /// a delivery to one of their silos, to the caller's, who has all other parts. Fails where memory runs out, but not before all threads are joined
     /// (`docs/RULES.md#running-silos`).
     pub fn end<R: Threads + Wait>(
         self,
@@ -23,9 +24,9 @@ impl<L: Ledger + Names, G: Gate + Drop> Cluster<L, G> {
         share: Share<L>,
         receipts: Vec<Receipt>,
     ) -> Result<Ended<L>, EndFault>
-        requires { share.parts + self.workers ≡ PARTS }
+        requires { share.parts + length self.workers ≡ PARTS }
         ensures whole { IfOk result (λ ended. ended.share.parts ≡ PARTS) }
-        ensures receipts { IfOk result (λ ended. HasMore receipts.items ended.receipts.items share.amount ended.share.amount) }
+        ensures receipts { IfOk result (λ ended. HasMore self.workers receipts.items ended.receipts.items share.amount ended.share.amount) }
     {
         let Cluster {
             alloc,
@@ -68,7 +69,7 @@ fn take_in<L: Ledger, R: Threads>(
     receipts: &mut Vec<Receipt>,
 ) -> Result<(), AllocError>
     ensures parts { share.new.parts ≡ share.old.parts + vec_len workers }
-    ensures receipts { OnOk result (HasMore receipts.old.items receipts.new.items share.old.amount share.new.amount) }
+    ensures receipts { OnOk result (HasMore workers.items receipts.old.items receipts.new.items share.old.amount share.new.amount) }
 {
     let mut workers = workers;
     let mut lost = false;
@@ -85,10 +86,13 @@ fn take_in<L: Ledger, R: Threads>(
     if lost { Err(AllocError) } else { Ok(()) }
 }
 
-// What a worker did, once its thread has ended.
-fn tally_of<L: Ledger, R: Threads>(rt: &R, worker: Worker<L>) -> Tally<L> {
-    match worker {
-        Worker::Running(thread) => thread.join(rt),
-        Worker::Ended(tally) => tally,
+// What a silo's worker did, once its thread has ended.
+fn tally_of<L: Ledger, R: Threads>(rt: &R, worker: Worker<L>) -> Tally<L>
+    ensures { All (IsDeliveryTo worker) result.receipts.items }
+{
+    let Worker { silo: _, thread } = worker;
+    match thread {
+        Ok(thread) => thread.join(rt),
+        Err(tally) => tally,
     }
 }

@@ -1,4 +1,4 @@
-ghost use Rattle.std.specs.Prelude.{◌≡◌, ◌+◌, ◌<◌, ◌≤◌, IfErr, IfOk, None, OnErr, OnOk};
+ghost use Rattle.std.specs.Prelude.{◌≡◌, ◌+◌, ◌<◌, ◌≤◌, IfErr, IfOk, None, OnErr, OnOk, length};
 ghost use Rattle.directory_rules.specs.EventModel.{event_of};
 ghost use Rattle.silo_threads.specs.Followed.{HasChanged, HasFollowed, HasJoined, HasLeft, Joins};
 ghost use Rattle.silo_threads.specs.Replies.{IsReceiptOf, IsRefusalOf};
@@ -38,12 +38,12 @@ impl<L: Ledger + Names + Send + 'static, G: Gate + Drop + Send + Sync + 'static>
         share: &mut Share<L>,
         event: &Event,
     ) -> Result<Ran, EventRefusal>
-        requires { share.old.parts + self.old.workers ≡ PARTS }
+        requires { share.old.parts + length self.old.workers ≡ PARTS }
         ensures receipt { IfOk result (λ ran. IsReceiptOf (event_of event.now) ran.receipt) }
         ensures followed { IfOk result (λ ran. HasFollowed (event_of event.now) ran.receipt self.old self.new ran.lack) }
         ensures refused { IfErr result (IsRefusalOf (event_of event.now)) }
         ensures unchanged { OnErr result (self.new ≡ self.old) }
-        ensures whole { share.new.parts + self.new.workers ≡ PARTS }
+        ensures whole { share.new.parts + length self.new.workers ≡ PARTS }
         ensures counted { OnOk result (share.new.amount ≡ share.old.amount + 1) }
         ensures not_counted { OnErr result (share.new.amount ≡ share.old.amount) }
     {
@@ -64,12 +64,12 @@ impl<L: Ledger + Names + Send + 'static, G: Gate + Drop + Send + Sync + 'static>
         silo: SiloAddress,
     ) -> Result<Ran, EventRefusal>
         requires its { Joins (event_of event.now) silo }
-        requires parts { share.old.parts + self.old.workers ≡ PARTS }
+        requires parts { share.old.parts + length self.old.workers ≡ PARTS }
         ensures receipt { IfOk result (λ ran. IsReceiptOf (event_of event.now) ran.receipt) }
-        ensures followed { IfOk result (λ ran. HasJoined ran.receipt self.old self.new ran.lack) }
+        ensures followed { IfOk result (λ ran. HasJoined silo ran.receipt self.old self.new ran.lack) }
         ensures refused { IfErr result (IsRefusalOf (event_of event.now)) }
         ensures unchanged { OnErr result (self.new ≡ self.old) }
-        ensures whole { share.new.parts + self.new.workers ≡ PARTS }
+        ensures whole { share.new.parts + length self.new.workers ≡ PARTS }
         ensures counted { OnOk result (share.new.amount ≡ share.old.amount + 1) }
         ensures not_counted { OnErr result (share.new.amount ≡ share.old.amount) }
     {
@@ -139,7 +139,7 @@ impl<L: Ledger + Names + Send + 'static, G: Gate + Drop + Send + Sync + 'static>
 
     // A law: there are never more workers than there may be.
     fn has_few(&self)
-        ensures { self.now.workers ≤ MOST_WORKERS }
+        ensures { length self.now.workers ≤ MOST_WORKERS }
     {
         let _workers = self.workers.len();
     }

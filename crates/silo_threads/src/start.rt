@@ -1,7 +1,7 @@
 //! Workers' threads.
 ghost use Rattle.std.specs.Prelude.{◌≡◌, ◌+◌, ◌<◌, ◌≤◌, IfErr, OnErr, OnOk, vec_capacity, vec_len};
 ghost use Rattle.silo_workers.specs.Delivered.{HasDelivered};
-ghost use Rattle.silo_threads.specs.Followed.{LacksThread};
+ghost use Rattle.silo_threads.specs.Followed.{LacksThread, with_worker};
 
 use crate::Lack;
 use crate::cluster::MOST_WORKERS;
@@ -9,16 +9,40 @@ use crossbeam_channel::Sender;
 use silo_address::SiloAddress;
 use silo_workers::{Cause, Gate, Site, Tally, work};
 use std::alloc::Global;
+use std::marker::Model;
 use std::sync::ledger::{Ledger, Share};
 use std::sync::{Arc, Wait};
-use std::thread::{self, JoinHandle, Threads};
+use std::thread::{self, Promise, PromisedHandle, Threads};
 use value_marks::Names;
 
-/// A worker: its thread, or what it did where no thread could be made.
+/// A silo's worker: its thread, or what it did where no thread could be made.
 #[derive(Drop)]
-pub(crate) enum Worker<L: Ledger> {
-    Running(JoinHandle<Tally<L>>),
-    Ended(Tally<L>),
+pub(crate) struct Worker<L: Ledger> {
+    pub(crate) silo: SiloAddress,
+    pub(crate) thread: Result<PromisedHandle<Tally<L>, DeliversTo>, Tally<L>>,
+}
+
+impl<L: Ledger> Model for Worker<L> {
+    ghost use Rattle.std.specs.Prelude.{◌≡◌, All, MatchResult};
+    ghost use Rattle.silo_address.specs.Silo.{Silo};
+    ghost use Rattle.silo_workers.specs.Delivered.{IsDeliveryTo};
+
+    ghost Value = { Silo };
+
+    ghost view = { λ w. w.silo };
+
+    ghost invariant = { λ w. MatchResult w.thread (λ running. running.promise.0 ≡ w.silo) (λ tally. All (IsDeliveryTo w.silo) tally.receipts.items) };
+}
+
+/// What a worker's thread promises: its receipts are all of deliveries to the silo.
+#[derive(Clone, Copy)]
+pub(crate) struct DeliversTo(SiloAddress);
+
+impl<L: Ledger> Promise<Tally<L>> for DeliversTo {
+    ghost use Rattle.std.specs.Prelude.{All};
+    ghost use Rattle.silo_workers.specs.Delivered.{IsDeliveryTo};
+
+    ghost kept_by = { λ promise tally. All (IsDeliveryTo promise.0) tally.receipts.items };
 }
 
 /// What a worker takes with it.
@@ -49,25 +73,28 @@ pub(crate) fn start<
     ensures parts { share.new.parts + vec_len workers.new ≡ share.old.parts + vec_len workers.old }
     ensures amount { share.new.amount ≡ share.old.amount }
     ensures few { vec_len workers.new ≤ MOST_WORKERS }
-    ensures one { OnOk result (vec_len workers.new ≡ vec_len workers.old + 1) }
+    ensures one { OnOk result (workers.new.items ≡ with_worker workers.old.items desk.silo) }
     ensures lack { IfErr result (λ lack. lack ≡ Lack.Thread) }
-    ensures thread { OnErr result (LacksThread (vec_len workers.old) (vec_len workers.new)) }
+    ensures thread { OnErr result (LacksThread desk.silo workers.old.items workers.new.items) }
 {
     if workers.len() >= MOST_WORKERS {
         stop(rt, site);
         return Err(Lack::Thread);
     }
+    let silo = desk.silo;
     let tally = Tally::new(desk.alloc, share.split_off(1, 0));
     let handle = *rt;
     let job = move || -> Tally<L> { employ(handle, desk, tally) };
-    match thread::spawn(rt, job) {
-        Ok(thread) => {
-            workers.push_reserved(Worker::Running(thread));
+    match thread::spawn_with(rt, DeliversTo(silo), job) {
+        Ok(running) => {
+            let thread = Ok(running);
+            workers.push_reserved(Worker { silo, thread });
             Ok(())
         }
         Err(refused) => {
             stop(rt, site);
-            workers.push_reserved(Worker::Ended((refused.value)()));
+            let thread = Err((refused.value)());
+            workers.push_reserved(Worker { silo, thread });
             Err(Lack::Thread)
         }
     }

@@ -1,5 +1,5 @@
 //! Who runs a cluster: it has all parts of the share that no worker has, and the receipts of all that it posted.
-ghost use Rattle.std.specs.Prelude.{◌≡◌, ◌+◌, ◌<◌, ◌≤◌};
+ghost use Rattle.std.specs.Prelude.{◌≡◌, ◌+◌, ◌<◌, ◌≤◌, length};
 ghost use Rattle.silo_threads.specs.declared.cluster.TheConstants.{PARTS};
 
 use cluster_board::Board;
@@ -21,7 +21,7 @@ pub(crate) struct Driver<L: Ledger + Names, G: Gate + Drop> {
     pub(crate) cluster: Cluster<L, G>,
     share: Share<L>,
     receipts: Vec<Receipt>,
-    ghost whole: { share.parts + cluster.workers ≡ PARTS },
+    ghost whole: { share.parts + length cluster.workers ≡ PARTS },
 }
 
 impl<L: Ledger + Names, G: Gate + Drop> Driver<L, G> {

@@ -1,5 +1,6 @@
 -- The commands of a script, carried out by a cluster that runs: whoever reads them posts their events, and beside that silos deliver.
-use Rattle.std.specs.Prelude.{◌≡◌, ℕ, List, [], ◌∷◌, ◌++◌, flat_map, Option, Some, None, Result, Ok, Err, ⊤}
+use Rattle.std.specs.Prelude.{◌≡◌, ◌⊎◌, ℕ, List, [], ◌∷◌, ◌++◌, flat_map, Option, Some, None, Result, Ok, Err, ⊤}
+use Rattle.std.specs.List.{Any}
 use Rattle.std.specs.List.Sorted.{IsStrictlyIncreasing}
 use Rattle.directory_rules.specs.Event.{Event, Deliver, Lose}
 use Rattle.directory_rules.specs.Happens.{happens}
@@ -67,8 +68,20 @@ pub data AreCarriedOut {X : Type 0} (Enters : Event → X → Type 0) : List Com
 abbrev pub IsEntered : List EntryValue → Event → (number : ℕ) → Type 0
 IsEntered journal event number = (entry : EntryValue) × (entry_at journal number ≡ Some entry) × (entry.event ≡ event)
 
--- a journal has these commands carried out: entries of it, each behind the one before, are of what they posted
+-- the event is the delivery of a letter
+abbrev pub IsDelivery : Event → Type 0
+IsDelivery (Deliver number) = ⊤
+IsDelivery other = ⊥
+
+-- all entries of a journal are deliveries, but those of these numbers
+abbrev pub HasDeliveriesBeside : List EntryValue → (numbers : List ℕ) → Type 0
+HasDeliveriesBeside journal numbers =
+    (number : ℕ) (entry : EntryValue) → entry_at journal number ≡ Some entry → Any (λ one. one ≡ number) numbers ⊎ IsDelivery entry.event
+
+-- a journal has these commands carried out: entries of it, each behind the one before, are of what they posted, and all others are the
+-- silos' deliveries
 pub record CarriesOut (journal : List EntryValue) (commands : List Command) : Type 0 where
   pub numbers : List ℕ
   pub ascending : IsStrictlyIncreasing numbers
   pub carried : AreCarriedOut (IsEntered journal) commands numbers
+  pub beside : HasDeliveriesBeside journal numbers

@@ -11,4 +11,4 @@ returns-in-Err-clause-told g c = nothing_told g.E.Sink.writes g.E.Sink.contents 
 pub returns-in-Ok-clause-carried : goal.returns-in-Ok-clause-carried
 returns-in-Ok-clause-carried g c =
     closed_carries_out c.close.result (map command_of c.args.commands.now) c.new-driver.result.receipts.items c.drive.new.self.receipts.items c.drive.new.self.lacks
-    c.new-driver.ensures c.drive.ensures c.close.ensures.lacked_nothing c.close.ensures.stand c.close.ensures.ascending
+    c.new-driver.ensures c.drive.ensures c.close.ensures.lacked_nothing c.close.ensures.stand c.close.ensures.ascending c.close.ensures.beside

@@ -6,7 +6,7 @@ use Rattle.threaded_play.specs.declared.ended.ThreadsEnded.TheVariants.{Lacking}
 use Rattle.threaded_play.proofs.Nothing.{nothing_told}
 use Rattle.console_threads.specs.Driven.{numbers_of}
 use Rattle.console_threads.proofs.Closed.{closed_silently}
-use Rattle.console_threads.proofs.Entered.{either_way, stand_among_all}
+use Rattle.console_threads.proofs.Entered.{deliveries_beside, either_way, stand_among_all}
 use Rattle.console_threads.proofs.close.Driver+L+OpenGate.close.Goals as goal
 
 pub returns-in_default-clause-told : goal.returns-in_default-clause-told
@@ -18,7 +18,13 @@ returns-clause-told g c = closed_silently g.E.Sink.writes g.E.Sink.contents c.cl
 -- the driver's receipts are among all
 pub returns-clause-stand : goal.returns-clause-stand
 returns-clause-stand g c =
-    IfOk-weaker c.closed.result _ _ (λ board agree. stand_among_all board.journal c.args.self.receipts.items c.in-Ok.ended.receipts.items _ _ c.in-Ok.ensures.receipts agree)
+    IfOk-weaker c.closed.result _ _ (λ board agree. stand_among_all board.journal c.args.self.cluster c.args.self.receipts.items c.in-Ok.ended.receipts.items _ _ c.in-Ok.ensures.receipts agree)
+    c.closed.ensures.agree
+
+-- all others are the workers'
+pub returns-clause-beside : goal.returns-clause-beside
+returns-clause-beside g c =
+    IfOk-weaker c.closed.result _ _ (λ board agree. deliveries_beside board.journal c.args.self.cluster c.args.self.receipts.items c.in-Ok.ended.receipts.items _ _ c.in-Ok.ensures.receipts agree)
     c.closed.ensures.agree
 
 pub returns-clause-ascending : goal.returns-clause-ascending
