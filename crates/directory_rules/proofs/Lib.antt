@@ -4,6 +4,7 @@ pub mod Seals
 pub mod Tables
 pub mod Kept
 pub mod Mails
+pub mod FreshLetters
 pub mod Lost
 pub mod Pieces
 pub mod Sights
