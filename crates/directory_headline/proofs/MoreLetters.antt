@@ -35,11 +35,11 @@ module _ (hash : Grain → ℕ) (sent more : List letters.Snapshot) (grows : (x 
   }
 
   pub page_still : (page : Page) → IsShownPage hash sent page → IsShownPage hash more page
-  page_still page x = record { all = x.all; sealed = sealed_still page.version page.range x.all x.sealed; pages = x.pages; entries = x.entries }
+  page_still page x = record { all = x.all; sealed = sealed_still page.version page.range x.all x.sealed; pages = x.pages; below = x.below; digest = x.digest; entries = x.entries }
 
   whole_still : (gathering : Gathering) (whole : Option Whole) → IsShownWhole hash sent gathering whole → IsShownWhole hash more gathering whole
   whole_still gathering None x = x
-  whole_still gathering (Some whole) x = record { all = x.all; sealed = sealed_still gathering.version gathering.range x.all x.sealed; pages = x.pages; entries = x.entries }
+  whole_still gathering (Some whole) x = record { all = x.all; sealed = sealed_still gathering.version gathering.range x.all x.sealed; pages = x.pages; digest = x.digest; entries = x.entries }
 
   pub gathering_still : (gathering : Gathering) → IsShownGathering hash sent gathering → IsShownGathering hash more gathering
   gathering_still gathering x = whole_still gathering gathering.whole x

@@ -19,7 +19,7 @@ use Rattle.directory_protocol.proofs.Runs.{holds_where_reached}
 use Rattle.directory_rules.specs.declared.effect.Effect.TheVariants as effect
 use Rattle.directory_rules.specs.Settings.{page_size}
 use Rattle.directory_rules.specs.Piece.{Piece}
-use Rattle.directory_rules.specs.Snapshot.{Snapshot, Page, Hands_page, Has_none, Is_behind, is_snapshot, page_count, page_entries, page_of, page_from, shelf_answer}
+use Rattle.directory_rules.specs.Snapshot.{Snapshot, Page, Hands_page, Has_none, Is_behind, is_snapshot, page_count, page_entries, page_of, page_from, shelf_answer, digest_of}
 use Rattle.directory_rules.specs.Gatherings.{Gathering, Whole, Wants_page, Refuses, new_gathering, with_page, gathered}
 use Rattle.directory_rules.specs.Letter.{Letter, Ask_letter, Page_letter}
 use Rattle.directory_rules.specs.Node.{Node}
@@ -71,6 +71,7 @@ pub record IsNextPage (hash : Grain → ℕ) (sent : List letters.Snapshot) (gat
   pub all : List Entry
   pub sealed : HasSealed hash sent page.version page.range all
   pub pages : page.pages ≡ page_count (length all)
+  pub digest : page.digest ≡ digest_of all
   pub had : gathering.entries ≡ take (gathering.next * page_size) all
   pub next : page.entries ≡ page_entries gathering.next all
 
@@ -97,7 +98,7 @@ module _ (m : Setting) (f : World) (w : protocol.World) (silo : Silo) (node : No
       on_bool (λ b. cond b (Hands_page (page_of x number)) Has_none ≡ Hands_page page → IsShownPage m.hash w.snapshots page) (nat_lt number (page_count (length x.entries)))
       (λ t it.
       let same : page_of x number ≡ page = cc (it) in
-      subst (IsShownPage m.hash w.snapshots) same (record { all = x.entries; sealed = each x refl; pages = refl; entries = refl }))
+      subst (IsShownPage m.hash w.snapshots) same (record { all = x.entries; sealed = each x refl; pages = refl; below = t; digest = refl; entries = refl }))
       (λ u it. absurd (cc (it))) is
 
   pub hands : (letter : Letter) (range : Range) (number : ℕ) (page : Page) → shelf_answer node.shelf node.view.version letter.version range letter.from number ≡ Hands_page page
@@ -146,6 +147,7 @@ module _ (m : Setting) (f : World) (w : protocol.World) (silo : Silo) (node : No
       all = page_shown.all;
       sealed = page_shown.sealed;
       pages = page_shown.pages;
+      digest = page_shown.digest;
       had = had_first gathering.whole gathering_shown turn;
       next = page_shown.entries ∙ ap (λ n. page_entries n page_shown.all) turn.next;
     }
@@ -158,6 +160,7 @@ module _ (m : Setting) (f : World) (w : protocol.World) (silo : Silo) (node : No
           all = is.all;
           sealed = subst (λ v. HasSealed m.hash w.snapshots v gathering.range is.all) turn.version (subst (λ r. HasSealed m.hash w.snapshots page.version r is.all) turn.range is.sealed);
           pages = is.pages;
+          digest = is.digest;
           entries = ap (λ l. l ++ page.entries) is.had ∙ ap (λ l. take (gathering.next * page_size) is.all ++ l) is.next ∙ page_more gathering.next is.all;
         }
 

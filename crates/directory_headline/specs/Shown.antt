@@ -24,7 +24,7 @@ use Rattle.directory_rules.specs.declared.piece_state.PieceState.TheVariants.{Se
 use Rattle.directory_rules.specs.Settings.{page_size}
 use Rattle.directory_rules.specs.Table.{entry_at, table_of, rise_by_grain}
 use Rattle.directory_rules.specs.Piece.{Piece, Holding}
-use Rattle.directory_rules.specs.Snapshot.{Snapshot, Page, page_count, page_entries}
+use Rattle.directory_rules.specs.Snapshot.{Snapshot, Page, page_count, page_entries, digest_of}
 use Rattle.directory_rules.specs.Gatherings.{Gathering, Whole}
 use Rattle.directory_rules.specs.Recovery.{Report, Recovery, is_among}
 use Rattle.directory_rules.specs.Host.{Host, held_of}
@@ -93,6 +93,8 @@ pub record IsShownPage (hash : Grain → ℕ) (sent : List letters.Snapshot) (pa
   pub all : List Entry
   pub sealed : HasSealed hash sent page.version page.range all
   pub pages : page.pages ≡ page_count (length all)
+  pub below : nat_lt page.page page.pages ≡ true
+  pub digest : page.digest ≡ digest_of all
   pub entries : page.entries ≡ page_entries page.page all
 
 -- the first pages of such a list
@@ -100,6 +102,7 @@ pub record HasPages (hash : Grain → ℕ) (sent : List letters.Snapshot) (gathe
   pub all : List Entry
   pub sealed : HasSealed hash sent gathering.version gathering.range all
   pub pages : whole.pages ≡ page_count (length all)
+  pub digest : whole.digest ≡ digest_of all
   pub entries : gathering.entries ≡ take (gathering.next * page_size) all
 
 -- no page was had
