@@ -1,0 +1,31 @@
+-- The worked runs, computed.
+use Rattle.std.proofs.Common.{refl}
+use Rattle.std.specs.Fmt.{digits}
+use Rattle.sha2.specs.Sha256.{sha256, hash_after, compress, rounds, schedule, first_words, digest_bytes}
+use Rattle.silo_address.specs.StatedHash.{stated_hash}
+use Rattle.ring_range.specs.Cut.{cut_parts}
+use Rattle.directory_rules.specs.Happens.{happens}
+use Rattle.directory_rules.specs.Run.{run}
+use Rattle.progress_rules.specs.Worked.{PlanComputes}
+use Rattle.progress_rules.specs.Hasty.{HastyNudgesWait}
+use Rattle.progress_rules.specs.Wrong.{ComesBackAlone, QueryOfTheVersionIsBehind, ReportIsNotStruckOff}
+
+pub plan_computed : PlanComputes
+unfolding run happens cut_parts stated_hash digits sha256 hash_after compress rounds schedule first_words digest_bytes
+plan_computed = refl
+
+pub hasty_nudges_computed : HastyNudgesWait
+unfolding run happens cut_parts stated_hash digits sha256 hash_after compress rounds schedule first_words digest_bytes
+hasty_nudges_computed = record { waits = refl; ends = refl }
+
+pub comes_back_alone : ComesBackAlone
+unfolding run happens cut_parts stated_hash digits sha256 hash_after compress rounds schedule first_words digest_bytes
+comes_back_alone = record { none = refl; settled = refl }
+
+pub never_reported : QueryOfTheVersionIsBehind
+unfolding run happens cut_parts stated_hash digits sha256 hash_after compress rounds schedule first_words digest_bytes
+never_reported = record { none = refl; unsettled = refl }
+
+pub never_struck_off : ReportIsNotStruckOff
+unfolding run happens cut_parts stated_hash digits sha256 hash_after compress rounds schedule first_words digest_bytes
+never_struck_off = record { none = refl; unsettled = refl }

@@ -1,0 +1,82 @@
+-- Rules in which silos take one kind of letter wrongly: what they wait for never comes, however often they are nudged and all letters
+-- come.
+use Rattle.std.specs.Prelude.{◌≡◌, ℕ, zero, suc, ◌+◌, ◌==◌, Bool, true, false, if◌then◌else◌, List, [], ◌∷◌, Option, None, Some, Result, Ok, Err}
+use Rattle.directory_rules.specs.declared.effect.Effect.TheVariants.{Behind, More}
+use Rattle.directory_rules.specs.Letter.{Letter, Body, Query_letter, Report_letter, Behind_letter}
+use Rattle.directory_rules.specs.Node.{Node}
+use Rattle.directory_rules.specs.Step.{Stepped, silently}
+use Rattle.directory_rules.specs.Receive.{received}
+use Rattle.directory_rules.specs.Transfer.{answering, is_report_awaited}
+use Rattle.directory_rules.specs.Event.{Event, Join, See, Deliver, Nudge}
+use Rattle.directory_rules.specs.World.{World, Accepted}
+use Rattle.directory_rules.specs.Mail.{letter_of}
+use Rattle.directory_rules.specs.Happens.{happens, node_of, delivered_by, least_deliverable}
+use Rattle.directory_rules.specs.Run.{world_after, run_from_start}
+use Rattle.directory_rules.specs.Worked.{silo_a}
+use Rattle.progress_rules.specs.Worked.{few_letters, all_settled}
+
+-- what a silo makes of a letter
+abbrev pub Taking : Type 0
+Taking = Node → Letter → Stepped
+
+-- the rule, but for what silos make of letters
+abbrev pub comes_to : Taking → Option Node → World → (number : ℕ) → Letter → Result Accepted ℕ
+comes_to take None world number letter = Err 902
+comes_to take (Some node) world number letter = delivered_by (Ok (take node letter)) world number letter
+
+abbrev pub comes : Taking → Option Letter → World → (number : ℕ) → Result Accepted ℕ
+comes take None world number = Err 905
+comes take (Some letter) world number = comes_to take (node_of world letter.to) world number letter
+
+abbrev pub happens_by : Taking → World → Event → Result Accepted ℕ
+happens_by take world (Deliver number) = comes take (letter_of world number) world number
+happens_by take world event = happens world event
+
+abbrev pub run_by : Taking → World → List Event → World
+run_by take world [] = world
+run_by take world (event ∷ events) = run_by take (world_after (happens_by take world event) world) events
+
+-- ---- the wrong takings
+-- a query at the version that the silo has seen is answered `behind`
+abbrev pub is_behind_at : Body → Node → Letter → Stepped
+is_behind_at (Query_letter range) node letter = if letter.version == node.view.version then answering letter node (Behind_letter range) Behind else received node letter
+is_behind_at body node letter = received node letter
+
+abbrev pub query_of_the_version_is_behind : Taking
+query_of_the_version_is_behind node letter = is_behind_at letter.body node letter
+
+-- a report that counts is taken, and its silo isn't struck off
+abbrev pub keeps_awaiting : Body → Node → Letter → Stepped
+keeps_awaiting (Report_letter report) node letter = if is_report_awaited node letter report then silently node More else received node letter
+keeps_awaiting body node letter = received node letter
+
+abbrev pub report_is_not_struck_off : Taking
+report_is_not_struck_off node letter = keeps_awaiting letter.body node letter
+
+-- ---- a run that shows it
+-- so often a silo that is alone is nudged, and all letters come: its query, and the answer
+abbrev pub rounds_alone : (often number : ℕ) → List Event
+rounds_alone zero number = []
+rounds_alone (suc often) number = Nudge silo_a ∷ Deliver number ∷ Deliver (number + 1) ∷ rounds_alone often (number + 2)
+
+abbrev pub alone : World
+alone = (run_from_start few_letters (Join silo_a (0 ∷ []) ∷ See silo_a 1 ∷ [])).world
+
+abbrev pub alone_events : List Event
+alone_events = Deliver 1 ∷ Deliver 2 ∷ rounds_alone 12 3
+
+-- no letter is to come, and not all is settled
+pub record ComesNeverBack (take : Taking) : Type 0 where
+  pub none : least_deliverable (run_by take alone alone_events) ≡ None
+  pub unsettled : all_settled (run_by take alone alone_events) ≡ false
+
+-- by the rule all is settled then
+pub record ComesBackAlone : Type 0 where
+  pub none : least_deliverable (run_by received alone alone_events) ≡ None
+  pub settled : all_settled (run_by received alone alone_events) ≡ true
+
+abbrev pub QueryOfTheVersionIsBehind : Type 0
+QueryOfTheVersionIsBehind = ComesNeverBack query_of_the_version_is_behind
+
+abbrev pub ReportIsNotStruckOff : Type 0
+ReportIsNotStruckOff = ComesNeverBack report_is_not_struck_off

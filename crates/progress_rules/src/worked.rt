@@ -1,0 +1,15 @@
+//! Worked runs: one that comes back, and one that doesn't, for it is nudged too soon.
+ghost use Rattle.progress_rules.specs.Worked.{PlanComputes};
+ghost use Rattle.progress_rules.specs.Hasty.{HastyNudgesWait};
+
+/// Two silos, of which one has a range that isn't settled, an activation that asks, and a find that waits, its first letter lost: after
+/// the plan all is settled, and nobody waits.
+pub fn plan_computes()
+    ensures { PlanComputes }
+{}
+
+/// A silo that is nudged again before its request has come to its owner, and again before the reply comes back, waits still, though
+/// each letter has come; then it is nudged twice in quiet, and waits no more.
+pub fn hasty_nudges_wait()
+    ensures { HastyNudgesWait }
+{}
