@@ -228,7 +228,7 @@ fn deliver<N: Names>(world: &mut World, job: Job<N>, plan: Plan) -> Result<Outco
         mark: _,
     } = job;
     drop(node);
-    match world.deliver_by(number, plan) {
+    match world.deliver_with(number, plan) {
         Ok(outcome) => Ok(outcome),
         Err(_) => Err(lent_again(world, number, letter)),
     }

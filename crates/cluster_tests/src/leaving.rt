@@ -12,7 +12,7 @@ use std::process::Abort;
 // A second silo.
 const B: &str = "10.0.0.2:1000@1";
 
-fn second(rt: &impl Abort) -> SiloAddress {
+pub(crate) fn second(rt: &impl Abort) -> SiloAddress {
     SiloAddress::parse(B.as_bytes()).expect(rt, B)
 }
 
@@ -26,6 +26,11 @@ fn all_come(rt: &impl Abort, world: &mut World, first: u64, last: u64) {
 // The first silo has settled the whole circle, and hands half of it to the second one, which asks for it.
 fn two_silos(rt: &impl Abort, alloc: Global) -> Box<World> {
     let settings = Settings::of_directory(Hashing::Stated, 30, 16).expect(rt, "30 points");
+    two_silos_by(rt, alloc, settings)
+}
+
+// The same by these settings: 7 events, and 3 letters.
+pub(crate) fn two_silos_by(rt: &impl Abort, alloc: Global, settings: Settings) -> Box<World> {
     let mut world = boxed(rt, alloc, settings);
     sees(rt, alloc, &mut world);
     all_come(rt, &mut world, 1, 2);

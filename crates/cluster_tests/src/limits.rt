@@ -87,7 +87,7 @@ fn joined(rt: &impl Abort, alloc: Global, places: &[u32]) -> Box<World> {
 }
 
 // The event is accepted so often.
-fn happens_often(rt: &impl Abort, world: &mut World, event: &Event, times: u64) {
+pub(crate) fn happens_often(rt: &impl Abort, world: &mut World, event: &Event, times: u64) {
     for _ in 0..times {
         assert!(rt; world.apply(event).is_ok());
     }

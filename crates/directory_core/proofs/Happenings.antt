@@ -14,7 +14,7 @@ use Rattle.directory_rules.specs.Node.{Node}
 use Rattle.directory_rules.specs.Step.{Stepped}
 use Rattle.directory_rules.specs.World.{World, Accepted}
 use Rattle.directory_rules.specs.Mail.{has_room_for, letter_of, span_of, with_delivered}
-use Rattle.directory_rules.specs.Input.{Input, Receives, step}
+use Rattle.directory_rules.specs.Input.{Input, step}
 use Rattle.directory_rules.specs.Happens.{attempted, deliver, delivers, delivers_to, does, does_at, done_by, happens, is_seeable, node_of, seen_by, sees, sees_at, sight_of, taken}
 use Rattle.directory_rules.specs.Receive.{received}
 use Rattle.directory_rules.specs.declared.Effect.{Effect}
@@ -114,10 +114,6 @@ told world number letter node letters effect sent = Ok (record {
   outcome = record { happening = Delivered number (kind_of letter.body) effect; sent = sent };
   world = after_step (with_delivered world number letter) letter.to node letters;
 })
-
--- a step that was made beside the world is what the rule makes of its letter
-pub stepped_as : (node : Node) (letter : Letter) (stepped : Stepped) → step node (Receives letter) ≡ Ok stepped → received node letter ≡ stepped
-stepped_as node letter stepped is = cc (is)
 
 pub delivered_told : (world : World) (number : ℕ) (letter : Letter) (node after : Node) (letters : List Letter) (effect : Effect) (sent : Option Span)
     → letter_of world number ≡ Some letter → node_of world letter.to ≡ Some node → received node letter ≡ record { node = after; letters = letters; effect = effect }

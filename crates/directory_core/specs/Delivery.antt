@@ -1,12 +1,10 @@
--- A step that a silo made beside the world, with a letter to it, and a plan of one.
-use Rattle.std.specs.Prelude.{◌≡◌, ℕ, Option, Some, None, Ok}
+-- A plan that a silo made beside the world, with a letter to it.
+use Rattle.std.specs.Prelude.{◌≡◌, ℕ, Option, Some, None}
 use Rattle.directory_rules.specs.declared.effect.Effect.{Effect}
 use Rattle.directory_rules.specs.declared.letter_kind.LetterKind.{LetterKind}
 use Rattle.directory_rules.specs.Letter.{Letter, kind_of}
-use Rattle.directory_rules.specs.Input.{Receives, step}
 use Rattle.directory_rules.specs.Node.{Node}
 use Rattle.directory_rules.specs.Receive.{received}
-use Rattle.directory_rules.specs.Step.{Stepped}
 use Rattle.directory_rules.specs.World.{World}
 use Rattle.directory_rules.specs.Mail.{letter_of}
 use Rattle.directory_rules.specs.Happens.{node_of}
@@ -14,20 +12,7 @@ use Rattle.directory_node.specs.Memory.{IsIdle}
 use Rattle.directory_node.specs.Plans.{Fits, step_by}
 use Rattle.directory_node.specs.declared.Plan.{Plan}
 use Rattle.directory_core.specs.declared.delivery.Undelivered.{Undelivered}
-use Rattle.directory_core.specs.declared.planned.UndeliveredPlan.{UndeliveredPlan}
 use Rattle.directory_core.specs.Numbers.{event_refusal_number}
-
--- the letter of the number is in the mail, its receiver isn't Dead, and this is the step of that silo's node with it
-pub record IsStepWith (world : World) (number : ℕ) (stepped : Stepped) : Type 0 where
-  pub letter : Letter
-  pub node : Node
-  pub mailed : letter_of world number ≡ Some letter
-  pub live : node_of world letter.to ≡ Some node
-  pub its : step node (Receives letter) ≡ Ok stepped
-
--- the number of the refusal by which a step couldn't be taken
-abbrev pub undelivered_number : Undelivered → Option ℕ
-undelivered_number undelivered = event_refusal_number undelivered.refusal
 
 -- the letter of the number is in the mail, its receiver isn't Dead, and this is the plan of that silo's node with it
 pub record IsPlanWith (world : World) (number : ℕ) (plan : Plan) : Type 0 where
@@ -39,8 +24,8 @@ pub record IsPlanWith (world : World) (number : ℕ) (plan : Plan) : Type 0 wher
   pub its : step_by node plan ≡ received node letter
 
 -- the number of the refusal by which a plan couldn't be carried out
-abbrev pub undelivered_plan_number : UndeliveredPlan → Option ℕ
-undelivered_plan_number undelivered = event_refusal_number undelivered.refusal
+abbrev pub undelivered_number : Undelivered → Option ℕ
+undelivered_number undelivered = event_refusal_number undelivered.refusal
 
 -- what comes back of a plan that is refused by a number: all of it; where memory runs out, nothing
 abbrev pub plan_back : Option ℕ → Plan → Option Plan

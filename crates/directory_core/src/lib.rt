@@ -9,7 +9,6 @@ mod join;
 mod leave;
 mod nodes;
 mod pass;
-mod planned;
 mod post;
 mod refusal;
 mod rows;
@@ -26,7 +25,6 @@ pub use directory_rules::{Effect, Event, Happening, LetterKind, Outcome, Policy,
 pub use dump_lists::Dump;
 pub use hash_ring::Hashing;
 pub use membership_view::{Status, Views};
-pub use planned::UndeliveredPlan;
 pub use refusal::EventRefusal;
 pub use silo_address::{ActivationId, Entry, GrainId, SiloAddress};
 pub use told::Told;

@@ -1,5 +1,5 @@
 //! A change made and letters sent, or neither: the letters are sent first, and taken back where memory runs out.
-ghost use Rattle.std.specs.Prelude.{◌≡◌, Some, IfErr, IfOk, IsSome, OnErr, OnOk};
+ghost use Rattle.std.specs.Prelude.{◌≡◌, Some, IsSome, OnErr, OnOk};
 ghost use Rattle.std.specs.Map.{lookup};
 ghost use Rattle.std.specs.BTreeMap.{is_at, insert_entry};
 ghost use Rattle.silo_address.specs.Silo.{silo_cmp};
@@ -9,13 +9,12 @@ ghost use Rattle.directory_node.specs.Plans.{Fits, changed};
 ghost use Rattle.letter_mail.specs.Mail.{letter_in, with_posted, with_stale};
 
 use directory_letters::Letter;
-use directory_node::{Change, Node, Stepped};
+use directory_node::Change;
 use letter_mail::Mail;
 use shared_node::SharedNode;
 use silo_address::SiloAddress;
-use std::alloc::{AllocError, Global};
+use std::alloc::AllocError;
 use std::collections::BTreeMap;
-use std::mem;
 
 /// The silo's node makes the change, the letters are sent, and the letter of a number is fresh no more, since it was received.
 pub(crate) fn receive_at(
@@ -68,79 +67,4 @@ pub(crate) fn carry_out_at(
             Err(error)
         }
     }
-}
-
-/// The silo's node is that of a step which was made beside, the step's letters are sent, by these copies of them, and the letter of
-/// a number is fresh no more, since it was received. Where memory runs out, the step comes back.
-pub(crate) fn receive_with_at(
-    alloc: Global,
-    nodes: &mut BTreeMap<SiloAddress, SharedNode>,
-    mail: &mut Mail,
-    silo: &SiloAddress,
-    number: u64,
-    letters: Vec<Letter>,
-    stepped: Stepped,
-) -> Result<(), Stepped>
-    requires letter { IsSome (letter_in mail.old number) }
-    requires there { IsSome (lookup (is_at (silo_cmp silo.now)) nodes.old.entries) }
-    ensures made { OnOk result (nodes.new.entries ≡ insert_entry silo_cmp nodes.old.entries silo.now stepped.node) }
-    ensures posted { OnOk result ((letter : LetterValue) → letter_in mail.old number ≡ Some letter → mail.new ≡ with_posted (with_stale mail.old number letter) letters.items) }
-    ensures back { IfErr result (λ back. back ≡ stepped) }
-    ensures unchanged { OnErr result (nodes.new.entries ≡ nodes.old.entries) }
-    ensures mail_unchanged { OnErr result (mail.new ≡ mail.old) }
-{
-    let Stepped {
-        node,
-        letters: its,
-        effect,
-    } = stepped;
-    match share_and_post(alloc, mail, letters, node) {
-        Ok(shared) => {
-            mail.deliver(number);
-            put_at(nodes, silo, shared);
-            Ok(())
-        }
-        Err(node) => Err(Stepped {
-            node,
-            letters: its,
-            effect,
-        }),
-    }
-}
-
-// The node becomes one that may be shared, and the letters are sent; where memory runs out, the node comes back.
-fn share_and_post(
-    alloc: Global,
-    mail: &mut Mail,
-    letters: Vec<Letter>,
-    node: Node,
-) -> Result<SharedNode, Node>
-    ensures shared { IfOk result (λ shared. shared ≡ node) }
-    ensures posted { OnOk result (mail.new ≡ with_posted mail.old letters.items) }
-    ensures back { IfErr result (λ back. back ≡ node) }
-    ensures unchanged { OnErr result (mail.new ≡ mail.old) }
-{
-    let sent = letters.len();
-    mail.numbered();
-    let Ok(()) = mail.post(letters) else {
-        return Err(node);
-    };
-    match SharedNode::new(alloc, node) {
-        Ok(shared) => Ok(shared),
-        Err(failed) => {
-            mail.take_back(sent);
-            Err(failed.value)
-        }
-    }
-}
-
-// The silo, which has a node, has this one.
-fn put_at(nodes: &mut BTreeMap<SiloAddress, SharedNode>, silo: &SiloAddress, node: SharedNode)
-    requires there { IsSome (lookup (is_at (silo_cmp silo.now)) nodes.old.entries) }
-    ensures { nodes.new.entries ≡ insert_entry silo_cmp nodes.old.entries silo.now node }
-{
-    let Some(place) = nodes.get_mut(silo) else {
-        unreachable!()
-    };
-    drop(mem::replace(place, node));
 }
