@@ -1,9 +1,9 @@
 ghost use Rattle.directory_node.specs.Placed.{ArePlaced, IsPlaced};
 ghost use Rattle.directory_node.specs.InputModel.{input_of};
 
-use crate::steps::{copy_of, does};
+use crate::steps::{copy_of, does_one};
 use directory_letters::{Body, Letter};
-use directory_node::{Input, Node, Stepped};
+use directory_node::{Input, Node};
 use directory_rules::{Effect, Settings};
 use hash_ring::{Hashing, Places, Ring};
 use membership_view::{View, Views};
@@ -62,28 +62,6 @@ pub(crate) fn check_placed(
     assert!(rt; node.ring().same(&own));
 }
 
-// The step beside the node.
-fn stepped(rt: &impl Abort, alloc: Global, node: &Node, input: &Input<'_>) -> Box<Stepped>
-    requires { IsPlaced node.now (input_of input.now) }
-{
-    let stepped = node.step(alloc, input).expect(rt, "a step");
-    Box::new(alloc, stepped).expect(rt, "memory")
-}
-
-// The step beside the node, and its plan carried out, say and leave the same: this effect, and one letter.
-fn check_plan(rt: &impl Abort, alloc: Global, node: &mut Node, input: &Input<'_>, effect: Effect)
-    requires { IsPlaced node.old (input_of input.now) }
-{
-    let stepped = stepped(rt, alloc, node, input);
-    let sent = does(rt, alloc, node, input, effect);
-    assert!(rt; sent.len() == 1 && is_after(node, &stepped, effect));
-}
-
-// Whether the step beside the node says and leaves the same as its plan did.
-fn is_after(node: &Node, stepped: &Stepped, effect: Effect) -> bool {
-    node.same(&stepped.node) && stepped.effect == effect && stepped.letters.len() == 1
-}
-
 // The number that refuses an input.
 fn refusal_of(rt: &impl Abort, alloc: Global, node: &Node, input: &Input<'_>) -> Option<u16>
     requires { IsPlaced node.now (input_of input.now) }
@@ -99,7 +77,7 @@ fn recovering(rt: &impl Abort, alloc: Global) -> Box<Node> {
     node
 }
 
-// The node sees the view, as its plan says.
+// The node sees the view, by which it sends one letter.
 fn see(rt: &impl Abort, alloc: Global, node: &mut Node) {
     let before = View::empty(alloc);
     let view = view(rt, alloc);
@@ -110,7 +88,7 @@ fn see(rt: &impl Abort, alloc: Global, node: &mut Node) {
         view: &view,
         places: &places,
     };
-    check_plan(rt, alloc, node, &input, Effect::Next);
+    does_one(rt, alloc, node, &input, Effect::Next);
 }
 
 // A grain of which the silo knows nothing is neither woken, closed nor offered, and isn't cached.

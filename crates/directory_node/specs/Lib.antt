@@ -1,5 +1,4 @@
 pub mod NodeModel
-pub mod SteppedModel
 pub mod Memory
 pub mod SightBy
 pub use Rattle.node_plans.specs.Follows

@@ -20,4 +20,3 @@ mod transfers;
 pub use idle::is_idle;
 pub use node::Node;
 pub use node_plans::{Change, Input, Plan, Sight, StepRefusal, Transition};
-pub use step::Stepped;

@@ -1,85 +1,25 @@
-ghost use Rattle.std.specs.Prelude.{◌≡◌, IfOk, IsOk, OnErr, length};
+ghost use Rattle.std.specs.Prelude.{◌≡◌, IfOk, OnErr, length};
 ghost use Rattle.directory_rules.specs.Input.{step};
 ghost use Rattle.directory_rules.specs.Receive.{received};
 ghost use Rattle.node_plans.specs.Placed.{IsPlaced};
 ghost use Rattle.node_plans.specs.InputModel.{input_of};
 ghost use Rattle.node_plans.specs.Follows.{Follows};
 ghost use Rattle.node_plans.specs.Numbers.{step_refusal_number};
-ghost use Rattle.node_plans.specs.Plans.{Fits, answer_count, changed, step_by};
+ghost use Rattle.node_plans.specs.Plans.{Fits, answer_count, step_by};
 ghost use Rattle.directory_node.specs.Memory.{Counts, MayLackMemory};
-ghost use Rattle.directory_node.specs.SteppedModel.{stepped_of};
 
-use crate::{Change, Input, Node, Plan, StepRefusal};
+use crate::{Input, Node, Plan, StepRefusal};
 use directory_letters::{Body, Letter};
 use directory_rules::Effect;
 use node_plans::member_count;
 use std::alloc::{AllocError, Global};
 
-/// What a step makes: the new node, the letters that it sends, in order, and what it did.
-#[derive(Drop)]
-pub struct Stepped {
-    pub node: Node,
-    pub letters: Vec<Letter>,
-    pub effect: Effect,
-}
-
 impl Node {
-    /// The silo's step with an input, which leaves this node as it is. Refused as the rule says of each input
-    /// (`docs/RULES.md#the-world`). A sight asks that the places are known of all who are Active in the view, or in the one before,
-    /// and that the node's ring is its view's by these places: it is, where the node saw its view by them.
-    /// Costs a copy of the node: whoever has the node to change plans the step and carries it out.
-    pub fn step(&self, alloc: Global, input: &Input<'_>) -> Result<Stepped, StepRefusal>
-        requires placed { IsPlaced self.now (input_of input.now) }
-        ensures { Follows stepped_of step_refusal_number IsOk (step self.now (input_of input.now)) result }
-    {
-        let plan = self.plan(alloc, input)?;
-        match self.stepped(plan) {
-            Ok(stepped) => Ok(stepped),
-            Err(_) => Err(StepRefusal::OutOfMemory),
-        }
-    }
-
-    // A copy of this node that carried the plan out.
-    fn stepped(&self, plan: Plan) -> Result<Stepped, AllocError>
-        requires fits { Fits plan.change self.now }
-        ensures { IfOk result (λ stepped. stepped_of stepped ≡ step_by self.now plan) }
-    {
-        let Plan {
-            letters,
-            effect,
-            change,
-        } = plan;
-        let node = self.changed_by(change)?;
-        Ok(Stepped {
-            node,
-            letters,
-            effect,
-        })
-    }
-
-    // A copy of this node with the change made.
-    fn changed_by(&self, change: Change) -> Result<Node, AllocError>
-        requires fits { Fits change self.now }
-        ensures { IfOk result (λ node. node ≡ changed change self.now) }
-    {
-        match self.copy() {
-            Ok(mut node) => match node.carry_out(change) {
-                Ok(()) => Ok(node),
-                Err(error) => {
-                    drop(node);
-                    Err(error)
-                }
-            },
-            Err(error) => {
-                drop(change);
-                Err(error)
-            }
-        }
-    }
-
     /// The silo's step with an input, as a plan: what it sends and does, and the change that `carry_out` then makes. Refused
-    /// as the rule says of each input (`docs/RULES.md#the-world`). Out of memory comes only at an input that isn't refused:
-    /// where letters are sent, at a report that counts, and at a sight; never at a letter of which nothing comes.
+    /// as the rule says of each input (`docs/RULES.md#the-world`). A sight asks that the places are known of all who are Active in
+    /// the view, or in the one before, and that the node's ring is its view's by these places: it is, where the node saw its view
+    /// by them. Out of memory comes only at an input that isn't refused: where letters are sent, at a report that counts, and at a
+    /// sight; never at a letter of which nothing comes.
     pub fn plan(&self, alloc: Global, input: &Input<'_>) -> Result<Plan, StepRefusal>
         requires placed { IsPlaced self.now (input_of input.now) }
         ensures planned { Follows (step_by self.now) step_refusal_number (MayLackMemory self.now (input_of input.now)) (step self.now (input_of input.now)) result }
