@@ -6,13 +6,17 @@ use Rattle.silo_address.specs.StatedHash.{stated_hash}
 use Rattle.ring_range.specs.Cut.{cut_parts}
 use Rattle.directory_rules.specs.Happens.{happens}
 use Rattle.directory_rules.specs.Run.{run}
-use Rattle.progress_rules.specs.Worked.{PlanComputes}
+use Rattle.progress_rules.specs.Worked.{LimitsCompute, PlanComputes}
 use Rattle.progress_rules.specs.Hasty.{HastyNudgesWait}
 use Rattle.progress_rules.specs.Wrong.{ComesBackAlone, QueryOfTheVersionIsBehind, ReportIsNotStruckOff}
 
 pub plan_computed : PlanComputes
 unfolding run happens cut_parts stated_hash digits sha256 hash_after compress rounds schedule first_words digest_bytes
 plan_computed = refl
+
+pub limits_computed : LimitsCompute
+unfolding run happens cut_parts stated_hash digits sha256 hash_after compress rounds schedule first_words digest_bytes
+limits_computed = refl
 
 pub hasty_nudges_computed : HastyNudgesWait
 unfolding run happens cut_parts stated_hash digits sha256 hash_after compress rounds schedule first_words digest_bytes

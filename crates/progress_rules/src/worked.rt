@@ -1,11 +1,12 @@
 //! Worked runs: one that comes back, and one that doesn't, for it is nudged too soon.
-ghost use Rattle.progress_rules.specs.Worked.{PlanComputes};
+ghost use Rattle.progress_rules.specs.Worked.{LimitsCompute, PlanComputes};
 ghost use Rattle.progress_rules.specs.Hasty.{HastyNudgesWait};
 
 /// Two silos, of which one has a range that isn't settled, an activation that asks, and a find that waits, its first letter lost: after
-/// the plan all is settled, and nobody waits.
+/// the plan all is settled, and nobody waits. And each limit refuses the plan where it is low.
 pub fn plan_computes()
-    ensures { PlanComputes }
+    ensures plan { PlanComputes }
+    ensures limits { LimitsCompute }
 {}
 
 /// A silo that is nudged again before its request has come to its owner, and again before the reply comes back, waits still, though
