@@ -1,0 +1,5 @@
+use Rattle.progress_rules.proofs.BackInOrder.{comes_back_in_any_order}
+use Rattle.progress_rules.proofs.laws.comes_back_in_any_order.Goals as goal
+
+pub returns : goal.returns
+returns c = comes_back_in_any_order
