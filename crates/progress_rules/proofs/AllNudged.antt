@@ -56,7 +56,7 @@ use Rattle.progress_rules.proofs.Answering.{IsAnswering, IsBrought, not_past, no
 use Rattle.progress_rules.proofs.SecondRound.{served_below}
 
 -- silos that are still to be nudged are apart
-abbrev Apart : List (Silo × Node) → Type 0
+abbrev pub Apart : List (Silo × Node) → Type 0
 Apart those = AllPairs (λ e later. e.0 ≢ later.0) those
 
 pub record IsNudgingOn (those : List (Silo × Node)) (world : World) : Type 0 where
@@ -243,7 +243,7 @@ nudge_on world e es accepted is_silo n ok =
     (nudges_on world e.0 e.1 es accepted n.answering n.apart rests s (subst (λ (t : Stepped). InNumbers t.node.host) (nudge_is s.node s.stepped s.made) sorted))
 
 -- ---- the start
-sorted_apart : (nodes : List (Silo × Node)) → IsStrictlySortedBy silo_cmp (keys_of nodes) → Apart nodes
+pub sorted_apart : (nodes : List (Silo × Node)) → IsStrictlySortedBy silo_cmp (keys_of nodes) → Apart nodes
 unfolding IsStrictlySortedBy
 sorted_apart [] sorted = λ i j d lt below. absurd (omega (arith, below))
 sorted_apart (e ∷ es) sorted = AllPairs-cons (λ (a later : Silo × Node). a.0 ≢ later.0) e es (others es sorted.0) (sorted_apart es sorted.1)

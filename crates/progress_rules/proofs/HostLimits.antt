@@ -26,13 +26,13 @@ use Rattle.directory_facts.proofs.Ways.{Ways}
 use Rattle.directory_facts.proofs.EachStep.{by_way}
 
 -- ---- how long lists get
-removed_few : {K X : Type 0} (test : K → Bool) (es : List (K × X)) → length (remove_entry test es) ≤ length es
+pub removed_few : {K X : Type 0} (test : K → Bool) (es : List (K × X)) → length (remove_entry test es) ≤ length es
 removed_few test [] = omega arith
 removed_few test (e ∷ es) =
     let rest = removed_few test es in
     on_bool (λ b. length (cond b es (e ∷ remove_entry test es)) ≤ length (e ∷ es)) (test e.0) (λ t. omega arith) (λ f. omega (arith, rest))
 
-put_few : {K X : Type 0} (R : K → K → Ordering) (es : List (K × X)) (key : K) (value : X) → length (insert_entry R es key value) ≤ length es + 1
+pub put_few : {K X : Type 0} (R : K → K → Ordering) (es : List (K × X)) (key : K) (value : X) → length (insert_entry R es key value) ≤ length es + 1
 put_few R [] key value = omega arith
 put_few R (e ∷ es) key value = by (R key e.0) (put_few R es key value)
   where
@@ -42,7 +42,7 @@ put_few R (e ∷ es) key value = by (R key e.0) (put_few R es key value)
     by Equal rest = omega arith
     by Greater rest = omega (arith, rest)
 
-all_put_few : (es xs : List (ℕ × Act)) → length (fold (λ acts e. insert_entry nat_cmp acts e.0 e.1) es xs) ≤ length xs + length es
+pub all_put_few : (es xs : List (ℕ × Act)) → length (fold (λ acts e. insert_entry nat_cmp acts e.0 e.1) es xs) ≤ length xs + length es
 all_put_few es [] = omega arith
 all_put_few es (x ∷ xs) =
     let one = put_few nat_cmp es x.0 x.1 in

@@ -1,0 +1,196 @@
+-- What a new owner sends when a page comes, or the word that there is none.
+use Rattle.std.proofs.Common.{arith, ◌≡◌, ◌≢◌, refl, sym, ap, subst, ◌∙◌, ℕ, ◌+◌, ◌*◌, ◌-◌, ◌≤◌, List, [], ◌++◌, length}
+use Rattle.std.specs.Prelude.{true, cond, ◌==◌, ◌&&◌, map, All, Some}
+use Rattle.std.specs.Option.{unwrap_or}
+use Rattle.std.specs.Ordering.{nat_cmp}
+use Rattle.std.specs.Map.{lookup}
+use Rattle.std.specs.BTreeMap.{is_at, insert_entry}
+use Rattle.std.proofs.lemmas.Bool.{eqb-true, ltb-true}
+use Rattle.std.proofs.lemmas.Cmp.{nat_cmp_total}
+use Rattle.std.proofs.lemmas.List.{length-map}
+use Rattle.std.proofs.lemmas.List.Sums.{count_by-le-length}
+use Rattle.std.proofs.lemmas.Map.Lookups.{exact_unsigned}
+use Rattle.std.proofs.lemmas.Map.Steps.{set_value_same}
+use Rattle.texts.proofs.Decided.{both}
+use Rattle.silo_address.specs.Silo.{Silo}
+use Rattle.silo_address.specs.declared.Entry.{Entry}
+use Rattle.ring_range.specs.Range.{Range}
+use Rattle.hash_ring.specs.declared.Hashing.{Hashing}
+use Rattle.directory_rules.specs.declared.effect.Effect.TheVariants as effect
+use Rattle.directory_rules.specs.declared.piece_state.PieceState.{PieceState}
+use Rattle.directory_rules.specs.declared.piece_state.PieceState.TheVariants as state
+use Rattle.directory_rules.specs.Membership.{members_of}
+use Rattle.directory_rules.specs.Table.{table_of, rise_by_grain, lie_in}
+use Rattle.directory_rules.specs.Snapshot.{Page}
+use Rattle.directory_rules.specs.Gatherings.{Gathering, Gathered, Wants_page, Has_all, Refuses, new_gathering, gathered}
+use Rattle.directory_rules.specs.Recovery.{Recovery, new_recovery}
+use Rattle.directory_rules.specs.Letter.{Letter, Ask_letter, Page_letter, Missing_letter, Query_letter}
+use Rattle.directory_rules.specs.Node.{Node}
+use Rattle.directory_rules.specs.Sent.{letter_to, gathering_of, recovery_of}
+use Rattle.directory_rules.specs.Step.{silently}
+use Rattle.directory_rules.specs.Transfer.{awaits, with_gathering, with_settled, gathered_by, is_page_awaited, paged, turned_to_recovery, querying, missing}
+use Rattle.directory_rules.proofs.Cases.{on_bool}
+use Rattle.directory_facts.specs.Pieces.{HasPieces}
+use Rattle.directory_facts.proofs.Collected.{GatheredSo, gathered_so}
+use Rattle.directory_facts.proofs.Lookups.{found_put, found_beside_put}
+use Rattle.progress_rules.specs.Gathers.{AwaitsFrom}
+use Rattle.progress_rules.specs.Room.{is_question, pages_shelved}
+use Rattle.progress_rules.proofs.Gathers.{HasAwaiting, awaiting_piece}
+use Rattle.progress_rules.proofs.Sums.{le_same}
+use Rattle.progress_rules.proofs.Questions.{IsQuestion, questions_offer_none, query_questions}
+use Rattle.progress_rules.proofs.Falls.{need_of, Falls, nothing, settled_beside, turned_beside, need_set}
+
+module _ (due : Silo → Range → ℕ) (n : ℕ) (hashing : Hashing) (node : Node) (has : HasPieces hashing node) (letter : Letter) where
+  -- what the piece needed
+  waited : (range : Range) (its : HasAwaiting node range letter.from)
+      → need_of due n node its.piece.state its.piece.range ≡ 2 * (due letter.from range - (gathering_of node range).next) + 2 * n
+  waited range its = ap (λ (s : PieceState). need_of due n node s its.piece.range) its.awaiting ∙ ap (λ (r : Range). need_of due n node (state.Awaiting letter.from) r) its.same
+
+  -- ---- a page
+  module _ (page : Page) (counts : is_page_awaited node letter page ≡ true) where
+    pub waits : AwaitsFrom node page.range letter.from
+    waits =
+        let all = both ((page.version == letter.version) && awaits node letter.version page.range letter.from && rise_by_grain
+        ((gathering_of node page.range).entries ++ page.entries)) (lie_in node.settings.hashing page.range page.entries) counts in
+        let three = both ((page.version == letter.version) && awaits node letter.version page.range letter.from)
+        (rise_by_grain ((gathering_of node page.range).entries ++ page.entries)) all.0 in
+        let two = both (page.version == letter.version) (awaits node letter.version page.range letter.from) three.0 in
+        (both (letter.version == node.view.version) _ two.1).1
+
+    pub of_version : page.version ≡ node.view.version
+    of_version =
+        let all = both ((page.version == letter.version) && awaits node letter.version page.range letter.from && rise_by_grain
+        ((gathering_of node page.range).entries ++ page.entries)) (lie_in node.settings.hashing page.range page.entries) counts in
+        let three = both ((page.version == letter.version) && awaits node letter.version page.range letter.from)
+        (rise_by_grain ((gathering_of node page.range).entries ++ page.entries)) all.0 in
+        let two = both (page.version == letter.version) (awaits node letter.version page.range letter.from) three.0 in
+        eqb-true page.version letter.version two.0 ∙ eqb-true letter.version node.view.version (both (letter.version == node.view.version) _ two.1).0
+
+    its : HasAwaiting node page.range letter.from
+    its = awaiting_piece node page.range letter.from waits
+
+    module _ (told : page.pages ≤ due letter.from page.range) where
+      -- more are wanted: the next one is asked for
+      goes_on : (gathering : Gathering) → GatheredSo (gathering_of node page.range) page (Wants_page gathering)
+          → Falls due n node (Page_letter page) (gathered_by (Wants_page gathering) letter page.range node)
+      goes_on gathering so = record {
+        sends =
+            let before = waited page.range its in
+            let after_need = ap (λ (s : PieceState). need_of due n after s its.piece.range) its.awaiting
+            ∙ ap (λ (r : Range). need_of due n after (state.Awaiting letter.from) r) its.same in
+            let set = need_set due n hashing node has after page.range its.piece its.piece its.found
+            (sym (set_value_same (is_at (nat_cmp page.range.start)) node.holding.pieces its.piece its.found)) beside in
+            let next = ap (λ (g : Gathering). g.next) put in
+            let stepped_on = ap (λ (g : Gathering). g.next) so.1 in
+            let turn = so.0.next in
+            let below = ltb-true page.page page.pages so.0.below in
+            omega (arith, before, after_need, set, next, stepped_on, turn, below, told);
+        begins = omega arith;
+        no_offers = refl;
+        shelves = λ silo version range. le_same (pages_shelved (Some node) silo version range);
+        silo_is = refl;
+        view_is = refl;
+      }
+        where
+          after : Node
+          after = with_gathering node gathering
+
+          ask : Letter
+          ask = letter_to letter.from after (Ask_letter page.range (gathering_of after page.range).next)
+
+          same_start : gathering.range.start ≡ page.range.start
+          same_start = ap (λ (g : Gathering). g.range.start) so.1 ∙ ap (λ (r : Range). r.start) (sym so.0.range)
+
+          put : gathering_of after page.range ≡ gathering
+          put =
+              ap (λ k. unwrap_or (lookup (is_at (nat_cmp page.range.start)) (insert_entry nat_cmp node.gatherings k gathering))
+              (new_gathering node.view.version page.range)) same_start
+              ∙ ap (λ o. unwrap_or o (new_gathering node.view.version page.range)) (found_put nat_cmp nat_cmp_total exact_unsigned page.range.start gathering node.gatherings)
+
+          beside : (other : Range) → other.start ≢ page.range.start → gathering_of after other ≡ gathering_of node other
+          beside other apart =
+              ap (λ o. unwrap_or o (new_gathering node.view.version other))
+              (found_beside_put nat_cmp nat_cmp_total exact_unsigned gathering.range.start gathering node.gatherings other.start
+              (subst (λ k. other.start ≢ k) (sym same_start) apart))
+
+      -- all are there: the giver is told
+      ends : (entries : List Entry) → GatheredSo (gathering_of node page.range) page (Has_all entries)
+          → Falls due n node (Page_letter page) (gathered_by (Has_all entries) letter page.range node)
+      ends entries so = record {
+        sends =
+            let before = waited page.range its in
+            let set = need_set due n hashing node has (with_settled node page.range (table_of entries)) page.range its.piece
+            (record { range = page.range; state = state.Settled; entries = table_of entries }) its.found refl
+            (λ other apart. settled_beside node page.range other (table_of entries) apart) in
+            let turn = so.0.next in
+            let below = ltb-true page.page page.pages so.0.below in
+            omega (arith, before, set, turn, below, told);
+        begins = omega arith;
+        no_offers = refl;
+        shelves = λ silo version range. le_same (pages_shelved (Some node) silo version range);
+        silo_is = refl;
+        view_is = refl;
+      }
+
+      pub by_gathered : (result : Gathered) → gathered (gathering_of node page.range) page ≡ result → ((left : Gathering) → result ≡ Refuses 701 left → ⊥)
+          → Falls due n node (Page_letter page) (gathered_by result letter page.range node)
+      by_gathered (Wants_page gathering) is kept = goes_on gathering (subst (GatheredSo (gathering_of node page.range) page) is (gathered_so (gathering_of node page.range) page))
+      by_gathered (Has_all entries) is kept = ends entries (subst (GatheredSo (gathering_of node page.range) page) is (gathered_so (gathering_of node page.range) page))
+      by_gathered (Refuses number left) is kept =
+          on_bool (λ b. (number == 701) ≡ b → Falls due n node (Page_letter page) (cond b (silently (with_gathering node left) (effect.Refused 701))
+          (silently node effect.Ignored))) (number == 701)
+          (λ t so. absurd (kept left (ap (λ k. Refuses k left) (eqb-true number 701 so)))) (λ f so. nothing due n node (Page_letter page) effect.Ignored) refl
+
+  -- whatever the page: those that are due are no fewer than it says, and none is refused by its digest
+  pub page_falls : (page : Page) → (is_page_awaited node letter page ≡ true → page.pages ≤ due letter.from page.range)
+      → ((left : Gathering) → is_page_awaited node letter page ≡ true → gathered (gathering_of node page.range) page ≡ Refuses 701 left → ⊥)
+      → Falls due n node (Page_letter page) (paged node letter page)
+  page_falls page told kept =
+      on_bool (λ b. is_page_awaited node letter page ≡ b
+      → Falls due n node (Page_letter page) (cond b (gathered_by (gathered (gathering_of node page.range) page) letter page.range node) (silently node effect.Ignored)))
+      (is_page_awaited node letter page)
+      (λ t counts. by_gathered page counts (told counts) (gathered (gathering_of node page.range) page) refl (λ left is. kept left counts is))
+      (λ f not. nothing due n node (Page_letter page) effect.Ignored) refl
+
+  -- ---- there is none: all silos are asked
+  turns : (range : Range) → length (members_of node.view) ≤ n → AwaitsFrom node range letter.from
+      → Falls due n node (Missing_letter range) (querying range (turned_to_recovery node range))
+  turns range few waits = record {
+    sends =
+        let before = waited range its in
+        let set = need_set due n hashing node has after range its.piece (record { range = range; state = state.Recovering; entries = [] }) its.found refl
+        (λ other apart. turned_beside node range other apart) in
+        let asks = count_by-le-length (λ (l : Letter). is_question l.body) letters in
+        let sent = length-map (recovery_of after range).awaiting query ∙ ap (λ (r : Recovery). length r.awaiting) recovers in
+        omega (arith, before, set, asks, sent, few);
+    begins = omega arith;
+    no_offers = questions_offer_none letters all;
+    shelves = λ silo version other. le_same (pages_shelved (Some node) silo version other);
+    silo_is = refl;
+    view_is = refl;
+  }
+    where
+      its : HasAwaiting node range letter.from
+      its = awaiting_piece node range letter.from waits
+
+      after : Node
+      after = turned_to_recovery node range
+
+      query : Silo → Letter
+      query silo = letter_to silo after (Query_letter range)
+
+      letters : List Letter
+      letters = map query (recovery_of after range).awaiting
+
+      recovers : recovery_of after range ≡ new_recovery node.view range
+      recovers = ap (λ o. unwrap_or o (new_recovery node.view range)) (found_put nat_cmp nat_cmp_total exact_unsigned range.start (new_recovery node.view range) node.recoveries)
+
+      all : All IsQuestion letters
+      all = query_questions after range
+
+  pub missing_falls : (range : Range) → length (members_of node.view) ≤ n → Falls due n node (Missing_letter range) (missing node letter range)
+  missing_falls range few =
+      on_bool (λ b. awaits node letter.version range letter.from ≡ b
+      → Falls due n node (Missing_letter range) (cond b (querying range (turned_to_recovery node range)) (silently node effect.Ignored)))
+      (awaits node letter.version range letter.from)
+      (λ t waits. turns range few (both (letter.version == node.view.version) _ waits).1) (λ f not. nothing due n node (Missing_letter range) effect.Ignored) refl

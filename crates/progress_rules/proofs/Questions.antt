@@ -1,0 +1,58 @@
+-- Questions: requests, asks and queries. They are no offers, and are what a node sends of its own for what it waits for.
+use Rattle.std.proofs.Common.{arith, ◌≡◌, refl, ap, ℕ, List, [], ◌∷◌}
+use Rattle.std.specs.Prelude.{true, false, cond, flat_map, All, Option, Some, None}
+use Rattle.std.proofs.lemmas.List.Elements.{All-nil, All-cons, All-head, All-tail, All-append, All-map}
+use Rattle.std.proofs.lemmas.List.Sums.{sum_by-cons}
+use Rattle.silo_address.specs.Silo.{Silo}
+use Rattle.ring_range.specs.Range.{Range}
+use Rattle.directory_rules.specs.declared.act.Act.{Act}
+use Rattle.directory_rules.specs.declared.piece_state.PieceState.{PieceState}
+use Rattle.directory_rules.specs.declared.piece_state.PieceState.TheVariants as state
+use Rattle.directory_rules.specs.Piece.{Piece}
+use Rattle.directory_rules.specs.Host.{outstanding}
+use Rattle.directory_rules.specs.Letter.{Letter, Body, Request_letter, Ask_letter, Query_letter, Offer_letter}
+use Rattle.directory_rules.specs.Node.{Node}
+use Rattle.directory_rules.specs.Sent.{letter_to, letter_if_owned, owner_by, hash_of, request_of, request_letters, gathering_of, recovery_of, query_letters, wants_by, all_requests, all_wants}
+use Rattle.progress_rules.specs.Room.{is_question, is_offer}
+use Rattle.progress_rules.proofs.FreshWith.{sent_with}
+
+abbrev pub IsQuestion : Letter → Type 0
+IsQuestion letter = is_question letter.body ≡ true
+
+not_offer : (body : Body) → is_question body ≡ true → is_offer body ≡ false
+not_offer (Offer_letter entry) is = absurd (cc (is))
+not_offer body is = refl
+
+pub questions_offer_none : (letters : List Letter) → All IsQuestion letters → sent_with is_offer letters ≡ 0
+questions_offer_none [] all = refl
+questions_offer_none (letter ∷ letters) all =
+    let here = ap (λ b. cond {A = ℕ} b 1 0) (not_offer letter.body (All-head IsQuestion letter letters all)) in
+    let rest = questions_offer_none letters (All-tail IsQuestion letter letters all) in
+    let parts = sum_by-cons (λ (l : Letter). cond {A = ℕ} (is_offer l.body) 1 0) letter letters in
+    omega (arith, here, rest, parts)
+
+-- ---- what a node asks
+all_flat : {X : Type 0} (P : Letter → Type 0) (f : X → List Letter) → ((x : X) → All P (f x)) → (xs : List X) → All P (flat_map f xs)
+all_flat P f each [] = All-nil P
+all_flat P f each (x ∷ xs) = All-append P (f x) (flat_map f xs) (each x) (all_flat P f each xs)
+
+owned_question : (o : Option Silo) (node : Node) (number : ℕ) (act : Act) → All IsQuestion (letter_if_owned o node (Request_letter (request_of node number act)))
+owned_question None node number act = All-nil IsQuestion
+owned_question (Some owner) node number act = All-cons IsQuestion (letter_to owner node (Request_letter (request_of node number act))) [] refl (All-nil IsQuestion)
+
+pub sent_question : (node : Node) (number : ℕ) (act : Act) → All IsQuestion (request_letters node number act)
+sent_question node number act = owned_question (owner_by node (hash_of node act)) node number act
+
+pub request_questions : (node : Node) → All IsQuestion (all_requests node)
+request_questions node = all_flat IsQuestion (λ (e : ℕ × Act). request_letters node e.0 e.1) (λ e. sent_question node e.0 e.1) (outstanding node.host)
+
+pub query_questions : (node : Node) (range : Range) → All IsQuestion (query_letters node range)
+query_questions node range = All-map IsQuestion (λ silo. letter_to silo node (Query_letter range)) (recovery_of node range).awaiting (λ k d below. refl)
+
+wanted_questions : (its : PieceState) (node : Node) (range : Range) → All IsQuestion (wants_by its node range)
+wanted_questions state.Settled node range = All-nil IsQuestion
+wanted_questions (state.Awaiting from) node range = All-cons IsQuestion (letter_to from node (Ask_letter range (gathering_of node range).next)) [] refl (All-nil IsQuestion)
+wanted_questions state.Recovering node range = query_questions node range
+
+pub want_questions : (node : Node) → All IsQuestion (all_wants node)
+want_questions node = all_flat IsQuestion (λ (e : ℕ × Piece). wants_by e.1.state node e.1.range) (λ e. wanted_questions e.1.state node e.1.range) node.holding.pieces

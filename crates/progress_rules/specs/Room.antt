@@ -1,0 +1,132 @@
+-- How many letters the plan needs, counted where each live silo has seen the current view.
+use Rattle.std.specs.Prelude.{◌≡◌, ℕ, ◌+◌, ◌*◌, ◌-◌, ◌≤◌, ◌&&◌, Bool, true, false, List, All, length, sum_by, count_by, find, Option, Some, None, Ok}
+use Rattle.std.specs.Map.{values_of}
+use Rattle.silo_address.specs.Silo.{Silo}
+use Rattle.ring_range.specs.Range.{Range}
+use Rattle.directory_rules.specs.declared.piece_state.PieceState.{PieceState}
+use Rattle.directory_rules.specs.declared.piece_state.PieceState.TheVariants.{Settled, Awaiting, Recovering}
+use Rattle.directory_rules.specs.Settings.{Settings, AreSettings}
+use Rattle.directory_rules.specs.Snapshot.{Snapshot, page_count, is_snapshot}
+use Rattle.directory_rules.specs.Host.{outstanding}
+use Rattle.directory_rules.specs.Letter.{Body, Request_letter, Reply_letter, Ask_letter, Page_letter, Missing_letter, Done_letter, Query_letter, Report_letter, Behind_letter, Ahead_letter, Offer_letter}
+use Rattle.directory_rules.specs.Node.{Node}
+use Rattle.directory_rules.specs.Sent.{gathering_of, recovery_of}
+use Rattle.directory_rules.specs.Event.{Event, IsEvent}
+use Rattle.directory_rules.specs.World.{World}
+use Rattle.directory_rules.specs.Happens.{node_of}
+use Rattle.directory_rules.specs.Run.{run_from_start}
+use Rattle.progress_rules.specs.Plan.{synced, plan, IsBack, IsBackUnowned}
+use Rattle.progress_rules.specs.Limits.{NumbersSuffice, HasActive}
+
+-- ---- what is still to come
+-- whether a letter is answered: a request, an ask or a query
+abbrev pub is_question : Body → Bool
+is_question (Request_letter request) = true
+is_question (Reply_letter number reply) = false
+is_question (Ask_letter range page) = true
+is_question (Page_letter page) = false
+is_question (Missing_letter range) = false
+is_question (Done_letter range) = false
+is_question (Query_letter range) = true
+is_question (Report_letter report) = false
+is_question (Behind_letter range) = false
+is_question (Ahead_letter range) = false
+is_question (Offer_letter entry) = false
+
+-- whether it is an offer, which begins an activation
+abbrev pub is_offer : Body → Bool
+is_offer (Request_letter request) = false
+is_offer (Reply_letter number reply) = false
+is_offer (Ask_letter range page) = false
+is_offer (Page_letter page) = false
+is_offer (Missing_letter range) = false
+is_offer (Done_letter range) = false
+is_offer (Query_letter range) = false
+is_offer (Report_letter report) = false
+is_offer (Behind_letter range) = false
+is_offer (Ahead_letter range) = false
+is_offer (Offer_letter entry) = true
+
+-- how many fresh letters there are of such a body
+abbrev pub fresh_with : (Body → Bool) → World → ℕ
+fresh_with test world = count_by (λ posted. posted.fresh && test posted.letter.body) (values_of world.mail)
+
+-- ---- what is waited for
+-- the sum over all live silos, and over a silo's pieces
+abbrev pub over_nodes : (Node → ℕ) → World → ℕ
+over_nodes count world = sum_by count (values_of world.nodes)
+
+abbrev pub over_pieces : (PieceState → Range → ℕ) → Node → ℕ
+over_pieces count node = sum_by (λ piece. count piece.state piece.range) (values_of node.holding.pieces)
+
+-- the requests that are outstanding
+abbrev pub requests_out : World → ℕ
+requests_out world = over_nodes (λ node. length (outstanding node.host)) world
+
+-- the reports that a piece misses
+abbrev pub missing_of : Node → PieceState → Range → ℕ
+missing_of node Settled range = 0
+missing_of node (Awaiting from) range = 0
+missing_of node Recovering range = length (recovery_of node range).awaiting
+
+abbrev pub reports_missing : World → ℕ
+reports_missing world = over_nodes (λ node. over_pieces (missing_of node) node) world
+
+-- the pieces that await a snapshot
+abbrev pub awaits_one : PieceState → Range → ℕ
+awaits_one Settled range = 0
+awaits_one (Awaiting from) range = 1
+awaits_one Recovering range = 0
+
+abbrev pub snapshots_awaited : World → ℕ
+snapshots_awaited world = over_nodes (λ node. over_pieces awaits_one node) world
+
+-- ---- the pages of those that are still to come
+-- how many pages the giver's snapshot of that version and range has for the silo, as its shelf has it
+abbrev pub pages_of : Option Snapshot → ℕ
+pages_of None = 0
+pages_of (Some snapshot) = page_count (length snapshot.entries)
+
+abbrev pub pages_shelved : Option Node → (silo : Silo) (version : ℕ) → Range → ℕ
+pages_shelved None silo version range = 0
+pages_shelved (Some giver) silo version range = pages_of (find (is_snapshot version range silo) giver.shelf)
+
+-- those of them that a piece hasn't had yet
+abbrev pub pages_left : World → Node → PieceState → Range → ℕ
+pages_left world node Settled range = 0
+pages_left world node (Awaiting giver) range = pages_shelved (node_of world giver) node.host.silo node.view.version range - (gathering_of node range).next
+pages_left world node Recovering range = 0
+
+abbrev pub pages_awaited : World → ℕ
+pages_awaited world = over_nodes (λ node. over_pieces (pages_left world node) node) world
+
+-- ---- the bounds
+-- So many letters the plan needs at most. Each question that is fresh, or that a nudge sends, is a letter and has an answer; an offer makes
+-- a request; a page is asked for and answered; where there is no snapshot, each live silo is asked; and in the second round what is still
+-- outstanding is asked once more.
+abbrev pub letters_needed : World → ℕ
+letters_needed world =
+    fresh_with is_question world + 2 * fresh_with is_offer world + 2 * requests_out world + 2 * reports_missing world + 2 * snapshots_awaited world + 2 * pages_awaited world
+    + 2 * snapshots_awaited world * length world.nodes + 2 * (requests_out world + fresh_with is_offer world)
+
+-- and so many events: each live silo is nudged twice, and each letter comes that is fresh or is sent
+abbrev pub events_needed : World → ℕ
+events_needed world = 2 * length world.nodes + fresh_with (λ body. true) world + letters_needed world
+
+-- once each live silo has seen the current view, the plan sends no more
+abbrev pub PlanSendsAtMost : Type 0
+PlanSendsAtMost = (settings : Settings) (events : List Event) (seen after : World) → AreSettings settings → All IsEvent events
+    → synced (run_from_start settings events).world ≡ Ok seen → plan (run_from_start settings events).world ≡ Ok after → after.sent ≤ seen.sent + letters_needed seen
+
+-- so with room for so many letters and events no event of the plan is refused, and then all but the requests have come back
+abbrev pub ComesBackUnownedWithRoom : Type 0
+ComesBackUnownedWithRoom = (settings : Settings) (events : List Event) (seen : World) → AreSettings settings → NumbersSuffice settings → All IsEvent events
+    → synced (run_from_start settings events).world ≡ Ok seen → seen.sent + letters_needed seen ≤ settings.letters → seen.accepted + events_needed seen ≤ settings.events
+    → (after : World) × (plan (run_from_start settings events).world ≡ Ok after) × IsBackUnowned after
+
+-- and all, where there is an Active silo
+abbrev pub ComesBackWithRoom : Type 0
+ComesBackWithRoom = (settings : Settings) (events : List Event) (seen : World) → AreSettings settings → NumbersSuffice settings → All IsEvent events
+    → synced (run_from_start settings events).world ≡ Ok seen → HasActive seen → seen.sent + letters_needed seen ≤ settings.letters
+    → seen.accepted + events_needed seen ≤ settings.events
+    → (after : World) × (plan (run_from_start settings events).world ≡ Ok after) × IsBack after
