@@ -8,6 +8,7 @@ use Rattle.directory_rules.specs.Happens.{happens}
 use Rattle.directory_rules.specs.Run.{run}
 use Rattle.progress_rules.specs.Worked.{LimitsCompute, PlanComputes}
 use Rattle.progress_rules.specs.Hasty.{HastyNudgesWait}
+use Rattle.progress_rules.specs.RoomWorked.{BoundIsReached}
 use Rattle.progress_rules.specs.Wrong.{ComesBackAlone, QueryOfTheVersionIsBehind, ReportIsNotStruckOff}
 
 pub plan_computed : PlanComputes
@@ -21,6 +22,10 @@ limits_computed = refl
 pub hasty_nudges_computed : HastyNudgesWait
 unfolding run happens cut_parts stated_hash digits sha256 hash_after compress rounds schedule first_words digest_bytes
 hasty_nudges_computed = record { waits = refl; ends = refl }
+
+pub bound_reached : BoundIsReached
+unfolding run happens cut_parts stated_hash digits sha256 hash_after compress rounds schedule first_words digest_bytes
+bound_reached = refl
 
 pub comes_back_alone : ComesBackAlone
 unfolding run happens cut_parts stated_hash digits sha256 hash_after compress rounds schedule first_words digest_bytes

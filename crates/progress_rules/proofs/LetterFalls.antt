@@ -1,6 +1,6 @@
 -- What a node sends when a letter comes, whatever it says.
 use Rattle.std.proofs.Common.{arith, ◌≡◌, refl, ap, ℕ, ◌≤◌, List, [], ◌∷◌, length}
-use Rattle.std.specs.Prelude.{Bool, true, cond, not, ◌==◌, ◌&&◌, nat_lt, sum_by, Option, Some, None}
+use Rattle.std.specs.Prelude.{Bool, true, cond, ◌==◌, ◌&&◌, nat_lt, sum_by, Option, Some, None}
 use Rattle.std.specs.List.{list_all}
 use Rattle.std.proofs.lemmas.List.Elements.{All-weaker}
 use Rattle.texts.proofs.Decided.{both}
