@@ -30,7 +30,8 @@ use Rattle.progress_rules.proofs.Flying.{least_is}
 use Rattle.progress_rules.proofs.Covered.{view_kept, still_seen}
 use Rattle.progress_rules.proofs.Rounds.{nudge_is}
 use Rattle.progress_rules.proofs.RoundOfPieces.{silos}
-use Rattle.progress_rules.proofs.AllNudged.{Apart, sorted_apart}
+use Rattle.progress_rules.proofs.NudgedOn.{Apart}
+use Rattle.progress_rules.proofs.AllNudged.{sorted_apart}
 use Rattle.progress_rules.proofs.Resting.{IsResting, rest_mail, rests_on, IsEnded, settles_least, nudging_keeps}
 use Rattle.progress_rules.proofs.Sums.{sum_plus}
 use Rattle.progress_rules.proofs.Potential.{potential, nodes_stay}

@@ -67,13 +67,16 @@ abbrev pub ComesBackInAnyOrderUnowned : Type 0
 ComesBackInAnyOrderUnowned = (settings : Settings) (events : List Event) (first : List ℕ) (orders : List (List ℕ)) (after : World) → AreSettings settings → All IsEvent events
     → and_then (synced (run_from_start settings events).world) (λ world. rounds_in (first ∷ orders) world) ≡ Ok after → IsBackUnowned after
 
--- Where all have seen the current view and settled all that they own, and no letter is to come, a round in any order ends each find, and of the
--- registrations and deregistrations that a silo has outstanding at one owner at least one.
+-- Where all have seen the current view and settled all that they own, and no letter is to come, a round in any order ends each find, and of
+-- the registrations and deregistrations that a silo has outstanding at one owner at least one.
 abbrev pub RoundsServe : Type 0
-RoundsServe = (settings : Settings) (events : List Event) (order : List ℕ) (after : World) → AreSettings settings → All IsEvent events → HaveSeen (world_by settings events) → AreSettled (world_by settings events) → least_deliverable (world_by settings events) ≡ None
-    → round_in order (world_by settings events) ≡ Ok after → HasOwners after → (silo : Silo) (before node : Node) → node_of (world_by settings events) silo ≡ Some before → node_of after silo ≡ Some node
+RoundsServe = (settings : Settings) (events : List Event) (order : List ℕ) (after : World) → AreSettings settings → All IsEvent events
+    → HaveSeen (world_by settings events) → AreSettled (world_by settings events) → least_deliverable (world_by settings events) ≡ None
+    → round_in order (world_by settings events) ≡ Ok after → HasOwners after
+    → (silo : Silo) (before node : Node) → node_of (world_by settings events) silo ≡ Some before → node_of after silo ≡ Some node
     → (node.host.finds ≡ []) × ((owner : Silo) → asked_of node owner ≤ asked_of before owner - 1)
 
 -- Least first is one of these orders.
 abbrev pub LeastFirstIsAnOrder : Type 0
-LeastFirstIsAnOrder = (settings : Settings) (events : List Event) (after : World) → round (world_by settings events) ≡ Ok after → (order : List ℕ) × (round_in order (world_by settings events) ≡ Ok after)
+LeastFirstIsAnOrder = (settings : Settings) (events : List Event) (after : World) → round (world_by settings events) ≡ Ok after
+    → (order : List ℕ) × (round_in order (world_by settings events) ≡ Ok after)
