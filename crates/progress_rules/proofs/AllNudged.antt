@@ -37,7 +37,8 @@ sorted_apart (e ∷ es) sorted = AllPairs-cons (λ (a later : Silo × Node). a.0
     others : (es : List (Silo × Node)) → AllByRecursion (λ y. silo_cmp e.0 y ≡ Less) (keys_of es) → All (λ x. e.0 ≢ x.0) es
     others [] above = All-nil (λ (x : Silo × Node). e.0 ≢ x.0)
     others (x ∷ xs) above =
-        All-cons (λ (y : Silo × Node). e.0 ≢ y.0) x xs (λ same. let tied = tied_itself silo_cmp_total e.0 in let less = ap (silo_cmp e.0) same ∙ above.0 in cc (tied, less)) (others xs above.1)
+        All-cons (λ (y : Silo × Node). e.0 ≢ y.0) x xs (λ same. let tied = tied_itself silo_cmp_total e.0 in let less = ap (silo_cmp e.0) same ∙ above.0 in cc (tied, less))
+        (others xs above.1)
 
 pub nodes_silos : (world : World) → IsResting world → All (λ e. IsSilo e.0) world.nodes
 nodes_silos world rests = subst (λ (w : World). All (λ e. IsSilo e.0) w.nodes) (sym rests.is) (silos rests.settings rests.events rests.are rests.named)

@@ -49,9 +49,11 @@ pub record IsStill (base world : World) : Type 0 where
 -- ---- the nudges leave each silo as many requests at each owner
 record IsFrom (base before world : World) : Type 0 where
   pub owners : HasOwnersOf base world
-  pub asks_as : (silo : Silo) (node : Node) → node_of world silo ≡ Some node → (own : Node) × (node_of before silo ≡ Some own) × ((owner : Silo) → asks base owner node.host ≡ asks base owner own.host)
+  pub asks_as : (silo : Silo) (node : Node) → node_of world silo ≡ Some node
+      → (own : Node) × (node_of before silo ≡ Some own) × ((owner : Silo) → asks base owner node.host ≡ asks base owner own.host)
 
-nudge_from : (base before world : World) (silo : Silo) (accepted : Accepted) → IsFrom base before world → happens world (Nudge silo) ≡ Ok accepted → IsFrom base before accepted.world
+nudge_from : (base before world : World) (silo : Silo) (accepted : Accepted) → IsFrom base before world → happens world (Nudge silo) ≡ Ok accepted
+    → IsFrom base before accepted.world
 nudge_from base before world silo accepted from ok = subst (IsFrom base before) (sym s.is) (record { owners = from.owners; asks_as = as_before })
   where
     s : IsStep world accepted.world silo Nudges
@@ -84,7 +86,8 @@ pub falls_or_none : (base world after : World) → Falls base world after → (s
     → (asks base owner node.host ≡ 0) ⊎ ((own : Node) × (node_of world silo ≡ Some own) × (asks base owner node.host + 1 ≤ asks base owner own.host))
 falls_or_none base world after falls silo node there owner = by (asks base owner node.host) refl
   where
-    by : (n : ℕ) → asks base owner node.host ≡ n → (asks base owner node.host ≡ 0) ⊎ ((own : Node) × (node_of world silo ≡ Some own) × (asks base owner node.host + 1 ≤ asks base owner own.host))
+    by : (n : ℕ) → asks base owner node.host ≡ n
+        → (asks base owner node.host ≡ 0) ⊎ ((own : Node) × (node_of world silo ≡ Some own) × (asks base owner node.host + 1 ≤ asks base owner own.host))
     by zero is = inl is
     by (suc n) is =
         let some = one_passes (λ (x : ℕ × Act). is_for base owner x.1) (requests_of node.host) (omega (arith, is)) in
@@ -95,17 +98,22 @@ record IsComingIn (base start world : World) : Type 0 where
   pub answering : IsAnswering false start [] world
   pub owners : HasOwnersOf base world
 
-comes_in : (base start world : World) (number : ℕ) (letter : Letter) (accepted : Accepted) → IsComingIn base start world → Flies world number letter → happens world (Deliver number) ≡ Ok accepted → IsComingIn base start accepted.world
+comes_in : (base start world : World) (number : ℕ) (letter : Letter) (accepted : Accepted) → IsComingIn base start world → Flies world number letter
+    → happens world (Deliver number) ≡ Ok accepted → IsComingIn base start accepted.world
 comes_in base start world number letter accepted i flies ok =
     let d = delivered world number accepted ok in
-    record { answering = comes_on false start world number letter accepted i.answering flies (λ so. absurd (cc (so))) ok; owners = λ act. ap (λ w. owner_in w act) d.is ∙ i.owners act }
+    record {
+      answering = comes_on false start world number letter accepted i.answering flies (λ so. absurd (cc (so))) ok;
+      owners = λ act. ap (λ w. owner_in w act) d.is ∙ i.owners act;
+    }
 
-module _ (base world next after : World) (still : IsStill base world) (from : IsFrom base world next) (e : IsEnded (IsComingIn base next) after) where
+module _ (base world next after : World) (from : IsFrom base world next) (e : IsEnded (IsComingIn base next) after) where
   numbered : (silo : Silo) (node : Node) → node_of after silo ≡ Some node → AreNumbered node.host
   numbered silo node there = (node_facts after e.kept.answering.rests silo node there).numbered
 
   -- one that was served is outstanding no more, so they are fewer
-  fewer_now : (silo : Silo) (node : Node) → node_of after silo ≡ Some node → (owner : Silo) → HasServed next after silo owner → (own : Node) × (node_of world silo ≡ Some own) × (asks base owner node.host + 1 ≤ asks base owner own.host)
+  fewer_now : (silo : Silo) (node : Node) → node_of after silo ≡ Some node → (owner : Silo) → HasServed next after silo owner
+      → (own : Node) × (node_of world silo ≡ Some own) × (asks base owner node.host + 1 ≤ asks base owner own.host)
   fewer_now silo node there owner served =
       let start = served.asked.0 in
       let was = from.asks_as silo start served.asked.1 in
@@ -143,7 +151,8 @@ round_falls base order world after still is = by (plan.nudged world) refl is
     by (Ok next) made is =
         let a = all_nudged world next still.rests still.settled still.none made in
         let from =
-        nudging_keeps (λ es w. IsFrom base world w) (λ now e es accepted silo from ok. nudge_from base world now e.0 accepted from ok) world.nodes world next (nodes_silos world still.rests)
+        nudging_keeps (λ es w. IsFrom base world w) (λ now e es accepted silo from ok. nudge_from base world now e.0 accepted from ok) world.nodes world next
+        (nodes_silos world still.rests)
         (record { owners = still.owners; asks_as = λ silo node there. (node, there, λ owner. refl) }) made in
         let e = settled_in_keeps (IsComingIn base next) (comes_in base next) order next after (record { answering = in_any_order next [] next a; owners = from.owners }) is in
-        (record { rests = e.kept.answering.rests; settled = e.kept.answering.settled; none = e.none; owners = e.kept.owners }, falls_so base world next after still from e)
+        (record { rests = e.kept.answering.rests; settled = e.kept.answering.settled; none = e.none; owners = e.kept.owners }, falls_so base world next after from e)

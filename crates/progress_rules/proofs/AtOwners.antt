@@ -49,7 +49,8 @@ owner_of world owner act is = by (owner_in world act) (both (is_numbered act) _ 
 
 -- as many where owners are the same
 pub asks_from : (world base : World) (owner : Silo) → ((act : Act) → owner_in world act ≡ owner_in base act) → (host : Host) → asks world owner host ≡ asks base owner host
-asks_from world base owner same host = same_tests (λ (e : ℕ × Act). is_for world owner e.1) (λ (e : ℕ × Act). is_for base owner e.1) (λ e. ap (λ o. is_numbered e.1 && is_owner owner o) (same e.1)) (requests_of host)
+asks_from world base owner same host = same_tests (λ (e : ℕ × Act). is_for world owner e.1) (λ (e : ℕ × Act). is_for base owner e.1)
+    (λ e. ap (λ o. is_numbered e.1 && is_owner owner o) (same e.1)) (requests_of host)
 
 -- ---- the acts are the same under new numbers
 abbrev acts_of : List (ℕ × Act) → List Act
@@ -65,20 +66,25 @@ held_same : (h : Host) (held : List (Grain × Held)) → acts_of (acts (renewed 
 held_same h [] = refl
 held_same h (e ∷ es) = act_same h e.1.phase e.0 e.1 (acts (renewed h) (map (λ x. (x.0, record x.1 { phase = renewed_phase h x.1.phase })) es)) (acts h es) (held_same h es)
 
-finds_same : (h : Host) (finds : List (ℕ × Grain)) → acts_of (map (λ (e : ℕ × Grain). (e.0, act.Find e.1)) (map (λ (e : ℕ × Grain). (new_number h e.0, e.1)) finds)) ≡ acts_of (map (λ (e : ℕ × Grain). (e.0, act.Find e.1)) finds)
+finds_same : (h : Host) (finds : List (ℕ × Grain))
+    → acts_of (map (λ (e : ℕ × Grain). (e.0, act.Find e.1)) (map (λ (e : ℕ × Grain). (new_number h e.0, e.1)) finds)) ≡ acts_of
+    (map (λ (e : ℕ × Grain). (e.0, act.Find e.1)) finds)
 finds_same h [] = refl
 finds_same h (e ∷ es) = ap (λ l. act.Find e.1 ∷ l) (finds_same h es)
 
 pub renewed_asks : (world : World) (owner : Silo) (h : Host) → asks world owner (renewed h) ≡ asks world owner h
-renewed_asks world owner h = mapped_count (λ (e : ℕ × Act). e.1) (is_for world owner) (requests_of (renewed h)) ∙ ap (count_by (is_for world owner)) same ∙ sym (mapped_count (λ (e : ℕ × Act). e.1) (is_for world owner) (requests_of h))
+renewed_asks world owner h = mapped_count (λ (e : ℕ × Act). e.1) (is_for world owner) (requests_of (renewed h)) ∙ ap (count_by (is_for world owner)) same
+    ∙ sym (mapped_count (λ (e : ℕ × Act). e.1) (is_for world owner) (requests_of h))
   where
     same : acts_of (requests_of (renewed h)) ≡ acts_of (requests_of h)
     same =
-        map-append (λ (e : ℕ × Act). e.1) (held_acts (renewed h)) (find_acts (renewed h)) ∙ ap (λ l. l ++ acts_of (find_acts (renewed h))) (held_same h h.held) ∙ ap (λ l. acts_of (held_acts h) ++ l) (finds_same h h.finds)
+        map-append (λ (e : ℕ × Act). e.1) (held_acts (renewed h)) (find_acts (renewed h)) ∙ ap (λ l. l ++ acts_of (find_acts (renewed h))) (held_same h h.held)
+        ∙ ap (λ l. acts_of (held_acts h) ++ l) (finds_same h h.finds)
         ∙ sym (map-append (λ (e : ℕ × Act). e.1) (held_acts h) (find_acts h))
 
 -- ---- and among what is outstanding, as each of a host's requests is
-pub asked_same : (world : World) (r : IsResting world) (silo : Silo) (node : Node) → node_of world silo ≡ Some node → (owner : Silo) → asked_of node owner ≡ asks world owner node.host
+pub asked_same : (world : World) (r : IsResting world) (silo : Silo) (node : Node) → node_of world silo ≡ Some node → (owner : Silo)
+    → asked_of node owner ≡ asks world owner node.host
 asked_same world r silo node there owner =
     let all = length-filter_both p q (λ x. refl) (requests_of node.host) in
     let all_out = length-filter_both p q (λ x. refl) (outstanding node.host) in
@@ -89,7 +95,8 @@ asked_same world r silo node there owner =
     let filtered_out = length-filter p (outstanding node.host) in
     let rest = length-filter q (requests_of node.host) in
     let rest_out = length-filter q (outstanding node.host) in
-    let tests = same_tests p (λ (e : ℕ × Act). is_for world owner e.1) (λ e. ap (λ o. is_numbered e.1 && is_owner owner o) (owner_seen world r silo node there e.1)) (requests_of node.host) in
+    let tests = same_tests p (λ (e : ℕ × Act). is_for world owner e.1) (λ e. ap (λ o. is_numbered e.1 && is_owner owner o) (owner_seen world r silo node there e.1))
+    (requests_of node.host) in
     omega (arith, all, all_out, many, some, others, filtered, filtered_out, rest, rest_out, tests)
   where
     p : ℕ × Act → Bool
@@ -102,4 +109,5 @@ asked_same world r silo node there owner =
     numbered = (node_facts world r silo node there).numbered
 
     no_fewer : (t : ℕ × Act → Bool) → count_by t (requests_of node.host) ≤ count_by t (outstanding node.host)
-    no_fewer t = no_more t (requests_of node.host) (outstanding node.host) (λ i j d lt below same. numbered.distinct i j d lt below (ap (λ (x : ℕ × Act). x.0) same)) (λ e owes. outstanding_has node.host numbered e owes)
+    no_fewer t = no_more t (requests_of node.host) (outstanding node.host) (λ i j d lt below same. numbered.distinct i j d lt below (ap (λ (x : ℕ × Act). x.0) same))
+        (λ e owes. outstanding_has node.host numbered e owes)

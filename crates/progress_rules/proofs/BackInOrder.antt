@@ -38,14 +38,16 @@ AtMost base most world = (silo : Silo) (node : Node) → node_of world silo ≡ 
 
 -- nor a find that has an owner
 abbrev FindsNone : (base world : World) → Type 0
-FindsNone base world = (silo : Silo) (node : Node) → node_of world silo ≡ Some node → (e : ℕ × Act) → Owes node.host e → (owner : Silo) → owner_in base e.1 ≡ Some owner → is_numbered e.1 ≡ true
+FindsNone base world = (silo : Silo) (node : Node) → node_of world silo ≡ Some node → (e : ℕ × Act) → Owes node.host e → (owner : Silo) → owner_in base e.1 ≡ Some owner
+    → is_numbered e.1 ≡ true
 
 record IsOver (base : World) (most : ℕ) (world : World) : Type 0 where
   pub still : IsStill base world
   pub at_most : AtMost base most world
   pub finds_none : FindsNone base world
 
-round_over : (base : World) (order : List ℕ) (most : ℕ) (world after : World) → IsStill base world → AtMost base (suc most) world → round_in order world ≡ Ok after → IsOver base most after
+round_over : (base : World) (order : List ℕ) (most : ℕ) (world after : World) → IsStill base world → AtMost base (suc most) world → round_in order world ≡ Ok after
+    → IsOver base most after
 round_over base order most world after still at_most is =
     let so = round_falls base order world after still is in
     record {
@@ -59,12 +61,14 @@ round_over base order most world after still at_most is =
     }
 
 -- what each round of so many more keeps, they keep
-rounds_keep : (I : ℕ → World → Type 0) → ((order : List ℕ) (more : ℕ) (world after : World) → I (suc more) world → round_in order world ≡ Ok after → I more after) → (orders : List (List ℕ)) (world after : World) → I (length orders) world → rounds_in orders world ≡ Ok after
+rounds_keep : (I : ℕ → World → Type 0) → ((order : List ℕ) (more : ℕ) (world after : World) → I (suc more) world → round_in order world ≡ Ok after → I more after)
+    → (orders : List (List ℕ)) (world after : World) → I (length orders) world → rounds_in orders world ≡ Ok after
     → I 0 after
 rounds_keep I k [] world after holds is = let same : world ≡ after = cc (is) in subst (I 0) same holds
 rounds_keep I k (order ∷ orders) world after holds is = by (round_in order world) refl (λ next now rest. rounds_keep I k orders next after now rest) is
   where
-    by : (r : Result World ℕ) → round_in order world ≡ r → ((next : World) → I (length orders) next → rounds_in orders next ≡ Ok after → I 0 after) → and_then r (λ next. rounds_in orders next) ≡ Ok after → I 0 after
+    by : (r : Result World ℕ) → round_in order world ≡ r → ((next : World) → I (length orders) next → rounds_in orders next ≡ Ok after → I 0 after)
+        → and_then r (λ next. rounds_in orders next) ≡ Ok after → I 0 after
     by (Err number) made later is = absurd (cc (is))
     by (Ok next) made later is = later next (k order (length orders) world next holds made) is
 
@@ -81,13 +85,15 @@ none_waits base after over owned silo node there =
         let owes : Owes node.host x = subst (λ (l : List (ℕ × Act)). Contains l x) (sym some) (some_in x xs) in
         let owner = some_owner (owner_in after x.1) (owned _) in
         let owns = sym (over.still.owners x.1) ∙ owner.1 in
-        let asks_one = some_pass (λ (e : ℕ × Act). is_for base owner.0 e.1) (requests_of node.host) x owes (for_owner base owner.0 x.1 (over.finds_none silo node there x owes owner.0 owns) owns) in
+        let asks_one = some_pass (λ (e : ℕ × Act). is_for base owner.0 e.1) (requests_of node.host) x owes
+        (for_owner base owner.0 x.1 (over.finds_none silo node there x owes owner.0 owns) owns) in
         let most = over.at_most silo node there owner.0 in
         omega (arith, asks_one, most)
 
 -- ---- the theorem
 -- after the first round
-still_first : (settings : Settings) (events : List Event) (first : List ℕ) (settled : World) → AreSettings settings → All IsEvent events → and_then (synced (world_by settings events)) (λ world. round_in first world) ≡ Ok settled → IsStill settled settled
+still_first : (settings : Settings) (events : List Event) (first : List ℕ) (settled : World) → AreSettings settings → All IsEvent events
+    → and_then (synced (world_by settings events)) (λ world. round_in first world) ≡ Ok settled → IsStill settled settled
 still_first settings events first settled are named is =
     let so = ranges_settled (λ world. settled_in first world) (any_settles first) settings events settled are named is in
     record { rests = so.0.kept.rests; settled = so.1; none = so.0.none; owners = λ act. refl }
@@ -100,18 +106,25 @@ comes_back_in_any_order settings events first orders settled after are named is 
   where
     back : IsOver settled 0 after → IsBack after
     back over = record {
-      nodes = λ silo node there. record { seen = seen_still settled after over.still silo node there; pieces = over.still.settled silo node there; waits_not = none_waits settled after over owned silo node there };
+      nodes = λ silo node there.
+          record {
+            seen = seen_still settled after over.still silo node there;
+            pieces = over.still.settled silo node there;
+            waits_not = none_waits settled after over owned silo node there;
+          };
       delivered = over.still.none;
     }
 
-    further : (order : List ℕ) (orders : List (List ℕ)) → AreAtMost (length (order ∷ orders)) settled → (r : Result World ℕ) → round_in order settled ≡ r → and_then r (λ next. rounds_in orders next) ≡ Ok after → IsBack after
+    further : (order : List ℕ) (orders : List (List ℕ)) → AreAtMost (length (order ∷ orders)) settled → (r : Result World ℕ) → round_in order settled ≡ r
+        → and_then r (λ next. rounds_in orders next) ≡ Ok after → IsBack after
     further order orders at_most (Err number) made is_rounds = absurd (cc (is_rounds))
     further order orders at_most (Ok next) made is_rounds =
         let still = still_first settings events first settled are named is in
         let over =
         round_over settled order (length orders) settled next still
         (λ silo node there owner. let few = at_most silo node owner there in let here = asked_same settled still.rests silo node there owner in omega (arith, few, here)) made in
-        back (rounds_keep (IsOver settled) (λ order more world after over made. round_over settled order more world after over.still over.at_most made) orders next after over is_rounds)
+        back (rounds_keep (IsOver settled)
+        (λ order more world after over made. round_over settled order more world after over.still over.at_most made) orders next after over is_rounds)
 
     by : (orders : List (List ℕ)) → AreAtMost (length orders) settled → 1 ≤ length orders → rounds_in orders settled ≡ Ok after → IsBack after
     by [] at_most some rounds = absurd (omega (arith, some))
@@ -121,7 +134,8 @@ comes_back_in_any_order settings events first orders settled after are named is 
 pub comes_back_in_any_order_unowned : ComesBackInAnyOrderUnowned
 comes_back_in_any_order_unowned settings events first orders after are named is = by (synced (world_by settings events)) refl is
   where
-    further : (world : World) → synced (world_by settings events) ≡ Ok world → (r : Result World ℕ) → round_in first world ≡ r → and_then r (λ next. rounds_in orders next) ≡ Ok after → IsBackUnowned after
+    further : (world : World) → synced (world_by settings events) ≡ Ok world → (r : Result World ℕ) → round_in first world ≡ r
+        → and_then r (λ next. rounds_in orders next) ≡ Ok after → IsBackUnowned after
     further world seen (Err number) made is = absurd (cc (is))
     further world seen (Ok settled) made is =
         let still = still_first settings events first settled are named (ap (λ (r : Result World ℕ). and_then r (λ w. round_in first w)) seen ∙ made) in
@@ -146,7 +160,9 @@ rounds_serve settings events order after are named have all none is owned silo b
     no_finds [] are = are
     no_finds (x ∷ xs) are =
         let owes : Owes node.host (x.0, act.Find x.1) =
-        Contains-append_right (held_acts node.host) (find_acts node.host) (x.0, act.Find x.1) (subst (λ (l : List (ℕ × Grain)). Contains {X = ℕ × Act} (map (λ (e : ℕ × Grain). (e.0, act.Find e.1)) l) (x.0, act.Find x.1)) (sym are) (some_in {X = ℕ × Act} (x.0, act.Find x.1) _)) in
+        Contains-append_right (held_acts node.host) (find_acts node.host) (x.0, act.Find x.1)
+        (subst (λ (l : List (ℕ × Grain)). Contains {X = ℕ × Act} (map (λ (e : ℕ × Grain). (e.0, act.Find e.1)) l) (x.0, act.Find x.1)) (sym are)
+        (some_in {X = ℕ × Act} (x.0, act.Find x.1) _)) in
         let owner = some_owner (owner_in after (act.Find x.1)) (owned _) in
         let fell = so.1 silo node here (x.0, act.Find x.1) owes owner.0 (sym (so.0.owners (act.Find x.1)) ∙ owner.1) in
         let never = fell.0 in

@@ -53,7 +53,8 @@ module _ {X : Type 0} where
         omega (arith, rest, first, all, other, here)
 
     -- and fewer where one that passes is in the other alone
-    pub fewer : (xs ys : List X) (x : X) → AllPairs (λ x later. x ≢ later) xs → ((y : X) → Contains xs y → Contains ys y) → Contains ys x → p x ≡ true → (Contains xs x → ⊥) → count_by p xs + 1 ≤ count_by p ys
+    pub fewer : (xs ys : List X) (x : X) → AllPairs (λ x later. x ≢ later) xs → ((y : X) → Contains xs y → Contains ys y) → Contains ys x → p x ≡ true → (Contains xs x → ⊥)
+        → count_by p xs + 1 ≤ count_by p ys
     fewer xs ys x apart within there passes not =
         let more = no_more (x ∷ xs) ys
         (AllPairs-cons (λ y later. y ≢ later) x xs (λ k d below same. not (subst (λ z. Contains xs z) (sym same) (All-contains_itself xs k d below))) apart)

@@ -24,7 +24,8 @@ turn_mail : (events : List Event) (world after : World) → HasMail world → in
 turn_mail [] world after mail is = let same : world ≡ after = cc (is) in subst HasMail same mail
 turn_mail (event ∷ events) world after mail is = by (happens world event) refl (λ next now rest. turn_mail events next after now rest) is
   where
-    by : (r : Result Accepted ℕ) → happens world event ≡ r → ((next : World) → HasMail next → in_turn events next ≡ Ok after → HasMail after) → then_on r (λ next. in_turn events next) ≡ Ok after → HasMail after
+    by : (r : Result Accepted ℕ) → happens world event ≡ r → ((next : World) → HasMail next → in_turn events next ≡ Ok after → HasMail after)
+        → then_on r (λ next. in_turn events next) ≡ Ok after → HasMail after
     by (Err number) happened on is = absurd (cc (is))
     by (Ok accepted) happened on is = on accepted.world (mail_after world event accepted mail happened) is
 
@@ -46,14 +47,16 @@ order_of (suc more) world after mail is = by (least_deliverable world) refl (λ 
     Later : Type 0
     Later = (next : World) → HasMail next → settled_within more next ≡ Ok after → IsOrdered next after
 
-    further : (number : ℕ) → least_deliverable world ≡ Some number → (r : Result Accepted ℕ) → happens world (Deliver number) ≡ r → Later → then_on r (λ next. settled_within more next) ≡ Ok after → IsOrdered world after
+    further : (number : ℕ) → least_deliverable world ≡ Some number → (r : Result Accepted ℕ) → happens world (Deliver number) ≡ r → Later
+        → then_on r (λ next. settled_within more next) ≡ Ok after → IsOrdered world after
     further number some (Err refusal) happened on is = absurd (cc (is))
     further number some (Ok accepted) happened on is =
         let rest = on accepted.world (mail_after world (Deliver number) accepted mail happened) is in
         let least = least_is world number mail.rising some in
         let may : may_come (lookup (is_at (nat_cmp number)) world.mail) world ≡ true = ap (λ o. may_come o world) least.flies.found ∙ least.flies.comes in (
           number ∷ rest.0,
-          ap (λ b. cond {A = Result World ℕ} b (then_on (happens world (Deliver number)) (λ next. settled_in rest.0 next)) (Err 0)) may ∙ ap (λ (r : Result Accepted ℕ). then_on r (λ next. settled_in rest.0 next)) happened ∙ rest.1,
+          ap (λ b. cond {A = Result World ℕ} b (then_on (happens world (Deliver number)) (λ next. settled_in rest.0 next)) (Err 0)) may
+              ∙ ap (λ (r : Result Accepted ℕ). then_on r (λ next. settled_in rest.0 next)) happened ∙ rest.1,
         )
 
     by : (o : Option ℕ) → least_deliverable world ≡ o → Later → delivering o world (λ next. settled_within more next) ≡ Ok after → IsOrdered world after
@@ -63,8 +66,10 @@ order_of (suc more) world after mail is = by (least_deliverable world) refl (λ 
 pub least_first_is_an_order : LeastFirstIsAnOrder
 least_first_is_an_order settings events after is = by (plan.nudged (world_by settings events)) refl is
   where
-    by : (r : Result World ℕ) → plan.nudged (world_by settings events) ≡ r → and_then r settled ≡ Ok after → (order : List ℕ) × (round_in order (world_by settings events) ≡ Ok after)
+    by : (r : Result World ℕ) → plan.nudged (world_by settings events) ≡ r → and_then r settled ≡ Ok after
+        → (order : List ℕ) × (round_in order (world_by settings events) ≡ Ok after)
     by (Err number) made is = absurd (cc (is))
     by (Ok next) made is =
-        let so = order_of next.settings.letters next after (turn_mail (nudge_events (world_by settings events)) (world_by settings events) next (mail_there settings events) made) is in
+        let so = order_of next.settings.letters next after
+        (turn_mail (nudge_events (world_by settings events)) (world_by settings events) next (mail_there settings events) made) is in
         (so.0, ap (λ (r : Result World ℕ). and_then r (λ w. settled_in so.0 w)) made ∙ so.1)

@@ -55,7 +55,8 @@ same_at b [] l i below = absurd (omega (arith, below))
 same_at zero (x ∷ xs) l i below = refl
 same_at (suc b) (x ∷ xs) l i below = same_at b xs l i (omega (arith, below))
 
-module _ (world : World) (silo : Silo) (nd : Node) (those : List (Silo × Node)) (accepted : Accepted) (n : IsAnswering true world ((silo, nd) ∷ those) world) (apart : Apart ((silo, nd) ∷ those)) (rests : IsResting accepted.world) (s : IsStep world accepted.world silo Nudges)
+module _ (world : World) (silo : Silo) (nd : Node) (those : List (Silo × Node)) (accepted : Accepted) (n : IsAnswering true world ((silo, nd) ∷ those) world)
+    (apart : Apart ((silo, nd) ∷ those)) (rests : IsResting accepted.world) (s : IsStep world accepted.world silo Nudges)
     (sorted : InNumbers (host.renewed s.node.host)) where
   abbrev node : Node
   node = record s.node { host = host.renewed s.node.host }
@@ -104,7 +105,8 @@ module _ (world : World) (silo : Silo) (nd : Node) (those : List (Silo × Node))
   old_from k l r f body same = All-head (λ (e : Silo × Node). e.0 ≢ l.from) (silo, nd) those (n.from k l r f body) (sym same)
 
   -- at one of the nodes after: what it keeps for others is as before
-  at_node : (P : Node → Type 0) (other : Silo) (own : Node) → node_of after other ≡ Some own → (other ≡ silo → P node) → (other ≢ silo → node_of world other ≡ Some own → P own) → P own
+  at_node : (P : Node → Type 0) (other : Silo) (own : Node) → node_of after other ≡ Some own → (other ≡ silo → P node) → (other ≢ silo → node_of world other ≡ Some own → P own)
+      → P own
   at_node P other own there mine its =
       on_bool (λ b. silo_eq other silo ≡ b → P own) (silo_eq other silo)
       (λ t is.
@@ -134,18 +136,25 @@ module _ (world : World) (silo : Silo) (nd : Node) (those : List (Silo × Node))
   owed_now e owes owner owns =
       let numbered = subst (λ (x : Node). AreNumbered x.host) node_is (node_facts after rests_after silo s.stepped.node (its_node world silo s.stepped)).numbered in
       let letter = letter_to owner node (Request_letter (request_of node e.0 e.1)) in
-      let out : Contains s.stepped.letters letter = subst (λ (ls : List Letter). Contains ls letter) (sym letters_are) (goes_out node owner e (outstanding node.host) (owner_is e.1 ∙ owns) (outstanding_has node.host numbered e owes)) in
+      let out : Contains s.stepped.letters letter = subst (λ (ls : List Letter). Contains ls letter) (sym letters_are)
+      (goes_out node owner e (outstanding node.host) (owner_is e.1 ∙ owns) (outstanding_has node.host numbered e owes)) in
       let flight =
       new_flies world silo s.node s.stepped s.its (λ number above. none_above 0 world.sent number world.mail (rest_mail world n.rests).rising above) letter out
       (lives world silo s.stepped owner (owner_lives (hash_grain world.settings.hashing (grain_of e.1)) owner owns)) in
       (flight.0, letter, flight.1, inl (record { from = by_silo; to = refl; request = request_of node e.0 e.1; body = refl; number = refl; act = refl; hash = hash_is e.1 }))
 
   -- a letter that is new is of what is outstanding now, and goes to its owner
-  asked_now : (k : ℕ) (l : Letter) (r : Request) → IsNew world.sent s.stepped.letters k l → l.body ≡ Request_letter r → HadAsked after l.from (r.number, r.act) × (r.hash ≡ hash_grain world.settings.hashing (grain_of r.act)) × (owner_in world r.act ≡ Some l.to)
+  asked_now : (k : ℕ) (l : Letter) (r : Request) → IsNew world.sent s.stepped.letters k l → l.body ≡ Request_letter r
+      → HadAsked after l.from (r.number, r.act) × (r.hash ≡ hash_grain world.settings.hashing (grain_of r.act)) × (owner_in world r.act ≡ Some l.to)
   asked_now k l r new body =
       let out = out_of k l new in
-      subst (λ (q : Request). HadAsked after l.from (q.number, q.act) × (q.hash ≡ hash_grain world.settings.hashing (grain_of q.act)) × (owner_in world q.act ≡ Some l.to)) (request_same out.request r l.body out.body body) (
-        (s.stepped.node, ap (λ q. node_of after q) (new_from k l new) ∙ its_node world silo s.stepped, subst (λ (x : Node). Owes x.host (out.request.number, out.request.act)) (sym node_is) out.one.1),
+      subst (λ (q : Request). HadAsked after l.from (q.number, q.act) × (q.hash ≡ hash_grain world.settings.hashing (grain_of q.act)) × (owner_in world q.act ≡ Some l.to))
+      (request_same out.request r l.body out.body body) (
+        (
+          s.stepped.node,
+          ap (λ q. node_of after q) (new_from k l new) ∙ its_node world silo s.stepped,
+          subst (λ (x : Node). Owes x.host (out.request.number, out.request.act)) (sym node_is) out.one.1,
+        ),
         out.hash ∙ hash_is out.request.act,
         sym (owner_is out.request.act) ∙ ap (λ h. owner_by node h) (sym out.hash) ∙ out.owner,
       )
@@ -155,12 +164,19 @@ module _ (world : World) (silo : Silo) (nd : Node) (those : List (Silo × Node))
     apart = λ i j d lt below. apart (suc i) (suc j) d (omega (arith, lt)) (omega (arith, below));
     answering = record {
       rests = rests_after;
-      settled = λ other own there. at_node (λ (x : Node). All IsSettledPiece x.holding.pieces) other own there (λ same. n.settled silo s.node s.its) (λ differ its. n.settled other own its);
+      settled = λ other own there. at_node (λ (x : Node). All IsSettledPiece x.holding.pieces) other own there (λ same. n.settled silo s.node s.its)
+          (λ differ its. n.settled other own its);
       plain = λ k l f. elim (flew_so k l f) [
         | inl old ↦ n.plain k l old
         | inr new ↦
             let out = out_of k l new in
-            inl (record { request = out.request; body = out.body; sender = out.sender ∙ sym out.from; version_is = out.of_version ∙ sym out.version_is; of_version = out.version_is ∙ seen_now })
+            inl (record {
+              request = out.request;
+              body = out.body;
+              sender = out.sender ∙ sym out.from;
+              version_is = out.of_version ∙ sym out.version_is;
+              of_version = out.version_is ∙ seen_now;
+            })
       ];
       from = λ k l r f body. elim (flew_so k l f) [
         | inl old ↦ All-tail (λ (e : Silo × Node). e.0 ≢ l.from) (silo, nd) those (n.from k l r old body)
@@ -192,12 +208,14 @@ module _ (world : World) (silo : Silo) (nd : Node) (those : List (Silo × Node))
       owed = λ other own there those_apart e owes owner owns. inl (at_node (λ (x : Node). Owes x.host e → IsBrought after other e owner) other own there
           (λ same its_owes. subst (λ q. IsBrought after q e owner) (sym same) (owed_now e its_owes owner owns))
           (λ differ its its_owes.
-          let flight = not_owed_past world world other owner (n.owed other own its (All-cons (λ (x : Silo × Node). x.0 ≢ other) (silo, nd) those (λ same. differ (sym same)) those_apart) e its_owes owner owns) in
+          let flight = not_owed_past world world other owner
+          (n.owed other own its (All-cons (λ (x : Silo × Node). x.0 ≢ other) (silo, nd) those (λ same. differ (sym same)) those_apart) e its_owes owner owns) in
           (flight.0, flight.1, still_flies world silo s.node s.stepped s.its flight.0 flight.1 flight.2, flight.3)) owes);
     };
   }
     where
-      served_by : (k : ℕ) (l : Letter) (r : Request) (own : Node) → Flies after k l → l.body ≡ Request_letter r → is_numbered r.act ≡ true → node_of world l.to ≡ Some own → last_served l.from own.holding.served < r.number
+      served_by : (k : ℕ) (l : Letter) (r : Request) (own : Node) → Flies after k l → l.body ≡ Request_letter r → is_numbered r.act ≡ true → node_of world l.to ≡ Some own
+          → last_served l.from own.holding.served < r.number
       served_by k l r own f body counts its =
           elim (flew_so k l f) [
             | inl old ↦ not_past world world l.from l.to (n.above k l r own old body counts its)
@@ -210,17 +228,21 @@ module _ (world : World) (silo : Silo) (nd : Node) (those : List (Silo × Node))
                 omega (arith, low, number, above, from)
           ]
 
-      lower_so : (a b : ℕ) (l i : Letter) → slice_index_or s.stepped.letters a l ≡ l → slice_index_or s.stepped.letters b i ≡ i → b < length s.stepped.letters → IsLower (slice_index_or s.stepped.letters a l) (slice_index_or s.stepped.letters b l) → IsLower l i
+      lower_so : (a b : ℕ) (l i : Letter) → slice_index_or s.stepped.letters a l ≡ l → slice_index_or s.stepped.letters b i ≡ i → b < length s.stepped.letters
+          → IsLower (slice_index_or s.stepped.letters a l) (slice_index_or s.stepped.letters b l) → IsLower l i
       lower_so a b l i one other below lower r q mine its =
           lower r q (ap (λ (x : Letter). x.body) one ∙ mine) (ap (λ (x : Letter). x.body) (same_at b s.stepped.letters l i below ∙ other) ∙ its)
 
 -- ---- one silo after the other
-pub nudge_on : (world : World) (e : Silo × Node) (es : List (Silo × Node)) (accepted : Accepted) → IsSilo e.0 → IsNudgingOn (e ∷ es) world → happens world (Nudge e.0) ≡ Ok accepted → IsNudgingOn es accepted.world
+pub nudge_on : (world : World) (e : Silo × Node) (es : List (Silo × Node)) (accepted : Accepted) → IsSilo e.0 → IsNudgingOn (e ∷ es) world
+    → happens world (Nudge e.0) ≡ Ok accepted → IsNudgingOn es accepted.world
 nudge_on world e es accepted is_silo n ok =
     let s = nudged world e.0 accepted ok in
-    let seen_then : AllSeen accepted.world = subst AllSeen (sym s.is) (still_seen world e.0 s.node s.stepped s.its (view_kept s.node Nudges s.stepped s.made) n.answering.rests.seen) in
+    let seen_then : AllSeen accepted.world = subst AllSeen (sym s.is)
+    (still_seen world e.0 s.node s.stepped s.its (view_kept s.node Nudges s.stepped s.made) n.answering.rests.seen) in
     let rests = rests_on world n.answering.rests (Nudge e.0) accepted is_silo ok seen_then in
-    let all : Everywhere sorted_facts accepted.world = subst (Everywhere sorted_facts) (sym rests.is) (everywhere sorted_facts sorted_keep rests.settings rests.events tt (λ k d below. tt)) in
+    let all : Everywhere sorted_facts accepted.world = subst (Everywhere sorted_facts) (sym rests.is)
+    (everywhere sorted_facts sorted_keep rests.settings rests.events tt (λ k d below. tt)) in
     let there : node_of accepted.world e.0 ≡ Some s.stepped.node = ap (λ w. node_of w e.0) s.is ∙ its_node world e.0 s.stepped in
     let sorted : InNumbers s.stepped.node.host = found_node sorted_facts accepted.world e.0 s.stepped.node all there in
     subst (IsNudgingOn es) (sym s.is)

@@ -17,15 +17,16 @@ use Rattle.directory_rules.specs.Happens.{node_of}
 use Rattle.progress_rules.specs.Plan.{IsSettledPiece}
 use Rattle.progress_rules.specs.Requests.{Ends}
 use Rattle.progress_rules.specs.Owed.{Owes, IsQuiet}
-use Rattle.progress_rules.specs.Second.{Flies, IsAskOf, IsTellOf, HadAsked, HasServed, owner_in}
+use Rattle.progress_rules.specs.Second.{Flies, IsAskOf, IsTellOf, owner_in}
 use Rattle.progress_rules.proofs.Quiet.{replies_quiet}
 use Rattle.progress_rules.proofs.Answered.{ended}
 use Rattle.progress_rules.proofs.Resting.{IsResting}
 use Rattle.progress_rules.proofs.Transfers.{seen}
-use Rattle.progress_rules.proofs.LetterComes.{world_after, IsComing}
+use Rattle.progress_rules.proofs.LetterComes.{world_after, IsComing, kept_still, served_still}
 use Rattle.progress_rules.proofs.Answering.{IsAnswering, IsPast, IsBrought, not_both, node_facts}
 
-module _ (least : Bool) (start world : World) (number : ℕ) (letter : Letter) (node : Node) (a : IsAnswering least start [] world) (its : node_of world letter.to ≡ Some node) (c : IsComing world number letter node)
+module _ (least : Bool) (start world : World) (number : ℕ) (letter : Letter) (node : Node) (a : IsAnswering least start [] world) (its : node_of world letter.to ≡ Some node)
+    (c : IsComing world number letter node)
     (n : ℕ) (answer : Reply) (body : letter.body ≡ Reply_letter n answer) (rests : IsResting (world_after world number letter node)) where
   abbrev after : World
   after = world_after world number letter node
@@ -61,30 +62,21 @@ module _ (least : Bool) (start world : World) (number : ℕ) (letter : Letter) (
       let numbers : e.0 ≡ n = cc (bodies) in
       let answers : tells.answer ≡ answer = cc (bodies) in
       let version : letter.version ≡ node.view.version = tells.version_is ∙ sym its_seen in
-      let then : Owes (replied node letter.version n answer).node.host (n, e.1) = subst (λ (s : Stepped). Owes s.node.host (n, e.1)) is (subst (λ m. Owes (received node letter).node.host (m, e.1)) numbers left) in
-      ended node facts.own.once letter.version version n facts.numbered e.1 answer (subst (λ x. Ends e.1 x) answers tells.ends) (subst (λ m. Owes node.host (m, e.1)) numbers (quiet.owes e left)) e.1 then
+      let then : Owes (replied node letter.version n answer).node.host (n, e.1) = subst (λ (s : Stepped). Owes s.node.host (n, e.1)) is
+      (subst (λ m. Owes (received node letter).node.host (m, e.1)) numbers left) in
+      ended node facts.own.once letter.version version n facts.numbered e.1 answer (subst (λ x. Ends e.1 x) answers tells.ends)
+      (subst (λ m. Owes node.host (m, e.1)) numbers (quiet.owes e left)) e.1 then
 
   told_past : (silo : Silo) (e : ℕ × Act) → IsTellOf world.views.version silo e letter → (own : Node) → node_of after silo ≡ Some own → Owes own.host e → ⊥
   told_past silo e tells own there =
-      c.at_node (λ (x : Node). Owes x.host e → ⊥) silo own there (λ same. ends_it e (subst (λ s. IsTellOf world.views.version s e letter) same tells)) (λ apart its_own. absurd (apart (sym tells.to)))
-
-  served_still : (silo owner : Silo) → HasServed start world silo owner → HasServed start after silo owner
-  served_still silo owner p = record {
-    request = p.request;
-    asked = p.asked;
-    numbered = p.numbered;
-    owns = p.owns;
-    ends = elim p.ends [
-      | inl gone ↦ inl (λ own there. c.at_node (λ (x : Node). Owes x.host p.request → ⊥) silo own there (λ same owes. gone node (ap (λ s. node_of world s) same ∙ its) (quiet.owes p.request owes)) (λ apart its_own. gone own its_own))
-      | inr flight ↦ c.by_flight (((own : Node) → node_of after silo ≡ Some own → Owes own.host p.request → ⊥) ⊎ ((k : ℕ) × (l : Letter) × Flies after k l × IsTellOf world.views.version silo p.request l)) flight.0 flight.1 flight.2
-          (λ one. inl (told_past silo p.request (subst (λ (x : Letter). IsTellOf world.views.version silo p.request x) one flight.3))) (λ f. inr (flight.0, flight.1, f, flight.3))
-    ];
-  }
+      c.at_node (λ (x : Node). Owes x.host e → ⊥) silo own there (λ same. ends_it e (subst (λ s. IsTellOf world.views.version s e letter) same tells))
+      (λ apart its_own. absurd (apart (sym tells.to)))
 
   past_still : (silo owner : Silo) → IsPast least start world silo owner → IsPast least start after silo owner
-  past_still silo owner past = (past.0, served_still silo owner past.1)
+  past_still silo owner past = (past.0, served_still start world number letter node its c quiet.owes silo owner past.1 (λ tells. told_past silo past.1.request tells))
 
-  owed_from : (silo : Silo) (own : Node) → node_of world silo ≡ Some own → (e : ℕ × Act) → Owes own.host e → (owner : Silo) → owner_in world e.1 ≡ Some owner → (IsTellOf world.views.version silo e letter → ⊥) → Owed silo e owner
+  owed_from : (silo : Silo) (own : Node) → node_of world silo ≡ Some own → (e : ℕ × Act) → Owes own.host e → (owner : Silo) → owner_in world e.1 ≡ Some owner
+      → (IsTellOf world.views.version silo e letter → ⊥) → Owed silo e owner
   owed_from silo own there e owes owner owns not =
       elim (a.owed silo own there (All-nil (λ (x : Silo × Node). x.0 ≢ silo)) e owes owner owns) [
         | inl flight ↦ c.by_flight (Owed silo e owner) flight.0 flight.1 flight.2
@@ -105,8 +97,7 @@ module _ (least : Bool) (start world : World) (number : ℕ) (letter : Letter) (
     plain = λ k l f. a.plain k l (was k l f);
     from = λ k l r f its_body. All-nil (λ (x : Silo × Node). x.0 ≢ l.from);
     asked = λ k l r f its_body. a.asked k l r (was k l f) its_body;
-    kept = λ silo own there e.
-        c.at_node (λ (x : Node). Owes x.host e → HadAsked start silo e) silo own there (λ same owes. subst (λ s. HadAsked start s e) (sym same) (a.kept letter.to node its e (quiet.owes e owes))) (λ apart its_own. a.kept silo own its_own e);
+    kept = kept_still start world number letter node its c quiet.owes a.kept;
     above = λ k l r own f its_body counts there.
         c.at_node (λ (x : Node). (last_served l.from x.holding.served < r.number) ⊎ IsPast least start after l.from l.to) l.to own there
         (λ same. subst (λ (h : Holding). (last_served l.from h.served < r.number) ⊎ IsPast least start after l.from l.to) (sym quiet.holding)

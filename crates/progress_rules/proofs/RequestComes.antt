@@ -28,7 +28,7 @@ use Rattle.directory_facts.proofs.Hashes.{grains_have_hashes}
 use Rattle.progress_rules.specs.Plan.{IsSettledPiece}
 use Rattle.progress_rules.specs.Requests.{Ends}
 use Rattle.progress_rules.specs.Owed.{Owes}
-use Rattle.progress_rules.specs.Second.{Flies, IsAsk, IsAskOf, IsTellOf, HadAsked, HasServed, owner_in}
+use Rattle.progress_rules.specs.Second.{Flies, IsAsk, IsAskOf, IsTellOf, HasServed, owner_in}
 use Rattle.progress_rules.proofs.Two.{both_true}
 use Rattle.progress_rules.proofs.Requests.{requests_are_served}
 use Rattle.progress_rules.proofs.Answered.{only_one, served_so}
@@ -36,10 +36,11 @@ use Rattle.progress_rules.proofs.Flights.{lives, above_all}
 use Rattle.progress_rules.proofs.Flying.{IsNew, new_flies}
 use Rattle.progress_rules.proofs.Resting.{IsResting, rest_mail}
 use Rattle.progress_rules.proofs.Transfers.{pieces, seen}
-use Rattle.progress_rules.proofs.LetterComes.{world_after, IsComing}
+use Rattle.progress_rules.proofs.LetterComes.{world_after, IsComing, kept_still, served_still}
 use Rattle.progress_rules.proofs.Answering.{IsAnswering, IsPast, IsBrought, not_both, request_same, outline_settled, node_facts, owns_piece}
 
-module _ (least : Bool) (start world : World) (number : ℕ) (letter : Letter) (node : Node) (a : IsAnswering least start [] world) (flies : Flies world number letter) (found : letter_of world number ≡ Some letter) (its : node_of world letter.to ≡ Some node)
+module _ (least : Bool) (start world : World) (number : ℕ) (letter : Letter) (node : Node) (a : IsAnswering least start [] world) (flies : Flies world number letter)
+    (found : letter_of world number ≡ Some letter) (its : node_of world letter.to ≡ Some node)
     (first : least ≡ true → (other : ℕ) (l : Letter) → Flies world other l → number ≤ other) (c : IsComing world number letter node)
     (r : Request) (body : letter.body ≡ Request_letter r) (ask : IsAsk world.views.version letter) (rests : IsResting (world_after world number letter node)) where
   abbrev base : World
@@ -67,7 +68,8 @@ module _ (least : Bool) (start world : World) (number : ℕ) (letter : Letter) (
   answers : received node letter ≡ replying node r (answered node.holding r)
   answers =
       ap (λ (b : Body). received_body b node letter) body
-      ∙ ap (λ b. cond b (replying node r (answered node.holding r)) (silently node effect.Ignored)) (both_true _ _ ((Decides-silo r.sender letter.from).1 sender) (eq-eqb r.version letter.version of_version))
+      ∙ ap (λ b. cond b (replying node r (answered node.holding r)) (silently node effect.Ignored))
+      (both_true _ _ ((Decides-silo r.sender letter.from).1 sender) (eq-eqb r.version letter.version of_version))
 
   same_host : (e : ℕ × Act) → Owes (received node letter).node.host e → Owes node.host e
   same_host e owes = subst (λ (s : Stepped). Owes s.node.host e) answers owes
@@ -84,34 +86,26 @@ module _ (least : Bool) (start world : World) (number : ℕ) (letter : Letter) (
 
   was_request : (k : ℕ) (l : Letter) (q : Request) → Flies after k l → l.body ≡ Request_letter q → Flies world k l × (k ≢ number)
   was_request k l q f its_body =
-      elim (c.flew_before k l f) [ inl before ↦ before | inr new ↦ absurd (not_both r.number (answered node.holding r).reply q l.body (ap (λ (x : Letter). x.body) (sym (new_is k l new))) its_body) ]
+      elim (c.flew_before k l f) [
+        | inl before ↦ before
+        | inr new ↦ absurd (not_both r.number (answered node.holding r).reply q l.body (ap (λ (x : Letter). x.body) (sym (new_is k l new))) its_body)
+      ]
 
   settled_still : All IsSettledPiece (received node letter).node.holding.pieces
   settled_still =
       let has = (pieces world a.rests letter.to node its).pieces in
-      let under = All-weaker (λ (x : ℕ × Piece). IsPiece world.settings.hashing x.0 x.1) (λ (x : ℕ × Piece). x.0 ≡ x.1.range.start) (λ x piece. piece.under) node.holding.pieces has.each in
+      let under = All-weaker (λ (x : ℕ × Piece). IsPiece world.settings.hashing x.0 x.1) (λ (x : ℕ × Piece). x.0 ≡ x.1.range.start)
+      (λ x piece. piece.under) node.holding.pieces has.each in
       let leaves = answers_leave_others node.holding r under has.rising in
-      subst (λ (s : Stepped). All IsSettledPiece s.node.holding.pieces) (sym answers) (outline_settled node.holding.pieces (answered node.holding r).holding.pieces leaves.outline (a.settled letter.to node its))
+      subst (λ (s : Stepped). All IsSettledPiece s.node.holding.pieces) (sym answers)
+      (outline_settled node.holding.pieces (answered node.holding r).holding.pieces leaves.outline (a.settled letter.to node its))
 
   -- what was served stays served
   no_reply : (e : ℕ × Act) (silo : Silo) → IsTellOf world.views.version silo e letter → ⊥
   no_reply e silo tells = not_both e.0 tells.answer r letter.body tells.body body
 
-  served_still : (silo owner : Silo) → HasServed start world silo owner → HasServed start after silo owner
-  served_still silo owner p = record {
-    request = p.request;
-    asked = p.asked;
-    numbered = p.numbered;
-    owns = p.owns;
-    ends = elim p.ends [
-      | inl gone ↦ inl (λ own there. c.at_node (λ (x : Node). Owes x.host p.request → ⊥) silo own there (λ same owes. gone node (ap (λ s. node_of world s) same ∙ its) (same_host p.request owes)) (λ apart its_own. gone own its_own))
-      | inr flight ↦ c.by_flight (((own : Node) → node_of after silo ≡ Some own → Owes own.host p.request → ⊥) ⊎ ((k : ℕ) × (l : Letter) × Flies after k l × IsTellOf world.views.version silo p.request l)) flight.0 flight.1 flight.2
-          (λ one. absurd (no_reply p.request silo (subst (λ (x : Letter). IsTellOf world.views.version silo p.request x) one flight.3))) (λ f. inr (flight.0, flight.1, f, flight.3))
-    ];
-  }
-
   past_still : (silo owner : Silo) → IsPast least start world silo owner → IsPast least start after silo owner
-  past_still silo owner past = (past.0, served_still silo owner past.1)
+  past_still silo owner past = (past.0, served_still start world number letter node its c same_host silo owner past.1 (λ tells. absurd (no_reply past.1.request silo tells)))
 
   -- past it of the letter's sender, past it of another that is the same
   past_at : (silo owner : Silo) → letter.from ≡ silo → letter.to ≡ owner → IsPast least start after letter.from letter.to → IsPast least start after silo owner
@@ -122,16 +116,19 @@ module _ (least : Bool) (start world : World) (number : ℕ) (letter : Letter) (
   ends_now above =
       let so = a.asked number letter r flies body in
       let mine : owner_silo (current_ring world) r.hash ≡ Some letter.to = ap (λ h. owner_silo (current_ring world) h) so.1 ∙ so.2 in
-      let piece = owns_piece world a.rests letter.to node its r.hash (subst (λ h. h < circle) (sym so.1) (grains_have_hashes world.settings.hashing (grain_of r.act))) (a.settled letter.to node its) mine in
+      let piece = owns_piece world a.rests letter.to node its r.hash (subst (λ h. h < circle) (sym so.1) (grains_have_hashes world.settings.hashing (grain_of r.act)))
+      (a.settled letter.to node its) mine in
       let version : r.version ≡ node.holding.seen = of_version ∙ ask.of_version ∙ sym its_seen ∙ sym (node_facts world a.rests letter.to node its).of_one_version.holding in
       requests_are_served node.holding r piece.0 version piece.1 piece.2 (λ counts. subst (λ s. last_served s node.holding.served < r.number) (sym sender) (above counts))
 
   reply_flies : is_some (node_of after r.sender) ≡ true → (k : ℕ) × Flies after k reply_letter
   reply_flies live =
-      new_flies base letter.to node (received node letter) its (above_all world number letter (rest_mail world a.rests).rising found) reply_letter (subst (λ (ls : List Letter). Contains ls reply_letter) (sym letters_are) (0, omega arith, refl)) live
+      new_flies base letter.to node (received node letter) its (above_all world number letter (rest_mail world a.rests).rising found) reply_letter
+      (subst (λ (ls : List Letter). Contains ls reply_letter) (sym letters_are) (0, omega arith, refl)) live
 
   -- the letter was the request of what is owed
-  replies_now : (e : ℕ × Act) (silo owner : Silo) → is_some (node_of world silo) ≡ true → IsAskOf world.settings.hashing silo e owner letter → (is_numbered r.act ≡ true → last_served letter.from node.holding.served < r.number) → IsBrought after silo e owner
+  replies_now : (e : ℕ × Act) (silo owner : Silo) → is_some (node_of world silo) ≡ true → IsAskOf world.settings.hashing silo e owner letter
+      → (is_numbered r.act ≡ true → last_served letter.from node.holding.served < r.number) → IsBrought after silo e owner
   replies_now e silo owner there asks above =
       let one : asks.request ≡ r = request_same asks.request r letter.body asks.body body in
       let the_act : r.act ≡ e.1 = ap (λ (q : Request). q.act) (sym one) ∙ asks.act in
@@ -155,19 +152,34 @@ module _ (least : Bool) (start world : World) (number : ℕ) (letter : Letter) (
       let so = a.asked number letter r flies body in
       record { request = (r.number, r.act); asked = so.0; numbered = counts; owns = so.2; ends = by (node_of after letter.from) refl }
     where
-      by : (o : Option Node) → node_of after letter.from ≡ o → ((own : Node) → node_of after letter.from ≡ Some own → Owes own.host (r.number, r.act) → ⊥) ⊎ ((k : ℕ) × (l : Letter) × Flies after k l × IsTellOf world.views.version letter.from (r.number, r.act) l)
+      by : (o : Option Node) → node_of after letter.from ≡ o
+          → ((own : Node) → node_of after letter.from ≡ Some own → Owes own.host (r.number, r.act) → ⊥) ⊎
+          ((k : ℕ) × (l : Letter) × Flies after k l × IsTellOf world.views.version letter.from (r.number, r.act) l)
       by None none = inl (λ own there owes. cc (none, there))
       by (Some own) some =
           let flight = reply_flies (ap (λ s. is_some (node_of after s)) sender ∙ ap (λ (o : Option Node). is_some o) some) in
-          inr (flight.0, reply_letter, flight.1, record { to = sender; version_is = its_seen; answer = (answered node.holding r).reply; body = refl; ends = ends_now (λ counts. above) })
+          inr (
+            flight.0,
+            reply_letter,
+            flight.1,
+            record {
+              to = sender;
+              version_is = its_seen;
+              answer = (answered node.holding r).reply;
+              body = refl;
+              ends = ends_now (λ counts. above);
+            },
+          )
 
   -- a request that is still to come at this owner is above what was served, or that is past it
-  above_still : (k : ℕ) (l : Letter) (q : Request) → Flies world k l → k ≢ number → l.to ≡ letter.to → l.body ≡ Request_letter q → is_numbered q.act ≡ true → (last_served l.from (answered node.holding r).holding.served < q.number) ⊎ IsPast least start after l.from l.to
+  above_still : (k : ℕ) (l : Letter) (q : Request) → Flies world k l → k ≢ number → l.to ≡ letter.to → l.body ≡ Request_letter q → is_numbered q.act ≡ true
+      → (last_served l.from (answered node.holding r).holding.served < q.number) ⊎ IsPast least start after l.from l.to
   above_still k l q f apart same its_body counts =
       elim (a.above k l q node f its_body counts (ap (λ s. node_of world s) same ∙ its)) [
         | inl old ↦ elim (served_so node.holding r l.from) [
           | inl as_was ↦ inl (omega (arith, as_was, old))
-          | inr mine ↦ on_bool (λ b. least ≡ b → (last_served l.from (answered node.holding r).holding.served < q.number) ⊎ IsPast least start after l.from l.to) least (λ t so. inl (in_order so mine)) (λ g not. inr (passes not mine)) refl
+          | inr mine ↦ on_bool (λ b. least ≡ b → (last_served l.from (answered node.holding r).holding.served < q.number) ⊎ IsPast least start after l.from l.to) least
+              (λ t so. inl (in_order so mine)) (λ g not. inr (passes not mine)) refl
         ]
         | inr past ↦ inr (past_still l.from l.to past)
       ]
@@ -192,7 +204,11 @@ module _ (least : Bool) (start world : World) (number : ℕ) (letter : Letter) (
       on_bool (λ b. is_numbered r.act ≡ b → Owed silo e owner) (is_numbered r.act)
       (λ t counts. elim (a.above number letter r node flies body counts its) [
         | inl less ↦ inl (replies_now e silo owner there asks (λ counts. less))
-        | inr past ↦ inr (subst (λ act. is_numbered act ≡ true) (ap (λ (q : Request). q.act) (request_same r asks.request letter.body body asks.body) ∙ asks.act) counts, past_at silo owner asks.from asks.to (past_still letter.from letter.to past))
+        | inr past ↦ inr (
+          subst (λ act. is_numbered act ≡ true)
+              (ap (λ (q : Request). q.act) (request_same r asks.request letter.body body asks.body) ∙ asks.act) counts,
+          past_at silo owner asks.from asks.to (past_still letter.from letter.to past),
+        )
       ])
       (λ f not. inl (replies_now e silo owner there asks (λ counts. absurd (cc (counts, not))))) refl
 
@@ -211,18 +227,24 @@ module _ (least : Bool) (start world : World) (number : ℕ) (letter : Letter) (
   pub after_request : IsAnswering least start [] after
   after_request = record {
     rests = rests;
-    settled = λ silo own there. c.at_node (λ (x : Node). All IsSettledPiece x.holding.pieces) silo own there (λ same. settled_still) (λ apart its_own. a.settled silo own its_own);
-    plain = λ k l f. elim (c.flew_before k l f) [ inl before ↦ a.plain k l before.0 | inr new ↦ inr (record { number = r.number; answer = (answered node.holding r).reply; body = ap (λ (x : Letter). x.body) (sym (new_is k l new)) }) ];
+    settled = λ silo own there. c.at_node (λ (x : Node). All IsSettledPiece x.holding.pieces) silo own there (λ same. settled_still)
+        (λ apart its_own. a.settled silo own its_own);
+    plain = λ k l f. elim (c.flew_before k l f) [
+      | inl before ↦ a.plain k l before.0
+      | inr new ↦ inr
+          (record { number = r.number; answer = (answered node.holding r).reply; body = ap (λ (x : Letter). x.body) (sym (new_is k l new)) })
+    ];
     from = λ k l q f its_body. All-nil (λ (x : Silo × Node). x.0 ≢ l.from);
     asked = λ k l q f its_body. a.asked k l q (was_request k l q f its_body).0 its_body;
-    kept = λ silo own there e.
-        c.at_node (λ (x : Node). Owes x.host e → HadAsked start silo e) silo own there (λ same owes. subst (λ s. HadAsked start s e) (sym same) (a.kept letter.to node its e (same_host e owes))) (λ apart its_own. a.kept silo own its_own e);
+    kept = kept_still start world number letter node its c same_host a.kept;
     above = λ k l q own f its_body counts there.
         let before = was_request k l q f its_body in
         c.at_node (λ (x : Node). (last_served l.from x.holding.served < q.number) ⊎ IsPast least start after l.from l.to) l.to own there
-        (λ same. subst (λ (s : Stepped). (last_served l.from s.node.holding.served < q.number) ⊎ IsPast least start after l.from l.to) (sym answers) (above_still k l q before.0 before.1 same its_body counts))
+        (λ same. subst (λ (s : Stepped). (last_served l.from s.node.holding.served < q.number) ⊎ IsPast least start after l.from l.to) (sym answers)
+        (above_still k l q before.0 before.1 same its_body counts))
         (λ apart its_own. elim (a.above k l q own before.0 its_body counts its_own) [ inl less ↦ inl less | inr past ↦ inr (past_still l.from l.to past) ]);
-    ordered = λ so k j l i q p f g one other counts too same where_to less. a.ordered so k j l i q p (was_request k l q f one).0 (was_request j i p g other).0 one other counts too same where_to less;
+    ordered = λ so k j l i q p f g one other counts too same where_to less. a.ordered so k j l i q p (was_request k l q f one).0
+        (was_request j i p g other).0 one other counts too same where_to less;
     owed = λ silo own there apart e owes owner owns.
         c.at_node (λ (x : Node). Owes x.host e → Owed silo e owner) silo own there
         (λ same its_owes. subst (λ s. Owed s e owner) (sym same) (still_owed letter.to node its e (same_host e its_owes) owner owns))
