@@ -9,6 +9,7 @@ use Rattle.directory_rules.specs.Run.{run}
 use Rattle.progress_rules.specs.Worked.{LimitsCompute, PlanComputes}
 use Rattle.progress_rules.specs.Hasty.{HastyNudgesWait}
 use Rattle.progress_rules.specs.RoomWorked.{BoundIsReached}
+use Rattle.progress_rules.specs.Reversed.{ReversedNeedsTwo}
 use Rattle.progress_rules.specs.Wrong.{ComesBackAlone, QueryOfTheVersionIsBehind, ReportIsNotStruckOff}
 
 pub plan_computed : PlanComputes
@@ -26,6 +27,10 @@ hasty_nudges_computed = record { waits = refl; ends = refl }
 pub bound_reached : BoundIsReached
 unfolding run happens cut_parts stated_hash digits sha256 hash_after compress rounds schedule first_words digest_bytes
 bound_reached = refl
+
+pub reversed_computed : ReversedNeedsTwo
+unfolding run happens cut_parts stated_hash digits sha256 hash_after compress rounds schedule first_words digest_bytes
+reversed_computed = record { before = refl; one = refl; two = refl; least_first = refl }
 
 pub comes_back_alone : ComesBackAlone
 unfolding run happens cut_parts stated_hash digits sha256 hash_after compress rounds schedule first_words digest_bytes

@@ -1,7 +1,9 @@
-//! Worked runs: one that comes back, one that doesn't, for it is nudged too soon, and one whose plan sends as many letters as it may.
+//! Worked runs: one that comes back, one that doesn't, for it is nudged too soon, one whose plan sends as many letters as it may, and one
+//! that takes a round more, for its letters come in reverse.
 ghost use Rattle.progress_rules.specs.Worked.{LimitsCompute, PlanComputes};
 ghost use Rattle.progress_rules.specs.Hasty.{HastyNudgesWait};
 ghost use Rattle.progress_rules.specs.RoomWorked.{BoundIsReached};
+ghost use Rattle.progress_rules.specs.Reversed.{ReversedNeedsTwo};
 
 /// Two silos, of which one has a range that isn't settled, an activation that asks, and a find that waits, its first letter lost: after
 /// the plan all is settled, and nobody waits. And each limit refuses the plan where it is low.
@@ -20,4 +22,10 @@ pub fn hasty_nudges_wait()
 /// bound lets, six.
 pub fn bound_is_reached()
     ensures { BoundIsReached }
+{}
+
+/// A silo with two registrations outstanding at one owner, of which the later comes first: after a round one waits still, and after another
+/// none does. Least first one round is enough.
+pub fn reversed_needs_two()
+    ensures { ReversedNeedsTwo }
 {}
