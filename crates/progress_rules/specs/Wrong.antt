@@ -1,6 +1,6 @@
 -- Rules in which silos take one kind of letter wrongly: what they wait for never comes, however often they are nudged and all letters
 -- come.
-use Rattle.std.specs.Prelude.{◌≡◌, ℕ, zero, suc, ◌+◌, ◌==◌, Bool, true, false, if◌then◌else◌, List, [], ◌∷◌, Option, None, Some, Result, Ok, Err}
+use Rattle.std.specs.Prelude.{◌≡◌, ℕ, zero, suc, ◌+◌, ◌==◌, true, false, if◌then◌else◌, List, [], ◌∷◌, Option, None, Some, Result, Ok, Err}
 use Rattle.directory_rules.specs.declared.effect.Effect.TheVariants.{Behind, More}
 use Rattle.directory_rules.specs.Letter.{Letter, Body, Query_letter, Report_letter, Behind_letter}
 use Rattle.directory_rules.specs.Node.{Node}
