@@ -16,7 +16,7 @@ const PLAY: [&str; 2] = ["g", "play"];
 type Course<'a> = (u8, &'a str, &'a str);
 
 // Whether it was carried out, and the program ends with that status.
-pub(crate) fn ends_with(carried: Run, status: u8) -> bool {
+fn ends_with(carried: Run, status: u8) -> bool {
     match carried {
         Run::Ended(exit) => exit.status() == status,
         Run::OnThreads(_) => false,

@@ -90,6 +90,4 @@ fn the_longest_line(rt: HostRuntime) {
     check_prints(&rt, rt.alloc(), &longest, ("version 0\nno owner\n", 0));
     let longer = padded(&rt, rt.alloc(), 8189);
     check_prints(&rt, rt.alloc(), &longer, ("line 1 fault 924\n", 2));
-    let one_word = vec![in rt.alloc(); b'a'; 8193].expect(&rt, "memory");
-    check_prints(&rt, rt.alloc(), &one_word, ("line 1 fault 924\n", 2));
 }

@@ -18,7 +18,7 @@ pub(crate) fn notice(rt: &impl Eprint, what: &str) {
 }
 
 /// As many bytes as a row prints at most.
-const MOST_PRINTED: usize = 16384;
+const MOST_PRINTED: usize = 4096;
 
 // A list with that room.
 fn with_room(rt: &(impl Abort + Eprint), alloc: Global) -> Vec<u8> {

@@ -3,21 +3,9 @@
 //! allocation leaves the tests true: `tools/refuse-tests directory_tests` refuses each in turn, as `rt try --test --fail-alloc N` does
 //! the Nth.
 
-use crate::play::caches::CACHE_AND_FORGET;
-use crate::play::dumps::OFFER_TO_A_LAGGING_SILO;
 use crate::play::memory::{is_played, notice};
-use crate::play::offers::{OFFER, OFFER_AFTER_DEREGISTER, OFFER_HELD};
-use crate::play::owners::{NO_OWNER, NO_OWNER_ONE_ENTRY, PLACE};
-use crate::play::pages::TWO_PAGES;
-use crate::play::ranges::{
-    FIND_MEETS_TRANSFER, NO_REPORT_OF_A_SKIPPED_VERSION, REPLY_OF_AN_OLDER_VIEW, TWO_SILOS,
-    VIEW_OVERTAKES,
-};
-use crate::play::recoveries::{KEPT_SKIP, RECOVERY, SKIP_THEN_LATE_LETTERS};
-use crate::play::requests::{LOST_LETTER, OLD_NUMBER, OLD_NUMBER_NO_ENTRY, TWO_WAKES};
-use crate::play::rows::{ONE_SILO, Row};
-use crate::play::syncs::{
-    LEAVE, NEWER_GENERATION, ONE_PLACE_SHARED, ONE_PLACE_SHARED_RANGE, TWO_ASKS,
+use crate::play::rows::{
+    CACHE_AND_FORGET, LOST_LETTER, OFFER_TO_A_LAGGING_SILO, ONE_SILO, RECOVERY, Row,
 };
 use directory_core::{EventRefusal, Told, World};
 use directory_rules::{Event, Outcome, Settings};
@@ -262,73 +250,27 @@ fn check_run(rt: &(impl Abort + Eprint), alloc: Global, row: Row) {
     assert!(rt; is_played(rt, alloc, row));
 }
 
-fn check_runs(rt: &(impl Abort + Eprint), alloc: Global, rows: &[Row]) {
-    for row in rows {
-        check_run(rt, alloc, *row);
-    }
+#[test]
+fn one_silo(rt: HostRuntime) {
+    check_run(&rt, rt.alloc(), ONE_SILO);
 }
 
 #[test]
-fn ranges(rt: HostRuntime) {
-    let rows = [
-        TWO_SILOS,
-        FIND_MEETS_TRANSFER,
-        NO_REPORT_OF_A_SKIPPED_VERSION,
-        REPLY_OF_AN_OLDER_VIEW,
-        VIEW_OVERTAKES,
-    ];
-    check_runs(&rt, rt.alloc(), &rows);
+fn a_lost_letter(rt: HostRuntime) {
+    check_run(&rt, rt.alloc(), LOST_LETTER);
 }
 
 #[test]
-fn recoveries(rt: HostRuntime) {
-    let rows = [KEPT_SKIP, RECOVERY, SKIP_THEN_LATE_LETTERS];
-    check_runs(&rt, rt.alloc(), &rows);
+fn a_hint(rt: HostRuntime) {
+    check_run(&rt, rt.alloc(), CACHE_AND_FORGET);
 }
 
 #[test]
-fn requests(rt: HostRuntime) {
-    let rows = [
-        ONE_SILO,
-        LOST_LETTER,
-        OLD_NUMBER,
-        OLD_NUMBER_NO_ENTRY,
-        TWO_WAKES,
-        CACHE_AND_FORGET,
-    ];
-    check_runs(&rt, rt.alloc(), &rows);
+fn a_recovery(rt: HostRuntime) {
+    check_run(&rt, rt.alloc(), RECOVERY);
 }
 
 #[test]
-fn offers(rt: HostRuntime) {
-    let rows = [
-        OFFER,
-        OFFER_AFTER_DEREGISTER,
-        OFFER_HELD,
-        OFFER_TO_A_LAGGING_SILO,
-    ];
-    check_runs(&rt, rt.alloc(), &rows);
-}
-
-#[test]
-fn syncs(rt: HostRuntime) {
-    let rows = [
-        TWO_ASKS,
-        ONE_PLACE_SHARED,
-        ONE_PLACE_SHARED_RANGE,
-        LEAVE,
-        NEWER_GENERATION,
-    ];
-    check_runs(&rt, rt.alloc(), &rows);
-}
-
-#[test]
-fn owners(rt: HostRuntime) {
-    let rows = [NO_OWNER, NO_OWNER_ONE_ENTRY, PLACE];
-    check_runs(&rt, rt.alloc(), &rows);
-}
-
-#[test]
-fn two_pages(rt: HostRuntime) {
-    check_runs(&rt, rt.alloc(), &[TWO_PAGES]);
+fn an_offer_to_a_silo_that_lags(rt: HostRuntime) {
+    check_run(&rt, rt.alloc(), OFFER_TO_A_LAGGING_SILO);
 }
