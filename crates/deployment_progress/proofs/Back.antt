@@ -1,0 +1,123 @@
+-- There and back: whatever happens between, the answer to a query strikes off its report, and the answer to an ask brings its page.
+use Rattle.std.proofs.Common.{arith, ◌≡◌, ℕ, ◌<◌, ◌≤◌, List, [], ◌∷◌, length, refl, sym, ap, ◌∙◌, subst, inl, inr}
+use Rattle.std.specs.Prelude.{slice_get, All, Some}
+use Rattle.std.specs.Option.{option_map}
+use Rattle.std.proofs.lemmas.List.Elements.{All-cons, All-head}
+use Rattle.silo_address.specs.Silo.{Silo, silo_eq}
+use Rattle.silo_address.proofs.Same.{Decides-silo}
+use Rattle.ring_range.specs.Range.{Range}
+use Rattle.directory_rules.specs.Letter.{Letter}
+use Rattle.directory_rules.specs.Node.{Node}
+use Rattle.directory_rules.specs.Sent.{gathering_of}
+use Rattle.directory_rules.specs.Snapshot.{page_count}
+use Rattle.directory_rules.proofs.Cases.{on_bool}
+use Rattle.silo_rules.specs.Membership.{Membership}
+use Rattle.progress_rules.specs.Waits.{Awaits}
+use Rattle.progress_rules.specs.Gathers.{AwaitsFrom}
+use Rattle.progress_rules.specs.Covered.{IsQueryFor, IsReportFor}
+use Rattle.progress_rules.specs.Pages.{IsAskFor}
+use Rattle.deployment_headline.specs.Deployment.{Deployment}
+use Rattle.deployment_headline.specs.Steps.{Step, Receive, IsStep, after, after_all, deployed}
+use Rattle.deployment_headline.proofs.Runs.{settings_stay}
+use Rattle.deployment_headline.proofs.Sound.{keeps}
+use Rattle.deployment_headline.proofs.Worlds.{its_node}
+use Rattle.deployment_progress.specs.Quiet.{DecidesNone}
+use Rattle.deployment_progress.specs.Answers.{there_and_back, QueriesAreAnswered, AsksAreAnswered}
+use Rattle.deployment_progress.proofs.Rest.{node_at, IsAtRest, its_sound}
+use Rattle.deployment_progress.proofs.Quiet.{Moves, quiet_moves, rests_on}
+use Rattle.deployment_progress.proofs.Later.{IsLater, IsQuiet, quiet_rest, step_on, after_append, rests_after, later_so, stays_written, same_membership, starts_at_rest}
+use Rattle.deployment_progress.proofs.Shelves.{together, at_most}
+use Rattle.deployment_progress.proofs.Answered.{IsAnswerFor, query_comes, report_comes, ask_comes, answer_comes}
+
+-- who has a node after a step had one before
+pub was_there : (d : Deployment) (st : Step) (next : Deployment) → Moves d st next → (silo : Silo) (node : Node) → node_at next silo ≡ Some node → (before : Node) × (node_at d silo ≡ Some before)
+was_there d st next (inl stays) silo node there = (node, sym (stays.nodes silo) ∙ there)
+was_there d st next (inr moved) silo node there =
+    on_bool (λ b. silo_eq silo moved.0 ≡ b → (before : Node) × (node_at d silo ≡ Some before)) (silo_eq silo moved.0)
+    (λ t is. (moved.1.node, ap (λ q. node_at d q) ((Decides-silo silo moved.0).0 is) ∙ moved.1.there))
+    (λ f is. (node, sym (moved.1.beside silo (λ same. let it = (Decides-silo silo moved.0).1 same in cc (it, is))) ∙ there)) refl
+
+-- after steps too
+pub was_there_first : (d : Deployment) → IsAtRest d → (steps : List Step) → IsQuiet steps → (silo : Silo) (node : Node) → node_at (after_all d steps) silo ≡ Some node → (before : Node) × (node_at d silo ≡ Some before)
+unfolding after_all
+was_there_first d r [] q silo node there = (node, there)
+was_there_first d r (s ∷ steps) q silo node there =
+    let none = All-head DecidesNone s steps q.none in
+    let mid = was_there_first (after d s) (rests_on d r s (All-head IsStep s steps q.named) none) steps (quiet_rest s steps q) silo node there in
+    was_there d s (after d s) (quiet_moves d r s none) silo mid.0 mid.1
+
+-- ---- the steps there and back
+module _ (d : Deployment) (r : IsAtRest d) (silo : Silo) (index : ℕ) (between : List Step) (q : IsQuiet between) (back : Silo) where
+  abbrev asked : Deployment
+  asked = after d (Receive silo index)
+
+  abbrev last : Deployment
+  last = after_all asked between
+
+  pub asked_rests : IsAtRest asked
+  asked_rests = rests_on d r (Receive silo index) tt tt
+
+  pub last_rests : IsAtRest last
+  last_rests = rests_after asked asked_rests between q
+
+  pub last_is : after_all d (there_and_back d silo index between back) ≡ after last (Receive back (length d.written))
+  unfolding after_all
+  last_is = after_append asked between (Receive back (length d.written) ∷ [])
+
+  steps_quiet : IsQuiet (Receive silo index ∷ between)
+  steps_quiet = record { named = All-cons IsStep (Receive silo index) between tt q.named; none = All-cons DecidesNone (Receive silo index) between tt q.none }
+
+  pub last_membership : last.membership ≡ d.membership
+  unfolding after_all
+  last_membership = same_membership d r (Receive silo index ∷ between) steps_quiet
+
+  pub then_there : (owner : Silo) (own : Node) → node_at d owner ≡ Some own → IsLater d r last owner own
+  unfolding after_all
+  then_there owner own its = later_so d r (Receive silo index ∷ between) steps_quiet owner own its
+
+  pub last_settings : last.settings ≡ d.settings
+  last_settings = settings_stay asked (its_sound asked asked_rests) between ∙ (keeps d (its_sound d r) (Receive silo index)).settings
+
+  -- a query
+  pub query_back : (owner : Silo) (range : Range) (query : Letter) (asked_node after_it : Node) → back ≡ owner → node_at d silo ≡ Some asked_node → slice_get d.written index ≡ Some query → IsQueryFor d.membership.views.version owner range silo query
+      → node_at (after last (Receive back (length d.written))) owner ≡ Some after_it → Awaits after_it range silo → ⊥
+  query_back owner range query asked_node after_it to there found is at waits =
+      let answer = query_comes d r owner silo range index query asked_node there found is in
+      let written = stays_written asked asked_rests between q (length d.written) answer.0 answer.1 in
+      let now : node_at (after last (Receive owner (length d.written))) owner ≡ Some after_it = subst (λ s. node_at (after last (Receive s (length d.written))) owner ≡ Some after_it) to at in
+      let before = was_there last (Receive owner (length d.written)) (after last (Receive owner (length d.written))) (quiet_moves last last_rests (Receive owner (length d.written)) tt) owner after_it now in
+      report_comes last last_rests owner silo range (length d.written) answer.0 before.0 after_it before.1 written
+      (subst (λ (m : Membership). IsReportFor last.settings.hashing m.views.version owner range silo answer.0) (sym last_membership)
+      (subst (λ s. IsReportFor s.hashing d.membership.views.version owner range silo answer.0) (sym last_settings) answer.2)) now waits
+
+  -- an ask
+  pub ask_back : (pages : ℕ) (owner : Silo) (range : Range) (page : ℕ) (ask : Letter) (giving own after_it : Node) → back ≡ owner → node_at d silo ≡ Some giving → All (λ x. page_count (length x.entries) ≤ pages) giving.shelf → slice_get d.written index ≡ Some ask
+      → IsAskFor d.membership.views.version owner range silo page ask → node_at d owner ≡ Some own → page ≤ (gathering_of own range).next
+      → node_at (after last (Receive back (length d.written))) owner ≡ Some after_it → AwaitsFrom after_it range silo → (page < (gathering_of after_it range).next) × (page < pages)
+  ask_back pages owner range page ask giving own after_it to there shelf found is its late at waits =
+      let answer = ask_comes d r pages owner silo range page index ask giving there shelf found is in
+      let written = stays_written asked asked_rests between q (length d.written) answer.0 answer.1 in
+      let now : node_at (after last (Receive owner (length d.written))) owner ≡ Some after_it = subst (λ s. node_at (after last (Receive s (length d.written))) owner ≡ Some after_it) to at in
+      let then = then_there owner own its in
+      let one = step_on last last_rests (Receive owner (length d.written)) (after last (Receive owner (length d.written))) (quiet_moves last last_rests (Receive owner (length d.written)) tt) owner then.node then.there in
+      let put = one.there in
+      let same : one.node ≡ after_it = cc (now, put) in
+      let awaited = (one.less.pages range silo (subst (λ (n : Node). AwaitsFrom n range silo) (sym same) waits)).0 in
+      let grown = (then.less.pages range silo awaited).1 in
+      answer_comes last last_rests pages owner silo range page (length d.written) answer.0 then.node after_it then.there written
+      (subst (λ (m : Membership). IsAnswerFor pages m.views.version owner range silo page answer.0) (sym last_membership) answer.2) (omega (arith, late, grown)) now waits
+
+-- ---- the laws
+pub queries_are_answered : QueriesAreAnswered
+queries_are_answered settings steps between are named seen named_between none owner silo s t range index query there found is after_it waits =
+    let r = starts_at_rest settings steps are named seen in
+    let q : IsQuiet between = record { named = named_between; none = none } in
+    query_back (deployed settings steps) r silo index between q owner owner range query s.node t.node refl (ap (option_map its_node) there) found is
+    (ap (λ x. node_at x owner) (sym (last_is (deployed settings steps) r silo index between q owner)) ∙ ap (option_map its_node) after_it) waits
+
+pub asks_are_answered : AsksAreAnswered
+asks_are_answered settings steps between are named seen named_between none owner giver s t u range page index ask there found is its late after_it waits =
+    let r = starts_at_rest settings steps are named seen in
+    let q : IsQuiet between = record { named = named_between; none = none } in
+    (ask_back (deployed settings steps) r giver index between q owner (together s.node.shelf) owner range page ask s.node t.node u.node refl (ap (option_map its_node) there) (at_most s.node.shelf) found is (ap (option_map its_node) its) late
+    (ap (λ x. node_at x owner) (sym (last_is (deployed settings steps) r giver index between q owner)) ∙ ap (option_map its_node) after_it) waits).0

@@ -1,0 +1,95 @@
+-- Exchanges: a silo is nudged, each ask and query that it writes then comes to its receiver, and the answer to each comes back.
+use Rattle.std.specs.Prelude.{⊤, ◌≡◌, ℕ, ◌+◌, ◌<◌, ◌≤◌, List, [], ◌∷◌, ◌++◌, All, length, flat_map, Some, Ok, slice_get}
+use Rattle.silo_address.specs.Silo.{Silo}
+use Rattle.ring_range.specs.Range.{Range}
+use Rattle.directory_rules.specs.Input.{Nudges}
+use Rattle.directory_rules.specs.Letter.{Letter, Body, Request_letter, Reply_letter, Ask_letter, Page_letter, Missing_letter, Done_letter, Query_letter, Report_letter, Behind_letter, Ahead_letter, Offer_letter}
+use Rattle.directory_rules.specs.Node.{Node}
+use Rattle.directory_rules.specs.Sent.{gathering_of}
+use Rattle.directory_rules.specs.Snapshot.{page_count}
+use Rattle.directory_rules.specs.Step.{Stepped}
+use Rattle.silo_rules.specs.SiloValue.{SiloValue}
+use Rattle.silo_rules.specs.Steps.{does}
+use Rattle.progress_rules.specs.Plan.{IsSettledPiece}
+use Rattle.progress_rules.specs.Waits.{Recovers}
+use Rattle.progress_rules.specs.Gathers.{AwaitsFrom}
+use Rattle.deployment_headline.specs.Deployment.{Deployment, process_of}
+use Rattle.deployment_headline.specs.Steps.{Step, Nudge, Receive, after, after_all}
+use Rattle.deployment_headline.specs.Theorems.{EachProcess}
+use Rattle.deployment_progress.specs.Quiet.{WhileQuiet}
+use Rattle.deployment_progress.specs.Waits.{HasSettled}
+
+-- In the steps the letter of that index comes to its receiver, and the first letter that this then writes comes to the silo. Whatever
+-- else happens may happen before, between and after; both may have come before, and may come again.
+pub record IsAnswered (d : Deployment) (silo : Silo) (steps : List Step) (index : ℕ) (letter : Letter) : Type 0 where
+  pub before : List Step
+  pub between : List Step
+  pub rest : List Step
+  pub is : steps ≡ before ++ (Receive letter.to index ∷ (between ++ (Receive silo (length (after_all d before).written) ∷ rest)))
+
+-- what a piece wants: an ask or a query
+abbrev pub IsWant : Body → Type 0
+IsWant (Request_letter request) = ⊥
+IsWant (Reply_letter number answer) = ⊥
+IsWant (Ask_letter range page) = ⊤
+IsWant (Page_letter page) = ⊥
+IsWant (Missing_letter range) = ⊥
+IsWant (Done_letter range) = ⊥
+IsWant (Query_letter range) = ⊤
+IsWant (Report_letter report) = ⊥
+IsWant (Behind_letter range) = ⊥
+IsWant (Ahead_letter range) = ⊥
+IsWant (Offer_letter entry) = ⊥
+
+-- the steps begin with a nudge of the silo, which isn't refused
+pub record IsNudged (d : Deployment) (silo : Silo) (steps : List Step) : Type 0 where
+  pub process : SiloValue
+  pub there : process_of d silo ≡ Some process
+  pub nudged : Stepped
+  pub is_nudged : does process Nudges ≡ Ok nudged
+  pub rest : List Step
+  pub begins : steps ≡ Nudge silo ∷ rest
+
+-- and each ask and query that the nudge writes is answered in them
+pub record IsExchange (d : Deployment) (silo : Silo) (steps : List Step) : Type 0 where
+  pub nudge : IsNudged d silo steps
+  pub answered : (index : ℕ) (letter : Letter) → length d.written ≤ index → slice_get (after d (Nudge silo)).written index ≡ Some letter → IsWant letter.body → IsAnswered (after d (Nudge silo)) silo nudge.rest index letter
+
+-- from the one node to the other each range gets on: one that recovered is settled, and one that awaits a snapshot still has a page more
+pub record GetsOn (before after : Node) : Type 0 where
+  pub recovers : (range : Range) → Recovers before range → HasSettled after range
+  pub awaits : (range : Range) (giver : Silo) → AwaitsFrom before range giver → AwaitsFrom after range giver → (gathering_of before range).next < (gathering_of after range).next
+
+-- so it is in each exchange
+abbrev pub ExchangesGetOn : Type 0
+ExchangesGetOn = WhileQuiet (λ d steps. (silo : Silo) (s t : SiloValue) → IsExchange d silo steps → process_of d silo ≡ Some s → process_of (after_all d steps) silo ≡ Some t → GetsOn s.node t.node)
+
+-- exchanges of a silo, one after the other
+abbrev pub AreExchanges : Deployment → Silo → List (List Step) → Type 0
+AreExchanges d silo [] = ⊤
+AreExchanges d silo (steps ∷ more) = IsExchange d silo steps × AreExchanges (after_all d steps) silo more
+
+-- no snapshot that waits on a shelf has more pages
+abbrev pub HaveAtMost : (pages : ℕ) → Deployment → Type 0
+HaveAtMost pages d = EachProcess (λ silo s. All (λ x. page_count (length x.entries) ≤ pages) s.node.shelf) d
+
+-- in the steps the silo has at least so many exchanges, one after the other
+pub record HasExchanges (d : Deployment) (silo : Silo) (many : ℕ) (steps : List Step) : Type 0 where
+  pub before : List Step
+  pub exchanges : List (List Step)
+  pub is : steps ≡ before ++ flat_map (λ its. its) exchanges
+  pub are : AreExchanges (after_all d before) silo exchanges
+  pub enough : many ≤ length exchanges
+
+-- after as many exchanges as a snapshot has pages, and two more, the silo has all its ranges settled
+abbrev pub RangesSettle : Type 0
+RangesSettle = WhileQuiet (λ d steps. (silo : Silo) (pages : ℕ) (t : SiloValue)
+    → HaveAtMost pages d → HasExchanges d silo (pages + 2) steps → process_of (after_all d steps) silo ≡ Some t → All IsSettledPiece t.node.holding.pieces)
+
+-- all ranges of all silos are settled
+abbrev pub HaveAllSettled : Deployment → Type 0
+HaveAllSettled d = EachProcess (λ silo s. All IsSettledPiece s.node.holding.pieces) d
+
+-- so they are where each silo has so many, whichever comes first; in an exchange of one silo there may be others'
+abbrev pub AllRangesSettle : Type 0
+AllRangesSettle = WhileQuiet (λ d steps. (pages : ℕ) → HaveAtMost pages d → EachProcess (λ silo s. HasExchanges d silo (pages + 2) steps) d → HaveAllSettled (after_all d steps))

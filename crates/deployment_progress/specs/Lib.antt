@@ -1,0 +1,6 @@
+pub mod Quiet
+pub mod Waits
+pub mod Answers
+pub mod Exchanges
+pub mod Requests
+pub mod Worked

@@ -1,0 +1,62 @@
+//! The laws. Each is of a deployment that any steps made, where each process has seen the last change of membership that was decided,
+//! and of whatever steps follow that decide no change: letters that come late, again, in another order, astray, or never.
+ghost use Rattle.deployment_progress.specs.Answers.{AsksAreAnswered, QueriesAreAnswered};
+ghost use Rattle.deployment_progress.specs.Exchanges.{AllRangesSettle, ExchangesGetOn, RangesSettle};
+ghost use Rattle.deployment_progress.specs.Requests.{OldRequestsEnd, RequestsEnd, SettledRequestsEnd};
+ghost use Rattle.deployment_progress.specs.Waits.{SilosWaitForLess};
+ghost use Rattle.deployment_progress.specs.Worked.{WorkedExchange};
+
+/// A silo only waits for less: a report that has come is awaited no more, pages that were had stay had, and what is settled stays
+/// settled.
+pub fn silos_wait_for_less()
+    ensures { SilosWaitForLess }
+{}
+
+/// A query of the last version is answered by a report whenever it comes, and that strikes off the report whenever it comes back.
+pub fn queries_are_answered()
+    ensures { QueriesAreAnswered }
+{}
+
+/// An ask of the last version for a page, by an owner that has all pages before it, is answered whenever it comes, and whenever the
+/// answer comes back the owner has that page then or awaits none from there.
+pub fn asks_are_answered()
+    ensures { AsksAreAnswered }
+{}
+
+/// In an exchange, a nudge of a silo that isn't refused, each of whose asks and queries comes to its receiver and is answered, each
+/// range of the silo gets on: one that recovered is settled, and one that awaits a snapshot still has a page more.
+pub fn exchanges_get_on()
+    ensures { ExchangesGetOn }
+{}
+
+/// Where a silo has as many exchanges as a snapshot on a shelf has pages at most, and two more, all its ranges are settled then.
+pub fn ranges_settle()
+    ensures { RangesSettle }
+{}
+
+/// So where each silo has so many, overlapping as they may, all ranges of all silos are settled then.
+pub fn all_ranges_settle()
+    ensures { AllRangesSettle }
+{}
+
+/// A request that a silo had outstanding when it was nudged is outstanding no more once its letter came to an owner that has its hash
+/// settled, before any request of the silo with a higher number, and the reply came back; a find whatever the order.
+pub fn requests_end()
+    ensures { RequestsEnd }
+{}
+
+/// So where that holds of each of them, the silo waits then for nothing that it had asked when it was nudged.
+pub fn old_requests_end()
+    ensures { OldRequestsEnd }
+{}
+
+/// And where all ranges of all silos are settled, that holds of each whose letter comes to the owner of its hash, in its turn, and whose
+/// reply comes back.
+pub fn settled_requests_end()
+    ensures { SettledRequestsEnd }
+{}
+
+/// There are such deployments, and exchanges in them: one, worked out.
+pub fn worked_exchange()
+    ensures { WorkedExchange }
+{}
