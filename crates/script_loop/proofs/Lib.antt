@@ -3,7 +3,6 @@ pub mod InTurn
 mod Filled
 mod Pieces
 mod PlayedSoFar
-mod PlayerMade
 mod Stands
 mod Steps
 mod TurnsTaken

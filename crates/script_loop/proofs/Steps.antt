@@ -65,11 +65,6 @@ long_told rule at start text line lines all code is all_is code_is written =
     written ∙ (ap (λ (n : ℕ). start ++ printed (fault_line at n)) code_is ∙ ap (λ (t : List ℕ). start ++ t) (sym (append-nil (printed (fault_line at 924))))) in
     (here, ap (λ (ls : List (List ℕ)). behind start (rule at ls)) all_is ∙ (ap (behind start) is ∙ ap (λ (t : List ℕ). let o : Output = record { text = t; status = 2 } in o) (sym here)))
 
--- the first line of what is held, where nothing more comes
-pub first_alone : (held new_held line : List ℕ) → ((more : List ℕ) → lines_of (held ++ more) ≡ line ∷ lines_of (new_held ++ more)) → lines_of held ≡ line ∷ lines_of new_held
-first_alone held new_held line first =
-    ap lines_of (sym (append-nil held)) ∙ (first [] ∙ ap (λ (bs : List ℕ). line ∷ lines_of bs) (append-nil new_held))
-
 -- what a line made, where its play tells no fault
 pub unfaulted : (Made : Type 0) (told : Option LineFault) → told ≡ None → IfNone told Made → Made
 unfaulted Made None well made = made

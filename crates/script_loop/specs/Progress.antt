@@ -48,19 +48,20 @@ abbrev pub work : Progress → ℕ
 work at = 2 * at.left + (length at.held + (if at.ended then 0 else 1))
 
 -- a line was played, the first of those to come
-pub record HasPlayed (rule : Rule) (old : Progress) (next : Rule) (new : Progress) : Type 0 where
+pub record HasPlayed {P : Type 0} (output : P → Rule) (makes : P → List ℕ → P → Type 0) (player : P) (old : Progress) (next : P) (new : Progress) : Type 0 where
   pub same_end : new.ended ≡ old.ended
   pub same_left : new.left ≡ old.left
   pub next_line : new.line ≡ old.line + 1
   pub less : work new < work old
   pub line : List ℕ
   pub first : (more : List ℕ) → lines_of (old.held ++ more) ≡ line ∷ lines_of (new.held ++ more)
-  pub plays : (lines : List (List ℕ)) → to_come next new lines ≡ to_come rule old (line ∷ lines)
+  pub plays : (lines : List (List ℕ)) → to_come (output next) new lines ≡ to_come (output player) old (line ∷ lines)
+  pub made : makes player line next
 
 -- no line can be played before more is read: one is begun, and may still be well
-pub record NeedsMore (rule : Rule) (old : Progress) (next : Rule) (new : Progress) : Type 0 where
+pub record NeedsMore {P : Type 0} (player : P) (old : Progress) (next : P) (new : Progress) : Type 0 where
   pub same : new ≡ old
-  pub same_rule : next ≡ rule
+  pub same_player : next ≡ player
   pub goes_on : old.ended ≡ false
   pub is_begun : IsBegun old.held
 
@@ -71,29 +72,22 @@ EndsStep old (ended.Faulted fault) = fault.line ≡ old.line
 EndsStep old ended.OutOfMemory = ⊤
 EndsStep old other = ⊥
 
+-- what the last line made of the player, where the script ended well
+abbrev pub LastMakes : {P : Type 0} → (makes : P → List ℕ → P → Type 0) → P → (held : List ℕ) → P → Ended → Type 0
+LastMakes makes player held next ended.Played = (line : List ℕ) × (lines_of held ≡ line ∷ []) × makes player line next
+LastMakes makes player held next other = ⊤
+
 -- the script ends
-pub record HasEnded (rule : Rule) (old new : Progress) (ended : Ended) : Type 0 where
+pub record HasEnded {P : Type 0} (output : P → Rule) (makes : P → List ℕ → P → Type 0) (player : P) (old : Progress) (next : P) (new : Progress) (ended : Ended) : Type 0 where
   pub ends : EndsStep old ended
-  pub concludes : (more : List ℕ) → MayCome old more → Concludes (to_come rule old (lines_of (old.held ++ more))) new.waiting ended
+  pub concludes : (more : List ℕ) → MayCome old more → Concludes (to_come (output player) old (lines_of (old.held ++ more))) new.waiting ended
+  pub made : LastMakes makes player old.held next ended
 
 -- what a step did
-abbrev pub Steps : Rule → Progress → Rule → Progress → Step → Type 0
-Steps rule old next new Played = HasPlayed rule old next new
-Steps rule old next new Wants = NeedsMore rule old next new
-Steps rule old next new (Ends ended) = HasEnded rule old new ended
-
--- the first of the lines that are held was played, and these stand behind it
-pub record PlaysFirst {P : Type 0} (makes : P → List ℕ → P → Type 0) (before : P) (held : List ℕ) (others : List (List ℕ)) (after : P) : Type 0 where
-  pub line : List ℕ
-  pub first : lines_of held ≡ line ∷ others
-  pub made : makes before line after
-
--- what a step made of the player: a line was played, or the last
-abbrev pub StepMakes : {P : Type 0} → (makes : P → List ℕ → P → Type 0) → P → Progress → P → Progress → Step → Type 0
-StepMakes makes before old after new Played = PlaysFirst makes before old.held (lines_of new.held) after
-StepMakes makes before old after new Wants = after ≡ before
-StepMakes makes before old after new (Ends ended.Played) = PlaysFirst makes before old.held [] after
-StepMakes makes before old after new (Ends other) = ⊤
+abbrev pub Steps : {P : Type 0} → (output : P → Rule) → (makes : P → List ℕ → P → Type 0) → P → Progress → P → Progress → Step → Type 0
+Steps output makes player old next new Played = HasPlayed output makes player old next new
+Steps output makes player old next new Wants = NeedsMore player old next new
+Steps output makes player old next new (Ends ended) = HasEnded output makes player old next new ended
 
 -- memory runs out only where the next line isn't passed over, whatever comes behind what is held; and nothing is printed of it then
 abbrev pub LacksMemory : (PassesOver : List ℕ → Type 0) → (old new : Progress) → Step → Type 0

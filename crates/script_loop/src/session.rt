@@ -43,7 +43,7 @@ pub(crate) struct Session {
 }
 
 impl Session {
-    ghost use Rattle.script_loop.specs.Progress.{LacksMemory, StepMakes, Steps, first_progress, progress};
+    ghost use Rattle.script_loop.specs.Progress.{LacksMemory, Steps, first_progress, progress};
 
     /// Before the first line.
     pub(crate) fn new(alloc: Global) -> Result<Session, AllocError>
@@ -64,8 +64,7 @@ impl Session {
 
     /// Has the next line played, if it is there.
     pub(crate) fn step<P: LinePlayer>(&mut self, player: &mut P) -> Step
-        ensures steps { Steps (P.output player.old) (progress self.old) (P.output player.new) (progress self.new) result }
-        ensures made { StepMakes P.makes player.old (progress self.old) player.new (progress self.new) result }
+        ensures steps { Steps P.output P.makes player.old (progress self.old) player.new (progress self.new) result }
         ensures memory { LacksMemory P.passes_over (progress self.old) (progress self.new) result }
     {
         let Some((line, rest)) = first_line(tail(&self.bytes, self.start)) else {
@@ -88,8 +87,7 @@ impl Session {
     fn step_without_line_feed<P: LinePlayer>(&mut self, player: &mut P) -> Step
         requires none { ¬ (Contains (progress self.old).held line_feed) }
         requires only { lines_of (progress self.old).held ≡ strip_last carriage_return (progress self.old).held ∷ [] }
-        ensures steps { Steps (P.output player.old) (progress self.old) (P.output player.new) (progress self.new) result }
-        ensures made { StepMakes P.makes player.old (progress self.old) player.new (progress self.new) result }
+        ensures steps { Steps P.output P.makes player.old (progress self.old) player.new (progress self.new) result }
         ensures memory { LacksMemory P.passes_over (progress self.old) (progress self.new) result }
     {
         if self.ended {
@@ -113,8 +111,7 @@ impl Session {
     fn last_step<P: LinePlayer>(&mut self, player: &mut P) -> Step
         requires only { lines_of (progress self.old).held ≡ strip_last carriage_return (progress self.old).held ∷ [] }
         requires ended { self.old.ended ≡ true }
-        ensures steps { Steps (P.output player.old) (progress self.old) (P.output player.new) (progress self.new) result }
-        ensures made { StepMakes P.makes player.old (progress self.old) player.new (progress self.new) result }
+        ensures steps { Steps P.output P.makes player.old (progress self.old) player.new (progress self.new) result }
         ensures memory { LacksMemory P.passes_over (progress self.old) (progress self.new) result }
     {
         let line = without_return(tail(&self.bytes, self.start));

@@ -1,7 +1,7 @@
 //! One turn of a play.
 
 ghost use Rattle.std.specs.Prelude.{◌<◌, IfNone};
-ghost use Rattle.script_loop.specs.Turns.{AddsCalls, TurnMakes, Turns};
+ghost use Rattle.script_loop.specs.Turns.{AddsCalls, Turns};
 
 use crate::session::Session;
 use crate::step::Step;
@@ -20,12 +20,11 @@ impl Session {
         reader: &mut R,
         writer: &mut W,
     ) -> Option<Ended>
-        ensures goes { Turns P.passes_over (P.output player.old) (progress self.old) (R.remaining reader.old) (W.contents writer.old)
-            (P.output player.new) (progress self.new) (R.remaining reader.new) (W.contents writer.new) result }
+        ensures goes { Turns P.output P.makes P.passes_over player.old (progress self.old) (R.remaining reader.old) (W.contents writer.old)
+            player.new (progress self.new) (R.remaining reader.new) (W.contents writer.new) result }
         ensures less { IfNone result (work (progress self.new) < work (progress self.old)) }
-        ensures calls { AddsCalls R.reads W.writes (P.output player.old) (progress self.old) (reader.old, writer.old)
-            (P.output player.new) (progress self.new) (reader.new, writer.new) result }
-        ensures made { TurnMakes P.makes player.old (progress self.old) (R.remaining reader.old) player.new (progress self.new) (R.remaining reader.new) result }
+        ensures calls { AddsCalls R.reads W.writes P.output P.makes player.old (progress self.old) (reader.old, writer.old)
+            player.new (progress self.new) (reader.new, writer.new) result }
     {
         match self.step(player) {
             Step::Played if self.out.len() < WRITTEN_AT => None,

@@ -12,6 +12,11 @@ returns-in-Ok-None-clause-steps g c = record {
       (nothing_more (progress c.args.self.now).held _ more _ (may c.requires.ended) c.requires.only
       (c.without_return-line.ensures ∙ ap (strip_last carriage_return) c.tail.ensures))
       (g.met.P.LinePlayer.nothing c.play_line.new.self (c.args.self.now.line + 1)) c.in-Ok-None.ensures.played;
+  made = (
+    c.without_return-line.result.now,
+    c.requires.only ∙ ap (λ (l : List ℕ). l ∷ []) (sym (c.without_return-line.ensures ∙ ap (strip_last carriage_return) c.tail.ensures)),
+    unfaulted _ _ c.in-Ok-None.field-0-is c.in-Ok-None.ensures.made,
+  );
 }
 
 pub returns-in-Ok-Some-clause-steps : goal.returns-in-Ok-Some-clause-steps
@@ -21,13 +26,7 @@ returns-in-Ok-Some-clause-steps g c = record {
   concludes = λ more may. ends_by_fault (g.P.LinePlayer.output c.args.player.now) (g.P.LinePlayer.output c.play_line.new.self) _ _ _ c.without_return-line.result.now _ [] _ _ c.in-Ok-Some.field-0-is
       (nothing_more (progress c.args.self.now).held _ more _ (may c.requires.ended) c.requires.only
       (c.without_return-line.ensures ∙ ap (strip_last carriage_return) c.tail.ensures)) c.in-Ok-Some.ensures.played;
-}
-
-pub returns-in-Ok-None-clause-made : goal.returns-in-Ok-None-clause-made
-returns-in-Ok-None-clause-made g c = record {
-  line = c.without_return-line.result.now;
-  first = c.requires.only ∙ ap (λ (l : List ℕ). l ∷ []) (sym (c.without_return-line.ensures ∙ ap (strip_last carriage_return) c.tail.ensures));
-  made = unfaulted _ _ c.in-Ok-None.field-0-is c.in-Ok-None.ensures.made;
+  made = tt;
 }
 
 pub returns-in-Err-clause-memory : goal.returns-in-Err-clause-memory

@@ -1,7 +1,7 @@
 use Rattle.std.proofs.Common.{◌≡◌, ◌-◌, ◌++◌, ◌∙◌, ap, arith, drop, length, refl}
 use Rattle.script_rules.specs.Script.{lines_of}
 use Rattle.script_loop.specs.Progress.{progress}
-use Rattle.script_loop.proofs.Steps.{ends_by_fault, fault_of, first_alone, first_of, goes_on, rest_of, unfaulted}
+use Rattle.script_loop.proofs.Steps.{ends_by_fault, fault_of, first_of, goes_on, rest_of, unfaulted}
 use Rattle.script_loop.proofs.session.Session.step.Goals as goal
 
 pub returns-in_default-clause-steps : goal.returns-in_default-clause-steps
@@ -22,6 +22,7 @@ returns-in-Ok-None-clause-steps g c =
       line = c.in-Some.line.now;
       first = λ more. first_of _ c.tail.result.now _ rest _ more c.tail.ensures rest_is (c.in-Some.ensures.later more);
       plays = goes_on (g.P.LinePlayer.output c.args.player.now) (g.P.LinePlayer.output c.play_line.new.self) self.line self.out.items c.play_line.new.out.items c.in-Some.line.now _ c.in-Ok-None.field-0-is c.in-Ok-None.ensures.played;
+      made = unfaulted _ _ c.in-Ok-None.field-0-is c.in-Ok-None.ensures.made;
     }
 
 pub returns-in-Ok-Some-clause-steps : goal.returns-in-Ok-Some-clause-steps
@@ -32,19 +33,7 @@ returns-in-Ok-Some-clause-steps g c =
       ends = fault_of old new c.args.self.now.line c.args.self.now.out.items c.play_line.new.out.items c.in-Some.line.now _ _ c.in-Ok-Some.field-0-is c.in-Ok-Some.ensures.played;
       concludes = λ more may. ends_by_fault old new _ _ _ c.in-Some.line.now _ _ _ _ c.in-Ok-Some.field-0-is
           (first_of (progress c.args.self.now).held c.tail.result.now c.in-Some.rest.now c.in-Some.rest.now _ more c.tail.ensures refl (c.in-Some.ensures.later more)) c.in-Ok-Some.ensures.played;
-    }
-
-pub returns-in-Ok-None-clause-made : goal.returns-in-Ok-None-clause-made
-returns-in-Ok-None-clause-made g c =
-    let self = c.args.self.now in
-    let rest = c.in-Some.rest.now in
-    let rest_is : drop (c.len.result - length rest) self.bytes.items ≡ rest =
-    rest_of self.bytes.items self.start c.tail.result.now rest c.len.result (c.len.ensures ∙ self.bytes.ok.0) (omega (arith, self.within, self.bytes.ok.0)) c.tail.ensures
-    c.in-Some.ensures.rest c.in-Some.ensures.shorter in
-    record {
-      line = c.in-Some.line.now;
-      first = first_alone (progress self).held (drop (c.len.result - length rest) self.bytes.items) c.in-Some.line.now (λ more. first_of _ c.tail.result.now _ rest _ more c.tail.ensures rest_is (c.in-Some.ensures.later more));
-      made = unfaulted _ _ c.in-Ok-None.field-0-is c.in-Ok-None.ensures.made;
+      made = tt;
     }
 
 pub returns-in-Err-clause-memory : goal.returns-in-Err-clause-memory

@@ -13,6 +13,7 @@ returns-in-Ok-clause-steps g c = record {
       let told = long_told (g.P.LinePlayer.output c.args.player.now) at.line at.waiting c.write_fault.new.out.items long.0 long.1 _ _
       (g.met.P.LinePlayer.too_long c.args.player.now at.line long.0 long.1 long.3) long.2 c.number.ensures c.in-Ok.ensures.written in
       (told.1, (at.waiting, told.0));
+  made = tt;
 }
 
 pub returns-in-Err-clause-memory : goal.returns-in-Err-clause-memory
