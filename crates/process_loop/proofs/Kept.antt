@@ -1,13 +1,13 @@
 -- A line as far as it is kept says what the whole line says.
-use Rattle.std.proofs.Common.{◌≡◌, ◌≢◌, ◌⊎◌, inl, inr, ℕ, ◌+◌, ◌-◌, ◌<◌, ◌≤◌, suc, Bool, true, false, List, [], ◌∷◌, ◌++◌, length, take, append-nil, ap, arith, refl, subst, sym, ◌∙◌, Option, Some, Result, Err, if◌then◌else◌}
+use Rattle.std.proofs.Common.{◌≡◌, ◌≢◌, ◌⊎◌, inl, inr, ℕ, ◌+◌, ◌-◌, ◌<◌, ◌≤◌, suc, Bool, true, false, List, [], ◌∷◌, ◌++◌, length, take, ap, arith, refl, subst, sym, ◌∙◌, Option, Some, Result, Err, if◌then◌else◌}
 use Rattle.std.specs.Io.BufRead.{ends_with_byte, strip_last}
-use Rattle.std.proofs.lemmas.Bool.{cases_lt, le-ltb, lt-ltb}
+use Rattle.std.proofs.lemmas.Bool.{cases_lt, lt-ltb}
 use Rattle.std.proofs.lemmas.List.{length-take-le, take-append-le, take_all}
 use Rattle.hash_ring.specs.declared.hashing.Hashing.{Hashing}
 use Rattle.texts.specs.Words.{carriage_return}
 use Rattle.silo_rules.specs.SiloValue.{SiloValue}
 use Rattle.process_rules.specs.ReadLine.{Asked, longest_line, read_silo_line, unended_fault}
-use Rattle.process_output.specs.Output.{after_last, answered_to, said}
+use Rattle.process_output.specs.Output.{answered_to, said}
 use Rattle.process_loop.specs.Answering.{BringsEntries, MayLackMemory}
 use Rattle.process_loop.specs.Progress.{kept, most_kept}
 
@@ -37,22 +37,10 @@ said_kept line s = elim (cases_lt most_kept (length line)) [
 pub lacks_whole : (line : List ℕ) (s : SiloValue) → MayLackMemory s (kept line) → MayLackMemory s line
 lacks_whole line s lacks = subst (λ (r : Result (Option Asked) ℕ). ((answered_to r s).lines ≢ []) ⊎ BringsEntries r) (said_kept line s) lacks
 
-pub unended_too_long : (line : List ℕ) → longest_line < length line → unended_fault line ≡ Some 924
+unended_too_long : (line : List ℕ) → longest_line < length line → unended_fault line ≡ Some 924
 unfolding unended_fault
 unended_too_long [] long = absurd (omega arith)
 unended_too_long (byte ∷ line) long = rw (lt-ltb longest_line (length (byte ∷ line)) long) refl
-
--- a shorter one may have been cut
-pub unended_cut : (line : List ℕ) → 0 < length line → length line ≤ longest_line → unended_fault line ≡ Some 931
-unfolding unended_fault
-unended_cut [] some fits = absurd (omega arith)
-unended_cut (byte ∷ line) some fits = rw (le-ltb longest_line (length (byte ∷ line)) fits) refl
-
--- where nothing stands there is none
-pub unended_nothing : (line text : List ℕ) → length line ≡ 0 → text ≡ text ++ after_last (unended_fault line)
-unfolding unended_fault
-unended_nothing [] text none = sym (append-nil text)
-unended_nothing (byte ∷ line) text none = absurd (omega arith)
 
 pub unended_kept : (line : List ℕ) → unended_fault (kept line) ≡ unended_fault line
 unended_kept line = elim (cases_lt most_kept (length line)) [

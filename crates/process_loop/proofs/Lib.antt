@@ -4,7 +4,6 @@ mod Chunks
 mod Steps
 mod AnswersSoFar
 mod Calls
-mod Filled
 mod Stands
 mod SiloLeft
 pub mod TurnsTaken

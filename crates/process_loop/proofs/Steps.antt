@@ -1,5 +1,5 @@
 -- Steps, by what was taken over and what was answered.
-use Rattle.std.proofs.Common.{◌≡◌, ◌⊎◌, ◌==◌, inl, inr, ℕ, zero, suc, ◌<◌, ◌≤◌, Bool, false, List, [], ◌++◌, length, take, drop, Some, Result, Ok, Err, IfOk, IsErr, OnErr, ap, arith, refl, ◌∙◌, subst, sym}
+use Rattle.std.proofs.Common.{◌≡◌, ◌⊎◌, inl, inr, ℕ, suc, ◌<◌, ◌≤◌, Bool, List, [], ◌++◌, length, take, drop, Some, Result, Ok, Err, IfOk, IsErr, OnErr, ap, arith, refl, ◌∙◌, subst, sym}
 use Rattle.std.proofs.lemmas.List.{length-drop, length-take, take_all}
 use Rattle.memchr.specs.Find.{IsFirstByte, is_byte}
 use Rattle.texts.specs.Words.{line_feed}
@@ -75,8 +75,3 @@ pub lacked : {E : Type 0} (silo : SiloValue) (old : Progress) (next left : SiloV
     → told ≡ answered → told ≡ Err error → left ≡ next → new ≡ found → Lacks silo old left new
 lacked silo old next left found new answered told error answers same is kept at =
     subst (λ (s : SiloValue). Lacks silo old s new) (sym kept) (subst (Lacks silo old next) (sym at) (subst (AnswersOne silo old next found) (sym same ∙ is) answers))
-
--- a line is begun where it isn't empty
-pub some_begun : (size : ℕ) (empty : Bool) → empty ≡ (size == 0) → empty ≡ false → 0 < size
-some_begun zero empty is none = absurd (cc)
-some_begun (suc size) empty is none = omega arith

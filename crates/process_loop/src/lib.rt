@@ -2,7 +2,6 @@
 //! answered. The rules are in `docs/RULES.md#lines-of-a-silos-process`.
 #![tactic(auto)]
 
-mod fault;
 mod player;
 mod playing;
 mod session;
@@ -11,7 +10,6 @@ mod stopped;
 mod transfer;
 mod turn;
 
-pub use fault::write_fault;
 pub use player::SiloPlayer;
 pub use playing::play;
 pub use stopped::Stopped;

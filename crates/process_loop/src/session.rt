@@ -1,14 +1,11 @@
 //! The input of a process on its way.
 
-ghost use Rattle.std.specs.Prelude.{◌≡◌, ◌<◌, ◌≤◌, ◌-◌, ◌++◌, [], Some, vec_len, length, take, drop, IfOk, OnOk, OnErr};
+ghost use Rattle.std.specs.Prelude.{◌≡◌, ◌<◌, ◌≤◌, ◌-◌, [], Some, vec_len, length, take, drop, IfOk, OnOk, OnErr};
 ghost use Rattle.memchr.specs.Find.{IsFirstByte, is_byte};
 ghost use Rattle.texts.specs.Words.{line_feed};
-ghost use Rattle.silo_rules.specs.SiloValue.{SiloValue};
-ghost use Rattle.process_rules.specs.ReadLine.{unended_fault};
-ghost use Rattle.process_output.specs.Output.{after_last};
 
 use crate::step::Step;
-use crate::{SiloPlayer, Stopped, write_fault};
+use crate::{SiloPlayer, Stopped};
 use memchr::memchr;
 use std::alloc::{AllocError, Global};
 
@@ -18,17 +15,8 @@ const CHUNK: usize = 65_536;
 /// How many reads may give something.
 const MOST_READS: u64 = 18_446_744_073_709_551_615;
 
-/// How many bytes a line may have.
-const LONGEST_LINE: usize = 16_777_216;
-
 /// How many bytes of a line are kept: with a carriage return at their end they still tell that the line is too long.
 const MOST_KEPT: usize = 16_777_218;
-
-/// The number of the fault of a line that is too long.
-const TOO_LONG: u16 = 924;
-
-/// The number of the fault of what no line feed ends.
-const UNENDED: u16 = 931;
 
 /// The input of a process on its way: what was read and not answered yet, and what is answered and not written yet.
 #[derive(Drop)]
@@ -79,7 +67,7 @@ impl Session {
     {
         match memchr(b'\n', unread(&self.chunk, self.from, self.to)) {
             Some(length) => self.answer(player, length),
-            None => self.step_without_line_feed(),
+            None => self.step_without_line_feed(player),
         }
     }
 
@@ -135,9 +123,9 @@ impl Session {
     }
 
     // What was read begins a line, or goes on with it; at the end of the input it is told that no line feed ends it.
-    fn step_without_line_feed(&mut self) -> Step
+    fn step_without_line_feed<P: SiloPlayer>(&mut self, player: &P) -> Step
         requires none { HasNoEnd (progress self.old).unread }
-        ensures { (silo : SiloValue) → Steps silo (progress self.old) silo (progress self.new) result }
+        ensures { Steps (P.silo player.now) (progress self.old) (P.silo player.now) (progress self.new) result }
     {
         let Ok(()) = self.take_rest() else {
             return Step::Stops(Stopped::OutOfMemory);
@@ -145,27 +133,10 @@ impl Session {
         if !self.ended {
             return Step::Wants;
         }
-        match self.tell_unended() {
+        match player.tell_unended(&self.line, &mut self.out) {
             Ok(()) => Step::Stops(Stopped::AtEnd),
             Err(_) => Step::Stops(Stopped::OutOfMemory),
         }
-    }
-
-    // Tells the fault of what stands behind the last line feed, if anything does.
-    fn tell_unended(&mut self) -> Result<(), AllocError>
-        ensures told { OnOk result (self.new.out.items ≡ self.old.out.items ++ after_last (unended_fault self.old.line.items)) }
-        ensures untold { OnErr result (self.new.out.items ≡ self.old.out.items) }
-        ensures wanted { OnErr result (0 < length self.old.line.items) }
-        ensures same { (self.new.left ≡ self.old.left) × (self.new.ended ≡ self.old.ended) }
-    {
-        let length = self.line.len();
-        if length == 0 {
-            return Ok(());
-        }
-        if length > LONGEST_LINE {
-            return write_fault(&mut self.out, TOO_LONG);
-        }
-        write_fault(&mut self.out, UNENDED)
     }
 
     // Goes on with the line that is begun up to its end, which stands behind so many bytes, and passes over the line feed.

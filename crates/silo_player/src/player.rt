@@ -1,13 +1,16 @@
 //! A silo that answers lines.
 
-ghost use Rattle.std.specs.Prelude.{◌≡◌, IfOk, OnErr};
+ghost use Rattle.std.specs.Prelude.{◌≡◌, ◌++◌, ◌<◌, length, IfOk, OnOk, OnErr};
+ghost use Rattle.process_rules.specs.ReadLine as rule;
+ghost use Rattle.process_output.specs.Output.{after_last};
 ghost use Rattle.process_loop.specs.Answering.{AnswersLine, MayLackMemory};
 
+use crate::fault::write_fault;
 use directory_silo::Silo;
 use process_answers::answer;
 use process_letters::LineError;
-use process_lines::read_line;
-use process_loop::{SiloPlayer, write_fault};
+use process_lines::{read_line, unended_fault};
+use process_loop::SiloPlayer;
 use script_commands::without_return;
 use std::alloc::{AllocError, Global};
 
@@ -39,6 +42,17 @@ impl SiloPlayer for Player {
                 Ok(false)
             }
             Err(LineError::OutOfMemory) => Err(AllocError),
+        }
+    }
+
+    fn tell_unended(&self, rest: &[u8], out: &mut Vec<u8>) -> Result<(), AllocError>
+        ensures told { OnOk result (out.new.items ≡ out.old.items ++ after_last (rule.unended_fault rest.now)) }
+        ensures untold { OnErr result (out.new.items ≡ out.old.items) }
+        ensures wanted { OnErr result (0 < length rest.now) }
+    {
+        match unended_fault(rest) {
+            None => Ok(()),
+            Some(fault) => write_fault(out, fault.number()),
         }
     }
 }

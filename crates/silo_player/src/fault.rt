@@ -8,7 +8,7 @@ use script_output::{end_line, push_named};
 use std::alloc::AllocError;
 
 /// Writes the line that tells a fault by its number (`docs/RULES.md#lines-of-a-silos-process`). Fails only when memory runs out.
-pub fn write_fault(out: &mut Vec<u8>, fault: u16) -> Result<(), AllocError>
+pub(crate) fn write_fault(out: &mut Vec<u8>, fault: u16) -> Result<(), AllocError>
     ensures written { OnOk result (out.new.items ≡ out.old.items ++ text_of_lines (fault_line fault ∷ [])) }
     ensures unchanged { OnErr result (out.new.items ≡ out.old.items) }
 {
