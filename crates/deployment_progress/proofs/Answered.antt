@@ -34,7 +34,7 @@ use Rattle.deployment_headline.specs.Deployment.{Deployment, process_of}
 use Rattle.deployment_headline.specs.Limits.{node_with_room}
 use Rattle.deployment_headline.specs.Steps.{Receive, after}
 use Rattle.deployment_headline.proofs.Limits.{stepped_with_room, steps_same}
-use Rattle.deployment_progress.proofs.Less.{GoesOn}
+use Rattle.deployment_progress.proofs.States.{GoesOn}
 use Rattle.deployment_progress.proofs.Rest.{node_at, process_with, IsAtRest}
 use Rattle.deployment_progress.proofs.Quiet.{letter_comes}
 use Rattle.deployment_progress.proofs.Later.{w, in_world, its_pieces, its_recoveries, its_version, its_settings_are, its_silo, stepped_on, got_end}

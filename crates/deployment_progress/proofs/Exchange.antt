@@ -18,7 +18,8 @@ use Rattle.deployment_headline.specs.Deployment.{Deployment}
 use Rattle.deployment_headline.specs.Steps.{Step, Nudge, after, after_all}
 use Rattle.deployment_progress.specs.Exchanges.{IsAnswered, IsWant, IsNudged, IsExchange}
 use Rattle.deployment_progress.specs.Waits.{HasSettled, WaitsForLess}
-use Rattle.deployment_progress.proofs.Less.{not_settled_and_recovers, waits_on}
+use Rattle.deployment_progress.proofs.Less.{waits_on}
+use Rattle.deployment_progress.proofs.States.{not_settled_and_recovers}
 use Rattle.deployment_progress.proofs.Rest.{node_at, IsAtRest}
 use Rattle.deployment_progress.proofs.Quiet.{quiet_moves}
 use Rattle.deployment_progress.proofs.Later.{its_version, its_silo, stepped_on, IsQuiet, rests_after, later_so, stays_written, same_membership}

@@ -27,7 +27,8 @@ use Rattle.deployment_headline.proofs.Sound.{its_process}
 use Rattle.deployment_headline.proofs.Worlds.{its_node}
 use Rattle.deployment_progress.specs.Quiet.{DecidesNone, HaveAllSeen}
 use Rattle.deployment_progress.specs.Waits.{WaitsForLess, SilosWaitForLess}
-use Rattle.deployment_progress.proofs.Less.{GoesOn, goes_on, same_waits, waits_on}
+use Rattle.deployment_progress.proofs.Less.{goes_on, same_waits, waits_on}
+use Rattle.deployment_progress.proofs.States.{GoesOn}
 use Rattle.deployment_progress.proofs.Rest.{node_at, process_with, HasWorld, IsAtRest, its_world, its_sound}
 use Rattle.deployment_progress.proofs.Quiet.{IsBrought, HasMoved, Moves, quiet_moves, view_stays, rests_on}
 

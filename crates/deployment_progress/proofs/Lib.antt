@@ -1,3 +1,4 @@
+pub mod States
 pub mod Less
 pub mod Wholes
 pub mod Rest
@@ -17,3 +18,4 @@ pub mod Numbers
 pub mod Ended
 pub mod Owners
 pub mod Worked
+pub mod WorkedRequest

@@ -1,21 +1,21 @@
 -- A nudge that isn't refused, and the steps after it.
-use Rattle.std.proofs.Common.{◌≡◌, ap, subst, ◌∙◌, List, ◌∷◌}
-use Rattle.std.specs.Prelude.{Some, Ok}
+use Rattle.std.proofs.Common.{◌≡◌, sym, ap, subst, ◌∙◌, ℕ, List, ◌∷◌, length}
+use Rattle.std.specs.Prelude.{Bool, true, false, cond, not, Some, Result, Ok, Err}
 use Rattle.std.specs.Option.{option_map}
 use Rattle.std.proofs.lemmas.List.Elements.{All-head}
 use Rattle.silo_address.specs.Silo.{Silo}
-use Rattle.directory_rules.specs.Host.{renewed}
+use Rattle.directory_rules.specs.Host.{outstanding, has_numbers, renewed}
 use Rattle.directory_rules.specs.Input.{Nudges, step}
 use Rattle.directory_rules.specs.Node.{Node}
 use Rattle.directory_rules.specs.Step.{Stepped, having_nudged}
 use Rattle.progress_rules.proofs.Rounds.{nudge_is}
 use Rattle.deployment_headline.specs.Deployment.{Deployment}
-use Rattle.deployment_headline.specs.Steps.{Step, Nudge, IsStep, after, after_all}
+use Rattle.deployment_headline.specs.Steps.{Step, Nudge, IsStep, after, after_all, deployed}
 use Rattle.deployment_headline.proofs.Worlds.{its_node}
-use Rattle.deployment_progress.specs.Exchanges.{IsNudged}
+use Rattle.deployment_progress.specs.Exchanges.{IsNudged, NudgesAreTaken}
 use Rattle.deployment_progress.proofs.Rest.{node_at, IsAtRest}
-use Rattle.deployment_progress.proofs.Quiet.{HasMoved, nudge_comes, rests_on}
-use Rattle.deployment_progress.proofs.Later.{IsQuiet, quiet_rest}
+use Rattle.deployment_progress.proofs.Quiet.{HasMoved, does_is, nudge_comes, rests_on}
+use Rattle.deployment_progress.proofs.Later.{IsQuiet, quiet_rest, starts_at_rest}
 
 module _ (d : Deployment) (r : IsAtRest d) (silo : Silo) (steps : List Step) (q : IsQuiet steps) (n : IsNudged d silo steps) where
   abbrev nudged_to : Deployment
@@ -49,3 +49,14 @@ module _ (d : Deployment) (r : IsAtRest d) (silo : Silo) (steps : List Step) (q 
   pub after_nudge : after_all d steps ≡ after_all nudged_to n.rest
   unfolding after_all
   after_nudge = ap (after_all d) n.begins
+
+-- ---- when it is refused
+refused_so : (b : Bool) (stepped : Stepped) (number : ℕ) → cond {A = Result Stepped ℕ} (not b) (Err 805) (Ok stepped) ≡ Err number → number ≡ 805
+refused_so true stepped number is = absurd (cc (is))
+refused_so false stepped number is = cc (is)
+
+pub nudges_are_taken : NudgesAreTaken
+nudges_are_taken settings steps later are named seen named_later none silo s number there is =
+    let d = deployed settings steps in
+    let taken : step s.node Nudges ≡ Err number = sym (does_is d (starts_at_rest settings steps are named seen) silo s there Nudges) ∙ is in
+    refused_so (has_numbers s.node.settings s.node.host (length (outstanding s.node.host))) (having_nudged (record s.node { host = renewed s.node.host })) number taken

@@ -116,8 +116,8 @@ module _ (d : Deployment) (r : IsAtRest d) (silo : Silo) (steps : List Step) (q 
       let rests = rests_after d r turn.answered.before before in
       let asking = later_so d r turn.answered.before before silo node there in
       let ring : ring_in b ≡ ring_in d = ap (λ (m : Membership). sorted_ring (view_at m.views m.views.version) m.places) (same_membership d r turn.answered.before before) in
-      let owned : owner_silo (ring_in b) (hash_of node e.1) ≡ Some turn.owner =
-      ap (λ ps. owner_silo ps (hash_of node e.1)) (ring ∙ sym (its_ring d r silo node there)) ∙ owns in
+      let points : ring_in b ≡ node.ring.points = ring ∙ sym (its_ring d r silo node there) in
+      let owned : owner_silo (ring_in b) (hash_of node e.1) ≡ Some turn.owner = ap (λ ps. owner_silo ps (hash_of node e.1)) points ∙ owns in
       let serves = owner_serves b rests silo asking.node asking.there (hash_of node e.1) (grains_have_hashes node.settings.hashing (grain_of e.1)) turn.owner owned (still_settled d r turn.answered.before before all) in
       let its = process_with (process_of b turn.owner) serves.node serves.there in
       record {

@@ -17,7 +17,7 @@ use Rattle.deployment_headline.specs.Steps.{Step, after_all, deployed}
 use Rattle.deployment_headline.proofs.Worlds.{its_node}
 use Rattle.deployment_progress.specs.Exchanges.{AreExchanges, GetsOn, HaveAtMost, HasExchanges, ExchangesGetOn, RangesSettle, AllRangesSettle}
 use Rattle.deployment_progress.specs.Waits.{HasSettled, WaitsForLess}
-use Rattle.deployment_progress.proofs.Less.{not_settled_and_recovers}
+use Rattle.deployment_progress.proofs.States.{not_settled_and_recovers}
 use Rattle.deployment_progress.proofs.Rest.{node_at, process_with, IsAtRest}
 use Rattle.deployment_progress.proofs.Later.{w, its_pieces, IsLater, IsQuiet, quiet_first, quiet_last, after_append, rests_after, later_so, starts_at_rest}
 use Rattle.deployment_progress.proofs.Shelves.{AreAtMost, still_at_most, most_pages}

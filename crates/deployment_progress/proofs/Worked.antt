@@ -45,7 +45,7 @@ one_page (suc (suc k)) d below j x few = absurd (omega (below, arith))
 process : SiloValue
 process = unwrap_or (process_of worked silo_b) (first_silo worked_settings silo_b)
 
-some_of : {X : Type 0} (o : Option X) (other : X) → is_some o ≡ true → o ≡ Some (unwrap_or o other)
+pub some_of : {X : Type 0} (o : Option X) (other : X) → is_some o ≡ true → o ≡ Some (unwrap_or o other)
 some_of None other is = absurd (cc (is))
 some_of (Some x) other is = refl
 
@@ -58,10 +58,10 @@ unfolding process
 process_there = some_of (process_of worked silo_b) (first_silo worked_settings silo_b) is_there
 
 -- a nudge that isn't refused
-abbrev nudged_of : SiloValue → Stepped
+abbrev pub nudged_of : SiloValue → Stepped
 nudged_of s = having_nudged (record s.node { host = renewed s.node.host })
 
-nudged_so : (s : SiloValue) → barred s ≡ None → has_numbers s.node.settings s.node.host (length (outstanding s.node.host)) ≡ true → does s Nudges ≡ Ok (nudged_of s)
+pub nudged_so : (s : SiloValue) → barred s ≡ None → has_numbers s.node.settings s.node.host (length (outstanding s.node.host)) ≡ true → does s Nudges ≡ Ok (nudged_of s)
 nudged_so s free numbers = ap (λ o. unless_barred o (step s.node Nudges)) free ∙ ap (λ b. cond {A = Result Stepped ℕ} (not b) (Err 805) (Ok (nudged_of s))) numbers
 
 process_free : barred process ≡ None

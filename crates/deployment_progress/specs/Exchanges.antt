@@ -1,5 +1,5 @@
 -- Exchanges: a silo is nudged, each ask and query that it writes then comes to its receiver, and the answer to each comes back.
-use Rattle.std.specs.Prelude.{⊤, ◌≡◌, ℕ, ◌+◌, ◌<◌, ◌≤◌, List, [], ◌∷◌, ◌++◌, All, length, flat_map, Some, Ok, slice_get}
+use Rattle.std.specs.Prelude.{⊤, ◌≡◌, ℕ, ◌+◌, ◌<◌, ◌≤◌, List, [], ◌∷◌, ◌++◌, All, length, flat_map, Some, Ok, Err, slice_get}
 use Rattle.silo_address.specs.Silo.{Silo}
 use Rattle.ring_range.specs.Range.{Range}
 use Rattle.directory_rules.specs.Input.{Nudges}
@@ -50,7 +50,11 @@ pub record IsNudged (d : Deployment) (silo : Silo) (steps : List Step) : Type 0 
   pub rest : List Step
   pub begins : steps ≡ Nudge silo ∷ rest
 
--- and each ask and query that the nudge writes is answered in them
+-- in the quiet a nudge is refused only where the silo has no numbers left for its requests
+abbrev pub NudgesAreTaken : Type 0
+NudgesAreTaken = WhileQuiet (λ d later. (silo : Silo) (s : SiloValue) (number : ℕ) → process_of d silo ≡ Some s → does s Nudges ≡ Err number → number ≡ 805)
+
+-- the steps begin with such a nudge, and each ask and query that it writes is answered in them
 pub record IsExchange (d : Deployment) (silo : Silo) (steps : List Step) : Type 0 where
   pub nudge : IsNudged d silo steps
   pub answered : (index : ℕ) (letter : Letter) → length d.written ≤ index → slice_get (after d (Nudge silo)).written index ≡ Some letter → IsWant letter.body → IsAnswered (after d (Nudge silo)) silo nudge.rest index letter

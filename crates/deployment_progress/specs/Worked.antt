@@ -1,13 +1,18 @@
--- A worked exchange: a second silo awaits the first one's snapshot of its range, is nudged, and its ask is answered by the page.
-use Rattle.std.specs.Prelude.{◌≡◌, List, [], ◌∷◌, ◌++◌}
-use Rattle.directory_rules.specs.declared.held.Phase.TheVariants.{Firm}
+-- Worked: a second silo awaits the first one's snapshot of its range, is nudged, and its ask is answered by the page; and a silo whose
+-- activation asks to be entered is nudged, and its request is answered.
+use Rattle.std.specs.Prelude.{◌≡◌, ℕ, List, [], ◌∷◌, ◌++◌}
+use Rattle.directory_rules.specs.declared.act.Act.{Act}
+use Rattle.directory_rules.specs.declared.held.Phase.TheVariants.{Asking, Firm}
 use Rattle.directory_rules.specs.declared.piece_state.PieceState.TheVariants.{Settled, Awaiting}
-use Rattle.directory_rules.specs.Worked.{silo_a, silo_b}
+use Rattle.directory_rules.specs.Worked.{silo_a, silo_b, grain_a}
+use Rattle.silo_rules.specs.Membership.{Join}
+use Rattle.progress_rules.specs.Owed.{Owes}
 use Rattle.deployment_headline.specs.Deployment.{Deployment}
-use Rattle.deployment_headline.specs.Steps.{Step, Nudge, Receive, after_all, deployed}
+use Rattle.deployment_headline.specs.Steps.{Step, Decide, Tell, See, Wake, Nudge, Receive, after, after_all, deployed}
 use Rattle.deployment_headline.specs.Worked.{worked_settings, all_told, opening, joining}
 use Rattle.deployment_progress.specs.Quiet.{HaveAllSeen}
-use Rattle.deployment_progress.specs.Exchanges.{IsExchange, HaveAtMost}
+use Rattle.deployment_progress.specs.Exchanges.{IsNudged, IsExchange, HaveAtMost}
+use Rattle.deployment_progress.specs.Requests.{IsServed}
 
 abbrev pub worked : Deployment
 worked = deployed worked_settings (opening ++ joining)
@@ -23,3 +28,18 @@ pub record WorkedExchange : Type 0 where
   pub awaits : all_told worked ≡ (2, 2, Firm ∷ [], (Settled, 0) ∷ []) ∷ (2, 2, [], (Awaiting silo_a, 0) ∷ []) ∷ []
   pub is : IsExchange worked silo_b exchanging
   pub settled : all_told (after_all worked exchanging) ≡ (2, 2, Firm ∷ [], (Settled, 0) ∷ []) ∷ (2, 2, [], (Settled, 1) ∷ []) ∷ []
+
+-- a silo by itself, whose activation asks to be entered
+abbrev pub asking : Deployment
+asking = deployed worked_settings (Decide (Join silo_a (0 ∷ [])) ∷ Tell silo_a 0 ∷ See silo_a 1 ∷ Receive silo_a 0 ∷ Receive silo_a 1 ∷ Wake silo_a grain_a ∷ [])
+
+-- the request that the nudge writes comes, and then the reply; the first one never comes
+abbrev pub replying : List Step
+replying = Nudge silo_a ∷ Receive silo_a 3 ∷ Receive silo_a 4 ∷ []
+
+pub record WorkedRequest : Type 0 where
+  pub seen : HaveAllSeen asking
+  pub asks : all_told asking ≡ (1, 1, Asking 1 ∷ [], (Settled, 0) ∷ []) ∷ []
+  pub nudge : IsNudged asking silo_a replying
+  pub served : (e : ℕ × Act) → Owes nudge.nudged.node.host e → IsServed (after asking (Nudge silo_a)) silo_a nudge.nudged.node nudge.rest e
+  pub firm : all_told (after_all asking replying) ≡ (1, 1, Firm ∷ [], (Settled, 1) ∷ []) ∷ []

@@ -1,10 +1,10 @@
 //! The laws. Each is of a deployment that any steps made, where each process has seen the last change of membership that was decided,
 //! and of whatever steps follow that decide no change: letters that come late, again, in another order, astray, or never.
 ghost use Rattle.deployment_progress.specs.Answers.{AsksAreAnswered, QueriesAreAnswered};
-ghost use Rattle.deployment_progress.specs.Exchanges.{AllRangesSettle, ExchangesGetOn, RangesSettle};
+ghost use Rattle.deployment_progress.specs.Exchanges.{AllRangesSettle, ExchangesGetOn, NudgesAreTaken, RangesSettle};
 ghost use Rattle.deployment_progress.specs.Requests.{OldRequestsEnd, RequestsEnd, SettledRequestsEnd};
 ghost use Rattle.deployment_progress.specs.Waits.{SilosWaitForLess};
-ghost use Rattle.deployment_progress.specs.Worked.{WorkedExchange};
+ghost use Rattle.deployment_progress.specs.Worked.{WorkedExchange, WorkedRequest};
 
 /// A silo only waits for less: a report that has come is awaited no more, pages that were had stay had, and what is settled stays
 /// settled.
@@ -21,6 +21,11 @@ pub fn queries_are_answered()
 /// answer comes back the owner has that page then or awaits none from there.
 pub fn asks_are_answered()
     ensures { AsksAreAnswered }
+{}
+
+/// A nudge is refused by 805 alone, where a silo has too few numbers left to renew its requests.
+pub fn nudges_are_taken()
+    ensures { NudgesAreTaken }
 {}
 
 /// In an exchange, a nudge of a silo that isn't refused, each of whose asks and queries comes to its receiver and is answered, each
@@ -59,4 +64,9 @@ pub fn settled_requests_end()
 /// There are such deployments, and exchanges in them: one, worked out.
 pub fn worked_exchange()
     ensures { WorkedExchange }
+{}
+
+/// And requests that are served in their turn: one, worked out.
+pub fn worked_request()
+    ensures { WorkedRequest }
 {}
