@@ -126,7 +126,7 @@ fn lose(rt: &impl Abort, world: &mut World) {
 
 // The report comes until no event may come any more.
 fn fill(rt: &impl Abort, world: &mut World) {
-    let left = world.settings().events() - world.accepted();
+    let left = world.settings().events().saturating_sub(world.accepted());
     happens_often(rt, world, &Event::Deliver { number: REPORT }, left);
 }
 
