@@ -9,6 +9,9 @@ use crate::turn::Turn;
 /// In weather of fewer turns than these a silo may see nothing.
 const SHORT: u64 = 400;
 
+/// One in so many gales and fogs has a quiet end.
+const QUIET: u64 = 4;
+
 pub struct Climate {
     random: Random,
     /// Where most grains of a crowd are hashed.
@@ -28,17 +31,23 @@ impl Climate {
 
     /// What comes next, if anything does.
     pub fn turn(&mut self, stage: &Stage) -> Option<Turn> {
-        self.change_weather();
         let Climate { random, home, weather, laggard, .. } = self;
         Scene { stage, home: *home, weather: *weather, laggard: *laggard }.turn(random)
     }
 
-    /// Other weather, and another laggard, once this one has lasted long enough.
-    fn change_weather(&mut self) {
+    /// Goes on for a turn, and tells whether a quiet end comes before it.
+    pub fn go_on(&mut self) -> bool {
         if self.lasts > 0 {
             self.lasts -= 1;
-            return;
+            return false;
         }
+        let has_quiet_end = matches!(self.weather, Weather::Gale | Weather::Fog) && self.random.once_in(QUIET);
+        self.change_weather();
+        has_quiet_end
+    }
+
+    /// Other weather, and another laggard.
+    fn change_weather(&mut self) {
         (self.weather, self.lasts) = match self.random.below(3) {
             0 => (Weather::Gale, self.random.below(30) + 5),
             1 => (Weather::Fog, self.random.below(120)),

@@ -4,9 +4,10 @@ use crate::world::Silo;
 use crate::world::mail::{Body, Mail};
 use std::collections::BTreeSet;
 
-/// A letter: after how many events it was sent, whose it is, of which grain, and whether it neither has come nor was lost.
+/// A letter: after how many events it was sent, by whom, whose it is, of which grain, and whether it neither has come nor was lost.
 pub struct Sent {
     pub after: u64,
+    pub from: Silo,
     pub to: Silo,
     pub grain: Option<usize>,
     pub is_fresh: bool,
@@ -36,6 +37,17 @@ impl Letters {
         self.fresh.get(usize::from(silo))?.first().copied()
     }
 
+    /// The fresh letters to a silo.
+    pub fn fresh_to(&self, silo: Silo) -> impl Iterator<Item = u64> + '_ {
+        self.fresh.get(usize::from(silo)).into_iter().flatten().copied()
+    }
+
+    /// The least fresh letter of the link that a fresh letter is of: those of the same sender to the same silo.
+    pub fn least_fresh_of_link(&self, number: u64) -> Option<u64> {
+        let Sent { from, to, .. } = *self.get(number)?;
+        self.fresh_to(to).find(|number| self.get(*number).is_some_and(|sent| sent.from == from))
+    }
+
     /// All letters of the mail that aren't remembered yet were sent after so many events; those that tell no grain, as replies, are of
     /// the grain of the letter that came.
     pub fn note_sent(&mut self, mail: &Mail, after: u64, answered: Option<usize>) {
@@ -46,7 +58,8 @@ impl Letters {
                 self.fresh.resize_with(to + 1, BTreeSet::new);
             }
             self.fresh[to].insert(number);
-            self.sent.push(Sent { after, to: letter.to, grain: grain_of(&letter.body).or(answered), is_fresh: true });
+            let grain = grain_of(&letter.body).or(answered);
+            self.sent.push(Sent { after, from: letter.from, to: letter.to, grain, is_fresh: true });
         }
     }
 

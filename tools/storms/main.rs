@@ -5,6 +5,7 @@
 //!   storms worlds SEED EVENTS FOLDER       so many events in one world after another
 //!   storms judged SEED EVENTS              the same, without scripts, and without a look at dumps
 //!   storms seeded FOLDER                   the forty seeded storms
+//!   storms stored FOLDER                   the same without their quiet ends, as the program `crates/storms` plays them
 //!   storms script SEED EVENTS              the first events of the world of a seed, as a script
 //!   storms views|offers SEED EVENTS        those of a seeded storm
 //!
@@ -12,6 +13,7 @@
 //! on standard output has NAME and the number of hints that each cache keeps. Scripts of worlds are to be deleted once they are played.
 
 mod before;
+mod bound;
 mod chronicle;
 mod climate;
 mod fault;
@@ -22,7 +24,10 @@ mod letters;
 mod members;
 mod mixture;
 mod pieces;
+mod quiet;
+mod quiet_ends;
 mod random;
+mod returned;
 mod ring;
 mod seeded;
 mod stage;
@@ -87,11 +92,12 @@ fn carry_out(words: &[&str]) -> Ended {
     match *words {
         ["worlds", seed, events, folder] => worlds(number(seed)?, number(events)?, Some(Path::new(folder))),
         ["judged", seed, events] => worlds(number(seed)?, number(events)?, None),
-        ["seeded", folder] => seeded(Path::new(folder)),
+        ["seeded", folder] => seeded(Path::new(folder), true),
+        ["stored", folder] => seeded(Path::new(folder), false),
         ["script", seed, events] => script(Storm::of_world(number(seed)?, number(events)?)),
         ["views", seed, events] => script(Storm::of_seed(Course::Views, number(seed)?, number(events)?)),
         ["offers", seed, events] => script(Storm::of_seed(Course::Offers, number(seed)?, number(events)?)),
-        _ => Err("usage: storms worlds SEED EVENTS FOLDER | judged SEED EVENTS | seeded FOLDER | script|views|offers SEED EVENTS".to_string()),
+        _ => Err("usage: storms worlds SEED EVENTS FOLDER | judged SEED EVENTS | seeded|stored FOLDER | script|views|offers SEED EVENTS".to_string()),
     }
 }
 
@@ -99,7 +105,7 @@ fn carry_out(words: &[&str]) -> Ended {
 fn run(storm: &mut Storm, tally: &mut Tally, name: &str, before: u64) -> Ended {
     let ran = storm.run(tally);
     ran.map_err(|fault| {
-        let accepted = storm.stage.accepted;
+        let accepted = storm.drawn();
         format!("{name}, after {accepted} events, {} in all: {}", before + accepted, fault.words())
     })
 }
@@ -143,30 +149,35 @@ fn worlds(seed: u64, events: u64, folder: Option<&Path>) -> Ended {
         if let Some(folder) = folder {
             wait(folder).and_then(|()| keep(&storm, &format!("world-{seed}"), folder)).map_err(told)?;
         }
-        left -= storm.stage.accepted.clamp(1, left);
+        left -= storm.drawn().clamp(1, left);
     }
     eprintln!("{count} worlds");
     tally.tell(events);
+    tally.quiet_ends.tell();
     eprintln!("{events} events, and the headline held after each");
     let each = if tally.has_each(events / 1_000) { "each thing that was to happen did so" } else { "not each thing happened" };
     eprintln!("{each} in a thousandth of them, or more often");
     Ok(())
 }
 
-/// All seeded storms.
-fn seeded(folder: &Path) -> Ended {
-    let (mut turns, mut events) = (0, 0);
+/// All seeded storms, with a quiet end each or without.
+fn seeded(folder: &Path, ends_quietly: bool) -> Ended {
+    let (mut turns, mut events, mut tally) = (0, 0, Tally::default());
     for (course, name) in [(Course::Views, "views"), (Course::Offers, "offers")] {
         for seed in 1..=SEEDED {
             let name = format!("{name}-{seed}");
             let mut storm = Storm::of_seed(course, seed, u64::MAX);
-            run(&mut storm, &mut Tally::default(), &name, events)?;
+            storm.ends_quietly = ends_quietly;
+            run(&mut storm, &mut tally, &name, events)?;
             keep(&storm, &name, folder).map_err(told)?;
             turns += storm.turns;
-            events += storm.stage.accepted;
+            events += storm.drawn();
         }
     }
     eprintln!("{turns} turns, {events} events, and the headline held after each");
+    if ends_quietly {
+        tally.quiet_ends.tell();
+    }
     Ok(())
 }
 

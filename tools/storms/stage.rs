@@ -54,10 +54,15 @@ impl Stage {
         }
     }
 
-    /// Plays what was drawn, and tells whether it was accepted. A refusal is printed too.
+    /// Writes what was drawn into the script, plays it, and tells whether it was accepted.
     pub fn attempt(&mut self, tally: &mut Tally, turn: &Turn) -> bool {
-        let before = look_before(&self.world, &self.chronicle, &self.letters, turn);
         self.write(&turn.line(&self.chronicle, &self.grains));
+        self.play(tally, turn)
+    }
+
+    /// Plays what the script has by now, and tells whether it was accepted. A refusal is printed too.
+    pub fn play(&mut self, tally: &mut Tally, turn: &Turn) -> bool {
+        let before = look_before(&self.world, &self.chronicle, &self.letters, turn);
         let event = turn.event(&self.chronicle, &mut self.world);
         let outcome = match self.world.apply(event) {
             Ok(outcome) => outcome,
@@ -89,11 +94,20 @@ impl Stage {
 
     /// Tests the headline after the accepted event, and has the dump judged.
     pub fn judge(&mut self) -> Result<(), Fault> {
-        self.judge.judge(&self.world, &mut self.chronicle, &self.grains, self.touched)?;
-        if self.is_checked { self.check() } else { Ok(()) }
+        self.judge_headline()?;
+        self.check()
     }
 
-    fn check(&mut self) -> Result<(), Fault> {
+    /// Tests the headline after the accepted event.
+    pub fn judge_headline(&mut self) -> Result<(), Fault> {
+        self.judge.judge(&self.world, &mut self.chronicle, &self.grains, self.touched)
+    }
+
+    /// Has the dump judged, if that is wanted.
+    pub fn check(&mut self) -> Result<(), Fault> {
+        if !self.is_checked {
+            return Ok(());
+        }
         self.write("check");
         let said = judged(&self.world);
         self.printed.word("check ").word(&said).word("\n");
@@ -107,16 +121,23 @@ impl Stage {
         self.printed.word("\n");
     }
 
-    /// Prints all that can be asked of the world.
-    pub fn show(&mut self) {
+    /// Prints the directory, and answers what that printed.
+    pub fn show(&mut self) -> &[u8] {
+        let before = self.printed.0.len();
         self.write("show");
         self.printed.show(&mut self.world);
+        &self.printed.0[before..]
+    }
+
+    /// Prints all that can be asked of the world.
+    pub fn show_all(&mut self) {
+        self.show();
         self.write("mail");
         self.printed.mail(&self.world);
         self.dump();
     }
 
-    fn write(&mut self, line: &str) {
+    pub fn write(&mut self, line: &str) {
         self.script.push_str(line);
         self.script.push('\n');
     }

@@ -45,6 +45,10 @@ pub struct Storm {
     pub hints: usize,
     /// How many turns there were.
     pub turns: u64,
+    /// Whether it ends with a quiet end.
+    pub ends_quietly: bool,
+    /// How many of the accepted events were those of quiet ends.
+    of_quiet_ends: u64,
     source: Source,
     end: End,
 }
@@ -58,28 +62,59 @@ impl Storm {
         let hints = (random.index(3) * 8).max(1);
         let end = End { turns: events.saturating_mul(8), events, silos: WORLD_SILOS, version: u64::MAX };
         let source = Source::World(Climate::new(random, home));
-        Storm { stage: Stage::new(grains, hints), hints, turns: 0, source, end }
+        Storm::new(Stage::new(grains, hints), hints, source, end)
     }
 
     /// The seeded storm of a course and a seed, up to so many events.
     pub fn of_seed(course: Course, seed: u64, events: u64) -> Storm {
         let end = End { turns: SEEDED_TURNS, events, silos: usize::MAX, version: SEEDED_VERSION };
         let source = Source::Seeded(Seeded::new(course, seed));
-        Storm { stage: Stage::new(eighths(), SEEDED_HINTS), hints: SEEDED_HINTS, turns: 0, source, end }
+        Storm::new(Stage::new(eighths(), SEEDED_HINTS), SEEDED_HINTS, source, end)
+    }
+
+    fn new(stage: Stage, hints: usize, source: Source, end: End) -> Storm {
+        Storm { stage, hints, turns: 0, ends_quietly: true, of_quiet_ends: 0, source, end }
+    }
+
+    /// How many events were drawn and accepted.
+    pub fn drawn(&self) -> u64 {
+        self.stage.accepted - self.of_quiet_ends
     }
 
     /// Goes on to its end, or to the first fault.
     pub fn run(&mut self, tally: &mut Tally) -> Result<(), Fault> {
         while !self.is_over() {
             self.turns += 1;
+            if self.has_quiet_end() {
+                self.be_quiet(tally)?;
+            }
             if let Some(turn) = self.draw() {
                 self.take(tally, &turn)?;
             }
         }
         if self.is_world() {
-            self.stage.show();
+            self.stage.show_all();
+        }
+        if self.ends_quietly {
+            self.be_quiet(tally)?;
         }
         Ok(())
+    }
+
+    /// Whether a quiet end comes before what is drawn next.
+    fn has_quiet_end(&mut self) -> bool {
+        match &mut self.source {
+            Source::World(climate) => climate.go_on(),
+            Source::Seeded(_) => false,
+        }
+    }
+
+    /// A quiet end: events that weren't drawn, so that it is the same where a storm of fewer events ends here.
+    fn be_quiet(&mut self, tally: &mut Tally) -> Result<(), Fault> {
+        let drawn = self.drawn();
+        let ended = self.stage.be_quiet(tally);
+        self.of_quiet_ends = self.stage.accepted - drawn;
+        ended
     }
 
     fn is_world(&self) -> bool {
@@ -87,9 +122,9 @@ impl Storm {
     }
 
     fn is_over(&self) -> bool {
-        let Stage { accepted, chronicle, .. } = &self.stage;
+        let chronicle = &self.stage.chronicle;
         let End { turns, events, silos, version } = self.end;
-        self.turns >= turns || *accepted >= events || chronicle.members.len() >= silos || chronicle.version >= version
+        self.turns >= turns || self.drawn() >= events || chronicle.members.len() >= silos || chronicle.version >= version
     }
 
     fn draw(&mut self) -> Option<Turn> {
@@ -105,7 +140,7 @@ impl Storm {
             return Ok(());
         }
         self.stage.judge()?;
-        if self.is_world() && self.stage.accepted.is_multiple_of(DUMPED) {
+        if self.is_world() && self.drawn().is_multiple_of(DUMPED) {
             self.stage.dump();
         }
         Ok(())

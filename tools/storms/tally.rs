@@ -2,6 +2,7 @@
 
 use crate::before::{Before, Sign};
 use crate::pieces::is_settled;
+use crate::quiet_ends::QuietEnds;
 use crate::world::mail::Kind;
 use crate::world::{Effect, Happening, World};
 
@@ -61,6 +62,7 @@ const LATE: u64 = 100;
 #[derive(Default)]
 pub struct Tally {
     counts: [u64; WORDS.len()],
+    pub quiet_ends: QuietEnds,
 }
 
 impl Tally {

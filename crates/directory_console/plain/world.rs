@@ -133,7 +133,7 @@ pub struct World {
     pub silos: Silos,
     /// One for each silo that ever joined, none where it is dead.
     nodes: Vec<Option<Box<Node>>>,
-    commons: Commons,
+    pub commons: Commons,
     accepted: usize,
     /// The ring of the version for which it was last asked, which is the current one once it was asked for.
     current_ring: (Version, Rc<Ring>),
