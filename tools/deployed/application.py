@@ -1,6 +1,6 @@
 """The application at each silo: random commands, and what it makes of the answers."""
 
-COMMANDS = (("wake", 50), ("find", 12), ("close", 9), ("offer", 9), ("forget", 6), ("nudge", 14))
+COMMANDS = (("wake", 50), ("find", 12), ("close", 9), ("offer", 9), ("forget", 6))
 CROWDED = 260
 WANTED = 12
 HOME = 2**32 // 64 * 21
@@ -42,9 +42,7 @@ class Application:
 
     def ask(self, silo, kind):
         """Asks a silo for something of this kind."""
-        if kind == "nudge":
-            silo.write("nudge")
-        elif kind in ("close", "offer"):
+        if kind in ("close", "offer"):
             worked = self.works.of(silo.name)
             if worked:
                 self.give_up(silo, kind, self.random.choice(worked))

@@ -57,6 +57,12 @@ class Changes:
         """The rows of the silos that aren't dead."""
         return [row for row in self.rows.values() if not row.dead]
 
+    def owner(self, hashed):
+        """The silo that owns a hash: of those that are active the one with the point the fewest steps back, of several the first."""
+        active = [row for row in self.living() if not row.left]
+        points = [((hashed - place) % 2**32, address_of(row.silo), row.silo) for row in active for place in row.places]
+        return min(points)[2]
+
     def in_order(self):
         """The rows by address."""
         return sorted(self.rows.values(), key=lambda row: address_of(row.silo))

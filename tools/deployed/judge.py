@@ -1,5 +1,6 @@
-"""What is tested at quiet ends, by plain means: nothing is outstanding, ranges are settled, what is firm is what works, and look-ups
-find it; the dump that is put together is judged by the program as well."""
+"""What is tested at quiet ends, by plain means: once all have seen the last view, and twice all were nudged and all letters came, nothing is
+outstanding, ranges are settled, what is firm is what works, the entries are just that, each at its owner, and look-ups find it; the dump
+that is put together is judged by the program as well."""
 
 import asyncio
 import json
@@ -8,10 +9,12 @@ from collections import Counter
 from pathlib import Path
 
 from deployed.changes import whole_dump
+from deployed.silo import PING
 from deployed.works import FOR_EVER
 
 TOP = Path(__file__).resolve().parent.parent.parent
-MOST_NUDGES = 15
+ROUNDS = ("first", "second")
+SECONDS_TO_COME = 20
 LOOK_UPS = 40
 
 
@@ -30,16 +33,17 @@ class Judge:
 
     async def judge(self):
         """One quiet end."""
-        if await self.settle():
+        if await self.come_back():
             nodes = [json.loads(line) for line in (await self.ask_all("dump")).values()]
             self.compare(nodes)
             if self.can_check:
                 dump = json.dumps(whole_dump(self.team.changes, nodes, "stated", 4), separators=(",", ":"))
                 self.expect(await self.check(dump), "check ok", "what `check` says of the dump")
+            await self.nudge_in_vain()
             await self.look_up()
             self.team.application.rush()
             await self.be_still()
-            self.team.counts["quiet ends", "settled and judged"] += 1
+            self.team.counts["quiet ends", "judged"] += 1
         self.tell_overlaps()
 
     def tell_overlaps(self):
@@ -51,32 +55,69 @@ class Judge:
                 self.team.counts["found", "two works of one grain overlap"] += 1
                 self.team.fault(f"{first.grain} works as {first.activation} and as {second.activation}, {time_of(first, second)}")
 
-    async def settle(self):
-        """All see the last view and are nudged until nobody has anything to send; whether that comes."""
-        if not await self.be_still():
+    async def come_back(self):
+        """All see the last view; then, twice, all are nudged and all letters come. Whether letters ever stop coming."""
+        if not await self.see_last():
             return False
-        for turn in range(MOST_NUDGES):
+        for name in ROUNDS:
             written = self.team.relay.written
-            for silo in self.silos():
-                if silo.seen < self.team.changes.version():
-                    silo.write(f"see {self.team.changes.version()}")
-                silo.write("nudge")
-            if not await self.be_still():
+            if not await self.nudge_all():
                 return False
-            if self.team.relay.written == written:
-                self.team.counts["quiet ends", "rounds of nudges"] += turn
-                return True
-        self.team.fault(f"after {MOST_NUDGES} nudges there is still something outstanding")
-        return False
+            self.team.counts["quiet ends", f"{name} rounds, letters"] += self.team.relay.written - written
+        return True
+
+    async def see_last(self):
+        """All know all changes, and see the last view; whether that comes."""
+        version = self.team.changes.version()
+        if not await self.comes(self.all_are("known", version), "not all know the last change"):
+            return False
+        for silo in self.silos():
+            if silo.seen < version:
+                silo.write(f"see {version}")
+        return await self.comes(self.all_are("seen", version), "not all see the last view")
+
+    def all_are(self, name, version):
+        """A test whether all silos have come to a version."""
+        async def is_so():
+            return all(getattr(silo, name) == version for silo in self.silos())
+        return is_so
+
+    async def nudge_all(self):
+        """All are nudged, before any letter of that comes; then all letters come. Whether these ever stop."""
+        for silo in self.silos():
+            silo.nudge()
+        return await self.be_still()
+
+    async def nudge_in_vain(self):
+        """Once more all are nudged, and nobody has anything to send."""
+        written = self.team.relay.written
+        await self.nudge_all()
+        self.expect(self.team.relay.written - written, 0, "letters that one more nudge sends")
 
     async def be_still(self):
-        """Waits until all know all changes and nothing is on its way; whether that comes."""
-        for _ in range(1000):
-            await asyncio.sleep(0.02)
-            if self.team.relay.is_still() and all(silo.known == self.team.changes.version() for silo in self.silos()):
+        """Waits until nothing is on its way; whether that comes."""
+        return await self.comes(self.is_still, "letters don't stop coming")
+
+    async def is_still(self):
+        """Whether nothing is on its way. A ping is answered behind the letters of all lines before it: so when all are, these were counted."""
+        relay = self.team.relay
+        before = relay.written, relay.arrived
+        for silo in self.silos():
+            silo.write(PING)
+        while any(silo.asked for silo in self.silos()):
+            await asyncio.sleep(0.005)
+        return relay.is_still() and before == (relay.written, relay.arrived)
+
+    async def comes(self, is_so, words):
+        """Waits until something is so, and tells a fault where that takes too long; whether it comes."""
+        try:
+            async with asyncio.timeout(SECONDS_TO_COME):
+                while not await is_so():
+                    await asyncio.sleep(0.02)
                 return True
-        self.team.fault("the deployment doesn't become still in 20 seconds")
-        return False
+        except TimeoutError:
+            self.team.fault(f"{words} in {SECONDS_TO_COME} seconds")
+            return False
 
     def silos(self):
         """The silos that have a process."""
@@ -91,7 +132,9 @@ class Judge:
         return self.team.answers
 
     def compare(self, nodes):
-        """Compares what is firm, what is entered and what works."""
+        """Compares what is firm, what is entered and where, and what works."""
+        changes = self.team.changes
+        self.expect([node["silo"] for node in nodes if node["seen"] != changes.version()], [], "silos that haven't seen the last view")
         pieces = [piece for node in nodes for piece in node["pieces"]]
         self.expect([piece["range"] for piece in pieces if piece["state"] != "settled"], [], "ranges not settled")
         held = [(one["grain"], one["activation"], one["phase"]) for node in nodes for one in node["held"]]
@@ -103,6 +146,8 @@ class Judge:
         self.expect(works, firm, "what works, beside what is firm")
         entries = sorted(tuple(entry) for piece in pieces for entry in piece["entries"])
         self.expect(entries, firm, "what is entered, beside what is firm")
+        entered = [(node["silo"], grain) for node in nodes for piece in node["pieces"] for grain, _ in piece["entries"]]
+        self.expect([one for one in entered if one[0] != changes.owner(hash_of(one[1]))], [], "entries that aren't at their owner")
         self.team.counts["quiet ends", "firm activations, in all"] += len(firm)
 
     async def look_up(self):
@@ -131,6 +176,11 @@ class Judge:
         process = await asyncio.create_subprocess_exec(self.team.program, "check", stdin=PIPE, stdout=PIPE, stderr=DEVNULL)
         told, _ = await process.communicate(dump.encode())
         return told.decode().strip()
+
+
+def hash_of(grain):
+    """The hash that a grain states."""
+    return int(grain.rpartition("#")[2])
 
 
 def difference(found, wanted):

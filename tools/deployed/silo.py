@@ -6,8 +6,10 @@ import signal
 from collections import deque
 
 from deployed.broker import put, topic_of
+from deployed.patience import Patience
 
 CHANGES = ("joined", "leaving", "dead")
+PING = "ping still"
 
 
 class Silo:
@@ -22,6 +24,7 @@ class Silo:
         self.known = self.seen = self.joined = self.newest = self.early = 0
         self.frozen = self.ended = self.doomed = self.disowned = False
         self.listening = asyncio.Event()
+        self.patience = Patience()
 
     async def start(self, program, options, broker, spawn):
         """Starts the process, its feed, and the tasks that read what they write."""
@@ -48,6 +51,7 @@ class Silo:
                 return
             line = line[:-1]
             if line.startswith("letter "):
+                self.patience.wrote(line)
                 self.listener.letter_written(self, line)
             elif line != "dead":
                 self.take_answer(self.asked.popleft(), line)
@@ -55,6 +59,7 @@ class Silo:
     def take_answer(self, asked, line):
         """Takes the answer to the first line that waits for one."""
         words = line.split()
+        self.patience.answered(asked, words)
         if words[0] == "view":
             self.known = int(words[1])
         elif words[1:2] == ["sees"]:
@@ -88,6 +93,11 @@ class Silo:
             except asyncio.TimeoutError:
                 pass
         return False
+
+    def nudge(self):
+        """Has the process send again what is outstanding."""
+        self.write("nudge")
+        self.patience.nudged()
 
     def tell_next(self):
         """Tells the process the next change, if there is one that it wasn't told; so they are told in order."""

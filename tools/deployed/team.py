@@ -9,7 +9,7 @@ from deployed.broker import MEMBERSHIP, Broker, put
 from deployed.changes import Changes, address_of, endpoint_of
 from deployed.lives import Life
 from deployed.relay import CALM, WEATHERS, Relay
-from deployed.silo import CHANGES
+from deployed.silo import CHANGES, PING
 from deployed.works import Works
 from deployed.wrong import Plant
 
@@ -49,6 +49,7 @@ class Team:
         for number in range(1, ENDPOINTS + 1):
             spawn(Life(self, number).live())
         spawn(self.command())
+        spawn(self.nudge())
         spawn(self.change_weather())
 
     async def start(self, silo):
@@ -71,6 +72,14 @@ class Team:
             if not self.is_calm:
                 self.application.act()
                 self.plant.invent()
+
+    async def nudge(self):
+        """Silos are nudged when it is time."""
+        while True:
+            await asyncio.sleep(0.1)
+            for silo in self.relay.silos.values():
+                if not self.is_calm and not silo.frozen and silo.patience.is_over():
+                    silo.nudge()
 
     async def change_weather(self):
         """The weather changes every few seconds."""
@@ -121,6 +130,7 @@ class Team:
         """A process answered a line."""
         if asked == "dump":
             self.answers[silo.name] = line
+        if asked in ("dump", PING):
             return
         self.count_answer(asked.split(), line.split())
         self.application.answered(silo, asked, line)

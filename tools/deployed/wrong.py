@@ -6,7 +6,11 @@ FAULTS = {
     "invents": "the transport invents a letter: a `deregister` of an activation that works",
     "alters": "the transport changes a letter: a report loses its entries",
     "works-on": "the application works on until its close is answered",
+    "denies": "the transport has `behind` in the place of each report: nothing wrong comes of it, but no range is recovered",
+    "hurries": "a silo is nudged before its requests are answered: nothing wrong comes of it, but no answer counts",
 }
+REQUESTS = ("register", "deregister", "find")
+ANSWERS = ("registered", "taken", "removed", "absent", "found", "nothing")
 
 
 class Plant:
@@ -19,11 +23,12 @@ class Plant:
         self.works = works
         self.relay = relay
         self.numbers = {}
+        self.hurried = {}
 
     def spread(self, silo, line):
         """Sends the letters that come of one that a process wrote."""
         words = line.split()
-        if words[4] in ("register", "deregister"):
+        if words[4] in REQUESTS:
             self.numbers[silo.name] = max(self.numbers.get(silo.name, 0), int(words[5]))
         if self.name == "confirms" and words[4] == "register" and self.random.random() < 0.1:
             self.counts["planted", self.name] += 1
@@ -31,7 +36,19 @@ class Plant:
         elif self.name == "alters" and words[4] == "report" and len(words) > 6:
             self.counts["planted", self.name] += 1
             line = " ".join(words[:6])
+        elif self.name == "denies" and words[4] == "report":
+            self.counts["planted", self.name] += 1
+            line = " ".join([*words[:4], "behind", words[5]])
+        elif self.name == "hurries" and words[4] in ANSWERS:
+            self.hurry(words[2], int(words[5]))
         self.relay.send(line)
+
+    def hurry(self, name, number):
+        """Nudges a silo whose request is answered, unless that had a number from before the last such nudge."""
+        if name in self.relay.silos and number > self.hurried.get(name, 0):
+            self.counts["planted", self.name] += 1
+            self.hurried[name] = self.numbers.get(name, 0)
+            self.relay.silos[name].nudge()
 
     def invent(self):
         """Invents a letter from time to time, in the name of a silo that has an activation at work."""
