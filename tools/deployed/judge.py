@@ -1,6 +1,6 @@
-"""What is tested at quiet ends, by plain means: once all have seen the last view, and twice all were nudged and all letters came, nothing is
-outstanding, ranges are settled, what is firm is what works, the entries are just that, each at its owner, and look-ups find it; the dump
-that is put together is judged by the program as well."""
+"""What is tested at quiet ends, by plain means: once all have seen the last view, and twice all were nudged and all letters came, nothing
+is outstanding, ranges are settled, what is firm is what works, the entries are just that, each at its owner, and look-ups find it; the
+dump that is put together is judged by the program as well."""
 
 import asyncio
 import json
@@ -99,7 +99,7 @@ class Judge:
         return await self.comes(self.is_still, "letters don't stop coming")
 
     async def is_still(self):
-        """Whether nothing is on its way. A ping is answered behind the letters of all lines before it: so when all are, these were counted."""
+        """Whether nothing is on its way. A ping is answered behind the letters of the lines before it, so these are counted by then."""
         relay = self.team.relay
         before = relay.written, relay.arrived
         for silo in self.silos():

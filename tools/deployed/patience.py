@@ -1,6 +1,6 @@
-"""When a silo is nudged. A nudge gives each request that is outstanding a new number, and an answer under an old one counts no more: a silo
-that is nudged faster than its letters go round is never done. So it is nudged when what it has waited for longest hasn't come after a pause,
-and each pause is twice as long as the one before, until that has come."""
+"""When a silo is nudged. A nudge gives each request that is outstanding a new number, and an answer under an old one counts no more: a
+silo that is nudged faster than its letters go round is never done. So it is nudged when what it has waited for longest hasn't come after a
+pause, and each pause is twice as long as the one before, until that has come."""
 
 from time import monotonic
 

@@ -1,4 +1,4 @@
-//! How many letters the two rounds of a quiet end may take at the most: known where all live silos have seen the current view, by what is
+//! How many letters the two rounds of a quiet end may take at the most: counted where all live silos have seen the current view, by what is
 //! outstanding there.
 
 use crate::stage::Stage;
@@ -41,9 +41,8 @@ pub fn most_letters(stage: &Stage) -> u64 {
 impl Outstanding {
     fn add_letter(&mut self, world: &World, number: u64) {
         match world.mail().letter(number).map(|letter| letter.body) {
-            Some(
-                Body::Register { .. } | Body::Deregister { .. } | Body::Find { .. } | Body::Ask { .. } | Body::Query { .. },
-            ) => self.questions += 1,
+            Some(Body::Register { .. } | Body::Deregister { .. } | Body::Find { .. }) => self.questions += 1,
+            Some(Body::Ask { .. } | Body::Query { .. }) => self.questions += 1,
             Some(Body::Offer { .. }) => self.offers += 1,
             _ => {}
         }

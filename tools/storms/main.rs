@@ -72,6 +72,9 @@ const MOST_WAITING: usize = 8;
 /// The seeded storms of each course have the seeds from 1 to this one.
 const SEEDED: u64 = 20;
 
+const USAGE: &str =
+    "usage: storms worlds SEED EVENTS FOLDER | judged SEED EVENTS | seeded|stored FOLDER | script|views|offers SEED EVENTS";
+
 /// Why the program ends too early, in words.
 type Ended<T = ()> = Result<T, String>;
 
@@ -97,7 +100,7 @@ fn carry_out(words: &[&str]) -> Ended {
         ["script", seed, events] => script(Storm::of_world(number(seed)?, number(events)?)),
         ["views", seed, events] => script(Storm::of_seed(Course::Views, number(seed)?, number(events)?)),
         ["offers", seed, events] => script(Storm::of_seed(Course::Offers, number(seed)?, number(events)?)),
-        _ => Err("usage: storms worlds SEED EVENTS FOLDER | judged SEED EVENTS | seeded|stored FOLDER | script|views|offers SEED EVENTS".to_string()),
+        _ => Err(USAGE.to_string()),
     }
 }
 
