@@ -109,15 +109,32 @@ module _ (d : Deployment) (r : IsAtRest d) (silo : Silo) (index : ℕ) (between 
 
 -- ---- the laws
 pub queries_are_answered : QueriesAreAnswered
-queries_are_answered settings steps between are named seen named_between none owner silo s t range index query there found is after_it waits =
+queries_are_answered settings steps between are named seen named_between none owner silo s range index query there found is =
+    let d = deployed settings steps in
     let r = starts_at_rest settings steps are named seen in
     let q : IsQuiet between = record { named = named_between; none = none } in
-    query_back (deployed settings steps) r silo index between q owner owner range query s.node t.node refl (ap (option_map its_node) there) found is
-    (ap (λ x. node_at x owner) (sym (last_is (deployed settings steps) r silo index between q owner)) ∙ ap (option_map its_node) after_it) waits
+    let its = query_comes d r owner silo range index query s.node (ap (option_map its_node) there) found is in
+    record {
+      answer = its.0;
+      written = its.1;
+      report = its.2;
+      struck = λ t after_it waits.
+          query_back d r silo index between q owner owner range query s.node t.node refl (ap (option_map its_node) there) found is
+          (ap (λ x. node_at x owner) (sym (last_is d r silo index between q owner)) ∙ ap (option_map its_node) after_it) waits;
+    }
 
 pub asks_are_answered : AsksAreAnswered
-asks_are_answered settings steps between are named seen named_between none owner giver s t u range page index ask there found is its late after_it waits =
+asks_are_answered settings steps between are named seen named_between none owner giver s range page index ask there found is =
+    let d = deployed settings steps in
     let r = starts_at_rest settings steps are named seen in
     let q : IsQuiet between = record { named = named_between; none = none } in
-    (ask_back (deployed settings steps) r giver index between q owner (together s.node.shelf) owner range page ask s.node t.node u.node refl (ap (option_map its_node) there) (at_most s.node.shelf) found is (ap (option_map its_node) its) late
-    (ap (λ x. node_at x owner) (sym (last_is (deployed settings steps) r giver index between q owner)) ∙ ap (option_map its_node) after_it) waits).0
+    let giving = ap (option_map its_node) there in
+    let its = ask_comes d r (together s.node.shelf) owner giver range page index ask s.node giving (at_most s.node.shelf) found is in
+    record {
+      answer = its.0;
+      written = its.1;
+      says = elim its.2.says [ inl missing ↦ inr missing | inr has ↦ inl has.0 ];
+      had = λ t u own late after_it waits.
+          (ask_back d r giver index between q owner (together s.node.shelf) owner range page ask s.node t.node u.node refl giving (at_most s.node.shelf) found is (ap (option_map its_node) own) late
+          (ap (λ x. node_at x owner) (sym (last_is d r giver index between q owner)) ∙ ap (option_map its_node) after_it) waits).0;
+    }

@@ -10,6 +10,7 @@ pub mod Back
 pub mod Awaited
 pub mod Letters
 pub mod Nudged
+pub mod Possible
 pub mod Exchange
 pub mod Settle
 pub mod Owed

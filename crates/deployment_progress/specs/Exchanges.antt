@@ -1,6 +1,6 @@
 -- Exchanges: a silo is nudged, each ask and query that it writes then comes to its receiver, and the answer to each comes back.
 use Rattle.std.specs.Prelude.{⊤, ◌≡◌, ℕ, ◌+◌, ◌<◌, ◌≤◌, List, [], ◌∷◌, ◌++◌, All, length, flat_map, Some, Ok, Err, slice_get}
-use Rattle.silo_address.specs.Silo.{Silo}
+use Rattle.silo_address.specs.Silo.{Silo, IsSilo}
 use Rattle.ring_range.specs.Range.{Range}
 use Rattle.directory_rules.specs.Input.{Nudges}
 use Rattle.directory_rules.specs.Letter.{Letter, Body, Request_letter, Reply_letter, Ask_letter, Page_letter, Missing_letter, Done_letter, Query_letter, Report_letter, Behind_letter, Ahead_letter, Offer_letter}
@@ -14,9 +14,9 @@ use Rattle.progress_rules.specs.Plan.{IsSettledPiece}
 use Rattle.progress_rules.specs.Waits.{Recovers}
 use Rattle.progress_rules.specs.Gathers.{AwaitsFrom}
 use Rattle.deployment_headline.specs.Deployment.{Deployment, process_of}
-use Rattle.deployment_headline.specs.Steps.{Step, Nudge, Receive, after, after_all}
+use Rattle.deployment_headline.specs.Steps.{Step, Nudge, Receive, IsStep, after, after_all}
 use Rattle.deployment_headline.specs.Theorems.{EachProcess}
-use Rattle.deployment_progress.specs.Quiet.{WhileQuiet}
+use Rattle.deployment_progress.specs.Quiet.{DecidesNone, WhileQuiet}
 use Rattle.deployment_progress.specs.Waits.{HasSettled}
 
 -- In the steps the letter of that index comes to its receiver, and the first letter that this then writes comes to the silo. Whatever
@@ -58,6 +58,11 @@ NudgesAreTaken = WhileQuiet (λ d later. (silo : Silo) (s : SiloValue) (number :
 pub record IsExchange (d : Deployment) (silo : Silo) (steps : List Step) : Type 0 where
   pub nudge : IsNudged d silo steps
   pub answered : (index : ℕ) (letter : Letter) → length d.written ≤ index → slice_get (after d (Nudge silo)).written index ≡ Some letter → IsWant letter.body → IsAnswered (after d (Nudge silo)) silo nudge.rest index letter
+
+-- wherever a nudge isn't refused, some steps that decide no change are an exchange
+abbrev pub ExchangesCanBe : Type 0
+ExchangesCanBe = (d : Deployment) (silo : Silo) (s : SiloValue) (nudged : Stepped) → IsSilo silo → process_of d silo ≡ Some s → does s Nudges ≡ Ok nudged
+    → (steps : List Step) × All IsStep steps × All DecidesNone steps × IsExchange d silo steps
 
 -- from the one node to the other each range gets on: one that recovered is settled, and one that awaits a snapshot still has a page more
 pub record GetsOn (before after : Node) : Type 0 where

@@ -1,7 +1,7 @@
 //! The laws. Each is of a deployment that any steps made, where each process has seen the last change of membership that was decided,
 //! and of whatever steps follow that decide no change: letters that come late, again, in another order, astray, or never.
 ghost use Rattle.deployment_progress.specs.Answers.{AsksAreAnswered, QueriesAreAnswered};
-ghost use Rattle.deployment_progress.specs.Exchanges.{AllRangesSettle, ExchangesGetOn, NudgesAreTaken, RangesSettle};
+ghost use Rattle.deployment_progress.specs.Exchanges.{AllRangesSettle, ExchangesCanBe, ExchangesGetOn, NudgesAreTaken, RangesSettle};
 ghost use Rattle.deployment_progress.specs.Requests.{OldRequestsEnd, RequestsEnd, SettledRequestsEnd};
 ghost use Rattle.deployment_progress.specs.Waits.{SilosWaitForLess};
 ghost use Rattle.deployment_progress.specs.Worked.{WorkedExchange, WorkedRequest};
@@ -26,6 +26,11 @@ pub fn asks_are_answered()
 /// A nudge is refused by 805 alone, where a silo has too few numbers left to renew its requests.
 pub fn nudges_are_taken()
     ensures { NudgesAreTaken }
+{}
+
+/// Wherever a nudge isn't refused there may be an exchange.
+pub fn exchanges_can_be()
+    ensures { ExchangesCanBe }
 {}
 
 /// In an exchange, a nudge of a silo that isn't refused, each of whose asks and queries comes to its receiver and is answered, each
