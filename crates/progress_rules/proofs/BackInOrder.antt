@@ -28,7 +28,7 @@ use Rattle.progress_rules.proofs.InOrder.{any_settles}
 use Rattle.progress_rules.proofs.RoundOfPieces.{starts}
 use Rattle.progress_rules.proofs.Answering.{node_facts}
 use Rattle.progress_rules.proofs.SecondRound.{length_none}
-use Rattle.progress_rules.proofs.RequestsBack.{some_owner}
+use Rattle.progress_rules.proofs.Answered.{some_of}
 use Rattle.progress_rules.proofs.AnyRound.{IsStill, Falls, falls_or_none, round_falls}
 
 -- ---- the rounds
@@ -83,7 +83,7 @@ none_waits base after over owned silo node there =
     by [] is_none = ap (λ (l : List (ℕ × Act)). length l) is_none
     by (x ∷ xs) some =
         let owes : Owes node.host x = subst (λ (l : List (ℕ × Act)). Contains l x) (sym some) (some_in x xs) in
-        let owner = some_owner (owner_in after x.1) (owned _) in
+        let owner = some_of (owner_in after x.1) (owned _) in
         let owns = sym (over.still.owners x.1) ∙ owner.1 in
         let asks_one = some_pass (λ (e : ℕ × Act). is_for base owner.0 e.1) (requests_of node.host) x owes
         (for_owner base owner.0 x.1 (over.finds_none silo node there x owes owner.0 owns) owns) in
@@ -163,7 +163,7 @@ rounds_serve settings events order after are named have all none is owned silo b
         Contains-append_right (held_acts node.host) (find_acts node.host) (x.0, act.Find x.1)
         (subst (λ (l : List (ℕ × Grain)). Contains {X = ℕ × Act} (map (λ (e : ℕ × Grain). (e.0, act.Find e.1)) l) (x.0, act.Find x.1)) (sym are)
         (some_in {X = ℕ × Act} (x.0, act.Find x.1) _)) in
-        let owner = some_owner (owner_in after (act.Find x.1)) (owned _) in
+        let owner = some_of (owner_in after (act.Find x.1)) (owned _) in
         let fell = so.1 silo node here (x.0, act.Find x.1) owes owner.0 (sym (so.0.owners (act.Find x.1)) ∙ owner.1) in
         let never = fell.0 in
         absurd (cc (never))
