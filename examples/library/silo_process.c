@@ -74,16 +74,33 @@ static int play(grain_directory *silo) {
     return 0;
 }
 
+/* Reads the name of a way of hashing; or says that it is none. */
+static int read_hashing(const char *word, uint32_t *hashing) {
+    if (strcmp(word, "sha256") == 0) *hashing = GRAIN_DIRECTORY_SHA256;
+    else if (strcmp(word, "stated") == 0) *hashing = GRAIN_DIRECTORY_STATED;
+    else return 0;
+    return 1;
+}
+
+/* Reads a number of digits alone; or says that it is none. */
+static int read_number(const char *word, size_t *number) {
+    char *end;
+    *number = strtoul(word, &end, 10);
+    return *word >= '0' && *word <= '9' && *end == '\0';
+}
+
 int main(int count, char **words) {
     if (count < 3 || strcmp(words[1], "silo") != 0) return mistake("silo ADDRESS [--hashing sha256|stated] [--points N] [--cache N]");
     uint32_t hashing = GRAIN_DIRECTORY_SHA256;
     size_t points = GRAIN_DIRECTORY_POINTS, cache = GRAIN_DIRECTORY_CACHE;
-    for (int word = 3; word + 1 < count; word += 2) {
-        const char *value = words[word + 1];
-        if (strcmp(words[word], "--hashing") == 0) hashing = strcmp(value, "stated") == 0 ? GRAIN_DIRECTORY_STATED : GRAIN_DIRECTORY_SHA256;
-        else if (strcmp(words[word], "--points") == 0) points = strtoul(value, NULL, 10);
-        else if (strcmp(words[word], "--cache") == 0) cache = strtoul(value, NULL, 10);
+    for (int word = 3; word < count; word += 2) {
+        const char *option = words[word], *value = word + 1 < count ? words[word + 1] : "";
+        int is_read;
+        if (strcmp(option, "--hashing") == 0) is_read = read_hashing(value, &hashing);
+        else if (strcmp(option, "--points") == 0) is_read = read_number(value, &points);
+        else if (strcmp(option, "--cache") == 0) is_read = read_number(value, &cache);
         else return mistake("no such option");
+        if (!is_read) return mistake("an option with no such value");
     }
     grain_directory *silo = NULL;
     uint32_t status = grain_directory_open((const unsigned char *)words[2], strlen(words[2]), hashing, points, cache, &silo);
