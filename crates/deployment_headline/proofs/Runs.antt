@@ -171,7 +171,7 @@ written_are_own settings steps are named k other below =
     letters_are_own (with_room most letters settings) all.events (1 + k) (slice_index_or d.written k other) (ap (λ world. letter_of world (1 + k)) all.is ∙ found)
 
 -- what processes were told
-sound_after : (d : Deployment) → Sound d → (steps : List Step) → Sound (after_all d steps)
+pub sound_after : (d : Deployment) → Sound d → (steps : List Step) → Sound (after_all d steps)
 unfolding after_all
 sound_after d sound [] = sound
 sound_after d sound (s ∷ steps) = sound_after (after d s) (keeps d sound s).sound steps
@@ -253,7 +253,7 @@ processes_keep_one_firm settings steps are named grain s t one other =
     }
 
 -- ---- the plain machine
-one_more : (d : Deployment) (steps : List Step) (s : Step) → after_all d (steps ++ s ∷ []) ≡ after (after_all d steps) s
+pub one_more : (d : Deployment) (steps : List Step) (s : Step) → after_all d (steps ++ s ∷ []) ≡ after (after_all d steps) s
 unfolding after_all
 one_more d [] s = refl
 one_more d (t ∷ steps) s = one_more (after d t) steps s

@@ -32,6 +32,7 @@ use Rattle.deployment_headline.specs.Deployment.{Deployment, process_of}
 use Rattle.deployment_headline.specs.Limits.{node_with_room}
 use Rattle.deployment_headline.specs.Steps.{Step, Decide, Tell, See, Wake, Close, Find, Forget, Nudge, Offer, Receive, IsStep, heard, took, tells, tells_at, does_at, sees_at, delivers, receives_at, after, after_all}
 use Rattle.deployment_headline.proofs.Memberships.{leads_to}
+use Rattle.deployment_headline.proofs.Runs.{one_more}
 use Rattle.deployment_headline.proofs.Sound.{its_process}
 use Rattle.deployment_headline.proofs.Worlds.{its_node}
 use Rattle.deployment_progress.specs.Quiet.{DecidesNone, HaveAllSeen}
@@ -68,11 +69,6 @@ pub record HasMoved (d : Deployment) (st : Step) (next : Deployment) (silo : Sil
 
 abbrev pub Moves : Deployment → Step → Deployment → Type 0
 Moves d st next = HasStayed d next ⊎ ((silo : Silo) × HasMoved d st next silo)
-
-one_more : (x : Deployment) (steps : List Step) (s : Step) → after_all x (steps ++ s ∷ []) ≡ after (after_all x steps) s
-unfolding after_all
-one_more x [] s = refl
-one_more x (t ∷ steps) s = one_more (after x t) steps s
 
 module _ (d : Deployment) where
   stayed : HasStayed d d

@@ -26,7 +26,7 @@ use Rattle.deployment_headline.specs.Deployment.{Deployment, first_deployment, p
 use Rattle.deployment_headline.specs.Limits.{with_room, node_with_room, process_with_room, deployment_with_room}
 use Rattle.deployment_headline.specs.Steps.{Step, IsStep, after, after_all, deployed}
 use Rattle.deployment_headline.proofs.Lists.{lookup-over}
-use Rattle.deployment_headline.proofs.Runs.{Makes, made_so, settings_stay}
+use Rattle.deployment_headline.proofs.Runs.{Makes, made_so, settings_stay, sound_after}
 use Rattle.deployment_headline.proofs.Sound.{Sound, sound_first, keeps}
 use Rattle.deployment_headline.proofs.Worlds.{its_node, node_there, letter_there}
 use Rattle.deployment_progress.specs.Quiet.{HaveAllSeen}
@@ -54,11 +54,6 @@ pub record HasWorld (d : Deployment) : Type 0 where
   pub settings : world.settings ≡ with_room events letters d.settings
   pub nodes : (silo : Silo) → node_of world silo ≡ option_map (node_with_room events letters) (node_at d silo)
   pub mail : (index : ℕ) (letter : Letter) → slice_get d.written index ≡ Some letter → letter_of world (1 + index) ≡ Some letter
-
-pub sound_after : (d : Deployment) → Sound d → (steps : List Step) → Sound (after_all d steps)
-unfolding after_all
-sound_after d sound [] = sound
-sound_after d sound (s ∷ steps) = sound_after (after d s) (keeps d sound s).sound steps
 
 roomy_settings : (its : Settings) (events letters : ℕ) → AreSettings its → 1 ≤ events → 1 ≤ letters → AreSettings (with_room events letters its)
 roomy_settings its events letters are some any = record {
