@@ -3,3 +3,4 @@ pub mod Short
 pub mod EntryModel
 pub mod Journal
 pub mod Agreement
+pub mod Comparison

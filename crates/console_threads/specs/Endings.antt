@@ -18,8 +18,8 @@ use Rattle.threaded_play.specs.Printed.{TellsWorld}
 use Rattle.threaded_play.specs.declared.ended.ThreadsEnded.{ThreadsEnded}
 use Rattle.threaded_play.specs.declared.ended.ThreadsEnded.TheVariants as threads
 use Rattle.threaded_play.specs.declared.ended.ThreadsEnded.TheVariants.{Played}
-use Rattle.compared_receipts.specs.declared.refusal.CloseRefusal.{CloseRefusal}
-use Rattle.compared_receipts.specs.declared.refusal.CloseRefusal.TheVariants as refusal
+use Rattle.cluster_journal.specs.declared.refusal.CloseRefusal.{CloseRefusal}
+use Rattle.cluster_journal.specs.declared.refusal.CloseRefusal.TheVariants as refusal
 use Rattle.console_threads.specs.Held.{is_read_well}
 
 -- the cluster wasn't closed

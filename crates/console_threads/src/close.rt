@@ -12,7 +12,7 @@ ghost use Rattle.console_threads.specs.Endings.{IsUnclosed, unclosed_by};
 use crate::driver::Driver;
 use crate::order::ascend;
 use cluster_board::Board;
-use compared_receipts::CloseRefusal;
+use cluster_journal::CloseRefusal;
 use directory_rules::Settings;
 use script_loop::{Sink, send};
 use silo_threads::{Ended, MOST_WORKERS, PARTS};

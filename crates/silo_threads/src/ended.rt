@@ -2,11 +2,11 @@ ghost use Rattle.std.specs.Prelude.{◌≡◌, IfErr, IfOk, OnOk, length};
 ghost use Rattle.directory_rules.specs.Headline.{Headline};
 ghost use Rattle.cluster_journal.specs.Agreement.{Agree};
 ghost use Rattle.cluster_journal.specs.Journal.{IsJournaled};
-ghost use Rattle.compared_receipts.specs.Comparison.{Declines};
+ghost use Rattle.cluster_journal.specs.Comparison.{Declines};
 
 use cluster_board::Board;
 use cluster_journal::Receipt;
-use compared_receipts::{CloseRefusal, compare};
+use cluster_journal::{CloseRefusal, compare};
 use crossbeam_channel::Receiver;
 use silo_workers::Cause;
 use std::alloc::Global;

@@ -3,8 +3,8 @@ use Rattle.std.specs.Prelude.{◌≡◌, ℕ, List, All, Option, Some, None, len
 use Rattle.cluster_journal.specs.Agreement.{Agree, Stands}
 use Rattle.cluster_journal.specs.Entry.{EntryValue}
 use Rattle.cluster_journal.specs.declared.entry.Receipt.{Receipt}
-use Rattle.compared_receipts.specs.declared.refusal.CloseRefusal.{CloseRefusal}
-use Rattle.compared_receipts.specs.declared.refusal.CloseRefusal.TheVariants.{ReceiptDiffers, OutOfMemory}
+use Rattle.cluster_journal.specs.declared.refusal.CloseRefusal.{CloseRefusal}
+use Rattle.cluster_journal.specs.declared.refusal.CloseRefusal.TheVariants.{ReceiptDiffers, OutOfMemory}
 
 -- a refusal's number; out of memory has none
 abbrev pub close_refusal_number : CloseRefusal → Option ℕ

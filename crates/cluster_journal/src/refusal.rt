@@ -1,5 +1,5 @@
 ghost use Rattle.std.specs.Prelude.{◌≡◌};
-ghost use Rattle.compared_receipts.specs.Comparison.{close_refusal_number};
+ghost use Rattle.cluster_journal.specs.Comparison.{close_refusal_number};
 
 use std::alloc::AllocError;
 use thiserror::Error;
@@ -29,7 +29,7 @@ impl CloseRefusal {
 
 impl From<AllocError> for CloseRefusal {
     ghost use Rattle.std.specs.Prelude.{◌≡◌};
-    ghost use Rattle.compared_receipts.specs.declared.refusal.CloseRefusal.TheVariants.{OutOfMemory};
+    ghost use Rattle.cluster_journal.specs.declared.refusal.CloseRefusal.TheVariants.{OutOfMemory};
 
     ghost from_gives = { λ _ refusal. refusal ≡ OutOfMemory };
 
