@@ -11,7 +11,7 @@ use shared_node::SharedNode;
 use std::alloc::Global;
 use std::process::Abort;
 use std::sync::ledger::{Blank, Ledger, Share};
-use value_marks::{Blocks, Names};
+use cluster_board::{Blocks, Names};
 
 #[derive(Drop)]
 pub(crate) struct Desk<L: Ledger + Names> {

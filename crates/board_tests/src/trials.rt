@@ -13,7 +13,7 @@ use std::alloc::Global;
 use std::marker::Brand;
 use std::process::Abort;
 use std::sync::ledger::{Blank, Ledger};
-use value_marks::{Blocks, Names};
+use cluster_board::{Blocks, Names};
 
 // What a commit answers.
 enum Answer {

@@ -4,3 +4,4 @@ pub mod Fresh
 pub mod Decision
 pub mod Boards
 pub mod Lent
+pub mod Send

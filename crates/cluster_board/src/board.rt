@@ -11,7 +11,7 @@ use std::alloc::Global;
 use std::collections::BTreeMap;
 use std::marker::Model;
 use std::sync::ledger::{Blank, Book, Ledger, Share};
-use value_marks::{Blocks, Mark, Marks, Names};
+use crate::{Blocks, Mark, Marks, Names};
 
 /// A cluster and its journal, as they stand under one lock: the world is what the run of the journal's events leaves, and these
 /// tell just what the journal says. Whoever posts or commits has a share of the board's ledger, whose total is the journal's

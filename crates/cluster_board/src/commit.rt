@@ -18,7 +18,7 @@ use directory_rules::{Event, Outcome};
 use shared_node::SharedNode;
 use silo_address::SiloAddress;
 use std::sync::ledger::{Ledger, Share};
-use value_marks::{Mark, Names};
+use crate::{Mark, Names};
 
 /// Prepared work that a board didn't take: why, and what is left of it.
 pub struct Uncommitted<N: Names> {

@@ -10,7 +10,7 @@ use letter_mail::MailedLetter;
 use silo_address::SiloAddress;
 use std::alloc::AllocError;
 use std::sync::ledger::Ledger;
-use value_marks::Names;
+use crate::Names;
 
 impl<L: Ledger + Names> Board<L> {
     /// The silo's node, shared, with the least fresh letter to it and that letter's number; `None` where the silo has no node, or

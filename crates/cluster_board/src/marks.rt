@@ -10,7 +10,7 @@ use directory_rules::Event;
 use shared_node::SharedNode;
 use silo_address::SiloAddress;
 use std::collections::BTreeMap;
-use value_marks::{Mark, Marks, Names};
+use crate::{Mark, Marks, Names};
 
 /// The silo's mark, which is of this node if there is one, or else a new one, which is kept if there is memory for it.
 pub(crate) fn mark_of<N: Names>(

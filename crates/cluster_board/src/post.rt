@@ -12,7 +12,7 @@ use directory_core::EventRefusal;
 use directory_rules::{Event, Outcome};
 use std::alloc::{AllocError, Global};
 use std::sync::ledger::{Ledger, Share};
-use value_marks::Names;
+use crate::Names;
 
 impl<L: Ledger + Names> Board<L> {
     /// An event happens, as `World::apply` says, and its entry is the journal's last one, which the receipt names. Out of memory

@@ -9,7 +9,7 @@ use shared_node::SharedNode;
 use silo_address::SiloAddress;
 use std::alloc::Global;
 use std::marker::Model;
-use value_marks::{Mark, Names};
+use crate::{Mark, Names};
 
 /// A letter and the node of its receiver, as a board lent them. A job is prepared or given back: it can't be dropped
 /// (`docs/RULES.md#the-board`).

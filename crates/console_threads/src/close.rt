@@ -22,7 +22,7 @@ use std::sync::Wait;
 use std::sync::ledger::Ledger;
 use std::thread::Threads;
 use threaded_play::ThreadsEnded;
-use value_marks::Names;
+use cluster_board::Names;
 
 impl<L: Ledger + Names> Driver<L, OpenGate> {
     /// Stops the workers and joins their threads, in every case; tells why workers gave up; and closes the cluster, whose settings

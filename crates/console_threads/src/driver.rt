@@ -18,7 +18,7 @@ use std::alloc::{AllocError, Global};
 use std::sync::Wait;
 use std::sync::ledger::{Ledger, Share};
 use std::thread::Threads;
-use value_marks::Names;
+use cluster_board::Names;
 
 /// A cluster that commands are given to, and what is kept of that: the share that workers don't have, and the receipts.
 pub(crate) struct Driver<L: Ledger + Names, G: Gate + Drop> {

@@ -21,7 +21,7 @@ use std::sync::Wait;
 use std::sync::ledger::{Blank, Ledger};
 use std::thread::Threads;
 use threaded_play::ThreadsEnded;
-use value_marks::{Blocks, Names};
+use cluster_board::{Blocks, Names};
 
 /// How many blocks of marks a cluster may use: enough for a mark at each event.
 pub const MARK_BLOCKS: usize = 1024;

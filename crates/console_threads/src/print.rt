@@ -10,7 +10,7 @@ use script_loop::{Ended, Sink, send};
 use std::alloc::{AllocError, Global};
 use std::sync::ledger::Ledger;
 use threaded_play::ThreadsEnded;
-use value_marks::Names;
+use cluster_board::Names;
 
 /// Prints what there is to print: the line of the fault, or without one what the cluster came to.
 pub(crate) fn print<L: Ledger + Names, W: Sink>(

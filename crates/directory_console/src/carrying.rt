@@ -17,7 +17,7 @@ use std::sync::Wait;
 use std::sync::ledger::Blank;
 use std::thread::Threads;
 use threaded_play::ThreadsEnded;
-use value_marks::Slots;
+use cluster_board::Slots;
 
 /// Does what the words of a command line ask for, the program's name first, over these streams, and gives the code with which the
 /// program exits (`docs/RULES.md#the-program`).

@@ -6,7 +6,7 @@ use Rattle.worker_crossing.proofs.Holders.{heap_field_crosses}
 use Rattle.worker_crossing.proofs.Names.{silo_crosses}
 use Rattle.worker_crossing.proofs.Sites.{causes_cross, shared_site_sends}
 use Rattle.std.specs.declared.sync.ledger.Ledger as ledger
-use Rattle.value_marks.specs.declared.mark.Names as names
+use Rattle.cluster_board.specs.declared.mark.Names as names
 use Rattle.silo_threads.specs.contracts.start.Desk as desk
 
 module _ (T G : RattleType) (l : ledger.Ghosts T.Denot) (g : names.Ghosts T.Denot) where

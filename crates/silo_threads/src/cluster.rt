@@ -14,7 +14,7 @@ use std::alloc::Global;
 use std::marker::Model;
 use std::sync::ledger::{Blank, Ledger, Share};
 use std::sync::{Arc, Wait};
-use value_marks::{Blocks, Names};
+use cluster_board::{Blocks, Names};
 
 /// The greatest number of workers that a cluster may ever have: as many as silos may ever join.
 pub const MOST_WORKERS: usize = 256;

@@ -12,7 +12,7 @@ use std::alloc::AllocError;
 use std::sync::ledger::{Ledger, Share};
 use std::sync::{Arc, Wait};
 use std::thread::Threads;
-use value_marks::Names;
+use cluster_board::Names;
 
 impl<L: Ledger + Names, G: Gate + Drop> Cluster<L, G> {
     /// Stops all workers, joins their threads, ends the publisher, and puts the workers' parts of the share and their receipts, each of

@@ -12,7 +12,7 @@ use silo_workers::Cause;
 use std::alloc::Global;
 use std::sync::Wait;
 use std::sync::ledger::{Ledger, Share};
-use value_marks::Names;
+use cluster_board::Names;
 
 /// A cluster that has ended: its board, the share, the receipts of all who posted and committed, and why workers gave up.
 #[derive(Drop)]

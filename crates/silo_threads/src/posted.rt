@@ -16,7 +16,7 @@ use silo_workers::{Gate, Site};
 use std::alloc::{AllocError, Global};
 use std::sync::Wait;
 use std::sync::ledger::{Ledger, Share};
-use value_marks::Names;
+use cluster_board::Names;
 
 /// An event that was accepted: its receipt, and the view and the places that it left, unless memory ran out when they were copied.
 #[derive(Drop)]

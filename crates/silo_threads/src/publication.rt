@@ -14,7 +14,7 @@ use silo_workers::Gate;
 use std::alloc::{AllocError, Global};
 use std::sync::Wait;
 use std::sync::ledger::Ledger;
-use value_marks::Names;
+use cluster_board::Names;
 
 /// The current view of a board's world, which events have made, and each silo's places. Fails only when memory runs out.
 pub(crate) fn newest<L: Ledger + Names>(

@@ -17,7 +17,7 @@ use std::alloc::AllocError;
 use std::sync::ledger::{Ledger, Share};
 use std::sync::{Arc, Wait};
 use std::thread::Threads;
-use value_marks::Names;
+use cluster_board::Names;
 
 /// An event that was accepted: its receipt, and what it should have had behind it and lacks.
 #[derive(Drop)]

@@ -13,7 +13,7 @@ use std::marker::Model;
 use std::sync::ledger::{Ledger, Share};
 use std::sync::{Arc, Wait};
 use std::thread::{self, Promise, PromisedHandle, Threads};
-use value_marks::Names;
+use cluster_board::Names;
 
 /// A silo's worker: its thread, or what it did where no thread could be made.
 #[derive(Drop)]

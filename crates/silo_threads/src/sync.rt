@@ -17,7 +17,7 @@ use silo_workers::Gate;
 use std::alloc::{AllocError, Global};
 use std::sync::Wait;
 use std::sync::ledger::Ledger;
-use value_marks::Names;
+use cluster_board::Names;
 
 impl<L: Ledger + Names, G: Gate + Drop> Cluster<L, G> {
     /// The sights that would bring each silo that isn't Dead, by address, from the version that it has seen up to the current one.

@@ -6,7 +6,7 @@ use cluster_journal::Receipt;
 use std::alloc::{AllocError, Global};
 use std::marker::Model;
 use std::sync::ledger::{Ledger, Share};
-use value_marks::Names;
+use cluster_board::Names;
 
 /// What a worker did: its part of the ledger's share, and the receipts of what it committed, as many as the part counts.
 #[derive(Drop)]

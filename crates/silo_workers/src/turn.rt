@@ -9,7 +9,7 @@ use silo_address::SiloAddress;
 use std::alloc::Global;
 use std::sync::Wait;
 use std::sync::ledger::Ledger;
-use value_marks::Names;
+use cluster_board::Names;
 
 /// What a worker goes by: the silo that it serves, and where its steps are prepared.
 #[derive(Drop)]

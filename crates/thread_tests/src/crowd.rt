@@ -17,7 +17,7 @@ use std::process::Abort;
 use std::sync::Wait;
 use std::sync::ledger::{Blank, Ledger};
 use std::thread::Threads;
-use value_marks::{Blocks, Names};
+use cluster_board::{Blocks, Names};
 
 /// How much is posted.
 #[derive(Clone, Copy)]

@@ -15,7 +15,7 @@ use std::process::Abort;
 use std::sync::Wait;
 use std::sync::ledger::{Blank, Ledger, Share};
 use std::thread::Threads;
-use value_marks::{Blocks, Names};
+use cluster_board::{Blocks, Names};
 
 pub(crate) struct Driver<L: Ledger + Names, G: Gate + Drop> {
     pub(crate) cluster: Cluster<L, G>,

@@ -19,7 +19,7 @@ use std::sync::ledger::{Blank, Ledger};
 use std::sync::{Arc, Wait};
 use std::thread::{self, Threads};
 use std::time::{Clock, Duration};
-use value_marks::{Blocks, Names};
+use cluster_board::{Blocks, Names};
 
 const A: &str = "10.0.0.1:1000@1";
 

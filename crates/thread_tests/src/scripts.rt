@@ -11,7 +11,7 @@ use std::marker::Brand;
 use std::sync::Wait;
 use std::sync::ledger::Blank;
 use std::thread::Threads;
-use value_marks::Slots;
+use cluster_board::Slots;
 
 const WORDS: [&str; 4] = ["g", "threads", "--hashing", "stated"];
 

@@ -8,7 +8,7 @@ use denote.Param.Send.{IsSend, AllSend, struct_send, enum_send, recorded_send, v
 use Rattle.core.proofs.ledger.Sent.{book_send}
 use Rattle.std.proofs.Crossing as crossing
 use Rattle.std.proofs.MapsCrossing as maps
-use Rattle.value_marks.proofs.Send as marking
+use Rattle.cluster_board.proofs.Send as marking
 use Rattle.worker_crossing.proofs.Parts.{number64, truth}
 use Rattle.worker_crossing.proofs.Holders.{heap_field_crosses}
 use Rattle.worker_crossing.proofs.Names.{silo_crosses}
@@ -18,7 +18,7 @@ use Rattle.worker_crossing.proofs.Nodes.{shared_crosses, plan_crosses}
 use Rattle.worker_crossing.proofs.Events.{entry_crosses}
 use Rattle.worker_crossing.proofs.Worlds.{world_crosses}
 use Rattle.std.specs.declared.sync.ledger.Ledger as ledger
-use Rattle.value_marks.specs.declared.mark.Names as names
+use Rattle.cluster_board.specs.declared.mark.Names as names
 use Rattle.std.specs.contracts.option.Option as Option
 use Rattle.std.specs.contracts.alloc.Global as Heap
 use Rattle.std.specs.contracts.prelude.GlobalAllocator.TheImpl.{ghosts}
@@ -27,8 +27,8 @@ use Rattle.silo_address.specs.contracts.silo.SiloAddress as silo
 use Rattle.silo_address.specs.contracts.silo.SiloAddressOrd.TheImpl as ord
 use Rattle.silo_address.specs.contracts.silo.SiloAddressPartialEq.TheImpl as eq
 use Rattle.silo_address.specs.contracts.silo.SiloAddressPartialOrd.TheImpl as partial
-use Rattle.value_marks.specs.contracts.mark.Mark as mark
-use Rattle.value_marks.specs.contracts.marks.Marks as marks
+use Rattle.cluster_board.specs.contracts.mark.Mark as mark
+use Rattle.cluster_board.specs.contracts.mark_maker.Marks as marks
 use Rattle.shared_node.specs.contracts.SharedNode as shared
 use Rattle.cluster_journal.specs.contracts.entry.Entry as entry
 use Rattle.cluster_board.specs.contracts.board.Board as board

@@ -11,7 +11,7 @@ use Rattle.worker_crossing.proofs.Holders.{optional, queued, counted}
 use Rattle.worker_crossing.proofs.Events.{receipt_crosses}
 use Rattle.worker_crossing.proofs.Boards.{board_sends}
 use Rattle.std.specs.declared.sync.ledger.Ledger as ledger
-use Rattle.value_marks.specs.declared.mark.Names as names
+use Rattle.cluster_board.specs.declared.mark.Names as names
 use Rattle.std.specs.contracts.alloc.Global as Heap
 use Rattle.std.specs.contracts.prelude.GlobalAllocator.TheImpl.{ghosts}
 use Rattle.std.specs.contracts.collections.VecDeque as Deque

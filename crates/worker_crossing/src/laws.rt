@@ -4,7 +4,7 @@ use crossbeam_channel::Sender;
 use silo_workers::{Cause, Gate, Site, Tally};
 use std::sync::Arc;
 use std::sync::ledger::Ledger;
-use value_marks::Names;
+use cluster_board::Names;
 
 fn sends<T: Send>() {}
 

@@ -4,13 +4,13 @@ use denote.RattleType.{RattleType}
 use denote.Param.Send.{IsSend, sendable}
 use Rattle.boxcar.specs.contracts.slot.OnceSlot as once_slot
 use Rattle.boxcar.specs.contracts.slot.Written as written
-use Rattle.value_marks.specs.declared.mark.Names as names
-use Rattle.value_marks.specs.contracts.mark.Mark as mark
-use Rattle.value_marks.specs.contracts.marks.Marks as marks
-use Rattle.value_marks.specs.contracts.marks.Block as block
-use Rattle.value_marks.specs.contracts.slots.AnyValue as rule
-use Rattle.value_marks.specs.contracts.slots.AnyValueSlotRuleSnapshot.TheImpl as impl
-use Rattle.value_marks.specs.contracts.slots.Slots as slots
+use Rattle.cluster_board.specs.declared.mark.Names as names
+use Rattle.cluster_board.specs.contracts.mark.Mark as mark
+use Rattle.cluster_board.specs.contracts.mark_maker.Marks as marks
+use Rattle.cluster_board.specs.contracts.mark_maker.Block as block
+use Rattle.cluster_board.specs.contracts.slots.AnyValue as rule
+use Rattle.cluster_board.specs.contracts.slots.AnyValueSlotRuleSnapshot.TheImpl as impl
+use Rattle.cluster_board.specs.contracts.slots.Slots as slots
 use Rattle.std.specs.contracts.snapshot.Snapshot as snapshot
 use Rattle.std.specs.contracts.vec.Vec as Vec
 use Rattle.std.specs.contracts.alloc.Global as Heap

@@ -1,5 +1,5 @@
 use Rattle.std.proofs.Common.{◌≡◌, length}
-use Rattle.value_marks.proofs.slots.Slots.new.Given as goal
+use Rattle.cluster_board.proofs.slots.Slots.new.Given as goal
 
 abbrev pub invariant-loop : goal.invariant-loop
 invariant-loop g l = length l.slots.items ≡ l.counter
