@@ -2,9 +2,9 @@
 use denote.RattleType.{RattleType}
 use denote.Struct.Declared as S
 use denote.Param.Send.{IsSend, IsSync, struct_send, recorded_send}
-use Rattle.worker_crossing.proofs.Holders.{heap_field_crosses}
-use Rattle.worker_crossing.proofs.Names.{silo_crosses}
-use Rattle.worker_crossing.proofs.Sites.{causes_cross, shared_site_sends}
+use Rattle.silo_workers.proofs.Holders.{heap_field_crosses}
+use Rattle.silo_workers.proofs.Names.{silo_crosses}
+use Rattle.silo_workers.proofs.Sites.{causes_cross, shared_site_sends}
 use Rattle.std.specs.declared.sync.ledger.Ledger as ledger
 use Rattle.cluster_board.specs.declared.mark.Names as names
 use Rattle.silo_threads.specs.contracts.start.Desk as desk

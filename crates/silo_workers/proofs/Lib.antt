@@ -1,1 +1,14 @@
 pub mod Deliveries
+pub mod Parts
+pub mod Holders
+pub mod Names
+pub mod Members
+pub mod Tables
+pub mod Hosts
+pub mod Letters
+pub mod Nodes
+pub mod Events
+pub mod Worlds
+pub mod Boards
+pub mod Sites
+pub mod Closures

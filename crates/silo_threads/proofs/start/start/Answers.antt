@@ -1,7 +1,7 @@
 use denote.Param.{param, copied}
 use denote.Param.Send.{param_send}
-use Rattle.worker_crossing.proofs.Closures.{three_send}
-use Rattle.worker_crossing.proofs.Sites.{tally_sends}
+use Rattle.silo_workers.proofs.Closures.{three_send}
+use Rattle.silo_workers.proofs.Sites.{tally_sends}
 use Rattle.silo_threads.proofs.Desks.{desk_sends}
 use Rattle.silo_threads.proofs.start.start.Lts as lts
 use Rattle.silo_threads.proofs.start.start.Goals as goal

@@ -9,14 +9,14 @@ use Rattle.core.proofs.ledger.Sent.{book_send}
 use Rattle.std.proofs.Crossing as crossing
 use Rattle.std.proofs.MapsCrossing as maps
 use Rattle.cluster_board.proofs.Send as marking
-use Rattle.worker_crossing.proofs.Parts.{number64, truth}
-use Rattle.worker_crossing.proofs.Holders.{heap_field_crosses}
-use Rattle.worker_crossing.proofs.Names.{silo_crosses}
-use Rattle.worker_crossing.proofs.Members.{settings_cross}
-use Rattle.worker_crossing.proofs.Letters.{letter_crosses}
-use Rattle.worker_crossing.proofs.Nodes.{shared_crosses, plan_crosses}
-use Rattle.worker_crossing.proofs.Events.{entry_crosses}
-use Rattle.worker_crossing.proofs.Worlds.{world_crosses}
+use Rattle.silo_workers.proofs.Parts.{number64, truth}
+use Rattle.silo_workers.proofs.Holders.{heap_field_crosses}
+use Rattle.silo_workers.proofs.Names.{silo_crosses}
+use Rattle.silo_workers.proofs.Members.{settings_cross}
+use Rattle.silo_workers.proofs.Letters.{letter_crosses}
+use Rattle.silo_workers.proofs.Nodes.{shared_crosses, plan_crosses}
+use Rattle.silo_workers.proofs.Events.{entry_crosses}
+use Rattle.silo_workers.proofs.Worlds.{world_crosses}
 use Rattle.std.specs.declared.sync.ledger.Ledger as ledger
 use Rattle.cluster_board.specs.declared.mark.Names as names
 use Rattle.std.specs.contracts.option.Option as Option

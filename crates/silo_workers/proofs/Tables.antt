@@ -1,9 +1,9 @@
 -- Tables, and what is made of their entries, cross.
 use denote.Builtin.{u8, u32}
-use Rattle.worker_crossing.proofs.Parts.{Crosses, fields, structure, modelled, variants, array, byte, number32, number64, truth}
-use Rattle.worker_crossing.proofs.Holders.{heap_field_crosses, optional, listed, mapped, gathered}
-use Rattle.worker_crossing.proofs.Names.{silo_crosses, activation_crosses, entry_crosses, range_crosses, arc_crosses}
-use Rattle.worker_crossing.proofs.Members.{hashing_crosses}
+use Rattle.silo_workers.proofs.Parts.{Crosses, fields, structure, modelled, variants, array, byte, number32, number64, truth}
+use Rattle.silo_workers.proofs.Holders.{heap_field_crosses, optional, listed, mapped, gathered}
+use Rattle.silo_workers.proofs.Names.{silo_crosses, activation_crosses, entry_crosses, range_crosses, arc_crosses}
+use Rattle.silo_workers.proofs.Members.{hashing_crosses}
 use Rattle.std.specs.contracts.alloc.Global as Heap
 use Rattle.std.specs.contracts.prelude.GlobalAllocator.TheImpl.{ghosts}
 use Rattle.std.specs.contracts.boxed.BoxedSlice as key

@@ -1,10 +1,10 @@
 -- Letters, and what steps and events tell, cross.
 use mathlib.Core.List.{[], ◌∷◌}
-use Rattle.worker_crossing.proofs.Parts.{Crosses, All, choice, fields, modelled, variants, number16, number32, number64}
-use Rattle.worker_crossing.proofs.Holders.{optional}
-use Rattle.worker_crossing.proofs.Names.{silo_crosses, grain_crosses, activation_crosses, entry_field_crosses, range_crosses}
-use Rattle.worker_crossing.proofs.Members.{hashing_crosses}
-use Rattle.worker_crossing.proofs.Tables.{page_crosses, report_crosses}
+use Rattle.silo_workers.proofs.Parts.{Crosses, All, choice, fields, modelled, variants, number16, number32, number64}
+use Rattle.silo_workers.proofs.Holders.{optional}
+use Rattle.silo_workers.proofs.Names.{silo_crosses, grain_crosses, activation_crosses, entry_field_crosses, range_crosses}
+use Rattle.silo_workers.proofs.Members.{hashing_crosses}
+use Rattle.silo_workers.proofs.Tables.{page_crosses, report_crosses}
 use Rattle.silo_address.specs.contracts.entry.Entry as entry
 use Rattle.ring_range.specs.contracts.range.RingRange as range
 use Rattle.silo_address.specs.contracts.activation.ActivationId as activation

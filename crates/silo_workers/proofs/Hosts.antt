@@ -2,10 +2,10 @@
 use denote.RattleType.{RattleType}
 use denote.Builtin.{RawPtr, u8, u32}
 use denote.Param.Send.{sendable}
-use Rattle.worker_crossing.proofs.Parts.{Crosses, fields, structure, modelled, inverted, variants, choice, array, byte, number32, number64}
-use Rattle.worker_crossing.proofs.Holders.{heap_crosses, heap_field_crosses, listed, mapped, hashed}
-use Rattle.worker_crossing.proofs.Names.{silo_crosses, grain_crosses, activation_crosses}
-use Rattle.worker_crossing.proofs.Members.{hashing_crosses}
+use Rattle.silo_workers.proofs.Parts.{Crosses, fields, structure, modelled, inverted, variants, choice, array, byte, number32, number64}
+use Rattle.silo_workers.proofs.Holders.{heap_crosses, heap_field_crosses, listed, mapped, hashed}
+use Rattle.silo_workers.proofs.Names.{silo_crosses, grain_crosses, activation_crosses}
+use Rattle.silo_workers.proofs.Members.{hashing_crosses}
 use Rattle.std.proofs.Crossing.{frees}
 use Rattle.std.specs.declared.cmp.Eq as total
 use Rattle.std.specs.declared.cmp.PartialEq as eq

@@ -1,12 +1,12 @@
 -- The mail and the world cross.
 use denote.Builtin.{u64, unit}
-use Rattle.worker_crossing.proofs.Parts.{Crosses, fields, modelled, variants, choice, number32, number64, truth, nothing}
-use Rattle.worker_crossing.proofs.Holders.{heap_field_crosses, optional, boxed, listed, queued, mapped}
-use Rattle.worker_crossing.proofs.Names.{silo_crosses}
-use Rattle.worker_crossing.proofs.Members.{settings_cross, views_cross, places_cross}
-use Rattle.worker_crossing.proofs.Hosts.{grain_map_crosses}
-use Rattle.worker_crossing.proofs.Letters.{letter_crosses}
-use Rattle.worker_crossing.proofs.Nodes.{shared_crosses, transition_crosses}
+use Rattle.silo_workers.proofs.Parts.{Crosses, fields, modelled, variants, choice, number32, number64, truth, nothing}
+use Rattle.silo_workers.proofs.Holders.{heap_field_crosses, optional, boxed, listed, queued, mapped}
+use Rattle.silo_workers.proofs.Names.{silo_crosses}
+use Rattle.silo_workers.proofs.Members.{settings_cross, views_cross, places_cross}
+use Rattle.silo_workers.proofs.Hosts.{grain_map_crosses}
+use Rattle.silo_workers.proofs.Letters.{letter_crosses}
+use Rattle.silo_workers.proofs.Nodes.{shared_crosses, transition_crosses}
 use Rattle.directory_letters.specs.contracts.letter.Letter as letter
 use Rattle.node_plans.specs.contracts.transition.Transition as transition
 use Rattle.letter_mail.specs.contracts.kept.Named as named

@@ -1,7 +1,7 @@
 use cluster_board::{Board, Job, Prepared};
 use cluster_journal::Receipt;
 use crossbeam_channel::Sender;
-use silo_workers::{Cause, Gate, Site, Tally};
+use crate::{Cause, Gate, Site, Tally};
 use std::sync::Arc;
 use std::sync::ledger::Ledger;
 use cluster_board::Names;

@@ -6,10 +6,10 @@ use Rattle.core.proofs.ledger.Sent.{share_send}
 use Rattle.core.proofs.atomic.Sent.{Atomic-send, Atomic-sync}
 use Rattle.core.proofs.sync.Sent.{Mutex-send, Mutex-sync}
 use Rattle.std.proofs.Crossing as crossing
-use Rattle.worker_crossing.proofs.Parts.{Crosses, fields, structure, modelled, variants, choice, number64}
-use Rattle.worker_crossing.proofs.Holders.{optional, queued, counted}
-use Rattle.worker_crossing.proofs.Events.{receipt_crosses}
-use Rattle.worker_crossing.proofs.Boards.{board_sends}
+use Rattle.silo_workers.proofs.Parts.{Crosses, fields, structure, modelled, variants, choice, number64}
+use Rattle.silo_workers.proofs.Holders.{optional, queued, counted}
+use Rattle.silo_workers.proofs.Events.{receipt_crosses}
+use Rattle.silo_workers.proofs.Boards.{board_sends}
 use Rattle.std.specs.declared.sync.ledger.Ledger as ledger
 use Rattle.cluster_board.specs.declared.mark.Names as names
 use Rattle.std.specs.contracts.alloc.Global as Heap

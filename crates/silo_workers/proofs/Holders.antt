@@ -1,7 +1,7 @@
 -- What holds others crosses as they do: each of the standard library's, at the heap.
 use denote.RattleType.{RattleType}
 use denote.Param.Send.{sendable}
-use Rattle.worker_crossing.proofs.Parts.{Crosses, variants}
+use Rattle.silo_workers.proofs.Parts.{Crosses, variants}
 use Rattle.std.proofs.Crossing as crossing
 use Rattle.std.proofs.MapsCrossing as maps
 use Rattle.std.proofs.MapsCrossingOver as sets

@@ -1,13 +1,13 @@
 -- A silo's node crosses, shared as it is, and so does a plan of its step.
 use mathlib.Core.List.{[], ◌∷◌}
 use denote.Builtin.{u64}
-use Rattle.worker_crossing.proofs.Parts.{Crosses, All, fields, structure, modelled, variants, number32, number64, truth}
-use Rattle.worker_crossing.proofs.Holders.{heap_field_crosses, optional, boxed, listed, counted, mapped}
-use Rattle.worker_crossing.proofs.Names.{silo_crosses, grain_crosses, activation_crosses, activation_field_crosses, entry_field_crosses, range_crosses}
-use Rattle.worker_crossing.proofs.Members.{settings_cross, view_crosses, ring_crosses}
-use Rattle.worker_crossing.proofs.Tables.{table_crosses, recovery_crosses, report_crosses, snapshot_crosses, page_crosses, shelf_crosses, gathering_crosses, by_silo_crosses, holding_crosses}
-use Rattle.worker_crossing.proofs.Hosts.{host_crosses, renewal_crosses, cache_crosses}
-use Rattle.worker_crossing.proofs.Letters.{hashed_crosses, letter_crosses, effect_crosses}
+use Rattle.silo_workers.proofs.Parts.{Crosses, All, fields, structure, modelled, variants, number32, number64, truth}
+use Rattle.silo_workers.proofs.Holders.{heap_field_crosses, optional, boxed, listed, counted, mapped}
+use Rattle.silo_workers.proofs.Names.{silo_crosses, grain_crosses, activation_crosses, activation_field_crosses, entry_field_crosses, range_crosses}
+use Rattle.silo_workers.proofs.Members.{settings_cross, view_crosses, ring_crosses}
+use Rattle.silo_workers.proofs.Tables.{table_crosses, recovery_crosses, report_crosses, snapshot_crosses, page_crosses, shelf_crosses, gathering_crosses, by_silo_crosses, holding_crosses}
+use Rattle.silo_workers.proofs.Hosts.{host_crosses, renewal_crosses, cache_crosses}
+use Rattle.silo_workers.proofs.Letters.{hashed_crosses, letter_crosses, effect_crosses}
 use Rattle.silo_address.specs.contracts.grain.GrainId as grain
 use Rattle.silo_address.specs.contracts.entry.Entry as entry
 use Rattle.silo_address.specs.contracts.activation.ActivationId as activation

@@ -1,7 +1,7 @@
 -- Silos, grains, activations and ranges cross.
 use denote.Builtin.{u8}
-use Rattle.worker_crossing.proofs.Parts.{Crosses, fields, structure, inverted, array, byte, number16, number32, number64}
-use Rattle.worker_crossing.proofs.Holders.{optional}
+use Rattle.silo_workers.proofs.Parts.{Crosses, fields, structure, inverted, array, byte, number16, number32, number64}
+use Rattle.silo_workers.proofs.Holders.{optional}
 use Rattle.silo_address.specs.contracts.silo.SiloAddress as silo
 use Rattle.silo_address.specs.contracts.silo.SiloAddress.TheInside as silo_inside
 use Rattle.silo_address.specs.contracts.grain.GrainId as grain

@@ -1,6 +1,6 @@
 use denote.Param.Send.{sendable}
-use Rattle.worker_crossing.proofs.Boards.{board_sends}
-use Rattle.worker_crossing.proofs.laws.boards_cross.Goals as goal
+use Rattle.silo_workers.proofs.Boards.{board_sends}
+use Rattle.silo_workers.proofs.laws.boards_cross.Goals as goal
 
 pub sends-requires-send-T : goal.sends-requires-send-T
 sends-requires-send-T g c κs within = search (board_sends, sendable) depth 12

@@ -1,9 +1,9 @@
 -- Events, and the entries of a journal, cross.
 use denote.Builtin.{u32}
-use Rattle.worker_crossing.proofs.Parts.{Crosses, fields, structure, modelled, variants, number16, number32, number64}
-use Rattle.worker_crossing.proofs.Holders.{optional, boxed, listed}
-use Rattle.worker_crossing.proofs.Names.{silo_crosses, grain_crosses}
-use Rattle.worker_crossing.proofs.Letters.{why_crosses, effect_crosses, kind_crosses}
+use Rattle.silo_workers.proofs.Parts.{Crosses, fields, structure, modelled, variants, number16, number32, number64}
+use Rattle.silo_workers.proofs.Holders.{optional, boxed, listed}
+use Rattle.silo_workers.proofs.Names.{silo_crosses, grain_crosses}
+use Rattle.silo_workers.proofs.Letters.{why_crosses, effect_crosses, kind_crosses}
 use Rattle.silo_address.specs.contracts.silo.SiloAddress as silo
 use Rattle.directory_rules.specs.contracts.event.Event as event
 use Rattle.directory_rules.specs.contracts.outcome.Happening as happening

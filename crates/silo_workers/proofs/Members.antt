@@ -1,8 +1,8 @@
 -- Settings, views and rings cross.
 use denote.Builtin.{u32, u64}
-use Rattle.worker_crossing.proofs.Parts.{Crosses, fields, structure, modelled, inverted, variants, choice, pair, number32, number64}
-use Rattle.worker_crossing.proofs.Holders.{heap_field_crosses, optional, listed, mapped}
-use Rattle.worker_crossing.proofs.Names.{silo_crosses}
+use Rattle.silo_workers.proofs.Parts.{Crosses, fields, structure, modelled, inverted, variants, choice, pair, number32, number64}
+use Rattle.silo_workers.proofs.Holders.{heap_field_crosses, optional, listed, mapped}
+use Rattle.silo_workers.proofs.Names.{silo_crosses}
 use Rattle.silo_address.specs.contracts.silo.SiloAddress as silo
 use Rattle.directory_rules.specs.contracts.settings.Settings as settings
 use Rattle.directory_rules.specs.contracts.settings.Settings.TheInside as settings_inside
