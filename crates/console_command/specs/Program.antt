@@ -14,7 +14,7 @@ use Rattle.silo_rules.specs.SiloValue.{first_silo}
 use Rattle.process_output.specs.Output.{silo_output}
 use Rattle.process_loop.specs.Endings.{AnswersInTurn, Stops}
 use Rattle.process_loop.specs.declared.stopped.Stopped.{Stopped}
-use Rattle.silo_player.specs.ProcessSettings.{process_settings}
+use Rattle.process_answers.specs.ProcessSettings.{process_settings}
 use Rattle.console_command.specs.SiloPlay.{WritesOutput}
 use Rattle.console_command.specs.Play.{lines_played}
 use Rattle.console_command.specs.Checks.{Checks}

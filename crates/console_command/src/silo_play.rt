@@ -4,7 +4,7 @@ ghost use Rattle.std.specs.Prelude.{◌≡◌, ◌≤◌, ◌↔◌, IfSome, IsS
 ghost use Rattle.silo_rules.specs.SiloValue.{first_silo};
 ghost use Rattle.process_output.specs.Output.{silo_output};
 ghost use Rattle.process_loop.specs.Endings.{AnswersInTurn, MakesCalls, Stops};
-ghost use Rattle.silo_player.specs.ProcessSettings.{process_settings};
+ghost use Rattle.process_answers.specs.ProcessSettings.{process_settings};
 ghost use Rattle.console_command.specs.SiloPlay.{WritesOutput};
 
 use directory_rules::Settings;
@@ -13,7 +13,7 @@ use hash_ring::Hashing;
 use process_loop::Stopped;
 use script_loop::{Sink, Source};
 use silo_address::SiloAddress;
-use silo_player::{Player, process_settings};
+use process_answers::{Player, process_settings};
 use std::alloc::Global;
 
 /// Plays the process of a new silo, under a way of hashing, with a number of points, 1 to 128, and of hints that its cache keeps, 0 to

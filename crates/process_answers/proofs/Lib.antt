@@ -3,3 +3,5 @@ pub mod Outcomes
 pub mod Printing
 pub mod Tellings
 pub mod Received
+mod Answered
+mod Unended

@@ -3,3 +3,4 @@ pub mod ChangeModel
 pub mod Ending
 pub mod StepModel
 pub mod Telling
+pub mod ProcessSettings

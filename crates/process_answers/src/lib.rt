@@ -1,14 +1,19 @@
-//! What a silo's process answers to what a line asks for: the call of the silo, and the lines that tell what came of it. The rules
-//! are in `docs/RULES.md#lines-of-a-silos-process`.
+//! What a silo's process answers to what a line asks for: the call of the silo, and the lines that tell what came of it; and a silo
+//! that answers lines, with its settings. The rules are in `docs/RULES.md#lines-of-a-silos-process`.
 #![tactic(auto)]
 
 mod answering;
 mod changes;
 mod dump;
+mod fault;
 mod letters;
 mod lines;
+mod player;
+mod settings;
 mod show;
 mod steps;
 mod telling;
 
 pub use answering::answer;
+pub use player::Player;
+pub use settings::process_settings;

@@ -7,7 +7,7 @@ use Rattle.silo_address.specs.Silo.{Silo}
 use Rattle.directory_rules.specs.Settings.{Settings}
 use Rattle.silo_rules.specs.SiloValue.{SiloValue, first_silo}
 use Rattle.process_loop.specs.Answering.{AnswersLine, MayLackMemory}
-use Rattle.silo_player.specs.ProcessSettings.{process_settings}
+use Rattle.process_answers.specs.ProcessSettings.{process_settings}
 use Rattle.silo_library.specs.declared.status.Status.{Status}
 use Rattle.silo_library.specs.declared.status.Status.TheVariants as status
 

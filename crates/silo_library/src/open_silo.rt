@@ -9,7 +9,7 @@ use directory_silo::Silo;
 use hash_ring::Hashing;
 use process_loop::SiloPlayer;
 use silo_address::SiloAddress;
-use silo_player::{Player, process_settings};
+use process_answers::{Player, process_settings};
 use std::alloc::{AllocError, Global};
 use std::marker::Model;
 

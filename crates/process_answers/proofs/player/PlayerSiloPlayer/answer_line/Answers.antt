@@ -3,8 +3,8 @@ use Rattle.directory_rules.specs.Node.{Node}
 use Rattle.directory_rules.specs.Settings.{Settings}
 use Rattle.process_letters.specs.FaultNumbers.{line_fault_number}
 use Rattle.process_lines.specs.AskedModel.{asked_of}
-use Rattle.silo_player.proofs.Answered.{asked_answered, fault_told, passed_over, said_so, unread_lacks}
-use Rattle.silo_player.proofs.player.PlayerSiloPlayer.answer_line.Goals as goal
+use Rattle.process_answers.proofs.Answered.{asked_answered, fault_told, passed_over, said_so, unread_lacks}
+use Rattle.process_answers.proofs.player.PlayerSiloPlayer.answer_line.Goals as goal
 
 pub returns-in-Ok-None-clause-answered : goal.returns-in-Ok-None-clause-answered
 returns-in-Ok-None-clause-answered c =

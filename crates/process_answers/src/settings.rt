@@ -1,5 +1,5 @@
 ghost use Rattle.std.specs.Prelude.{◌≡◌, ◌≤◌, ◌↔◌, IfSome, IsSome};
-ghost use Rattle.silo_player.specs.ProcessSettings.{process_settings};
+ghost use Rattle.process_answers.specs.ProcessSettings.{process_settings};
 
 use directory_rules::Settings;
 use hash_ring::Hashing;
