@@ -4,7 +4,7 @@ use Rattle.texts.specs.Printed.{Output}
 use Rattle.silo_address.specs.Silo.{Silo}
 use Rattle.directory_rules.specs.Settings.{Settings}
 use Rattle.silo_rules.specs.SiloValue.{SiloValue, first_silo}
-use Rattle.process_output.specs.Output.{silo_output}
+use Rattle.process_rules.specs.Output.{silo_output}
 use Rattle.process_loop.specs.declared.stopped.Stopped.{Stopped}
 use Rattle.process_loop.specs.declared.stopped.Stopped.TheVariants as stopped
 use Rattle.process_loop.specs.Endings.{Stops}

@@ -11,7 +11,7 @@ use Rattle.script_loop.specs.Sent.{WritesFront}
 use Rattle.script_loop.specs.declared.ended.Ended.{Ended}
 use Rattle.silo_address.specs.Silo.{Silo as SiloValue}
 use Rattle.silo_rules.specs.SiloValue.{first_silo}
-use Rattle.process_output.specs.Output.{silo_output}
+use Rattle.process_rules.specs.Output.{silo_output}
 use Rattle.process_loop.specs.Endings.{AnswersInTurn, Stops}
 use Rattle.process_loop.specs.declared.stopped.Stopped.{Stopped}
 use Rattle.process_answers.specs.ProcessSettings.{process_settings}

@@ -2,7 +2,7 @@
 
 ghost use Rattle.std.specs.Prelude.{◌≡◌, ◌≤◌, ◌↔◌, IfSome, IsSome, MatchOption};
 ghost use Rattle.silo_rules.specs.SiloValue.{first_silo};
-ghost use Rattle.process_output.specs.Output.{silo_output};
+ghost use Rattle.process_rules.specs.Output.{silo_output};
 ghost use Rattle.process_loop.specs.Endings.{AnswersInTurn, MakesCalls, Stops};
 ghost use Rattle.process_answers.specs.ProcessSettings.{process_settings};
 ghost use Rattle.console_command.specs.SiloPlay.{WritesOutput};

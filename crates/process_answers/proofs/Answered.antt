@@ -13,9 +13,9 @@ use Rattle.silo_rules.specs.SiloValue.{SiloValue, own_status}
 use Rattle.silo_rules.specs.Told.{Heard, told}
 use Rattle.process_rules.specs.ReadLine.{Asked, Joined, Receive, read_silo_line}
 use Rattle.process_lines.specs.Memory.{LineNeedsMemory}
-use Rattle.process_output.specs.Answer.{answered, heard, printing, unless_dead}
-use Rattle.process_output.specs.Happened.{news_words}
-use Rattle.process_output.specs.Output.{answered_to, fault_line, said}
+use Rattle.process_rules.specs.Answer.{answered, heard, printing, unless_dead}
+use Rattle.process_rules.specs.Happened.{news_words}
+use Rattle.process_rules.specs.Output.{answered_to, fault_line, said}
 use Rattle.process_loop.specs.Answering.{AnswersLine, BringsEntries, MayLackMemory}
 
 -- what the line says, by equal hashing and an equal line

@@ -21,8 +21,8 @@ use Rattle.directory_silo.specs.AnswerModel.{heard_as, stepped_as}
 use Rattle.script_rules.specs.Lines.{refusal_line}
 use Rattle.script_output.specs.Printed.{printed}
 use Rattle.process_rules.specs.LetterText.{letter_line}
-use Rattle.process_output.specs.Happened.{news_words, received_words}
-use Rattle.process_output.specs.Answer.{Answered, after_news, heard, printing, received_so, stepped, unless_dead}
+use Rattle.process_rules.specs.Happened.{news_words, received_words}
+use Rattle.process_rules.specs.Answer.{Answered, after_news, heard, printing, received_so, stepped, unless_dead}
 use Rattle.process_answers.specs.Answering.{IsAnswered}
 use Rattle.process_answers.specs.Ending.{EndsAsDead, last_lines}
 use Rattle.process_answers.proofs.Written.{lines_behind_lines, one_line}

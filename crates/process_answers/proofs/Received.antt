@@ -17,8 +17,8 @@ use Rattle.directory_silo.specs.AnswerModel.{stepped_as}
 use Rattle.script_rules.specs.Lines.{refusal_line}
 use Rattle.script_output.specs.Printed.{printed}
 use Rattle.process_rules.specs.LetterText.{letter_line}
-use Rattle.process_output.specs.Happened.{body_words, received_words}
-use Rattle.process_output.specs.Answer.{received_so}
+use Rattle.process_rules.specs.Happened.{body_words, received_words}
+use Rattle.process_rules.specs.Answer.{received_so}
 use Rattle.process_answers.specs.Answering.{IsAnswered}
 use Rattle.process_answers.specs.declared.telling.Telling.{Telling}
 use Rattle.process_answers.specs.Telling.{received_telling, telling_words}

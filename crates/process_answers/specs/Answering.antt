@@ -2,7 +2,7 @@
 use Rattle.std.specs.Prelude.{◌≡◌, ℕ, Bool, List, ◌++◌}
 use Rattle.texts.specs.Printed.{text_of_lines}
 use Rattle.silo_rules.specs.SiloValue.{SiloValue}
-use Rattle.process_output.specs.Answer.{Answered}
+use Rattle.process_rules.specs.Answer.{Answered}
 
 -- the rule's answer leaves this silo, its lines stand behind what was written before, and it ends the process or doesn't
 pub record IsAnswered (rule : Answered) (before : List ℕ) (silo : SiloValue) (after : List ℕ) (ends : Bool) : Type 0 where

@@ -7,7 +7,7 @@ use Rattle.directory_rules.specs.declared.effect.Effect.{Effect}
 use Rattle.directory_rules.specs.declared.letter_kind.LetterKind.{LetterKind}
 use Rattle.directory_rules.specs.declared.outcome.Happening.TheVariants.{Did}
 use Rattle.script_rules.specs.Lines.{effect_words, entry_words, happening_words, kind_word}
-use Rattle.process_output.specs.Happened.{is_ignored, sought_words}
+use Rattle.process_rules.specs.Happened.{is_ignored, sought_words}
 use Rattle.process_answers.specs.declared.telling.Telling.{Telling}
 use Rattle.process_answers.specs.declared.telling.Telling.TheVariants.{Firm, Taken, Ended, Found, Nothing, Offered, Delivered}
 

@@ -2,7 +2,7 @@ ghost use Rattle.std.specs.Prelude.{◌≡◌, ◌≢◌, ◌++◌, [], IfOk, On
 ghost use Rattle.texts.specs.Printed.{text_of_lines};
 ghost use Rattle.script_output.specs.Spaced.{BeginsWith};
 ghost use Rattle.process_lines.specs.AskedModel.{asked_of};
-ghost use Rattle.process_output.specs.Answer.{answered};
+ghost use Rattle.process_rules.specs.Answer.{answered};
 ghost use Rattle.process_answers.specs.Answering.{IsAnswered};
 
 use crate::changes::{Change, answer_change};
@@ -42,7 +42,7 @@ pub fn answer(
 }
 
 // One function a kind of line.
-#[tactic(auto, unfolding(process_output::specs::Answer::answered))]
+#[tactic(auto, unfolding(process_rules::specs::Answer::answered))]
 fn answer_asked(
     alloc: Global,
     silo: &mut Silo,

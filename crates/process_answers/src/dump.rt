@@ -5,7 +5,7 @@
 ghost use Rattle.std.specs.Prelude.{◌≡◌, ◌++◌, [], ◌∷◌, OnOk};
 ghost use Rattle.texts.specs.Printed.{text_of_lines};
 ghost use Rattle.script_output.specs.Spaced.{BeginsWith};
-ghost use Rattle.process_output.specs.Show.{dump_line};
+ghost use Rattle.process_rules.specs.Show.{dump_line};
 
 use directory_silo::Silo;
 use dump_writer::write_node;
@@ -13,7 +13,7 @@ use node_lists::listed_node;
 use std::alloc::{AllocError, Global};
 
 /// Writes the silo's object among the nodes of a dump, as a line.
-#[tactic(auto, using(crate::proofs::Written::line_by_line), unfolding(process_output::specs::Show::dump_line))]
+#[tactic(auto, using(crate::proofs::Written::line_by_line), unfolding(process_rules::specs::Show::dump_line))]
 pub(crate) fn write_dump(alloc: Global, silo: &Silo, out: &mut Vec<u8>) -> Result<(), AllocError>
     ensures written { OnOk result (out.new.items ≡ out.old.items ++ text_of_lines (dump_line silo.now ∷ [])) }
     ensures kept { BeginsWith out.old.items out.new.items }

@@ -2,7 +2,7 @@
 
 ghost use Rattle.std.specs.Prelude.{◌≡◌, ◌++◌, [], ◌∷◌, OnOk, OnErr};
 ghost use Rattle.texts.specs.Printed.{text_of_lines};
-ghost use Rattle.process_output.specs.Output.{fault_line};
+ghost use Rattle.process_rules.specs.Output.{fault_line};
 
 use script_output::{end_line, push_named};
 use std::alloc::AllocError;

@@ -7,7 +7,7 @@ ghost use Rattle.silo_address.specs.Silo.{silo_eq};
 ghost use Rattle.texts.specs.Words.{sentence};
 ghost use Rattle.script_output.specs.Printed.{printed};
 ghost use Rattle.script_output.specs.Spaced.{BeginsWith};
-ghost use Rattle.process_output.specs.Answer.{received_so};
+ghost use Rattle.process_rules.specs.Answer.{received_so};
 ghost use Rattle.process_answers.specs.Answering.{IsAnswered};
 ghost use Rattle.process_answers.specs.Telling.{received_telling};
 

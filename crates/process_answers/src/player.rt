@@ -2,7 +2,7 @@
 
 ghost use Rattle.std.specs.Prelude.{◌≡◌, ◌++◌, ◌<◌, length, IfOk, OnOk, OnErr};
 ghost use Rattle.process_rules.specs.ReadLine as rule;
-ghost use Rattle.process_output.specs.Output.{after_last};
+ghost use Rattle.process_rules.specs.Output.{after_last};
 ghost use Rattle.process_loop.specs.Answering.{AnswersLine, MayLackMemory};
 
 use crate::fault::write_fault;

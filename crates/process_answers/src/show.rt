@@ -12,7 +12,7 @@ ghost use Rattle.silo_rules.specs.SiloValue.{own_status};
 ghost use Rattle.script_rules.specs.Show.{held_line, seen_words};
 ghost use Rattle.script_output.specs.Printed.{printed};
 ghost use Rattle.script_output.specs.Spaced.{spaced, BeginsWith};
-ghost use Rattle.process_output.specs.Show.{own_word, piece_line, show_lines, state_words};
+ghost use Rattle.process_rules.specs.Show.{own_word, piece_line, show_lines, state_words};
 
 use directory_rules::{Held, PieceState};
 use directory_silo::Silo;
@@ -26,7 +26,7 @@ use silo_address::{GrainId, SiloAddress};
 use std::alloc::{AllocError, Global};
 
 /// Writes the last version told, the silo, its activations in the order in which they began, and its pieces by start.
-#[tactic(auto, using(crate::proofs::Written::line_by_line), unfolding(process_output::specs::Show::show_lines))]
+#[tactic(auto, using(crate::proofs::Written::line_by_line), unfolding(process_rules::specs::Show::show_lines))]
 pub(crate) fn write_show(alloc: Global, silo: &Silo, out: &mut Vec<u8>) -> Result<(), AllocError>
     ensures written { OnOk result (out.new.items ≡ out.old.items ++ text_of_lines (show_lines silo.now)) }
     ensures kept { BeginsWith out.old.items out.new.items }

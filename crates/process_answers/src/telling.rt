@@ -12,7 +12,7 @@ ghost use Rattle.directory_rules.specs.Host.{asking_under, closing_under, entry_
 ghost use Rattle.directory_letters.specs.LetterModel.{body_of};
 ghost use Rattle.script_rules.specs.Lines.{effect_words, entry_words, happening_words, kind_word};
 ghost use Rattle.script_output.specs.Spaced.{spaced, BeginsWith};
-ghost use Rattle.process_output.specs.Happened.{body_words, counted_words, is_ignored, sought_words};
+ghost use Rattle.process_rules.specs.Happened.{body_words, counted_words, is_ignored, sought_words};
 ghost use Rattle.process_answers.specs.Telling.{entry_if_any, received_telling, telling_words};
 
 use directory_letters::Body;

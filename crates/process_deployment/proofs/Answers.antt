@@ -30,10 +30,10 @@ use Rattle.script_rules.specs.Lines.{happening_words, effect_words, refusal_line
 use Rattle.script_rules.specs.Show.{held_line, phase_word, seen_words}
 use Rattle.process_rules.specs.LetterText.{letter_line}
 use Rattle.process_rules.specs.ReadLine.{Receive, read_silo_line}
-use Rattle.process_output.specs.Happened.{news_words, counted_words, body_words, delivered_words, is_ignored, received_words}
-use Rattle.process_output.specs.Show.{own_word, state_words, piece_line, show_lines, dump_line}
-use Rattle.process_output.specs.Answer.{printing, unless_dead}
-use Rattle.process_output.specs.Output.{fault_line}
+use Rattle.process_rules.specs.Happened.{news_words, counted_words, body_words, delivered_words, is_ignored, received_words}
+use Rattle.process_rules.specs.Show.{own_word, state_words, piece_line, show_lines, dump_line}
+use Rattle.process_rules.specs.Answer.{printing, unless_dead}
+use Rattle.process_rules.specs.Output.{fault_line}
 use Rattle.process_deployment.proofs.Silent.{IsSilent, first_unknown, by_first, other_byte, silo_first}
 
 -- a line says no letter but one of these

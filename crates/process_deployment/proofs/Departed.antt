@@ -13,10 +13,10 @@ use Rattle.silo_rules.specs.Steps.{receives}
 use Rattle.silo_rules.specs.Told.{Heard, told}
 use Rattle.script_rules.specs.Lines.{refusal_line}
 use Rattle.process_rules.specs.ReadLine.{Asked, Joined, Leaving, Dead, See, Wake, Close, Offer, Find, Forget, Nudge, Receive, Ping, Show, Dump}
-use Rattle.process_output.specs.Happened.{news_words, received_words}
-use Rattle.process_output.specs.Answer.{printing, heard, told_so, stepped, received_so, answered}
-use Rattle.process_output.specs.Show.{dump_line}
-use Rattle.process_output.specs.Output.{answered_to, fault_line}
+use Rattle.process_rules.specs.Happened.{news_words, received_words}
+use Rattle.process_rules.specs.Answer.{printing, heard, told_so, stepped, received_so, answered}
+use Rattle.process_rules.specs.Show.{dump_line}
+use Rattle.process_rules.specs.Output.{answered_to, fault_line}
 use Rattle.process_deployment.specs.Allowed.{MayAskDead, IfAsks}
 use Rattle.process_deployment.proofs.Answers.{AreSilent, silent_alone, news_silent, told_silent, refusal_silent, fault_silent, pong_silent, show_silent, dump_silent}
 use Rattle.process_deployment.proofs.Silent.{IsSilent}

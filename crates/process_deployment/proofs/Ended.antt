@@ -34,9 +34,9 @@ use Rattle.deployment_headline.proofs.Lists.{over, lookup-over}
 use Rattle.deployment_headline.proofs.Runs.{made_so, processes_are_behind, processes_are_own}
 use Rattle.deployment_headline.proofs.Worlds.{its_node}
 use Rattle.process_rules.specs.ReadLine.{Asked, Joined, Leaving, Dead, See, Wake, Close, Offer, Find, Forget, Nudge, Receive, Ping, Show, Dump}
-use Rattle.process_output.specs.Happened.{news_words, received_words}
-use Rattle.process_output.specs.Answer.{printing, unless_dead, heard, told_so, stepped, seen_so, done_so, received_so, answered}
-use Rattle.process_output.specs.Output.{answered_to, said}
+use Rattle.process_rules.specs.Happened.{news_words, received_words}
+use Rattle.process_rules.specs.Answer.{printing, unless_dead, heard, told_so, stepped, seen_so, done_so, received_so, answered}
+use Rattle.process_rules.specs.Output.{answered_to, said}
 use Rattle.process_deployment.specs.Cluster.{Process, having_read, reads, Cluster, first_cluster}
 use Rattle.process_deployment.specs.Steps.{Step, Decide, Read, dying, without, decided, after, after_all}
 use Rattle.process_deployment.specs.Theorems.{LivingGoOn}

@@ -22,8 +22,8 @@ use Rattle.deployment_headline.specs.Theorems as deployment_theorems
 use Rattle.deployment_headline.proofs.Lists.{over, lookup-over, insert-over, remove-over}
 use Rattle.deployment_headline.proofs.Runs.{processes_keep_the_headline}
 use Rattle.deployment_headline.proofs.Sound.{Sound, sound_first, keeps}
-use Rattle.process_output.specs.Answer.{Answered}
-use Rattle.process_output.specs.Output.{answered_to, said}
+use Rattle.process_rules.specs.Answer.{Answered}
+use Rattle.process_rules.specs.Output.{answered_to, said}
 use Rattle.process_deployment.specs.Allowed.{IsWritten, MayAsk, MayAskDead, IfAsks, May, MayAll}
 use Rattle.process_deployment.specs.Cluster.{Process, started, having_read, reads, Cluster, first_cluster, process_at, everyone}
 use Rattle.process_deployment.specs.Steps.{Step, Decide, Read, dying, without, with_started, decided, read_by, reading, after, after_all}

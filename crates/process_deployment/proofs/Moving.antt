@@ -34,10 +34,10 @@ use Rattle.deployment_headline.proofs.Sound.{Sound, its_process}
 use Rattle.process_rules.specs.ReadLine.{Asked, Joined, Leaving, Dead, See, Wake, Close, Offer, Find, Forget, Nudge, Receive, Ping, Show, Dump, read_silo_line}
 use Rattle.process_rules.specs.InRange.{IsInRange}
 use Rattle.process_rules.proofs.LinesInRange.{line_in_range}
-use Rattle.process_output.specs.Happened.{news_words, received_words}
-use Rattle.process_output.specs.Answer.{Answered, printing, unless_dead, after_news, heard, told_so, stepped, seen_so, done_so, received_so, answered}
-use Rattle.process_output.specs.Show.{show_lines, dump_line}
-use Rattle.process_output.specs.Output.{answered_to, fault_line, said}
+use Rattle.process_rules.specs.Happened.{news_words, received_words}
+use Rattle.process_rules.specs.Answer.{Answered, printing, unless_dead, after_news, heard, told_so, stepped, seen_so, done_so, received_so, answered}
+use Rattle.process_rules.specs.Show.{show_lines, dump_line}
+use Rattle.process_rules.specs.Output.{answered_to, fault_line, said}
 use Rattle.process_deployment.specs.Allowed.{IsWritten, MayAsk, IfAsks}
 use Rattle.process_deployment.specs.Cluster.{Cluster}
 use Rattle.process_deployment.specs.Theorems.{deployment_of}

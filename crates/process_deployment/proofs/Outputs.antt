@@ -12,8 +12,8 @@ use Rattle.directory_rules.specs.Settings.{Settings}
 use Rattle.silo_rules.specs.Membership.{Change, Membership, changed}
 use Rattle.silo_rules.specs.SiloValue.{first_silo}
 use Rattle.process_rules.specs.ReadLine.{unended_fault}
-use Rattle.process_output.specs.Answer.{Answered}
-use Rattle.process_output.specs.Output.{answered_to, said, unless_ended, written_on}
+use Rattle.process_rules.specs.Answer.{Answered}
+use Rattle.process_rules.specs.Output.{answered_to, said, unless_ended, written_on}
 use Rattle.process_deployment.specs.Cluster.{Process, started, having_read, reads, Cluster, first_cluster, everyone}
 use Rattle.process_deployment.specs.Steps.{Step, Decide, Read, dying, without, decided, after, after_all}
 use Rattle.process_deployment.specs.Allowed.{IsLine, May, MayAll}

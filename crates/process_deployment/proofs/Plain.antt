@@ -12,7 +12,7 @@ use Rattle.deployment_headline.specs.Deployment.{Deployment}
 use Rattle.deployment_headline.specs.Steps as deployment
 use Rattle.deployment_headline.specs.Theorems as deployment_theorems
 use Rattle.deployment_headline.proofs.Runs.{steps_are_plain}
-use Rattle.process_output.specs.Output.{answered_to, said}
+use Rattle.process_rules.specs.Output.{answered_to, said}
 use Rattle.process_deployment.specs.Allowed.{MayAsk, IfAsks, May}
 use Rattle.process_deployment.specs.Cluster.{Process, having_read, Cluster, first_cluster, process_at}
 use Rattle.process_deployment.specs.Steps.{Step, Decide, Read, decided, read_by, after, after_all}

@@ -25,7 +25,7 @@ use Rattle.directory_rules.specs.Worked.{silo_a, silo_b}
 use Rattle.process_rules.specs.LetterText.{letter_line}
 use Rattle.process_rules.specs.ReadLetter.{read_letter}
 use Rattle.process_rules.specs.ReadLine.{Receive, read_silo_line}
-use Rattle.process_output.specs.Answer.{answered}
+use Rattle.process_rules.specs.Answer.{answered}
 use Rattle.process_deployment.specs.Allowed.{IsWritten, IsLine, May, MayAll}
 use Rattle.process_deployment.specs.Cluster.{Cluster, all_lines}
 use Rattle.process_deployment.specs.Steps.{after, after_all}

@@ -8,7 +8,7 @@ use Rattle.silo_rules.specs.SiloValue.{SiloValue, told_of_its_join}
 use Rattle.silo_rules.specs.Told.{MakesVersion, told}
 use Rattle.deployment_headline.specs.Steps.{IsChange}
 use Rattle.process_rules.specs.ReadLine.{Asked, Joined, Leaving, Dead, See, Wake, Close, Offer, Find, Forget, Nudge, Receive, read_silo_line}
-use Rattle.process_output.specs.Output.{said}
+use Rattle.process_rules.specs.Output.{said}
 use Rattle.process_deployment.specs.Cluster.{Cluster, process_at, all_lines}
 use Rattle.process_deployment.specs.Steps.{Step, Decide, Read, after}
 

@@ -6,8 +6,8 @@ use Rattle.silo_address.specs.Silo.{Silo, silo_cmp}
 use Rattle.directory_rules.specs.Settings.{Settings}
 use Rattle.silo_rules.specs.Membership.{Change, Membership, first_membership}
 use Rattle.silo_rules.specs.SiloValue.{SiloValue, first_silo}
-use Rattle.process_output.specs.Answer.{Answered}
-use Rattle.process_output.specs.Output.{answered_to, said}
+use Rattle.process_rules.specs.Answer.{Answered}
+use Rattle.process_rules.specs.Output.{answered_to, said}
 
 -- a process that was started
 pub record Process : Type 0 where

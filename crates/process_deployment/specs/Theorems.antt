@@ -14,7 +14,7 @@ use Rattle.directory_rules.specs.World.{World}
 use Rattle.deployment_headline.specs.Deployment.{Deployment}
 use Rattle.deployment_headline.specs.Steps as deployment
 use Rattle.deployment_headline.specs.Theorems as deployment_theorems
-use Rattle.process_output.specs.Output.{written}
+use Rattle.process_rules.specs.Output.{written}
 use Rattle.process_deployment.specs.Allowed.{IsWritten, May, MayAll}
 use Rattle.process_deployment.specs.Cluster.{Process, Cluster, first_cluster, process_at, everyone}
 use Rattle.process_deployment.specs.Steps.{Step, after, clustered}

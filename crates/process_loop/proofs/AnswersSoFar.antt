@@ -3,7 +3,7 @@ use Rattle.std.proofs.Common.{◌≡◌, ◌++◌, ℕ, Bool, List, [], ◌∷�
 use Rattle.texts.specs.Words.{line_feed, pieces_at}
 use Rattle.silo_rules.specs.SiloValue.{SiloValue}
 use Rattle.process_rules.specs.ReadLine.{Asked}
-use Rattle.process_output.specs.Output.{answered_to, said, written_on}
+use Rattle.process_rules.specs.Output.{answered_to, said, written_on}
 use Rattle.process_loop.specs.Answering.{AnswersLine, before_last, ended_lines, ends_on, silo_after}
 use Rattle.process_loop.specs.Endings.{IsAnswered}
 use Rattle.process_loop.specs.Progress.{HasAnswered, HasNoEnd, NeedsMore, Progress, first_progress, kept}

@@ -7,7 +7,7 @@ use Rattle.hash_ring.specs.declared.hashing.Hashing.{Hashing}
 use Rattle.texts.specs.Words.{carriage_return}
 use Rattle.silo_rules.specs.SiloValue.{SiloValue}
 use Rattle.process_rules.specs.ReadLine.{Asked, longest_line, read_silo_line, unended_fault}
-use Rattle.process_output.specs.Output.{answered_to, said}
+use Rattle.process_rules.specs.Output.{answered_to, said}
 use Rattle.process_loop.specs.Answering.{BringsEntries, MayLackMemory}
 use Rattle.process_loop.specs.Progress.{kept, most_kept}
 

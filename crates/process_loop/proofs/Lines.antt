@@ -8,8 +8,8 @@ use Rattle.texts.specs.Words.{line_feed, pieces_at}
 use Rattle.script_commands.proofs.Pieces.{pieces_at-cut, pieces_at-front, pieces_at-other, pieces_at-whole}
 use Rattle.silo_rules.specs.SiloValue.{SiloValue}
 use Rattle.process_rules.specs.ReadLine.{unended_fault}
-use Rattle.process_output.specs.Answer.{Answered}
-use Rattle.process_output.specs.Output.{after_line, answered_to, said, unless_ended, written_on}
+use Rattle.process_rules.specs.Answer.{Answered}
+use Rattle.process_rules.specs.Output.{after_line, answered_to, said, unless_ended, written_on}
 use Rattle.process_loop.specs.Answering.{AnswersLine, before_last, ends_on, ends_or, silo_after}
 use Rattle.process_loop.specs.Progress.{Cuts, HasNoEnd}
 

@@ -9,7 +9,7 @@ use Rattle.process_rules.specs.ReadLine.{unended_fault}
 use Rattle.script_output.specs.Spaced.{BeginsWith}
 use Rattle.script_loop.specs.Sent.{WritesFront}
 use Rattle.script_loop.specs.Transfers.{HasGot}
-use Rattle.process_output.specs.Output.{after_last, written_on}
+use Rattle.process_rules.specs.Output.{after_last, written_on}
 use Rattle.process_loop.specs.declared.stopped.Stopped.{Stopped}
 use Rattle.process_loop.specs.declared.stopped.Stopped.TheVariants as stopped
 use Rattle.process_loop.specs.Answering.{AnswersLine, MayLackMemory, before_last, ended_lines, ends_on, silo_after}

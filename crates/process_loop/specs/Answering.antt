@@ -5,8 +5,8 @@ use Rattle.texts.specs.Words.{line_feed, pieces_at}
 use Rattle.silo_rules.specs.SiloValue.{SiloValue}
 use Rattle.process_rules.specs.Entries.{TellsEntries}
 use Rattle.process_rules.specs.ReadLine.{Asked, Receive}
-use Rattle.process_output.specs.Answer.{Answered}
-use Rattle.process_output.specs.Output.{answered_to, said}
+use Rattle.process_rules.specs.Answer.{Answered}
+use Rattle.process_rules.specs.Output.{answered_to, said}
 
 -- a line, which a line feed ended, is answered: by the silo before it, the silo after it, what is written, and whether the process ends
 pub record AnswersLine (old : SiloValue) (line before : List ℕ) (new : SiloValue) (after : List ℕ) (ends : Bool) : Type 0 where

@@ -6,7 +6,7 @@ use Rattle.silo_rules.specs.SiloValue.{SiloValue}
 use Rattle.script_output.specs.Spaced.{BeginsWith}
 use Rattle.script_loop.specs.Calls.{InTurn, ReadsInTurn, WritesTexts}
 use Rattle.script_loop.specs.Endings.{most_at_once}
-use Rattle.process_output.specs.Output.{written_on}
+use Rattle.process_rules.specs.Output.{written_on}
 use Rattle.process_loop.specs.declared.stopped.Stopped.{Stopped}
 use Rattle.process_loop.specs.declared.stopped.Stopped.TheVariants.{AtEnd, Dead, TooManyReads, OutOfMemory, Broken}
 use Rattle.process_loop.specs.Answering.{MayLackMemory, before_last, ended_lines, ends_on, silo_after}

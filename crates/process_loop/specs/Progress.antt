@@ -4,7 +4,7 @@ use Rattle.memchr.specs.Find.{IsFirstByte, is_byte}
 use Rattle.texts.specs.Words.{line_feed, pieces_at}
 use Rattle.silo_rules.specs.SiloValue.{SiloValue}
 use Rattle.process_rules.specs.ReadLine.{unended_fault}
-use Rattle.process_output.specs.Output.{after_last}
+use Rattle.process_rules.specs.Output.{after_last}
 use Rattle.process_loop.specs.declared.session.Session.{Session}
 use Rattle.process_loop.specs.declared.step.Step.{Step}
 use Rattle.process_loop.specs.declared.step.Step.TheVariants.{Answered, Wants, Stops}

@@ -4,7 +4,7 @@ use Rattle.std.specs.Io.KnownBytes.{Appends, IsAtEnd}
 use Rattle.texts.specs.Words.{line_feed, pieces_at}
 use Rattle.silo_rules.specs.SiloValue.{SiloValue}
 use Rattle.script_loop.specs.Turns.{InTurnSoFar}
-use Rattle.process_output.specs.Output.{written_on}
+use Rattle.process_rules.specs.Output.{written_on}
 use Rattle.process_loop.specs.declared.stopped.Stopped.{Stopped}
 use Rattle.process_loop.specs.Answering.{ends_on, silo_after}
 use Rattle.process_loop.specs.Endings.{AnswersInTurn, HasRead, IsAnswered, LeavesSilo, Stops, most_reads}

@@ -3,7 +3,7 @@
 ghost use Rattle.std.specs.Prelude.{◌≡◌, ◌++◌, ◌<◌, length, IfOk, OnOk, OnErr};
 ghost use Rattle.silo_rules.specs.SiloValue.{SiloValue};
 ghost use Rattle.process_rules.specs.ReadLine.{unended_fault};
-ghost use Rattle.process_output.specs.Output.{after_last};
+ghost use Rattle.process_rules.specs.Output.{after_last};
 ghost use Rattle.process_loop.specs.Answering.{AnswersLine, MayLackMemory};
 
 use std::alloc::{AllocError, Global};

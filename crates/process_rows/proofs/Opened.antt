@@ -12,9 +12,9 @@ use Rattle.ring_range.specs.Cut.{cut_parts}
 use Rattle.process_rules.specs.LetterText.{letter_line}
 use Rattle.process_rules.specs.ReadLetter.{read_letter}
 use Rattle.process_rules.specs.ReadLine.{read_silo_line, unended_fault}
-use Rattle.process_output.specs.Show.{show_lines, dump_line}
-use Rattle.process_output.specs.Answer.{answered}
-use Rattle.process_output.specs.Output.{written_on}
+use Rattle.process_rules.specs.Show.{show_lines, dump_line}
+use Rattle.process_rules.specs.Answer.{answered}
+use Rattle.process_rules.specs.Output.{written_on}
 
 unfoldable pub all_opened : Type 0
 unfolding digits sha256 hash_after compress rounds schedule first_words digest_bytes encode_with decode_pairs silo_words read_silo read_grain read_activation stated_hash read_range meet_of cut_parts letter_line read_letter read_silo_line unended_fault show_lines dump_line answered written_on

@@ -5,7 +5,7 @@ use Rattle.hash_ring.specs.declared.hashing.Hashing.TheVariants.{Stated}
 use Rattle.silo_address.specs.Silo.{Silo}
 use Rattle.silo_address.specs.ReadSilo.{read_silo}
 use Rattle.directory_rules.specs.Settings.{Settings, directory_settings}
-use Rattle.process_output.specs.Output.{silo_output}
+use Rattle.process_rules.specs.Output.{silo_output}
 
 -- the silo's address, what its process reads, and what it writes
 pub record Row : Type 0 where

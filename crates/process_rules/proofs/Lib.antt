@@ -10,3 +10,7 @@ pub mod LinesAgain
 mod FormsSaid
 pub mod LinesSaid
 pub mod LinesInRange
+mod Beginnings
+mod Lines
+mod Letters
+mod StaysWhole

@@ -4,3 +4,8 @@ pub mod Told
 pub mod ReadLine
 pub mod InRange
 pub mod Entries
+pub mod Happened
+pub mod Show
+pub mod Answer
+pub mod Output
+pub mod OutputLaws

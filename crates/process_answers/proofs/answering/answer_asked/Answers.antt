@@ -2,7 +2,7 @@ use Rattle.std.proofs.Common.{◌≡◌, [], subst, sym}
 use Rattle.std.specs.Result.{OnErr}
 use Rattle.process_lines.specs.AskedModel.{asked_of}
 use Rattle.process_lines.specs.declared.asked.Asked.{Asked}
-use Rattle.process_output.specs.Answer.{answered}
+use Rattle.process_rules.specs.Answer.{answered}
 use Rattle.process_answers.proofs.Printing.{show_prints}
 use Rattle.process_answers.proofs.answering.answer_asked.Goals as goal
 

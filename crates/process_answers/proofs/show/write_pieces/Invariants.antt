@@ -1,7 +1,7 @@
 use Rattle.std.proofs.Common.{◌≡◌, ◌++◌, map}
 use Rattle.texts.specs.Printed.{text_of_lines}
 use Rattle.script_output.specs.Spaced.{BeginsWith}
-use Rattle.process_output.specs.Show.{piece_line}
+use Rattle.process_rules.specs.Show.{piece_line}
 use Rattle.process_answers.proofs.show.write_pieces.Given as goal
 
 abbrev pub invariant-loop-piece : goal.invariant-loop-piece

@@ -8,7 +8,7 @@ use Rattle.silo_address.specs.Silo.{Silo}
 use Rattle.directory_rules.specs.Settings.{Settings}
 use Rattle.silo_rules.specs.SiloValue.{SiloValue, first_silo}
 use Rattle.process_rules.specs.ReadLine.{Asked, read_silo_line, unended_fault}
-use Rattle.process_output.specs.Answer.{Answered, printing, answered}
+use Rattle.process_rules.specs.Answer.{Answered, printing, answered}
 
 -- the line that tells a fault
 abbrev pub fault_line : (fault : ℕ) → List ℕ

@@ -16,8 +16,8 @@ use Rattle.process_rules.specs.ReadLine.{Asked, Receive, longest_line, read_silo
 use Rattle.process_rules.specs.Told.{IsNumber, IsTold}
 use Rattle.process_rules.proofs.LineWords.{line_is_text}
 use Rattle.process_rules.proofs.LinesAgain.{line_again}
-use Rattle.process_output.specs.Answer.{answered}
-use Rattle.process_output.specs.Output.{answered_to, said, after_line, written_on}
+use Rattle.process_rules.specs.Answer.{answered}
+use Rattle.process_rules.specs.Output.{answered_to, said, after_line, written_on}
 
 -- a line of text has no carriage return to drop
 last_by : (line : List ℕ) → list_all is_text line ≡ true → (ends : Bool) → ends_with_byte carriage_return line ≡ ends → cond ends (take (length line - 1) line) line ≡ line

@@ -7,9 +7,9 @@ use Rattle.silo_address.specs.Silo.{Silo}
 use Rattle.directory_rules.specs.Settings.{Settings}
 use Rattle.silo_rules.specs.SiloValue.{SiloValue, first_silo}
 use Rattle.process_rules.specs.ReadLine.{unended_fault}
-use Rattle.process_output.specs.Answer.{Answered}
-use Rattle.process_output.specs.Laws.{Begins}
-use Rattle.process_output.specs.Output.{answered_to, said, unless_ended, after_line, written_on, written}
+use Rattle.process_rules.specs.Answer.{Answered}
+use Rattle.process_rules.specs.OutputLaws.{Begins}
+use Rattle.process_rules.specs.Output.{answered_to, said, unless_ended, after_line, written_on, written}
 
 -- ---- a line feed cuts
 abbrev HasPiece : List (List ℕ) → Type 0

@@ -3,8 +3,8 @@ use Rattle.std.proofs.Common.{◌≡◌, ℕ, Bool, true, List, [], ◌∷◌, �
 use Rattle.texts.specs.Printed.{text_of_lines}
 use Rattle.silo_rules.specs.SiloValue.{SiloValue}
 use Rattle.process_rules.specs.ReadLine.{Asked}
-use Rattle.process_output.specs.Answer.{Answered}
-use Rattle.process_output.specs.Output.{answered_to, fault_line, said, unless_ended, after_line, written_on}
+use Rattle.process_rules.specs.Answer.{Answered}
+use Rattle.process_rules.specs.Output.{answered_to, fault_line, said, unless_ended, after_line, written_on}
 
 pub fault_goes_on : (line next : List ℕ) (lines : List (List ℕ)) (s : SiloValue) (fault : ℕ) → said line s ≡ Err fault
     → written_on (line ∷ next ∷ lines) s ≡ text_of_lines (fault_line fault ∷ []) ++ written_on (next ∷ lines) s

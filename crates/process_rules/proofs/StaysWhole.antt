@@ -19,9 +19,9 @@ use Rattle.silo_rules.specs.Told.{Heard, told}
 use Rattle.silo_rules.specs.Whole.{IsWhole}
 use Rattle.silo_rules.proofs.Lawful.{stays_whole}
 use Rattle.process_rules.specs.ReadLine.{Asked, Joined, Leaving, Dead, See, Wake, Close, Offer, Find, Forget, Nudge, Receive, Ping, Show, Dump}
-use Rattle.process_output.specs.Happened.{news_words, received_words}
-use Rattle.process_output.specs.Answer.{Answered, printing, unless_dead, heard, told_so, stepped, seen_so, done_so, answered}
-use Rattle.process_output.specs.Output.{answered_to}
+use Rattle.process_rules.specs.Happened.{news_words, received_words}
+use Rattle.process_rules.specs.Answer.{Answered, printing, unless_dead, heard, told_so, stepped, seen_so, done_so, answered}
+use Rattle.process_rules.specs.Output.{answered_to}
 
 silo_kept : (own : Option Status) (it : Answered) → it.silo ≡ (unless_dead own it).silo
 silo_kept None it = refl

@@ -17,8 +17,8 @@ use Rattle.silo_rules.specs.Told.{Heard, told}
 use Rattle.script_rules.specs.Lines.{happening_words, refusal_line}
 use Rattle.process_rules.specs.LetterText.{letter_line}
 use Rattle.process_rules.specs.ReadLine.{Asked, Joined, Leaving, Dead, See, Wake, Close, Offer, Find, Forget, Nudge, Receive, Ping, Show, Dump}
-use Rattle.process_output.specs.Happened.{news_words, received_words}
-use Rattle.process_output.specs.Show.{show_lines, dump_line}
+use Rattle.process_rules.specs.Happened.{news_words, received_words}
+use Rattle.process_rules.specs.Show.{show_lines, dump_line}
 
 -- what is printed, the silo after it, and whether the process ends there
 pub record Answered : Type 0 where

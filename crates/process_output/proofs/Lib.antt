@@ -1,4 +1,0 @@
-mod Beginnings
-mod Lines
-mod Letters
-mod StaysWhole

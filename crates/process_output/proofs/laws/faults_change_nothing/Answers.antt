@@ -1,5 +1,0 @@
-use Rattle.process_output.proofs.Lines.{fault_goes_on}
-use Rattle.process_output.proofs.laws.faults_change_nothing.Goals as goal
-
-pub returns : goal.returns
-returns c = fault_goes_on

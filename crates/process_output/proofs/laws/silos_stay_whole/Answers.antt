@@ -1,5 +1,0 @@
-use Rattle.process_output.proofs.StaysWhole.{line_whole}
-use Rattle.process_output.proofs.laws.silos_stay_whole.Goals as goal
-
-pub returns : goal.returns
-returns c = line_whole

@@ -1,5 +1,0 @@
-pub mod Happened
-pub mod Show
-pub mod Answer
-pub mod Output
-pub mod Laws
