@@ -1,0 +1,4 @@
+pub mod Opened
+pub mod Computed
+pub mod ProcessOpened
+pub mod ProcessesComputed

@@ -1,0 +1,208 @@
+-- Worked rows: requests, replies and the cache.
+use Rattle.std.specs.Prelude.{[], ◌∷◌, codes}
+use Rattle.texts.specs.Printed.{text_of_lines}
+use Rattle.worked_rows.specs.Row.{Row}
+
+-- of two activations of one grain the second yields
+abbrev pub two_wakes : Row
+two_wakes = record {
+  script = text_of_lines
+      (codes "join 10.0.0.1:1000@1 0"
+      ∷ codes "see 10.0.0.1:1000@1 1"
+      ∷ codes "settle"
+      ∷ codes "join 10.0.0.2:1000@1 2147483648"
+      ∷ codes "see 10.0.0.1:1000@1 2"
+      ∷ codes "see 10.0.0.2:1000@1 2"
+      ∷ codes "settle"
+      ∷ codes "wake 10.0.0.1:1000@1 user/cat#9"
+      ∷ codes "wake 10.0.0.2:1000@1 user/cat#9"
+      ∷ codes "settle"
+      ∷ []);
+  text = text_of_lines
+      (codes "view 1 joined 10.0.0.1:1000@1"
+      ∷ codes "10.0.0.1:1000@1 sees 1 next sent 1..1"
+      ∷ codes "delivered 1 query report sent 2..2"
+      ∷ codes "delivered 2 report complete"
+      ∷ codes "view 2 joined 10.0.0.2:1000@1"
+      ∷ codes "10.0.0.1:1000@1 sees 2 next"
+      ∷ codes "10.0.0.2:1000@1 sees 2 next sent 3..3"
+      ∷ codes "delivered 3 ask page sent 4..4"
+      ∷ codes "delivered 4 page installed sent 5..5"
+      ∷ codes "delivered 5 done deleted"
+      ∷ codes "started 10.0.0.1:1000@1!1 user/cat#9 sent 6..6"
+      ∷ codes "started 10.0.0.2:1000@1!1 user/cat#9 sent 7..7"
+      ∷ codes "delivered 6 register registered sent 8..8"
+      ∷ codes "delivered 7 register taken sent 9..9"
+      ∷ codes "delivered 8 registered firm"
+      ∷ codes "delivered 9 taken yielded"
+      ∷ []);
+  status = 0;
+}
+
+-- a request that comes again after a later one of its silo is answered by 603
+abbrev pub old_number : Row
+old_number = record {
+  script = text_of_lines
+      (codes "join 10.0.0.1:1000@1 0"
+      ∷ codes "see 10.0.0.1:1000@1 1"
+      ∷ codes "settle"
+      ∷ codes "wake 10.0.0.1:1000@1 user/dan#5"
+      ∷ codes "settle"
+      ∷ codes "close 10.0.0.1:1000@1 user/dan#5"
+      ∷ codes "settle"
+      ∷ codes "deliver 3"
+      ∷ codes "settle"
+      ∷ []);
+  text = text_of_lines
+      (codes "view 1 joined 10.0.0.1:1000@1"
+      ∷ codes "10.0.0.1:1000@1 sees 1 next sent 1..1"
+      ∷ codes "delivered 1 query report sent 2..2"
+      ∷ codes "delivered 2 report complete"
+      ∷ codes "started 10.0.0.1:1000@1!1 user/dan#5 sent 3..3"
+      ∷ codes "delivered 3 register registered sent 4..4"
+      ∷ codes "delivered 4 registered firm"
+      ∷ codes "closing 10.0.0.1:1000@1!1 user/dan#5 sent 5..5"
+      ∷ codes "delivered 5 deregister removed sent 6..6"
+      ∷ codes "delivered 6 removed ended"
+      ∷ codes "delivered 3 register retry 603 sent 7..7"
+      ∷ codes "delivered 7 retry ignored"
+      ∷ []);
+  status = 0;
+}
+
+-- the same, and the table has no entry
+abbrev pub old_number_no_entry : Row
+old_number_no_entry = record {
+  script = text_of_lines
+      (codes "join 10.0.0.1:1000@1 0"
+      ∷ codes "see 10.0.0.1:1000@1 1"
+      ∷ codes "settle"
+      ∷ codes "wake 10.0.0.1:1000@1 user/dan#5"
+      ∷ codes "settle"
+      ∷ codes "close 10.0.0.1:1000@1 user/dan#5"
+      ∷ codes "settle"
+      ∷ codes "deliver 3"
+      ∷ codes "settle"
+      ∷ codes "show"
+      ∷ []);
+  text = text_of_lines
+      (codes "view 1 joined 10.0.0.1:1000@1"
+      ∷ codes "10.0.0.1:1000@1 sees 1 next sent 1..1"
+      ∷ codes "delivered 1 query report sent 2..2"
+      ∷ codes "delivered 2 report complete"
+      ∷ codes "started 10.0.0.1:1000@1!1 user/dan#5 sent 3..3"
+      ∷ codes "delivered 3 register registered sent 4..4"
+      ∷ codes "delivered 4 registered firm"
+      ∷ codes "closing 10.0.0.1:1000@1!1 user/dan#5 sent 5..5"
+      ∷ codes "delivered 5 deregister removed sent 6..6"
+      ∷ codes "delivered 6 removed ended"
+      ∷ codes "delivered 3 register retry 603 sent 7..7"
+      ∷ codes "delivered 7 retry ignored"
+      ∷ codes "version 1"
+      ∷ codes "silo 10.0.0.1:1000@1 active seen 1 held 0"
+      ∷ codes "range 0+4294967296 10.0.0.1:1000@1 settled entries 0"
+      ∷ []);
+  status = 0;
+}
+
+-- a reply of an older view is ignored
+abbrev pub reply_of_an_older_view : Row
+reply_of_an_older_view = record {
+  script = text_of_lines
+      (codes "join 10.0.0.1:1000@1 0"
+      ∷ codes "see 10.0.0.1:1000@1 1"
+      ∷ codes "settle"
+      ∷ codes "join 10.0.0.2:1000@1 2147483648"
+      ∷ codes "see 10.0.0.1:1000@1 2"
+      ∷ codes "see 10.0.0.2:1000@1 2"
+      ∷ codes "settle"
+      ∷ codes "wake 10.0.0.1:1000@1 user/eve#3000000000"
+      ∷ codes "deliver 6"
+      ∷ codes "kill 10.0.0.2:1000@1"
+      ∷ codes "see 10.0.0.1:1000@1 3"
+      ∷ codes "deliver 7"
+      ∷ codes "settle"
+      ∷ codes "nudge 10.0.0.1:1000@1"
+      ∷ codes "settle"
+      ∷ []);
+  text = text_of_lines
+      (codes "view 1 joined 10.0.0.1:1000@1"
+      ∷ codes "10.0.0.1:1000@1 sees 1 next sent 1..1"
+      ∷ codes "delivered 1 query report sent 2..2"
+      ∷ codes "delivered 2 report complete"
+      ∷ codes "view 2 joined 10.0.0.2:1000@1"
+      ∷ codes "10.0.0.1:1000@1 sees 2 next"
+      ∷ codes "10.0.0.2:1000@1 sees 2 next sent 3..3"
+      ∷ codes "delivered 3 ask page sent 4..4"
+      ∷ codes "delivered 4 page installed sent 5..5"
+      ∷ codes "delivered 5 done deleted"
+      ∷ codes "started 10.0.0.1:1000@1!1 user/eve#3000000000 sent 6..6"
+      ∷ codes "delivered 6 register registered sent 7..7"
+      ∷ codes "view 3 dead 10.0.0.2:1000@1"
+      ∷ codes "10.0.0.1:1000@1 sees 3 next sent 8..9"
+      ∷ codes "delivered 7 registered ignored"
+      ∷ codes "delivered 8 query report sent 10..10"
+      ∷ codes "delivered 9 register retry 602 sent 11..11"
+      ∷ codes "delivered 10 report complete"
+      ∷ codes "delivered 11 retry noted"
+      ∷ codes "nudged 10.0.0.1:1000@1 sent 12..12"
+      ∷ codes "delivered 12 register registered sent 13..13"
+      ∷ codes "delivered 13 registered firm"
+      ∷ []);
+  status = 0;
+}
+
+-- a hint answers a find until it is forgotten
+abbrev pub cache_and_forget : Row
+cache_and_forget = record {
+  script = text_of_lines
+      (codes "join 10.0.0.1:1000@1 0"
+      ∷ codes "see 10.0.0.1:1000@1 1"
+      ∷ codes "settle"
+      ∷ codes "join 10.0.0.2:1000@1 2147483648"
+      ∷ codes "see 10.0.0.1:1000@1 2"
+      ∷ codes "see 10.0.0.2:1000@1 2"
+      ∷ codes "settle"
+      ∷ codes "wake 10.0.0.2:1000@1 user/r#1"
+      ∷ codes "settle"
+      ∷ codes "find 10.0.0.1:1000@1 user/r#1"
+      ∷ codes "settle"
+      ∷ codes "place 10.0.0.1:1000@1 least_held user/r#1"
+      ∷ codes "close 10.0.0.2:1000@1 user/r#1"
+      ∷ codes "settle"
+      ∷ codes "find 10.0.0.1:1000@1 user/r#1"
+      ∷ codes "forget 10.0.0.1:1000@1 user/r#1"
+      ∷ codes "forget 10.0.0.1:1000@1 user/r#1"
+      ∷ codes "find 10.0.0.1:1000@1 user/r#1"
+      ∷ codes "settle"
+      ∷ []);
+  text = text_of_lines
+      (codes "view 1 joined 10.0.0.1:1000@1"
+      ∷ codes "10.0.0.1:1000@1 sees 1 next sent 1..1"
+      ∷ codes "delivered 1 query report sent 2..2"
+      ∷ codes "delivered 2 report complete"
+      ∷ codes "view 2 joined 10.0.0.2:1000@1"
+      ∷ codes "10.0.0.1:1000@1 sees 2 next"
+      ∷ codes "10.0.0.2:1000@1 sees 2 next sent 3..3"
+      ∷ codes "delivered 3 ask page sent 4..4"
+      ∷ codes "delivered 4 page installed sent 5..5"
+      ∷ codes "delivered 5 done deleted"
+      ∷ codes "started 10.0.0.2:1000@1!1 user/r#1 sent 6..6"
+      ∷ codes "delivered 6 register registered sent 7..7"
+      ∷ codes "delivered 7 registered firm"
+      ∷ codes "finding user/r#1 sent 8..8"
+      ∷ codes "delivered 8 find found sent 9..9"
+      ∷ codes "delivered 9 found learnt"
+      ∷ codes "place user/r#1 10.0.0.1:1000@1"
+      ∷ codes "closing 10.0.0.2:1000@1!1 user/r#1 sent 10..10"
+      ∷ codes "delivered 10 deregister removed sent 11..11"
+      ∷ codes "delivered 11 removed ended"
+      ∷ codes "cached 10.0.0.2:1000@1!1 user/r#1"
+      ∷ codes "forgot user/r#1"
+      ∷ codes "nothing cached user/r#1"
+      ∷ codes "finding user/r#1 sent 12..12"
+      ∷ codes "delivered 12 find nothing sent 13..13"
+      ∷ codes "delivered 13 nothing noted"
+      ∷ []);
+  status = 0;
+}

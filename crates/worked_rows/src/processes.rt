@@ -1,0 +1,64 @@
+//! Worked rows of a silo's process: what it reads, and what it writes. A function has a row as its contract, and does nothing.
+
+ghost use Rattle.worked_rows.specs.ProcessRow.{Writes};
+ghost use Rattle.worked_rows.specs.FirstSilo as first;
+ghost use Rattle.worked_rows.specs.SecondSilo as second;
+ghost use Rattle.worked_rows.specs.Recovery as recovering;
+ghost use Rattle.worked_rows.specs.MissingSnapshot as missing;
+ghost use Rattle.worked_rows.specs.Refused as refused;
+ghost use Rattle.worked_rows.specs.ProcessFaults as faults;
+ghost use Rattle.worked_rows.specs.Bytes as bytes;
+
+/// A silo joins first, works, hands a grain over, takes a leaving silo's range, and is replaced in the end.
+#[tactic(auto, using(crate::proofs::ProcessesComputed::first_silo))]
+pub fn first_silo()
+    ensures { Writes first.first_silo }
+{}
+
+/// A silo joins second, takes its range, works, leaves and dies: behind its death nothing is read.
+#[tactic(auto, using(crate::proofs::ProcessesComputed::second_silo))]
+pub fn second_silo()
+    ensures { Writes second.second_silo }
+{}
+
+/// A silo skips the version of its joining, and recovers.
+#[tactic(auto, using(crate::proofs::ProcessesComputed::a_view_skipped))]
+pub fn a_view_skipped()
+    ensures { Writes recovering.a_view_skipped }
+{}
+
+/// The snapshot of a silo's range is gone: it asks all silos, and takes what they report. A request that comes again is answered by 603.
+#[tactic(auto, using(crate::proofs::ProcessesComputed::a_snapshot_missing))]
+pub fn a_snapshot_missing()
+    ensures { Writes missing.a_snapshot_missing }
+{}
+
+/// A refusal changes nothing.
+#[tactic(auto, using(crate::proofs::ProcessesComputed::refused_changes))]
+pub fn refused_changes()
+    ensures { Writes refused.refused_changes }
+{}
+
+/// Each line with a fault is answered by its first one, and the next is read.
+#[tactic(auto, using(crate::proofs::ProcessesComputed::faulty_lines))]
+pub fn faulty_lines()
+    ensures { Writes faults.faulty_lines }
+{}
+
+/// A carriage return belongs to the end of a line; another one is a fault, as a tab is.
+#[tactic(auto, using(crate::proofs::ProcessesComputed::ends_of_lines))]
+pub fn ends_of_lines()
+    ensures { Writes bytes.ends_of_lines }
+{}
+
+/// What no line feed ended is never taken.
+#[tactic(auto, using(crate::proofs::ProcessesComputed::broken_off))]
+pub fn broken_off()
+    ensures { Writes bytes.broken_off }
+{}
+
+/// Nothing is read, and nothing written.
+#[tactic(auto, using(crate::proofs::ProcessesComputed::no_bytes))]
+pub fn no_bytes()
+    ensures { Writes bytes.no_bytes }
+{}
