@@ -9,3 +9,9 @@ mod MembersSoFar
 pub mod Ties
 mod Told
 pub mod ToldApart
+mod Counted
+pub mod DumpShapes
+pub mod NodeShapes
+pub mod ReadLists
+pub mod Refused
+pub mod Tests

@@ -26,7 +26,7 @@ pub use check_fault::CheckFault;
 pub use dump_lists::{
     Dump, Entry, Held, LentGrain, ListedPoint, Node, Phase, Piece, ReadError, Row, State,
 };
-pub use dump_reader::is_dump;
+pub use dump_lists::is_dump;
 pub use dump_writer::{write_dump, write_node};
 pub use first_fault::check;
 pub use read::read_dump;
