@@ -2,8 +2,8 @@
 use Rattle.std.specs.Prelude.{◌≡◌, ℕ, List, Option, Some, None}
 use Rattle.texts.specs.Printed.{Output}
 use Rattle.dump_rules.specs.Judgement.{refused_by}
-use Rattle.dump_lists.specs.ReadNumbers.{read_error_number}
-use Rattle.dump_lists.specs.declared.error.ReadError.{ReadError}
+use Rattle.dumps.specs.ReadNumbers.{read_error_number}
+use Rattle.dumps.specs.declared.error.ReadError.{ReadError}
 use Rattle.console_command.specs.declared.checked.Checked.{Checked}
 use Rattle.console_command.specs.declared.checked.Checked.TheVariants.{Right, Faulty}
 

@@ -5,7 +5,7 @@ ghost use Rattle.dump_headline.specs.Told.{IsRightlyTold};
 
 use crate::World;
 use crate::rows::listed_rows;
-use dump_lists::{Dump, Node};
+use dumps::{Dump, Node};
 use node_lists::listed_node;
 use std::alloc::{AllocError, Global};
 

@@ -22,7 +22,7 @@ pub use delivery::Undelivered;
 pub use directory_letters::{Body, Letter};
 pub use directory_node::Node;
 pub use directory_rules::{Effect, Event, Happening, LetterKind, Outcome, Policy, Settings, Span};
-pub use dump_lists::Dump;
+pub use dumps::Dump;
 pub use hash_ring::Hashing;
 pub use membership_view::{Status, Views};
 pub use refusal::EventRefusal;

@@ -4,7 +4,7 @@ ghost use Rattle.hash_ring.specs.declared.hashing.Hashing.{Hashing as HashingSee
 ghost use Rattle.dump_rules.specs.Dump.{dump_row, named_places};
 
 use crate::World;
-use dump_lists::Row as DumpRow;
+use dumps::Row as DumpRow;
 use hash_ring::{Hashing, Places};
 use membership_view::Row;
 use silo_address::SiloAddress;

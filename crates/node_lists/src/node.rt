@@ -1,12 +1,12 @@
 //! A node, and the activations and points in it.
 ghost use Rattle.std.specs.Prelude.{◌≡◌, IfOk, map};
 ghost use Rattle.dump_rules.specs.Dump.{dump_held, dump_node, dump_phase};
-ghost use Rattle.dump_lists.specs.DumpModel.{phase_of};
+ghost use Rattle.dumps.specs.DumpModel.{phase_of};
 
 use crate::pieces::pieces;
 use directory_node::Node;
 use directory_rules::{Held, Phase};
-use dump_lists::{Held as DumpHeld, LentGrain, ListedPoint, Node as DumpNode, Phase as DumpPhase};
+use dumps::{Held as DumpHeld, LentGrain, ListedPoint, Node as DumpNode, Phase as DumpPhase};
 use hash_ring::Point;
 use host_activations::Host;
 use silo_address::{ActivationId, GrainId, SiloAddress};

@@ -2,10 +2,10 @@
 ghost use Rattle.std.specs.Prelude.{◌≡◌, IfOk, map};
 ghost use Rattle.directory_rules.specs.Table.{entries_of};
 ghost use Rattle.dump_rules.specs.Dump.{awaited_from, dump_piece, dump_state};
-ghost use Rattle.dump_lists.specs.DumpModel.{state_of};
+ghost use Rattle.dumps.specs.DumpModel.{state_of};
 
 use directory_rules::PieceState;
-use dump_lists::{Entry as DumpEntry, LentGrain, Piece as DumpPiece, State};
+use dumps::{Entry as DumpEntry, LentGrain, Piece as DumpPiece, State};
 use grain_partition::{Holding, Piece};
 use grain_table::Table;
 use silo_address::{Entry, SiloAddress};

@@ -8,7 +8,7 @@ ghost use Rattle.script_output.specs.Spaced.{BeginsWith};
 ghost use Rattle.process_rules.specs.Show.{dump_line};
 
 use directory_silo::Silo;
-use dump_writer::write_node;
+use dumps::write_node;
 use node_lists::listed_node;
 use std::alloc::{AllocError, Global};
 

@@ -8,8 +8,8 @@ use Rattle.std.specs.List.{list_any}
 use Rattle.std.proofs.lemmas.List.Elements.{filter_agree}
 use Rattle.std.proofs.lemmas.List.Folds.{flat_map-map, list_any-append}
 use Rattle.silo_address.specs.Grain.{Grain, grain_cmp, grain_eq}
-use Rattle.dump_lists.specs.Sets.{HasItems}
-use Rattle.dump_lists.proofs.Ties.{grain_tie, list_any_alike}
+use Rattle.dumps.specs.Sets.{HasItems}
+use Rattle.dumps.proofs.Ties.{grain_tie, list_any_alike}
 use Rattle.dump_rules.specs.Dump.{DumpHeld, DumpNode}
 use Rattle.dump_rules.specs.DumpShape.{are_distinct_by}
 use Rattle.dump_rules.specs.Verdict.{firm_grains, firm_held, firm_on_two, is_firm_on, is_firm_phase, least_grain}

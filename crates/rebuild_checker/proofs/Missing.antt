@@ -15,7 +15,7 @@ use Rattle.silo_address.specs.Activation.{activation_eq, entry_cmp, entry_eq}
 use Rattle.silo_address.specs.Grain.{Grain, grain_eq}
 use Rattle.silo_address.specs.declared.Entry.{Entry}
 use Rattle.silo_address.proofs.Same.{Decides-entry}
-use Rattle.dump_lists.proofs.Ties.{entry_tie}
+use Rattle.dumps.proofs.Ties.{entry_tie}
 use Rattle.dump_rules.specs.Dump.{DumpHeld, DumpNode, DumpPiece, DumpValue}
 use Rattle.dump_rules.specs.DumpShape.{has_piece_numbers}
 use Rattle.dump_rules.specs.Verdict.{are_distinct, current_pieces, entry_of_held, firm_entries, firm_held, has_entries_inside, is_entry_among, is_firm_phase, is_missing_in, live_nodes, missing_firm}

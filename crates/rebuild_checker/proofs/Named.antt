@@ -16,7 +16,7 @@ use Rattle.silo_address.specs.Grain.{grain_cmp}
 use Rattle.silo_address.specs.declared.Entry.{Entry}
 use Rattle.silo_address.proofs.Order.{activation_cmp_total, grain_cmp_total}
 use Rattle.silo_address.proofs.Same.{Decides-entry}
-use Rattle.dump_lists.proofs.Ties.{entry_tie}
+use Rattle.dumps.proofs.Ties.{entry_tie}
 use Rattle.dump_rules.specs.Verdict.{is_entry_among}
 use Rattle.rebuild_checker.specs.Named.{IsIndex, Named, entries_named, entry_named, named_cmp}
 use Rattle.rebuild_checker.specs.Tallies.{count_of}

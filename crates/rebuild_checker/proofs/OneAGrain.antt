@@ -15,8 +15,8 @@ use Rattle.silo_address.proofs.Order.{grain_cmp_total}
 use Rattle.silo_address.proofs.Same.{Decides-grain}
 use Rattle.ring_range.specs.Range.{Range, holds}
 use Rattle.hash_ring.specs.Hash.{hash_grain}
-use Rattle.dump_lists.proofs.StrictRise.{rising_told}
-use Rattle.dump_lists.proofs.Ties.{grain_tie, list_any_alike}
+use Rattle.dumps.proofs.StrictRise.{rising_told}
+use Rattle.dumps.proofs.Ties.{grain_tie, list_any_alike}
 use Rattle.dump_rules.specs.Dump.{DumpNode, DumpPiece, DumpValue}
 use Rattle.dump_rules.specs.DumpShape.{are_distinct_by, are_in_order}
 use Rattle.dump_rules.specs.Verdict.{are_distinct, has_entries_inside, has_one_entry_a_grain}

@@ -7,10 +7,10 @@ use Rattle.json.specs.Lex.{lex, punctuate, tokens}
 use Rattle.serde_json.specs.Data.{Data}
 use Rattle.serde_json.specs.Read.{read}
 use Rattle.dump_rules.specs.Dump.{DumpValue}
-use Rattle.dump_lists.specs.MembersRead.{BeginsObject}
+use Rattle.dumps.specs.MembersRead.{BeginsObject}
 use Rattle.rebuild_checker.specs.Told.{lists_told, text_told, told_value}
-use Rattle.dump_lists.specs.declared.error.ReadError.{ReadError}
-use Rattle.dump_lists.specs.declared.error.ReadError.TheVariants.{NotJson, OutOfMemory}
+use Rattle.dumps.specs.declared.error.ReadError.{ReadError}
+use Rattle.dumps.specs.declared.error.ReadError.TheVariants.{NotJson, OutOfMemory}
 
 -- the empty text has no token, and so tells no value and begins with no object
 no_tokens : tokens [] ≡ []

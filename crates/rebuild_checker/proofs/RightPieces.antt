@@ -11,7 +11,7 @@ use Rattle.texts.proofs.Decided.{both}
 use Rattle.ring_range.specs.Range.{IsRange, circle}
 use Rattle.silo_address.specs.Grain.{Grain, grain_eq}
 use Rattle.silo_address.specs.declared.Entry.{Entry}
-use Rattle.dump_lists.proofs.InOrder.{list_all-flat_map}
+use Rattle.dumps.proofs.InOrder.{list_all-flat_map}
 use Rattle.directory_rules.specs.Membership.{is_dead_in}
 use Rattle.dump_rules.specs.Dump.{DumpNode, DumpPiece, DumpValue}
 use Rattle.dump_rules.specs.DumpShape as shape

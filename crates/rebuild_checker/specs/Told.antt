@@ -6,8 +6,8 @@ use Rattle.dump_rules.specs.Dump.{DumpValue}
 use Rattle.dump_rules.specs.DumpIn.{dump_in}
 use Rattle.dump_rules.specs.DumpShape.{is_dump}
 use Rattle.dump_rules.specs.Judged.{value_in}
-use Rattle.dump_lists.specs.declared.error.ReadError.{ReadError}
-use Rattle.dump_lists.specs.declared.error.ReadError.TheVariants.{NotJson, NotADump}
+use Rattle.dumps.specs.declared.error.ReadError.{ReadError}
+use Rattle.dumps.specs.declared.error.ReadError.TheVariants.{NotJson, NotADump}
 
 -- the lists that a value tells, if it does
 abbrev pub told_lists : Option DumpValue → Result DumpValue ReadError

@@ -9,7 +9,7 @@ ghost use Rattle.dump_rules.specs.DumpShape.{is_dump};
 ghost use Rattle.dump_rules.specs.Verdict.{dump_view, row_in_dump, unless_never};
 ghost use Rattle.rebuild_checker.specs.Rows.{is_serving, row_of_silo};
 
-use dump_lists::{Dump, Row};
+use dumps::{Dump, Row};
 use silo_address::SiloAddress;
 
 /// Whether the silo is Dead in the current version. Its row is found by halves.

@@ -6,7 +6,7 @@ ghost use Rattle.ring_range.specs.Range.{IsRange, Range, circle};
 ghost use Rattle.hash_ring.specs.Hash.{hash_grain};
 ghost use Rattle.rebuild_checker.specs.Covers.{AreInTurn, IsApart, IsCover, count_up_to, covering, range_start, range_end};
 
-use dump_lists::LentGrain;
+use dumps::LentGrain;
 use hash_ring::Hashing;
 use ring_range::RingRange;
 use std::alloc::{AllocError, Global};

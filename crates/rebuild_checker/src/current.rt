@@ -4,7 +4,7 @@ ghost use Rattle.std.specs.Prelude.{◌≡◌, ◌==◌, IfOk, filter, flat_map,
 ghost use Rattle.dump_rules.specs.Verdict as rule;
 ghost use Rattle.rebuild_checker.specs.Lent.{nodes_lent, pieces_lent};
 
-use dump_lists::{Dump, Node, Piece, State};
+use dumps::{Dump, Node, Piece, State};
 use std::alloc::{AllocError, Global};
 
 /// The settled pieces of those of the live nodes, which are given, that have seen the current version

@@ -13,7 +13,7 @@ ghost use Rattle.rebuild_checker.specs.MissingFirm.{is_lacking};
 
 use crate::cover::{Cover, cover_of, is_apart, is_lacking};
 use crate::index::{Named, places_of};
-use dump_lists::{Dump, Held, Node, Piece};
+use dumps::{Dump, Held, Node, Piece};
 use hash_ring::Hashing;
 use ring_range::RingRange;
 use silo_address::GrainId;

@@ -7,9 +7,9 @@ ghost use Rattle.hash_ring.specs.Hash.{hash_grain};
 ghost use Rattle.dump_rules.specs.DumpShape.{has_entries_in_order};
 ghost use Rattle.dump_rules.specs.Verdict.{has_entries_inside, has_one_entry_a_grain, node_entries};
 ghost use Rattle.rebuild_checker.specs.Ready.{is_by_grain};
-ghost use Rattle.dump_lists.specs.Mixed.{grains_lent};
+ghost use Rattle.dumps.specs.Mixed.{grains_lent};
 
-use dump_lists::{Dump, Entry, LentGrain, Node, Piece, are_distinct_grains};
+use dumps::{Dump, Entry, LentGrain, Node, Piece, are_distinct_grains};
 use std::alloc::{AllocError, Global};
 
 /// Whether the entries of each piece of the node are hashed into it.

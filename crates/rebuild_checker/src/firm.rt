@@ -5,9 +5,9 @@ ghost use Rattle.std.specs.BTreeSet.{contains, InsertsAll};
 ghost use Rattle.silo_address.specs.Grain.{grain_cmp};
 ghost use Rattle.dump_rules.specs.Verdict as rule;
 ghost use Rattle.rebuild_checker.specs.Lent.{held_lent, held_on};
-ghost use Rattle.dump_lists.specs.Mixed.{grains_lent};
+ghost use Rattle.dumps.specs.Mixed.{grains_lent};
 
-use dump_lists::{Held, LentGrain, Node, Phase};
+use dumps::{Held, LentGrain, Node, Phase};
 use silo_address::GrainId;
 use std::alloc::{AllocError, Global};
 use std::collections::BTreeSet;

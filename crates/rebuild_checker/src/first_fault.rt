@@ -19,7 +19,7 @@ use crate::ranges::wrong_pieces;
 use crate::rings::wrong_ring;
 use crate::strangers::stranger;
 use crate::two_firm::twice_firm;
-use dump_lists::{Dump, Held, Node};
+use dumps::{Dump, Held, Node};
 use std::alloc::Global;
 
 /// Checks a dump, as `read_dump` reads one and `is_dump` tells of other lists. It says yes exactly where all is right in it; else it

@@ -7,7 +7,7 @@ ghost use Rattle.rebuild_checker.specs.Lent.{entries_in, entries_lent, held_lent
 ghost use Rattle.rebuild_checker.specs.Named.{IsIndex, entries_named, entry_named, named_cmp};
 ghost use Rattle.rebuild_checker.specs.Tallies.{count_below, count_up_to};
 
-use dump_lists::{Entry, Held, LentGrain, Node, Piece};
+use dumps::{Entry, Held, LentGrain, Node, Piece};
 use silo_address::ActivationId;
 use std::alloc::{AllocError, Global};
 

@@ -23,11 +23,11 @@ mod text;
 mod two_firm;
 
 pub use check_fault::CheckFault;
-pub use dump_lists::{
+pub use dumps::{
     Dump, Entry, Held, LentGrain, ListedPoint, Node, Phase, Piece, ReadError, Row, State,
 };
-pub use dump_lists::is_dump;
-pub use dump_writer::{write_dump, write_node};
+pub use dumps::is_dump;
+pub use dumps::{write_dump, write_node};
 pub use first_fault::check;
 pub use read::read_dump;
 pub use text::verdict_text;

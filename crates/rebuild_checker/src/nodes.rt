@@ -6,7 +6,7 @@ ghost use Rattle.dump_rules.specs.Verdict as rule;
 ghost use Rattle.rebuild_checker.specs.Lent.{nodes_lent};
 
 use crate::alive::is_dead;
-use dump_lists::{Dump, Node};
+use dumps::{Dump, Node};
 use std::alloc::{AllocError, Global};
 
 /// The nodes of silos that aren't Dead in the current version of a dump, by silo (`docs/RULES.md#the-dump-and-the-verdict`). Costs a

@@ -7,7 +7,7 @@ ghost use Rattle.hash_ring.specs.Owner.{owner_of, owns};
 ghost use Rattle.hash_ring.specs.Point.{IsOnCircle, point_cmp};
 ghost use Rattle.hash_ring.specs.Search.{IsFirstThere, IsLastMet};
 
-use dump_lists::ListedPoint;
+use dumps::ListedPoint;
 use silo_address::SiloAddress;
 
 /// Whether the silo owns the hash: going back from it, the first point that is met is one of the silo's. The point is found by

@@ -12,7 +12,7 @@ ghost use Rattle.rebuild_checker.specs.Ready.{IsReady, is_right_at_bounds, range
 use crate::cover::{CIRCLE, Cover, count_holding, cover_of, is_apart};
 use crate::entries::{has_one_entry_a_grain, have_entries_inside, have_rising_entries};
 use crate::owners::owns;
-use dump_lists::{Dump, Node};
+use dumps::{Dump, Node};
 use ring_range::RingRange;
 use silo_address::SiloAddress;
 use std::alloc::{AllocError, Global};

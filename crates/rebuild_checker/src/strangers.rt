@@ -8,7 +8,7 @@ ghost use Rattle.rebuild_checker.specs.Named.{entries_named, named_apart_from, n
 
 use crate::index::{Named, find_named, index_of_held};
 use crate::least::least_of;
-use dump_lists::Node;
+use dumps::Node;
 use silo_address::GrainId;
 use std::alloc::{AllocError, Global};
 

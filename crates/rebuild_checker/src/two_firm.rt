@@ -6,7 +6,7 @@ ghost use Rattle.rebuild_checker.specs.Lent.{held_lent, held_on, nodes_lent};
 
 use crate::firm::{add_firm, firm_among, held_grains};
 use crate::least::{least_of, lesser};
-use dump_lists::{Held, Node, are_distinct_grains};
+use dumps::{Held, Node, are_distinct_grains};
 use silo_address::GrainId;
 use std::alloc::{AllocError, Global};
 use std::collections::BTreeSet;

@@ -5,7 +5,7 @@ use Rattle.std.proofs.lemmas.Iterator.Adapters.{YieldsList-from_flat_map}
 use Rattle.std.proofs.lemmas.Iterator.Consumers.{YieldsList-at, map_from_collect}
 use Rattle.silo_address.specs.Grain.{Grain}
 use Rattle.silo_address.specs.declared.Entry.{Entry}
-use Rattle.dump_lists.specs.Mixed.{grains_lent}
+use Rattle.dumps.specs.Mixed.{grains_lent}
 use Rattle.dump_rules.specs.Dump.{DumpNode, DumpPiece}
 use Rattle.dump_rules.specs.Verdict.{node_entries}
 use Rattle.rebuild_checker.proofs.entries.entry_grains.Goals as goal

@@ -1,7 +1,7 @@
 use Rattle.std.proofs.Common.{◌∙◌, ap, sym}
 use Rattle.silo_address.specs.Grain.{grain_eq}
 use Rattle.dump_rules.specs.DumpShape.{are_distinct_by}
-use Rattle.dump_lists.specs.Mixed.{grains_lent}
+use Rattle.dumps.specs.Mixed.{grains_lent}
 use Rattle.rebuild_checker.proofs.Grains.{grains_in, same_test}
 use Rattle.rebuild_checker.proofs.entries.has_one_entry_a_grain.Goals as goal
 

@@ -1,7 +1,7 @@
 use Rattle.std.proofs.Common.{◌≡◌, drop}
 use Rattle.std.specs.List.{flat_map}
 use Rattle.silo_address.specs.Grain.{grain_cmp}
-use Rattle.dump_lists.specs.Sets.{HasItems}
+use Rattle.dumps.specs.Sets.{HasItems}
 use Rattle.dump_rules.specs.Verdict.{firm_grains, firm_on_two, least_grain}
 use Rattle.rebuild_checker.specs.Lent.{nodes_lent}
 use Rattle.rebuild_checker.proofs.two_firm.least_twice.Given as goal

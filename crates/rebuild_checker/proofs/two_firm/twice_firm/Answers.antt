@@ -2,7 +2,7 @@ use Rattle.std.proofs.Common.{◌∙◌, ap, sym}
 use Rattle.silo_address.specs.Grain.{grain_eq}
 use Rattle.dump_rules.specs.DumpShape.{are_distinct_by}
 use Rattle.dump_rules.specs.Verdict.{least_grain}
-use Rattle.dump_lists.specs.Mixed.{grains_lent}
+use Rattle.dumps.specs.Mixed.{grains_lent}
 use Rattle.rebuild_checker.specs.Lent.{nodes_lent}
 use Rattle.rebuild_checker.proofs.FirmOnTwo.{firm_listed, none_twice}
 use Rattle.rebuild_checker.proofs.two_firm.twice_firm.Goals as goal

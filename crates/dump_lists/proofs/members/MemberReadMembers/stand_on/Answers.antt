@@ -1,6 +1,0 @@
-use Rattle.dump_lists.specs.MemberNames.{text_of_name}
-use Rattle.dump_lists.proofs.MembersSoFar.{others_stand}
-use Rattle.dump_lists.proofs.members.MemberReadMembers.stand_on.Goals as goal
-
-pub returns : goal.returns
-returns g c = others_stand g.T.ReadText.tells g.R.ReadMembers.stands g.R.ReadMembers.names (text_of_name c.args.self.now.name) c.args.self.now.value c.args.self.now.others c.stand_on.ensures

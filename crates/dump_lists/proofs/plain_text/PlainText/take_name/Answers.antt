@@ -1,7 +1,0 @@
-use Rattle.std.proofs.Common.{sym, ◌∙◌}
-use Rattle.dump_lists.proofs.PlainTexts.{key_taken}
-use Rattle.dump_lists.proofs.plain_text.PlainText.take_name.Goals as goal
-
-pub returns-clause-taken : goal.returns-clause-taken
-returns-clause-taken c =
-    sym c.self.view_is ∙ c.in-Ok.ensures.begun ∙ key_taken c.self.inside.place c.in-Ok.quoted.now c.args.name.now c.in-Some.rest.now c.requires c.in-Some.ensures

@@ -1,9 +1,0 @@
-use Rattle.std.proofs.Common.{◌≡◌, length}
-use Rattle.dump_lists.specs.PlainText.{behind_blanks}
-use Rattle.dump_lists.proofs.plain_text.behind_each_blank.Given as goal
-
-abbrev pub invariant-loop-rest : goal.invariant-loop-rest
-invariant-loop-rest l = behind_blanks l.bytes ≡ behind_blanks l.left
-
-abbrev pub decreases-loop-rest : goal.decreases-loop-rest
-decreases-loop-rest l = length l.left

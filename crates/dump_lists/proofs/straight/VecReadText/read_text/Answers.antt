@@ -1,5 +1,0 @@
-use Rattle.dump_lists.proofs.Along.{list_if}
-use Rattle.dump_lists.proofs.straight.VecReadText.read_text.Goals as goal
-
-pub returns : goal.returns
-returns g c = list_if (λ list. list.items) g.T.ReadItem.reads g.T.ReadItem.deep _ _ _ c.items.result c.in_ok-begin_items.ensures.taken c.items.ensures
