@@ -7,7 +7,7 @@ use crate::steps::{A, FIRST, Step, event_of, silo};
 use cluster_board::{Board, CommitRefusal, Job, Prepared, Uncommitted};
 use cluster_journal::Receipt;
 use directory_rules::Settings;
-use shared_node::SharedNode;
+use directory_node::SharedNode;
 use std::alloc::Global;
 use std::process::Abort;
 use std::sync::ledger::{Blank, Ledger, Share};

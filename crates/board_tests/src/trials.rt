@@ -8,7 +8,7 @@ use cluster_board::CommitRefusal;
 use cluster_journal::Receipt;
 use directory_rules::{Effect, Happening, LetterKind, Settings};
 use hash_ring::Hashing;
-use shared_node::SharedNode;
+use directory_node::SharedNode;
 use std::alloc::Global;
 use std::marker::Brand;
 use std::process::Abort;

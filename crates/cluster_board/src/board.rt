@@ -5,7 +5,7 @@ ghost use Rattle.cluster_journal.specs.Journal.{IsJournaled};
 use cluster_journal::Entry;
 use directory_core::World;
 use directory_rules::Settings;
-use shared_node::SharedNode;
+use directory_node::SharedNode;
 use silo_address::SiloAddress;
 use std::alloc::Global;
 use std::collections::BTreeMap;

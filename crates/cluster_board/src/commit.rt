@@ -15,7 +15,7 @@ use directory_core::World;
 use directory_letters::Letter;
 use directory_node::Plan;
 use directory_rules::{Event, Outcome};
-use shared_node::SharedNode;
+use directory_node::SharedNode;
 use silo_address::SiloAddress;
 use std::sync::ledger::{Ledger, Share};
 use crate::{Mark, Names};

@@ -7,7 +7,7 @@ ghost use Rattle.cluster_board.specs.Marked.{AreLeft, AreMore, marked_at};
 
 use directory_core::World;
 use directory_rules::Event;
-use shared_node::SharedNode;
+use directory_node::SharedNode;
 use silo_address::SiloAddress;
 use std::collections::BTreeMap;
 use crate::{Mark, Marks, Names};

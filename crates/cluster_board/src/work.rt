@@ -5,7 +5,7 @@ ghost use Rattle.directory_node.specs.Plans.{answer_count};
 
 use directory_letters::Letter;
 use directory_node::Plan;
-use shared_node::SharedNode;
+use directory_node::SharedNode;
 use silo_address::SiloAddress;
 use std::alloc::Global;
 use std::marker::Model;

@@ -13,7 +13,7 @@ use cluster_board::Board;
 use directory_rules::Settings;
 use script_commands::Command;
 use script_loop::{Sink, Source};
-use shared_node::SharedNode;
+use directory_node::SharedNode;
 use silo_threads::{Cluster, PARTS};
 use silo_workers::OpenGate;
 use std::alloc::Global;

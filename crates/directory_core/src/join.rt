@@ -17,7 +17,7 @@ use crate::{EventRefusal, World};
 use directory_rules::{Happening, Outcome, Settings};
 use hash_ring::{Places, RingError};
 use membership_view::{Joined, Views};
-use shared_node::SharedNode;
+use directory_node::SharedNode;
 use silo_address::SiloAddress;
 use std::alloc::{AllocError, Global};
 use std::collections::BTreeMap;

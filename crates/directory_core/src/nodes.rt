@@ -8,7 +8,7 @@ ghost use Rattle.directory_rules.specs.Node.{new_node};
 
 use directory_node::Node;
 use directory_rules::Settings;
-use shared_node::SharedNode;
+use directory_node::SharedNode;
 use silo_address::SiloAddress;
 use std::alloc::{AllocError, Global};
 use std::collections::BTreeMap;

@@ -11,7 +11,7 @@ ghost use Rattle.letter_mail.specs.Mail.{letter_in, with_posted, with_stale};
 use directory_letters::Letter;
 use directory_node::Change;
 use letter_mail::Mail;
-use shared_node::SharedNode;
+use directory_node::SharedNode;
 use silo_address::SiloAddress;
 use std::alloc::AllocError;
 use std::collections::BTreeMap;

@@ -23,7 +23,7 @@ use directory_rules::Settings;
 use hash_ring::{Places, Point, Ring};
 use letter_mail::{Mail, MailedLetter};
 use membership_view::Views;
-use shared_node::SharedNode;
+use directory_node::SharedNode;
 use silo_address::SiloAddress;
 use std::alloc::{AllocError, Global};
 use std::collections::BTreeMap;

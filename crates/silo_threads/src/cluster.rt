@@ -8,7 +8,7 @@ use cluster_board::Board;
 use crossbeam_channel::{Receiver, Sender, bounded};
 use directory_rules::Settings;
 use published_rings::{Publisher, RouteError, RouteReader};
-use shared_node::SharedNode;
+use directory_node::SharedNode;
 use silo_workers::{Cause, Gate, Site};
 use std::alloc::Global;
 use std::marker::Model;

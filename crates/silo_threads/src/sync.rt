@@ -11,7 +11,7 @@ use crate::Cluster;
 use cluster_board::Board;
 use directory_core::World;
 use directory_rules::Event;
-use shared_node::SharedNode;
+use directory_node::SharedNode;
 use silo_address::SiloAddress;
 use silo_workers::Gate;
 use std::alloc::{AllocError, Global};

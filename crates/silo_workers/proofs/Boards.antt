@@ -29,7 +29,7 @@ use Rattle.silo_address.specs.contracts.silo.SiloAddressPartialEq.TheImpl as eq
 use Rattle.silo_address.specs.contracts.silo.SiloAddressPartialOrd.TheImpl as partial
 use Rattle.cluster_board.specs.contracts.mark.Mark as mark
 use Rattle.cluster_board.specs.contracts.mark_maker.Marks as marks
-use Rattle.shared_node.specs.contracts.SharedNode as shared
+use Rattle.directory_node.specs.contracts.shared.SharedNode as shared
 use Rattle.cluster_journal.specs.contracts.entry.Entry as entry
 use Rattle.cluster_board.specs.contracts.board.Board as board
 use Rattle.cluster_board.specs.contracts.board.Board.TheInside as board_inside

@@ -23,8 +23,8 @@ use Rattle.node_plans.specs.contracts.plan.Change as change
 use Rattle.node_plans.specs.contracts.plan.Plan as plan
 use Rattle.directory_node.specs.contracts.node.Node as node
 use Rattle.directory_node.specs.contracts.node.Node.TheInside as node_inside
-use Rattle.shared_node.specs.contracts.SharedNode as shared
-use Rattle.shared_node.specs.contracts.SharedNode.TheInside as shared_inside
+use Rattle.directory_node.specs.contracts.shared.SharedNode as shared
+use Rattle.directory_node.specs.contracts.shared.SharedNode.TheInside as shared_inside
 
 node_crosses : Crosses node.the_row
 node_crosses =

@@ -6,7 +6,7 @@ use crate::driver::{Driver, grain, join, silo};
 use crate::readers::Watchers;
 use crate::replay::tells;
 use directory_rules::Event;
-use shared_node::SharedNode;
+use directory_node::SharedNode;
 use silo_address::{GrainId, SiloAddress};
 use silo_threads::PARTS;
 use silo_workers::OpenGate;

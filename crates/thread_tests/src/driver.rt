@@ -6,7 +6,7 @@ use cluster_board::Board;
 use cluster_journal::Receipt;
 use directory_rules::{Event, Settings};
 use hash_ring::Hashing;
-use shared_node::SharedNode;
+use directory_node::SharedNode;
 use silo_address::{GrainId, SiloAddress};
 use silo_threads::{Cluster, Ran};
 use silo_workers::Gate;

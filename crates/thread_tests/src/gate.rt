@@ -7,7 +7,7 @@ ghost use Rattle.silo_threads.specs.declared.cluster.TheConstants.{PARTS};
 use crate::driver::{Driver, grain, join, silo};
 use cluster_journal::Entry;
 use directory_rules::Event;
-use shared_node::SharedNode;
+use directory_node::SharedNode;
 use silo_address::SiloAddress;
 use silo_threads::PARTS;
 use silo_workers::Gate;

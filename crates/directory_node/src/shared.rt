@@ -1,11 +1,10 @@
 //! A silo's node that is shared until it changes: whoever wants to keep it as it is gets a count, and no table is copied. The rules
 //! are in `docs/RULES.md#the-world`.
-#![tactic(auto)]
 
 ghost use Rattle.std.specs.Prelude.{◌≡◌, ◌↔◌, IfOk, IsTrue, MatchResult, OnErr, OnOk};
 ghost use Rattle.directory_node.specs.Plans.{Fits, changed};
 
-use directory_node::{Change, Node};
+use crate::{Change, Node};
 use std::alloc::{AllocError, AllocFailed, Global};
 use std::marker::Model;
 use std::sync;
