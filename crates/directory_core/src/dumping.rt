@@ -6,7 +6,7 @@ ghost use Rattle.dump_headline.specs.Told.{IsRightlyTold};
 use crate::World;
 use crate::rows::listed_rows;
 use dumps::{Dump, Node};
-use node_lists::listed_node;
+use directory_node::listed_node;
 use std::alloc::{AllocError, Global};
 
 impl World {

@@ -1,12 +1,14 @@
-//! One silo of a cluster: all that it knows, and its steps, each a function of what it knows and of one input. The rules are in
-//! `docs/RULES.md#the-world`.
+//! One silo of a cluster: all that it knows, and its steps, each a function of what it knows and of one input; a node that is shared
+//! until it changes; and a node as the lists of a dump. The rules are in `docs/RULES.md#the-world`.
 #![tactic(auto)]
 
 mod change;
 mod close;
 mod idle;
+mod listed;
 mod node;
 mod own_steps;
+mod pieces;
 mod recoveries;
 mod replies;
 mod requests;
@@ -19,6 +21,7 @@ mod transfer_changes;
 mod transfers;
 
 pub use idle::is_idle;
+pub use listed::listed_node;
 pub use node::Node;
 pub use node_plans::{Change, Input, Plan, Sight, StepRefusal, Transition};
 pub use shared::SharedNode;

@@ -9,7 +9,7 @@ ghost use Rattle.process_rules.specs.Show.{dump_line};
 
 use directory_silo::Silo;
 use dumps::write_node;
-use node_lists::listed_node;
+use directory_node::listed_node;
 use std::alloc::{AllocError, Global};
 
 /// Writes the silo's object among the nodes of a dump, as a line.

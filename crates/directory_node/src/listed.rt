@@ -4,7 +4,7 @@ ghost use Rattle.dump_rules.specs.Dump.{dump_held, dump_node, dump_phase};
 ghost use Rattle.dumps.specs.DumpModel.{phase_of};
 
 use crate::pieces::pieces;
-use directory_node::Node;
+use crate::Node;
 use directory_rules::{Held, Phase};
 use dumps::{Held as DumpHeld, LentGrain, ListedPoint, Node as DumpNode, Phase as DumpPhase};
 use hash_ring::Point;

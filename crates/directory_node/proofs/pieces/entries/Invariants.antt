@@ -1,5 +1,5 @@
 use Rattle.std.proofs.Common.{◌≡◌, take}
-use Rattle.node_lists.proofs.pieces.entries.Given as goal
+use Rattle.directory_node.proofs.pieces.entries.Given as goal
 
 abbrev pub invariant-loop-entry : goal.invariant-loop-entry
 invariant-loop-entry l = l.listed.items ≡ take l.entry-index l.entry-items

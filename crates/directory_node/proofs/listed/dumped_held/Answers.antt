@@ -1,5 +1,5 @@
 use Rattle.std.proofs.Common.{rules}
-use Rattle.node_lists.proofs.node.dumped_held.Goals as goal
+use Rattle.directory_node.proofs.listed.dumped_held.Goals as goal
 
 pub returns : goal.returns
 returns c = search rules
