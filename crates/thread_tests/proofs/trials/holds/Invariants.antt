@@ -1,4 +1,4 @@
-use Rattle.board_tests.proofs.trials.holds.Given as goal
+use Rattle.thread_tests.proofs.trials.holds.Given as goal
 
 -- the board is of the blank ledger and of the blocks that it is given
 abbrev pub ghosts-goes_by-L-Ledger : goal.ghosts-goes_by-L-Ledger
