@@ -1,6 +1,6 @@
 //! Letters as lines of a silo's process: each kind both ways, and each fault.
 use hash_ring::Hashing;
-use process_letters::{LineError, read_letter, write_letter};
+use process_lines::{LineError, read_letter, write_letter};
 use std::alloc::{AllocError, Global};
 use std::test::Fail;
 

@@ -14,7 +14,7 @@ ghost use Rattle.directory_silo.specs.Numbers.{silo_refusal_number};
 use directory_letters::Letter;
 use directory_rules::{Happening, Outcome};
 use directory_silo::SiloRefusal;
-use process_letters::write_letter;
+use process_lines::write_letter;
 use script_output::{end_line, push_word, write_outcome, write_refusal};
 use std::alloc::AllocError;
 

@@ -8,7 +8,7 @@ ghost use Rattle.process_loop.specs.Answering.{AnswersLine, MayLackMemory};
 use crate::fault::write_fault;
 use directory_silo::Silo;
 use crate::answer;
-use process_letters::LineError;
+use process_lines::LineError;
 use process_lines::{read_line, unended_fault};
 use process_loop::SiloPlayer;
 use script_commands::without_return;

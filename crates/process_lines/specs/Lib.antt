@@ -2,3 +2,9 @@ pub mod AskedModel
 pub mod Known
 pub mod Memory
 pub mod Named
+pub mod FaultNumbers
+pub mod ReadAs
+pub mod Fronts
+pub mod Made
+pub mod Reasons
+pub mod Short

@@ -5,7 +5,7 @@ ghost use Rattle.std.specs.Map.{lookup};
 ghost use Rattle.std.specs.Prelude.{◌≡◌, IsErrOf, Some, bytes_eq, option_map};
 ghost use Rattle.texts.specs.Words.{words_in};
 ghost use Rattle.process_rules.specs.ReadLine as rule;
-ghost use Rattle.process_letters.specs.ReadAs.{Reads, told};
+ghost use Rattle.process_lines.specs.ReadAs.{Reads, told};
 ghost use Rattle.process_lines.specs.AskedModel.{asked_of};
 ghost use Rattle.process_lines.specs.Known.{other_commands};
 ghost use Rattle.process_lines.specs.Memory.{LineNeedsMemory, WordsNeedMemory};
@@ -17,7 +17,7 @@ use crate::names::CommandName;
 use crate::questions::{dump, ping, question_name, show};
 use crate::steps::{close, find, forget, nudge, offer, see, step_name, wake};
 use hash_ring::Hashing;
-use process_letters::{LineError, LineFault, read_letter};
+use crate::{LineError, LineFault, read_letter};
 use std::alloc::Global;
 
 /// What is asked for under that name, with the words behind it.

@@ -4,7 +4,7 @@ ghost use Rattle.std.specs.Map.{lookup};
 ghost use Rattle.std.specs.Prelude.{◌≡◌, bytes_eq, option_map};
 ghost use Rattle.texts.specs.Words.{words_in};
 ghost use Rattle.process_rules.specs.ReadLine as rule;
-ghost use Rattle.process_letters.specs.ReadAs.{told};
+ghost use Rattle.process_lines.specs.ReadAs.{told};
 ghost use Rattle.process_lines.specs.AskedModel.{asked_of};
 ghost use Rattle.process_lines.specs.Known.{question_commands};
 ghost use Rattle.process_lines.specs.Named.{grammar_of};
@@ -12,7 +12,7 @@ ghost use Rattle.process_lines.specs.Named.{grammar_of};
 use crate::Asked;
 use crate::names::CommandName;
 use crate::steps::no_word;
-use process_letters::LineFault;
+use crate::LineFault;
 use script_commands::only_word;
 
 /// The question of that name.

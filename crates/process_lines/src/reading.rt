@@ -1,14 +1,14 @@
 ghost use Rattle.std.specs.Prelude.{◌≡◌, IsErrOf, option_map};
 ghost use Rattle.process_rules.specs.ReadLine as rule;
-ghost use Rattle.process_letters.specs.FaultNumbers.{line_fault_number};
-ghost use Rattle.process_letters.specs.ReadAs.{Reads};
+ghost use Rattle.process_lines.specs.FaultNumbers.{line_fault_number};
+ghost use Rattle.process_lines.specs.ReadAs.{Reads};
 ghost use Rattle.process_lines.specs.AskedModel.{asked_of};
 ghost use Rattle.process_lines.specs.Memory.{LineNeedsMemory};
 
 use crate::Asked;
 use crate::known::asked_under;
 use hash_ring::Hashing;
-use process_letters::{LineError, LineFault};
+use crate::{LineError, LineFault};
 use script_commands::{is_remark, is_text, split_word};
 use std::alloc::Global;
 

@@ -5,14 +5,14 @@ ghost use Rattle.std.specs.Prelude.{◌≡◌, bytes_eq, option_map};
 ghost use Rattle.silo_address.specs.Grain.{Grain};
 ghost use Rattle.texts.specs.Words.{words_in};
 ghost use Rattle.process_rules.specs.ReadLine as rule;
-ghost use Rattle.process_letters.specs.ReadAs.{told};
+ghost use Rattle.process_lines.specs.ReadAs.{told};
 ghost use Rattle.process_lines.specs.AskedModel.{asked_of};
 ghost use Rattle.process_lines.specs.Known.{step_commands};
 ghost use Rattle.process_lines.specs.Named.{grammar_of};
 
 use crate::Asked;
 use crate::names::CommandName;
-use process_letters::{LineFault, grain_word, number_word, silo_word};
+use crate::{LineFault, grain_word, number_word, silo_word};
 use script_commands::{only_two_words, only_word, split_word};
 use silo_address::GrainId;
 

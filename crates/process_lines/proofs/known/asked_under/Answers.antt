@@ -2,7 +2,7 @@ use Rattle.std.proofs.Common.{◌≡◌, sym, subst, false, rules, Option, Some}
 use Rattle.std.specs.Prelude.{codes, bytes_eq}
 use Rattle.texts.specs.Words.{words_in}
 use Rattle.process_rules.specs.ReadLine.{Grammar, asked_if_known}
-use Rattle.process_letters.specs.ReadAs.{Reads}
+use Rattle.process_lines.specs.ReadAs.{Reads}
 use Rattle.process_lines.specs.declared.asked.Asked.{Asked}
 use Rattle.process_lines.specs.AskedModel.{asked_of}
 use Rattle.process_lines.proofs.Commands.{among_others}

@@ -1,7 +1,7 @@
 use Rattle.std.proofs.Common.{◌∙◌, Err, ap, refl}
 use Rattle.directory_rules.specs.Node.{Node}
 use Rattle.directory_rules.specs.Settings.{Settings}
-use Rattle.process_letters.specs.FaultNumbers.{line_fault_number}
+use Rattle.process_lines.specs.FaultNumbers.{line_fault_number}
 use Rattle.process_lines.specs.AskedModel.{asked_of}
 use Rattle.process_answers.proofs.Answered.{asked_answered, fault_told, passed_over, said_so, unread_lacks}
 use Rattle.process_answers.proofs.player.PlayerSiloPlayer.answer_line.Goals as goal

@@ -1,3 +1,0 @@
-pub mod EachEntry
-pub mod Forms
-pub mod Written

@@ -1,0 +1,14 @@
+use Rattle.script_output.proofs.Fronts.{begins_with_the_first}
+use Rattle.script_output.proofs.SpacedWords.{then_spaced}
+use Rattle.process_lines.proofs.write.push_numbered_reply.Goals as goal
+
+pub returns-in_err-push_reply-clause-kept : goal.returns-in_err-push_reply-clause-kept
+returns-in_err-push_reply-clause-kept c = begins_with_the_first _ _ _ c.push_number.ensures.kept c.push_reply.ensures.kept
+
+pub returns-clause-written : goal.returns-clause-written
+returns-clause-written c =
+    then_spaced _ _ _ _ _ c.in_ok-push_number.ensures.written
+    c.in_ok-push_reply.ensures.written
+
+pub returns-clause-kept : goal.returns-clause-kept
+returns-clause-kept c = begins_with_the_first _ _ _ c.push_number.ensures.kept c.push_reply.ensures.kept

@@ -1,0 +1,14 @@
+use Rattle.script_output.proofs.Fronts.{begins_with_the_first}
+use Rattle.script_output.proofs.SpacedWords.{then_spaced}
+use Rattle.process_lines.proofs.write.push_request.Goals as goal
+
+pub returns-in_err-push_act-clause-kept : goal.returns-in_err-push_act-clause-kept
+returns-in_err-push_act-clause-kept c = begins_with_the_first _ _ _ c.push_number.ensures.kept c.push_act.ensures.kept
+
+pub returns-clause-written : goal.returns-clause-written
+returns-clause-written c =
+    then_spaced _ _ _ _ _ c.in_ok-push_number.ensures.written
+    c.in_ok-push_act.ensures.written
+
+pub returns-clause-kept : goal.returns-clause-kept
+returns-clause-kept c = begins_with_the_first _ _ _ c.push_number.ensures.kept c.push_act.ensures.kept

@@ -1,0 +1,92 @@
+ghost use Rattle.std.specs.Prelude.{◌≡◌};
+ghost use Rattle.process_lines.specs.FaultNumbers.{line_fault_number};
+ghost use Rattle.process_lines.specs.declared.fault.LineError.TheVariants.{Fault};
+
+use silo_address::{GrainError, SiloError};
+use thiserror::Error;
+
+/// What each command is written as.
+const COMMANDS: &str =
+    "joined VERSION SILO PLACE.., leaving VERSION SILO, dead VERSION SILO, see VERSION, wake GRAIN, close GRAIN, offer GRAIN SILO, find GRAIN, forget GRAIN, nudge, letter FROM TO VERSION KIND and what its kind says, ping WORD, show or dump";
+
+/// The fault of a line: the first that it has, in the order of `docs/RULES.md#lines-of-a-silos-process`.
+#[derive(Clone, Copy, Debug, PartialEq, Eq, Error)]
+pub enum LineFault {
+    /// The line has more than 16,777,216 bytes.
+    #[error("a line has at most 16777216 bytes")]
+    LineTooLong,
+    /// No line feed ended the line, so that it may have been cut.
+    #[error("a line ends with a line feed")]
+    Unended,
+    /// A byte of the line is outside 32 to 126.
+    #[error("a line is written in ASCII without controls, bytes 32 to 126")]
+    NotText,
+    /// The first word names no command.
+    #[error("a command is {COMMANDS}")]
+    UnknownCommand,
+    /// Too few words or too many stand behind the name.
+    #[error("too few words or too many: a command is {COMMANDS}")]
+    WordCount,
+    /// The kind is none, or the reason of a retry.
+    #[error("there is no such kind of letter, or a retry has no such reason: these are 601, 602, 603 and 604")]
+    Kind,
+    /// A word should name a silo.
+    #[error("{0}")]
+    Silo(SiloError),
+    /// A word should name a grain.
+    #[error("{0}")]
+    Grain(GrainError),
+    /// A word should name an activation, and has no exclamation mark.
+    #[error("an activation is written SILO!COUNT")]
+    Activation,
+    /// A word should name a range.
+    #[error("a range is written start+size in decimal without leading zeros, from 4294967295 at most and with 4294967296 hashes at most")]
+    Range,
+    /// A word should be a digest.
+    #[error("a digest is 64 digits from 0 to 9 and a to f")]
+    Digest,
+    /// A word should be a number of its range.
+    #[error("a number is at most 18446744073709551615, a place at most 4294967295, in decimal digits without a leading zero")]
+    NotANumber,
+}
+
+impl LineFault {
+    /// The number by which users know the fault: 921 to 925, 927 to 931, 101 to 103 of a silo, 111 to 113 of a grain.
+    pub fn number(self) -> u16
+        ensures { result ≡ line_fault_number self }
+    {
+        match self {
+            LineFault::LineTooLong => 924,
+            LineFault::Unended => 931,
+            LineFault::NotText => 925,
+            LineFault::UnknownCommand => 921,
+            LineFault::WordCount => 922,
+            LineFault::Kind => 927,
+            LineFault::Silo(fault) => fault.number(),
+            LineFault::Grain(fault) => fault.number(),
+            LineFault::Activation => 929,
+            LineFault::Range => 928,
+            LineFault::Digest => 930,
+            LineFault::NotANumber => 923,
+        }
+    }
+}
+
+/// Why a line was not read.
+#[derive(Clone, Copy, Debug, PartialEq, Eq, Error)]
+pub enum LineError {
+    /// The line has a fault.
+    #[error("{0}")]
+    Fault(LineFault),
+    /// Memory ran out for the entries of a page or a report, or for the places of a join.
+    #[error("out of memory")]
+    OutOfMemory,
+}
+
+impl From<LineFault> for LineError {
+    ghost from_gives = { λ fault error. error ≡ Fault fault };
+
+    fn from(fault: LineFault) -> LineError {
+        LineError::Fault(fault)
+    }
+}

@@ -1,0 +1,142 @@
+//! Letters of transfers and recoveries.
+
+ghost use Rattle.std.specs.Prelude.{◌≡◌, true, IsErrOf};
+ghost use Rattle.directory_rules.specs.Letter as letters;
+ghost use Rattle.texts.specs.Words.{words_in};
+ghost use Rattle.process_rules.specs.ReadLetter as rule;
+ghost use Rattle.process_lines.specs.Made.{OfARange};
+ghost use Rattle.process_lines.specs.ReadAs.{Reads, head_of, told};
+ghost use Rattle.process_lines.specs.Short.{HasEntries};
+
+use crate::entries::{are_pairs, entries_in};
+use crate::head::Head;
+use crate::words::{FourWords, digest_word, four_words, number_word, range_word};
+use crate::{LineError, LineFault};
+use directory_letters::{Body, Letter};
+use range_recovery::Report;
+use ring_range::RingRange;
+use script_commands::{only_two_words, only_word, split_word};
+use seal_snapshot::Page;
+use std::alloc::Global;
+
+/// A range and the number of a page.
+pub(crate) fn an_ask(head: Result<Head, LineFault>, words: &[u8]) -> Result<Letter, LineFault>
+    ensures { told (λ letter. letter) result ≡ rule.an_ask (told head_of head) (words_in words.now) }
+{
+    let Some((range, page)) = only_two_words(words) else {
+        return Err(LineFault::WordCount);
+    };
+    let head = head?;
+    let range = range_word(range)?;
+    let page = number_word(page)?;
+    Ok(head.letter(Body::Ask { range, page }))
+}
+
+/// A range.
+fn a_range(head: Result<Head, LineFault>, words: &[u8]) -> Result<(Head, RingRange), LineFault>
+    ensures { (of : OfARange) → told (λ parts. rule.letter_of (head_of parts.0) (of parts.1)) result ≡ rule.a_range of (told head_of head) (words_in words.now) }
+{
+    let Some(range) = only_word(words) else {
+        return Err(LineFault::WordCount);
+    };
+    let head = head?;
+    let range = range_word(range)?;
+    Ok((head, range))
+}
+
+pub(crate) fn a_missing(head: Result<Head, LineFault>, words: &[u8]) -> Result<Letter, LineFault>
+    ensures { told (λ letter. letter) result ≡ rule.a_range letters.Missing_letter (told head_of head) (words_in words.now) }
+{
+    let (head, range) = a_range(head, words)?;
+    Ok(head.letter(Body::Missing(range)))
+}
+
+pub(crate) fn a_done(head: Result<Head, LineFault>, words: &[u8]) -> Result<Letter, LineFault>
+    ensures { told (λ letter. letter) result ≡ rule.a_range letters.Done_letter (told head_of head) (words_in words.now) }
+{
+    let (head, range) = a_range(head, words)?;
+    Ok(head.letter(Body::Done(range)))
+}
+
+pub(crate) fn a_query(head: Result<Head, LineFault>, words: &[u8]) -> Result<Letter, LineFault>
+    ensures { told (λ letter. letter) result ≡ rule.a_range letters.Query_letter (told head_of head) (words_in words.now) }
+{
+    let (head, range) = a_range(head, words)?;
+    Ok(head.letter(Body::Query(range)))
+}
+
+pub(crate) fn a_behind(head: Result<Head, LineFault>, words: &[u8]) -> Result<Letter, LineFault>
+    ensures { told (λ letter. letter) result ≡ rule.a_range letters.Behind_letter (told head_of head) (words_in words.now) }
+{
+    let (head, range) = a_range(head, words)?;
+    Ok(head.letter(Body::Behind(range)))
+}
+
+pub(crate) fn an_ahead(head: Result<Head, LineFault>, words: &[u8]) -> Result<Letter, LineFault>
+    ensures { told (λ letter. letter) result ≡ rule.a_range letters.Ahead_letter (told head_of head) (words_in words.now) }
+{
+    let (head, range) = a_range(head, words)?;
+    Ok(head.letter(Body::Ahead(range)))
+}
+
+/// A range, the number of a page, how many there are, the digest of all, and the entries.
+#[tactic(auto, using(crate::proofs::Forms::fronts))]
+pub(crate) fn a_page(
+    alloc: Global,
+    head: Result<Head, LineFault>,
+    words: &[u8],
+) -> Result<Letter, LineError>
+    ensures reads { Reads (λ letter. letter) result (rule.a_page (told head_of head) (words_in words.now)) }
+    ensures memory { IsErrOf result LineError.OutOfMemory → HasEntries (rule.a_page (told head_of head) (words_in words.now)) }
+{
+    let Some(front) = four_words(words) else {
+        return Err(LineError::Fault(LineFault::WordCount));
+    };
+    if !are_pairs(front.behind) {
+        return Err(LineError::Fault(LineFault::WordCount));
+    }
+    page_of(alloc, head, &front)
+}
+
+/// A page whose entries are pairs of words.
+fn page_of(
+    alloc: Global,
+    head: Result<Head, LineFault>,
+    front: &FourWords<'_>,
+) -> Result<Letter, LineError>
+    ensures reads { Reads (λ letter. letter) result
+        (rule.page_for true (told head_of head) front.now.first.now front.now.second.now front.now.third.now front.now.fourth.now (words_in front.now.behind.now)) }
+    ensures memory { IsErrOf result LineError.OutOfMemory → HasEntries
+        (rule.page_for true (told head_of head) front.now.first.now front.now.second.now front.now.third.now front.now.fourth.now (words_in front.now.behind.now)) }
+{
+    let head = head?;
+    let range = range_word(front.first)?;
+    let page = number_word(front.second)?;
+    let pages = number_word(front.third)?;
+    let digest = digest_word(front.fourth)?;
+    let entries = entries_in(alloc, front.behind)?;
+    let page = Page::new(head.version, range, page, pages, digest, entries);
+    Ok(head.letter(Body::Page(page)))
+}
+
+/// A range and the entries.
+pub(crate) fn a_report(
+    alloc: Global,
+    head: Result<Head, LineFault>,
+    words: &[u8],
+) -> Result<Letter, LineError>
+    ensures reads { Reads (λ letter. letter) result (rule.a_report (told head_of head) (words_in words.now)) }
+    ensures memory { IsErrOf result LineError.OutOfMemory → HasEntries (rule.a_report (told head_of head) (words_in words.now)) }
+{
+    let Some((range, behind)) = split_word(words) else {
+        return Err(LineError::Fault(LineFault::WordCount));
+    };
+    if !are_pairs(behind) {
+        return Err(LineError::Fault(LineFault::WordCount));
+    }
+    let head = head?;
+    let range = range_word(range)?;
+    let entries = entries_in(alloc, behind)?;
+    let report = Report::new(head.version, range, head.from, entries);
+    Ok(head.letter(Body::Report(report)))
+}
