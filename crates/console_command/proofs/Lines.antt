@@ -3,9 +3,9 @@ use Rattle.std.proofs.Common.{◌≡◌, ℕ, ◌++◌, List, [], ◌∷◌, ap,
 use Rattle.script_rules.specs.Output.{Performed, before, printing}
 use Rattle.texts.specs.Printed.{text_of_lines}
 use Rattle.directory_rules.specs.World.{World}
-use Rattle.script_output.specs.Printed.{printed}
-use Rattle.script_output.proofs.Fronts.{begins_with_the_first}
-use Rattle.script_output.specs.Spaced.{BeginsWith}
+use Rattle.script_lines.specs.Printed.{printed}
+use Rattle.script_lines.proofs.Fronts.{begins_with_the_first}
+use Rattle.script_lines.specs.Spaced.{BeginsWith}
 use Rattle.console_command.specs.Commands.{Performs, in_session}
 
 -- nothing more is printed

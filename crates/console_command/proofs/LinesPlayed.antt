@@ -5,8 +5,8 @@ use Rattle.script_rules.specs.Script.{Command, read_line}
 use Rattle.script_rules.specs.Lines.{fault_line}
 use Rattle.script_rules.specs.Output.{Session, line_played, onto, performed, played}
 use Rattle.texts.specs.Printed.{Output, text_of_lines}
-use Rattle.script_commands.specs.Numbers.{script_fault_number}
-use Rattle.script_output.specs.Printed.{printed}
+use Rattle.script_lines.specs.Numbers.{script_fault_number}
+use Rattle.script_lines.specs.Printed.{printed}
 use Rattle.script_loop.specs.declared.ended.LineFault.{LineFault}
 use Rattle.script_loop.specs.Lines.{PlaysLine, behind, told_fault}
 use Rattle.console_command.specs.Commands.{Performs, in_session}

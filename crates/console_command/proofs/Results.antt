@@ -1,7 +1,7 @@
 -- What a result that is an error leaves, and what one that is none.
 use Rattle.std.proofs.Common.{◌≡◌, ℕ, ◌++◌, List, Result, Ok, Err}
 use Rattle.std.specs.Result.{IsErr, OnErr, OnOk}
-use Rattle.script_output.specs.Spaced.{BeginsWith}
+use Rattle.script_lines.specs.Spaced.{BeginsWith}
 use Rattle.console_command.proofs.Lines.{begins_with_itself}
 
 -- of an error nothing is asked that would hold of a value

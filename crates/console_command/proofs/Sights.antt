@@ -11,10 +11,10 @@ use Rattle.directory_rules.specs.Node.{Node}
 use Rattle.directory_rules.specs.World.{World}
 use Rattle.membership_view.specs.Views.{joining_version}
 use Rattle.script_rules.specs.Output.{events_in_turn, unseen_versions}
-use Rattle.script_output.specs.Spaced.{BeginsWith}
+use Rattle.script_lines.specs.Spaced.{BeginsWith}
 use Rattle.console_command.specs.Commands.{Performs, TakesTurn, TakeTurns, event_turn, in_session, sights}
 use Rattle.console_command.specs.declared.sync.Unseen.{Unseen}
-use Rattle.script_output.proofs.Fronts.{begins_with_the_first}
+use Rattle.script_lines.proofs.Fronts.{begins_with_the_first}
 use Rattle.console_command.proofs.Lines.{begins, nothing_printed}
 
 -- ---- turns

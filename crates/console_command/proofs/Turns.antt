@@ -2,9 +2,9 @@
 use Rattle.std.proofs.Common.{◌≡◌, ℕ, suc, ◌+◌, ◌-◌, ◌<◌, Bool, true, false, ◌≤◌, List, [], subst, arith}
 use Rattle.directory_rules.specs.World.{World}
 use Rattle.script_rules.specs.Output.{Session, Performed, printing, delivered_all, delivered_within}
-use Rattle.script_output.specs.Spaced.{BeginsWith}
+use Rattle.script_lines.specs.Spaced.{BeginsWith}
 use Rattle.console_command.specs.Commands.{Performs, TakesTurn, delivery_turn, in_session}
-use Rattle.script_output.proofs.Fronts.{begins_with_the_first}
+use Rattle.script_lines.proofs.Fronts.{begins_with_the_first}
 use Rattle.console_command.proofs.Lines.{nothing_printed, begins}
 
 -- a turn after which nothing is performed

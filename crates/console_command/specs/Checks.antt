@@ -3,7 +3,7 @@ use Rattle.std.specs.Prelude.{◌≡◌, ◌≢◌, ◌⊎◌, ℕ, ◌<◌, ◌
 use Rattle.std.specs.Io.KnownBytes.{Appends, IsAtEnd}
 use Rattle.texts.specs.Printed.{Output}
 use Rattle.dump_rules.specs.Judged.{judged_text}
-use Rattle.script_output.specs.Spaced.{BeginsWith}
+use Rattle.script_lines.specs.Spaced.{BeginsWith}
 use Rattle.script_loop.specs.Calls.{ReadsInTurn, WritesText}
 use Rattle.script_loop.specs.Endings.{StaysWithin, most_read}
 use Rattle.console_command.specs.Source.{HasRead}

@@ -6,9 +6,9 @@ ghost use Rattle.script_loop.specs.Lines.{IsPassedOver, PlaysLine};
 
 use crate::commands::perform;
 use directory_core::World;
-use script_commands::{ReadError, read_command};
+use script_lines::{ReadError, read_command};
 use script_loop::{LineFault, LinePlayer};
-use script_output::write_fault;
+use script_lines::write_fault;
 use std::alloc::{AllocError, Global};
 
 /// A cluster, as far as a script has brought it.

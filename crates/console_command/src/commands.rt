@@ -5,8 +5,8 @@
 ghost use Rattle.std.specs.Prelude.{◌≡◌, [], ◌∷◌, IfOk, OnOk, OnErr};
 ghost use Rattle.script_rules.specs.Output.{events_in_turn, performed, delivered_all};
 ghost use Rattle.directory_rules.specs.EventModel.{event_of};
-ghost use Rattle.script_commands.specs.CommandModel.{command_of};
-ghost use Rattle.script_output.specs.Spaced.{BeginsWith};
+ghost use Rattle.script_lines.specs.CommandModel.{command_of};
+ghost use Rattle.script_lines.specs.Spaced.{BeginsWith};
 ghost use Rattle.console_command.specs.Commands.{Performs, TakesTurn, delivery_turn, event_turn, in_session};
 
 use crate::dump::{tell_dump, tell_verdict};
@@ -16,14 +16,14 @@ use crate::shown::{show, tell_owner};
 use crate::sync::sync;
 use directory_core::World;
 use directory_rules::Event;
-use script_commands::Command;
-use script_output::{write_outcome, write_refusal};
+use script_lines::Command;
+use script_lines::{write_outcome, write_refusal};
 use std::alloc::{AllocError, Global};
 use texts::taken_back_at_error;
 
 /// Does what a command asks for, and writes what it prints behind what is written already. Fails only when memory runs out; then
 /// nothing is written, and the world may have changed.
-#[tactic(auto, using(script_output::proofs::Fronts::front_taken))]
+#[tactic(auto, using(script_lines::proofs::Fronts::front_taken))]
 pub(crate) fn perform(
     alloc: Global,
     world: &mut World,

@@ -6,8 +6,8 @@ ghost use Rattle.std.specs.Prelude.{◌≡◌, ◌++◌, [], ◌∷◌, OnOk, On
 ghost use Rattle.dump_rules.specs.Dump.{dump_of, dump_text};
 ghost use Rattle.dump_rules.specs.Verdict.{verdict};
 ghost use Rattle.script_rules.specs.Output.{checked, printing};
-ghost use Rattle.script_output.specs.Printed.{printed};
-ghost use Rattle.script_output.specs.Spaced.{BeginsWith};
+ghost use Rattle.script_lines.specs.Printed.{printed};
+ghost use Rattle.script_lines.specs.Spaced.{BeginsWith};
 ghost use Rattle.console_command.specs.Commands.{Performs, in_session};
 
 use directory_core::World;

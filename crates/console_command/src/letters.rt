@@ -7,12 +7,12 @@ ghost use Rattle.directory_rules.specs.Mail.{letter_of};
 ghost use Rattle.script_rules.specs.Output.{printing};
 ghost use Rattle.script_rules.specs.Show.{mail_lines};
 ghost use Rattle.texts.specs.Printed.{text_of_lines};
-ghost use Rattle.script_output.specs.Spaced.{BeginsWith};
+ghost use Rattle.script_lines.specs.Spaced.{BeginsWith};
 ghost use Rattle.console_command.specs.Commands.{Performs, in_session};
 ghost use Rattle.console_command.specs.Reports.{lines_of_letter};
 
 use directory_core::World;
-use script_output::{laws, write_letter};
+use script_lines::{laws, write_letter};
 use std::alloc::AllocError;
 
 /// Writes a line for each letter in the mail, by its number.

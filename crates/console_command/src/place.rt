@@ -7,7 +7,7 @@ ghost use Rattle.directory_rules.specs.Happens.{absent_number};
 ghost use Rattle.directory_rules.specs.Placement.{count_of};
 ghost use Rattle.script_rules.specs.Output.{printing};
 ghost use Rattle.script_rules.specs.Show.{chosen_place, held_counts, place_line};
-ghost use Rattle.script_output.specs.Spaced.{BeginsWith};
+ghost use Rattle.script_lines.specs.Spaced.{BeginsWith};
 ghost use Rattle.console_command.specs.Commands.{Performs, in_session};
 ghost use Rattle.console_command.specs.Reports.{CountsAll, CountsAsked};
 
@@ -15,7 +15,7 @@ use directory_core::World;
 use directory_node::Node;
 use directory_rules::Policy;
 use membership_view::View;
-use script_output::{laws, write_place, write_refusal};
+use script_lines::{laws, write_place, write_refusal};
 use silo_address::{GrainId, SiloAddress};
 use silo_placement::silo_for;
 use std::alloc::{AllocError, Global};

@@ -8,8 +8,8 @@ ghost use Rattle.script_rules.specs.Output.{printing};
 ghost use Rattle.texts.specs.Printed.{text_of_lines};
 ghost use Rattle.script_rules.specs.Show.{held_line, owner_line, range_line, range_lines, show_lines, silo_lines};
 ghost use Rattle.directory_rules.specs.World.{current_ring, current_view};
-ghost use Rattle.script_output.specs.Shown.{settled_entries};
-ghost use Rattle.script_output.specs.Spaced.{BeginsWith};
+ghost use Rattle.script_lines.specs.Shown.{settled_entries};
+ghost use Rattle.script_lines.specs.Spaced.{BeginsWith};
 ghost use Rattle.console_command.specs.Commands.{Performs, in_session};
 
 use directory_core::World;
@@ -17,7 +17,7 @@ use directory_rules::Held;
 use host_activations::Host;
 use membership_view::Status;
 use ring_range::RingRange;
-use script_output::{
+use script_lines::{
     laws, write_held, write_no_owner, write_owner, write_range, write_silo, write_version,
 };
 use silo_address::{GrainId, SiloAddress};

@@ -5,7 +5,7 @@
 ghost use Rattle.std.specs.Prelude.{◌≡◌, IfOk, OnOk, OnErr, flat_map, map};
 ghost use Rattle.directory_rules.specs.Event.{See};
 ghost use Rattle.script_rules.specs.Output.{events_in_turn, sync_events, unseen_versions};
-ghost use Rattle.script_output.specs.Spaced.{BeginsWith};
+ghost use Rattle.script_lines.specs.Spaced.{BeginsWith};
 ghost use Rattle.console_command.specs.Commands.{Performs, TakeTurns, in_session, sights};
 
 use crate::commands::take_turn;

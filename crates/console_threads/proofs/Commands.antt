@@ -2,8 +2,8 @@
 use Rattle.std.proofs.Common.{◌≡◌, ℕ, List, [], ◌∷◌, ◌++◌, Option, Some, None, Result, Ok, Err, map, ap, sym, ◌∙◌, append_assoc, append-nil, subst}
 use Rattle.std.proofs.lemmas.List.{map-append}
 use Rattle.script_rules.specs.Script as rule
-use Rattle.script_commands.specs.CommandModel.{command_of}
-use Rattle.script_commands.specs.declared.command.Command.{Command}
+use Rattle.script_lines.specs.CommandModel.{command_of}
+use Rattle.script_lines.specs.declared.command.Command.{Command}
 use Rattle.cluster_journal.specs.Entry.{EntryValue}
 use Rattle.script_loop.specs.Endings.{LeavesPlayer}
 use Rattle.script_loop.specs.Lines.{LinesMake, no_line, then_line}

@@ -8,7 +8,7 @@ use Rattle.cluster_journal.specs.Entry.{EntryValue}
 use Rattle.cluster_journal.specs.Journal.{IsJournaled}
 use Rattle.script_rules.specs.Script.{Command, lines_of, read_line}
 use Rattle.texts.specs.Printed.{Output}
-use Rattle.script_output.specs.Spaced.{BeginsWith}
+use Rattle.script_lines.specs.Spaced.{BeginsWith}
 use Rattle.script_loop.specs.Endings as play
 use Rattle.script_loop.specs.Endings.{LeavesPlayer}
 use Rattle.script_loop.specs.Lines.{IsPassedOver, no_output}

@@ -3,8 +3,8 @@ use Rattle.std.proofs.Common.{◌≡◌, ℕ, ◌+◌, ◌++◌, List, [], ◌�
 use Rattle.script_rules.specs.Script.{Command, read_line}
 use Rattle.script_rules.specs.Lines.{fault_line}
 use Rattle.texts.specs.Printed.{Output, text_of_lines}
-use Rattle.script_commands.specs.Numbers.{script_fault_number}
-use Rattle.script_output.specs.Printed.{printed}
+use Rattle.script_lines.specs.Numbers.{script_fault_number}
+use Rattle.script_lines.specs.Printed.{printed}
 use Rattle.script_loop.specs.declared.ended.LineFault.{LineFault}
 use Rattle.script_loop.specs.Lines.{PlaysLine, behind, told_fault}
 use Rattle.threaded_play.specs.Faults.{faults_alone, line_told}

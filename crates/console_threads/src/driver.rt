@@ -3,7 +3,7 @@
 ghost use Rattle.std.specs.Prelude.{◌≡◌, ◌+◌, [], IfOk, OnOk, false, length, map};
 ghost use Rattle.console_threads.specs.Driven.{IsFollowed, IsPerformed, IsPosted, Puts};
 ghost use Rattle.directory_rules.specs.EventModel.{event_of};
-ghost use Rattle.script_commands.specs.CommandModel.{command_of};
+ghost use Rattle.script_lines.specs.CommandModel.{command_of};
 ghost use Rattle.script_rules.specs.Script as rule;
 ghost use Rattle.silo_threads.specs.Replies.{IsReceiptOf};
 ghost use Rattle.silo_threads.specs.declared.cluster.TheConstants.{PARTS};
@@ -11,7 +11,7 @@ ghost use Rattle.threaded_play.specs.CarriedOut.{AreCarriedOut};
 
 use cluster_journal::Receipt;
 use directory_rules::Event;
-use script_commands::Command;
+use script_lines::Command;
 use silo_threads::Cluster;
 use silo_workers::Gate;
 use std::alloc::{AllocError, Global};

@@ -1,7 +1,7 @@
 ghost use Rattle.std.specs.Prelude.{◌≡◌, IfErr, IfOk, IfSome, MatchResult, map};
 ghost use Rattle.cluster_journal.specs.Journal.{IsJournaled};
 ghost use Rattle.console_threads.specs.Endings.{IsUnclosed};
-ghost use Rattle.script_commands.specs.CommandModel.{command_of};
+ghost use Rattle.script_lines.specs.CommandModel.{command_of};
 ghost use Rattle.threaded_play.specs.CarriedOut.{CarriesOut};
 ghost use Rattle.threaded_play.specs.Endings.{Ends, MakesCalls, TellsCauses};
 
@@ -11,7 +11,7 @@ use crate::print::print;
 use crate::script::Script;
 use cluster_board::Board;
 use directory_rules::Settings;
-use script_commands::Command;
+use script_lines::Command;
 use script_loop::{Sink, Source};
 use directory_node::SharedNode;
 use silo_threads::{Cluster, PARTS};

@@ -1,14 +1,14 @@
 //! Lines read as commands, which are kept until the whole script is read.
 
 ghost use Rattle.std.specs.Prelude.{◌≡◌, IfNone, IfOk, OnErr, OnOk, map};
-ghost use Rattle.script_commands.specs.CommandModel.{command_of};
+ghost use Rattle.script_lines.specs.CommandModel.{command_of};
 ghost use Rattle.script_loop.specs.Lines.{IsPassedOver, PlaysLine};
 ghost use Rattle.console_threads.specs.Kept.{KeepsLine};
 ghost use Rattle.threaded_play.specs.Faults.{faults_alone, long_lines_are_faults, nothing_is_wrong, passed_lines_are_quiet};
 
-use script_commands::{Command, ReadError, read_command};
+use script_lines::{Command, ReadError, read_command};
 use script_loop::{LineFault, LinePlayer};
-use script_output::write_fault;
+use script_lines::write_fault;
 use std::alloc::{AllocError, Global};
 
 /// The commands of a script, in order.

@@ -5,8 +5,8 @@ use Rattle.texts.specs.Printed.{Output, text_of_lines}
 use Rattle.texts.specs.Words.{line_feed}
 use Rattle.script_rules.specs.Lines.{fault_line}
 use Rattle.script_rules.specs.Script.{longest_line}
-use Rattle.script_commands.specs.declared.error.ScriptFault.TheVariants.{LineTooLong}
-use Rattle.script_output.specs.Printed.{printed}
+use Rattle.script_lines.specs.declared.error.ScriptFault.TheVariants.{LineTooLong}
+use Rattle.script_lines.specs.Printed.{printed}
 use Rattle.directory_tests.specs.Echoes.{echoed, long_lines_fault}
 use Rattle.script_loop.specs.Lines.{PlaysLine, behind}
 

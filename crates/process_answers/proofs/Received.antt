@@ -15,7 +15,7 @@ use Rattle.silo_rules.specs.Steps.{receives}
 use Rattle.directory_silo.specs.declared.answer.Answer.{Answer}
 use Rattle.directory_silo.specs.AnswerModel.{stepped_as}
 use Rattle.script_rules.specs.Lines.{refusal_line}
-use Rattle.script_output.specs.Printed.{printed}
+use Rattle.script_lines.specs.Printed.{printed}
 use Rattle.process_rules.specs.LetterText.{letter_line}
 use Rattle.process_rules.specs.Happened.{body_words, received_words}
 use Rattle.process_rules.specs.Answer.{received_so}

@@ -11,7 +11,7 @@ use Rattle.directory_rules.specs.declared.outcome.Happening.TheVariants.{Did}
 use Rattle.directory_rules.specs.Host.{Host, entry_of}
 use Rattle.directory_rules.specs.Letter.{Letter, kind_of}
 use Rattle.script_rules.specs.Lines.{happening_words}
-use Rattle.script_output.proofs.SomeWords.{happening_has_words}
+use Rattle.script_lines.proofs.SomeWords.{happening_has_words}
 use Rattle.process_rules.specs.Happened.{body_words, delivered_words, is_ignored, received_words}
 use Rattle.process_answers.specs.declared.telling.Telling.{Telling}
 use Rattle.process_answers.specs.declared.telling.Telling.TheVariants.{Firm, Taken, Ended, Found, Nothing, Offered, Delivered}

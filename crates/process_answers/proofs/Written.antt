@@ -6,9 +6,9 @@ use Rattle.std.proofs.lemmas.List.{map-append, take_more}
 use Rattle.std.proofs.lemmas.List.Concat.{flat_map-append}
 use Rattle.texts.specs.Printed.{text_of_lines}
 use Rattle.texts.specs.Words.{line_feed, sentence}
-use Rattle.script_output.specs.Printed.{printed}
-use Rattle.script_output.specs.Spaced.{spaced, BeginsWith}
-use Rattle.script_output.proofs.Fronts.{begins_with_itself, begins_with_the_first}
+use Rattle.script_lines.specs.Printed.{printed}
+use Rattle.script_lines.specs.Spaced.{spaced, BeginsWith}
+use Rattle.script_lines.proofs.Fronts.{begins_with_itself, begins_with_the_first}
 
 -- no line
 pub no_line : (text : List ℕ) → text ≡ text ++ text_of_lines []

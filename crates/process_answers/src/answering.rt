@@ -1,6 +1,6 @@
 ghost use Rattle.std.specs.Prelude.{◌≡◌, ◌≢◌, ◌++◌, [], IfOk, OnErr, OnOk};
 ghost use Rattle.texts.specs.Printed.{text_of_lines};
-ghost use Rattle.script_output.specs.Spaced.{BeginsWith};
+ghost use Rattle.script_lines.specs.Spaced.{BeginsWith};
 ghost use Rattle.process_lines.specs.AskedModel.{asked_of};
 ghost use Rattle.process_rules.specs.Answer.{answered};
 ghost use Rattle.process_answers.specs.Answering.{IsAnswered};
@@ -18,7 +18,7 @@ use std::alloc::{AllocError, Global};
 /// Answers what a line of a silo's process asks for: the silo is told, asked or shown, and what came of it is written behind what
 /// is written already; whether the process ends, since the silo is Dead. Fails only when memory runs out, and only where something
 /// is written; then nothing is written, and the silo may have changed (`docs/RULES.md#lines-of-a-silos-process`).
-#[tactic(auto, using(script_output::proofs::Fronts::front_taken))]
+#[tactic(auto, using(script_lines::proofs::Fronts::front_taken))]
 pub fn answer(
     alloc: Global,
     silo: &mut Silo,

@@ -4,7 +4,7 @@
 
 ghost use Rattle.std.specs.Prelude.{◌≡◌, ◌++◌, [], ◌∷◌, OnOk};
 ghost use Rattle.texts.specs.Printed.{text_of_lines};
-ghost use Rattle.script_output.specs.Spaced.{BeginsWith};
+ghost use Rattle.script_lines.specs.Spaced.{BeginsWith};
 ghost use Rattle.process_rules.specs.Show.{dump_line};
 
 use directory_silo::Silo;

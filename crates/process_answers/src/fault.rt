@@ -4,7 +4,7 @@ ghost use Rattle.std.specs.Prelude.{◌≡◌, ◌++◌, [], ◌∷◌, OnOk, On
 ghost use Rattle.texts.specs.Printed.{text_of_lines};
 ghost use Rattle.process_rules.specs.Output.{fault_line};
 
-use script_output::{end_line, push_named};
+use script_lines::{end_line, push_named};
 use std::alloc::AllocError;
 
 /// Writes the line that tells a fault by its number (`docs/RULES.md#lines-of-a-silos-process`). Fails only when memory runs out.

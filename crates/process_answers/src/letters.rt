@@ -5,8 +5,8 @@
 ghost use Rattle.std.specs.Prelude.{◌≡◌, ◌++◌, IfOk, OnErr, OnOk, true};
 ghost use Rattle.silo_address.specs.Silo.{silo_eq};
 ghost use Rattle.texts.specs.Words.{sentence};
-ghost use Rattle.script_output.specs.Printed.{printed};
-ghost use Rattle.script_output.specs.Spaced.{BeginsWith};
+ghost use Rattle.script_lines.specs.Printed.{printed};
+ghost use Rattle.script_lines.specs.Spaced.{BeginsWith};
 ghost use Rattle.process_rules.specs.Answer.{received_so};
 ghost use Rattle.process_answers.specs.Answering.{IsAnswered};
 ghost use Rattle.process_answers.specs.Telling.{received_telling};
@@ -16,7 +16,7 @@ use crate::telling::{Telling, push_received};
 use directory_letters::Letter;
 use directory_rules::{Effect, LetterKind};
 use directory_silo::Silo;
-use script_output::end_line;
+use script_lines::end_line;
 use silo_address::SiloAddress;
 use std::alloc::AllocError;
 

@@ -6,8 +6,8 @@ ghost use Rattle.std.specs.Prelude.{◌≡◌, [], ◌∷◌, ◌++◌, IsSomeAn
 ghost use Rattle.texts.specs.Printed.{text_of_lines};
 ghost use Rattle.texts.specs.Words.{sentence};
 ghost use Rattle.script_rules.specs.Lines.{happening_words, refusal_line};
-ghost use Rattle.script_output.specs.Printed.{printed};
-ghost use Rattle.script_output.specs.Spaced.{spaced, BeginsWith};
+ghost use Rattle.script_lines.specs.Printed.{printed};
+ghost use Rattle.script_lines.specs.Spaced.{spaced, BeginsWith};
 ghost use Rattle.process_rules.specs.LetterText.{letter_line};
 ghost use Rattle.directory_silo.specs.Numbers.{silo_refusal_number};
 
@@ -15,7 +15,7 @@ use directory_letters::Letter;
 use directory_rules::{Happening, Outcome};
 use directory_silo::SiloRefusal;
 use process_lines::write_letter;
-use script_output::{end_line, push_word, write_outcome, write_refusal};
+use script_lines::{end_line, push_word, write_outcome, write_refusal};
 use std::alloc::AllocError;
 
 /// The line of what happened, with no numbers of letters.
@@ -79,7 +79,7 @@ pub(crate) fn write_pong(out: &mut Vec<u8>, word: &[u8]) -> Result<(), AllocErro
     end_line(out, start, written)
 }
 
-#[tactic(auto, using(script_output::proofs::Pieces::word_by_word))]
+#[tactic(auto, using(script_lines::proofs::Pieces::word_by_word))]
 fn push_pong(out: &mut Vec<u8>, word: &[u8]) -> Result<(), AllocError>
     ensures written { OnOk result (out.new.items ≡ out.old.items ++ spaced (codes "pong" ∷ word.now ∷ [])) }
     ensures kept { BeginsWith out.old.items out.new.items }

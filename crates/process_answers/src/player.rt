@@ -11,7 +11,7 @@ use crate::answer;
 use process_lines::LineError;
 use process_lines::{read_line, unended_fault};
 use process_loop::SiloPlayer;
-use script_commands::without_return;
+use script_lines::without_return;
 use std::alloc::{AllocError, Global};
 
 /// A silo, as far as its process has brought it.

@@ -7,7 +7,7 @@ ghost use Rattle.directory_node.specs.Follows.{Follows};
 ghost use Rattle.silo_rules.specs.Steps.{does};
 ghost use Rattle.directory_silo.specs.AnswerModel.{stepped_as};
 ghost use Rattle.directory_silo.specs.Numbers.{silo_refusal_number};
-ghost use Rattle.script_output.specs.Spaced.{BeginsWith};
+ghost use Rattle.script_lines.specs.Spaced.{BeginsWith};
 ghost use Rattle.process_rules.specs.Answer.{done_so, seen_so};
 ghost use Rattle.process_answers.specs.Answering.{IsAnswered};
 ghost use Rattle.process_answers.specs.StepModel.{input_of};

@@ -1,6 +1,6 @@
 //! What a letter tells the silo's application, and its words.
 
-#![tactic(auto, using(script_output::proofs::Pieces::word_by_word))]
+#![tactic(auto, using(script_lines::proofs::Pieces::word_by_word))]
 
 ghost use Rattle.std.specs.Prelude.{◌≡◌, ◌++◌, [], ◌∷◌, List, ℕ, OnOk, codes};
 ghost use Rattle.std.specs.Option.{option_map};
@@ -11,14 +11,14 @@ ghost use Rattle.directory_rules.specs.declared.outcome.Happening.TheVariants.{D
 ghost use Rattle.directory_rules.specs.Host.{asking_under, closing_under, entry_of};
 ghost use Rattle.directory_letters.specs.LetterModel.{body_of};
 ghost use Rattle.script_rules.specs.Lines.{effect_words, entry_words, happening_words, kind_word};
-ghost use Rattle.script_output.specs.Spaced.{spaced, BeginsWith};
+ghost use Rattle.script_lines.specs.Spaced.{spaced, BeginsWith};
 ghost use Rattle.process_rules.specs.Happened.{body_words, counted_words, is_ignored, sought_words};
 ghost use Rattle.process_answers.specs.Telling.{entry_if_any, received_telling, telling_words};
 
 use directory_letters::Body;
 use directory_rules::{Effect, Happening, LetterKind, Reply};
 use host_activations::{Host, entry_on};
-use script_output::{
+use script_lines::{
     kind_word, push_activation, push_effect, push_entry, push_grain, push_happening, push_word,
 };
 use silo_address::{ActivationId, Entry, GrainId, SiloAddress};

@@ -5,7 +5,7 @@ use Rattle.directory_rules.specs.declared.act.Act.TheVariants as act
 use Rattle.directory_rules.specs.declared.letter_kind.LetterKind.{LetterKind}
 use Rattle.directory_rules.specs.declared.letter_kind.LetterKind.TheVariants.{Page, Report}
 use Rattle.process_rules.specs.ReadLetter.{Head, a_number_and_an_entry, a_page, a_register, are_pairs, head_of_words, kind_among, kinds, letter_by, page_for, read_letter, request_of}
-use Rattle.script_commands.specs.WordCounts.{only_three_words}
+use Rattle.script_lines.specs.WordCounts.{only_three_words}
 use Rattle.process_lines.specs.Fronts.{Four, four_in, only_four_words}
 use Rattle.process_lines.specs.Short.{IsShort}
 

@@ -5,8 +5,8 @@ use Rattle.std.proofs.Math.Seq.{take-suc}
 use Rattle.silo_address.specs.declared.Entry.{Entry}
 use Rattle.silo_address.specs.Grain.{grain_text}
 use Rattle.silo_address.specs.ActivationText.{activation_text}
-use Rattle.script_output.specs.Spaced.{spaced}
-use Rattle.script_output.proofs.SpacedWords.{then_spaced}
+use Rattle.script_lines.specs.Spaced.{spaced}
+use Rattle.script_lines.proofs.SpacedWords.{then_spaced}
 use Rattle.process_rules.specs.LetterText.{entry_words, entries_words}
 
 words_more : (entries : List Entry) (entry : Entry) → entries_words (entries ++ entry ∷ []) ≡ entries_words entries ++ entry_words entry

@@ -5,7 +5,7 @@ ghost use Rattle.std.specs.Prelude.{◌≡◌, ℕ, IsErrOf, Some, bytes_eq, opt
 ghost use Rattle.silo_address.specs.Silo.{Silo};
 ghost use Rattle.texts.specs.Words.{words_in};
 ghost use Rattle.script_rules.specs.Script.{places_in};
-ghost use Rattle.script_commands.specs.ReadAs.{HasPlaces};
+ghost use Rattle.script_lines.specs.ReadAs.{HasPlaces};
 ghost use Rattle.process_rules.specs.ReadLine as rule;
 ghost use Rattle.process_lines.specs.ReadAs.{Reads, told};
 ghost use Rattle.process_lines.specs.AskedModel.{asked_of};
@@ -16,7 +16,7 @@ ghost use Rattle.process_lines.specs.Named.{grammar_of};
 use crate::Asked;
 use crate::names::CommandName;
 use crate::{LineError, LineFault, number_word, silo_word};
-use script_commands::{ReadError, only_two_words, places_in, split_word};
+use script_lines::{ReadError, only_two_words, places_in, split_word};
 use silo_address::SiloAddress;
 use std::alloc::Global;
 

@@ -8,7 +8,7 @@ ghost use Rattle.process_lines.specs.Short.{AreEntries};
 
 use crate::words::entry_of_words;
 use crate::{LineError, LineFault};
-use script_commands::split_word;
+use script_lines::split_word;
 use silo_address::Entry;
 use std::alloc::Global;
 

@@ -13,7 +13,7 @@ use crate::Asked;
 use crate::names::CommandName;
 use crate::steps::no_word;
 use crate::LineFault;
-use script_commands::only_word;
+use script_lines::only_word;
 
 /// The question of that name.
 pub(crate) fn question_name(name: &[u8]) -> Option<CommandName>

@@ -9,7 +9,7 @@ use crate::Asked;
 use crate::known::asked_under;
 use hash_ring::Hashing;
 use crate::{LineError, LineFault};
-use script_commands::{is_remark, is_text, split_word};
+use script_lines::{is_remark, is_text, split_word};
 use std::alloc::Global;
 
 /// How many bytes a line may have.

@@ -13,7 +13,7 @@ use crate::requests::a_number_and_an_entry;
 use crate::words::number_word;
 use directory_letters::{Body, Letter};
 use directory_rules::{Reply, Why};
-use script_commands::{only_word, split_word};
+use script_lines::{only_word, split_word};
 
 /// The reply that names an entry.
 pub(crate) fn a_registered(head: Result<Head, LineFault>, words: &[u8]) -> Result<Letter, LineFault>

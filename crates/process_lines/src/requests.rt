@@ -13,7 +13,7 @@ use directory_letters::{Body, Letter};
 use directory_rules::Act;
 use grain_table::HashedRequest;
 use hash_ring::Hashing;
-use script_commands::{only_three_words, only_two_words};
+use script_lines::{only_three_words, only_two_words};
 use silo_address::Entry;
 
 /// The letter of a request: the letter's sender's, of its version, with its grain's hash.

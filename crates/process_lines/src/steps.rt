@@ -13,7 +13,7 @@ ghost use Rattle.process_lines.specs.Named.{grammar_of};
 use crate::Asked;
 use crate::names::CommandName;
 use crate::{LineFault, grain_word, number_word, silo_word};
-use script_commands::{only_two_words, only_word, split_word};
+use script_lines::{only_two_words, only_word, split_word};
 use silo_address::GrainId;
 
 /// The step of that name.

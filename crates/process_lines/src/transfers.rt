@@ -15,7 +15,7 @@ use crate::{LineError, LineFault};
 use directory_letters::{Body, Letter};
 use range_recovery::Report;
 use ring_range::RingRange;
-use script_commands::{only_two_words, only_word, split_word};
+use script_lines::{only_two_words, only_word, split_word};
 use seal_snapshot::Page;
 use std::alloc::Global;
 

@@ -11,7 +11,7 @@ ghost use Rattle.process_lines.specs.ReadAs.{told};
 use crate::LineFault;
 use hex::{FromHex, encode_to_slice};
 use ring_range::RingRange;
-use script_commands::{only_three_words, split_word};
+use script_lines::{only_three_words, split_word};
 use silo_address::{ActivationError, ActivationId, Entry, GrainId, SiloAddress};
 use texts::number_up_to;
 

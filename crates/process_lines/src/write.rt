@@ -1,6 +1,6 @@
 //! Letters, written as lines.
 
-#![tactic(auto, using(script_output::proofs::Pieces::word_by_word))]
+#![tactic(auto, using(script_lines::proofs::Pieces::word_by_word))]
 
 ghost use Rattle.std.specs.Prelude.{◌≡◌, [], ◌∷◌, ◌++◌, OnOk, OnErr, codes};
 ghost use Rattle.std.specs.Fmt.{decimal};
@@ -10,8 +10,8 @@ ghost use Rattle.ring_range.specs.Text.{range_text};
 ghost use Rattle.directory_rules.specs.Letter.{kind_of};
 ghost use Rattle.directory_letters.specs.LetterModel.{body_of};
 ghost use Rattle.script_rules.specs.Lines.{kind_word};
-ghost use Rattle.script_output.specs.Printed.{printed};
-ghost use Rattle.script_output.specs.Spaced.{spaced, BeginsWith};
+ghost use Rattle.script_lines.specs.Printed.{printed};
+ghost use Rattle.script_lines.specs.Spaced.{spaced, BeginsWith};
 ghost use Rattle.process_rules.specs.LetterText.{act_words, body_words, entries_words, entry_words, letter_line, letter_words, previous_words, reply_words, why_words};
 
 use crate::words::digest_text;
@@ -19,7 +19,7 @@ use directory_letters::{Body, Letter};
 use directory_rules::{Act, Reply, Why};
 use range_recovery::Report;
 use ring_range::RingRange;
-use script_output::{
+use script_lines::{
     end_line, kind_word, push_activation, push_grain, push_named, push_number, push_range,
     push_silo, push_word,
 };

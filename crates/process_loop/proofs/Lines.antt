@@ -5,7 +5,7 @@ use Rattle.std.proofs.lemmas.Bool.{eq-eqb, eqb-true}
 use Rattle.memchr.specs.Find.{IsFirstByte, is_byte}
 use Rattle.texts.specs.Printed.{text_of_lines}
 use Rattle.texts.specs.Words.{line_feed, pieces_at}
-use Rattle.script_commands.proofs.Pieces.{pieces_at-cut, pieces_at-front, pieces_at-other, pieces_at-whole}
+use Rattle.script_lines.proofs.Pieces.{pieces_at-cut, pieces_at-front, pieces_at-other, pieces_at-whole}
 use Rattle.silo_rules.specs.SiloValue.{SiloValue}
 use Rattle.process_rules.specs.ReadLine.{unended_fault}
 use Rattle.process_rules.specs.Answer.{Answered}

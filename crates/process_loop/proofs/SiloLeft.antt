@@ -4,8 +4,8 @@ use Rattle.texts.specs.Words.{line_feed, pieces_at}
 use Rattle.silo_rules.specs.SiloValue.{SiloValue}
 use Rattle.std.specs.Io.KnownBytes.{Appends}
 use Rattle.std.proofs.KnownBytes.{Appends-nil, Appends-trans, Consumes-kept, Consumes-trans}
-use Rattle.script_output.specs.Spaced.{BeginsWith}
-use Rattle.script_output.proofs.Fronts.{begins_with_the_first}
+use Rattle.script_lines.specs.Spaced.{BeginsWith}
+use Rattle.script_lines.proofs.Fronts.{begins_with_the_first}
 use Rattle.script_loop.specs.Sent.{WritesFront}
 use Rattle.process_rules.specs.ReadLine.{unended_fault}
 use Rattle.process_rules.specs.Output.{after_last, written_on}

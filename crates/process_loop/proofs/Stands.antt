@@ -6,7 +6,7 @@ use Rattle.std.proofs.KnownBytes.{Appends-trans, Appends-nil, Consumes-trans, Co
 use Rattle.texts.specs.Words.{line_feed, pieces_at}
 use Rattle.silo_rules.specs.SiloValue.{SiloValue}
 use Rattle.process_rules.specs.ReadLine.{unended_fault}
-use Rattle.script_output.specs.Spaced.{BeginsWith}
+use Rattle.script_lines.specs.Spaced.{BeginsWith}
 use Rattle.script_loop.specs.Sent.{WritesFront}
 use Rattle.script_loop.specs.Transfers.{HasGot}
 use Rattle.process_rules.specs.Output.{after_last, written_on}

@@ -3,7 +3,7 @@ use Rattle.std.specs.Prelude.{◌≡◌, ℕ, ◌<◌, ◌≤◌, ◌⊎◌, tru
 use Rattle.std.specs.Io.KnownBytes.{Appends, Consumes, IsAtEnd}
 use Rattle.texts.specs.Words.{line_feed, pieces_at}
 use Rattle.silo_rules.specs.SiloValue.{SiloValue}
-use Rattle.script_output.specs.Spaced.{BeginsWith}
+use Rattle.script_lines.specs.Spaced.{BeginsWith}
 use Rattle.script_loop.specs.Calls.{InTurn, ReadsInTurn, WritesTexts}
 use Rattle.script_loop.specs.Endings.{most_at_once}
 use Rattle.process_rules.specs.Output.{written_on}

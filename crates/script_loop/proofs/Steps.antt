@@ -4,7 +4,7 @@ use Rattle.std.proofs.lemmas.List.{drop-drop, length-drop}
 use Rattle.script_rules.specs.Script.{lines_of}
 use Rattle.script_rules.specs.Lines.{fault_line}
 use Rattle.texts.specs.Printed.{Output, text_of_lines}
-use Rattle.script_output.specs.Printed.{printed}
+use Rattle.script_lines.specs.Printed.{printed}
 use Rattle.script_loop.specs.declared.ended.Ended.TheVariants as ended
 use Rattle.script_loop.specs.declared.ended.LineFault.{LineFault}
 use Rattle.script_loop.specs.Endings.{Concludes}

@@ -4,7 +4,7 @@ use Rattle.std.specs.Io.KnownBytes.{Appends, Consumes, IsAtEnd}
 use Rattle.texts.specs.Printed.{Output}
 use Rattle.texts.specs.Words.{line_feed}
 use Rattle.script_rules.specs.Script.{lines_of, longest_line}
-use Rattle.script_output.specs.Spaced.{BeginsWith}
+use Rattle.script_lines.specs.Spaced.{BeginsWith}
 use Rattle.script_loop.specs.declared.ended.Ended.{Ended}
 use Rattle.script_loop.specs.declared.ended.Ended.TheVariants.{Played, Faulted, TooLong, OutOfMemory, Broken}
 use Rattle.script_loop.specs.Calls.{InTurn, ReadsInTurn, WritesTexts}

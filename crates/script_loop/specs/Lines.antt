@@ -3,7 +3,7 @@ use Rattle.std.specs.Prelude.{◌≡◌, ℕ, ◌+◌, List, [], ◌∷◌, ◌+
 use Rattle.script_rules.specs.Lines.{fault_line}
 use Rattle.script_rules.specs.Script.{read_line}
 use Rattle.texts.specs.Printed.{Output, text_of_lines}
-use Rattle.script_commands.specs.Numbers.{script_fault_number}
+use Rattle.script_lines.specs.Numbers.{script_fault_number}
 use Rattle.script_loop.specs.declared.ended.LineFault.{LineFault}
 
 -- a rule for lines: their output, by the number of the first

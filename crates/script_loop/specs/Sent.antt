@@ -1,7 +1,7 @@
 -- Bytes sent to a sink.
 use Rattle.std.specs.Prelude.{ℕ, Bool, true, false, List, Option}
 use Rattle.std.specs.Io.KnownBytes.{Appends}
-use Rattle.script_output.specs.Spaced.{BeginsWith}
+use Rattle.script_lines.specs.Spaced.{BeginsWith}
 
 -- a beginning of the bytes is written
 pub record WritesFront (bytes : List ℕ) (begun written : Option (List ℕ)) : Type 0 where

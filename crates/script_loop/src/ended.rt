@@ -1,7 +1,7 @@
 ghost use Rattle.std.specs.Prelude.{◌≡◌};
 ghost use Rattle.script_loop.specs.Endings.{status_of};
 
-use script_commands::ScriptFault;
+use script_lines::ScriptFault;
 
 /// How playing a script ends (`docs/RULES.md#scripts`).
 #[derive(Clone, Copy, PartialEq, Eq)]

@@ -1,6 +1,6 @@
 //! Lines of a script, read as commands.
 use directory_rules::Event;
-use script_commands::{Command, ReadError, ScriptFault, first_line, read_command, without_return};
+use script_lines::{Command, ReadError, ScriptFault, first_line, read_command, without_return};
 use silo_address::{GrainError, SiloError};
 use std::alloc::Global;
 use std::process::Abort;

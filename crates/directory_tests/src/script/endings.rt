@@ -1,6 +1,6 @@
 //! The exit status of each ending.
 
-use script_commands::ScriptFault;
+use script_lines::ScriptFault;
 use script_loop::{Ended, LineFault};
 
 #[test]

@@ -3,7 +3,7 @@ use directory_rules::{Effect, Happening, Held, LetterKind, Outcome, Phase, Span,
 use hash_ring::Point;
 use membership_view::Status;
 use ring_range::RingRange;
-use script_output::{
+use script_lines::{
     laws, write_fault, write_held, write_letter, write_no_owner, write_outcome, write_owner,
     write_place, write_range, write_refusal, write_silo, write_version,
 };

@@ -2,7 +2,7 @@
 
 use crate::fakes::{Counter, Refusal, Remarks, SparseReader, SparseWriter};
 use crate::script::echo::Echo;
-use script_commands::ScriptFault;
+use script_lines::ScriptFault;
 use script_loop::{Ended, LineFault, Sink, Source, play, send};
 use std::alloc::Global;
 use std::process::Abort;

@@ -2,7 +2,7 @@ use Rattle.std.proofs.Common.{◌+◌, ◌-◌, arith, refl}
 use Rattle.std.specs.List.{range_with_len}
 use Rattle.directory_rules.specs.Mail.{letter_of}
 use Rattle.console_command.specs.Reports.{lines_of_letter}
-use Rattle.script_output.proofs.Fronts.{begins_with_the_first}
+use Rattle.script_lines.proofs.Fronts.{begins_with_the_first}
 use Rattle.console_command.proofs.Lines.{begins_with_itself}
 use Rattle.console_command.proofs.Results.{not_ok}
 use Rattle.console_command.proofs.Mailed.{mail_performed, no_number_left, numbers_at_first, numbers_left, one_above}

@@ -1,7 +1,7 @@
 use Rattle.std.proofs.Common.{◌+◌, ◌-◌, ◌≤◌}
 use Rattle.std.specs.List.{range_with_len}
 use Rattle.directory_rules.specs.Mail.{letter_of}
-use Rattle.script_output.specs.Spaced.{BeginsWith}
+use Rattle.script_lines.specs.Spaced.{BeginsWith}
 use Rattle.console_command.specs.Reports.{lines_of_letter}
 use Rattle.console_command.proofs.Rows.{Shows}
 use Rattle.console_command.proofs.letters.tell_mail.Given as goal

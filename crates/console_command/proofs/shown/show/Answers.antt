@@ -1,4 +1,4 @@
-use Rattle.script_output.proofs.Fronts.{begins_with_the_first}
+use Rattle.script_lines.proofs.Fronts.{begins_with_the_first}
 use Rattle.console_command.proofs.Lines.{begins_with_itself}
 use Rattle.console_command.proofs.Results.{not_ok, on_err}
 use Rattle.console_command.proofs.shown.show.Goals as goal

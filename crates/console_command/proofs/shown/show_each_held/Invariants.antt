@@ -1,6 +1,6 @@
 use Rattle.std.proofs.Common.{drop, [], ◌∷◌}
 use Rattle.script_rules.specs.Show.{held_line}
-use Rattle.script_output.specs.Spaced.{BeginsWith}
+use Rattle.script_lines.specs.Spaced.{BeginsWith}
 use Rattle.console_command.proofs.Rows.{Shows}
 use Rattle.console_command.proofs.shown.show_each_held.Given as goal
 

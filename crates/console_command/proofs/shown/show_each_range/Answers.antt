@@ -1,6 +1,6 @@
 use Rattle.std.proofs.Common.{refl, [], ◌∷◌}
 use Rattle.script_rules.specs.Show.{range_line}
-use Rattle.script_output.proofs.Fronts.{begins_with_the_first}
+use Rattle.script_lines.proofs.Fronts.{begins_with_the_first}
 use Rattle.console_command.proofs.Lines.{begins_with_itself}
 use Rattle.console_command.proofs.Results.{not_ok}
 use Rattle.console_command.proofs.Rows.{shows_each, shows_next}

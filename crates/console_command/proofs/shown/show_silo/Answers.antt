@@ -1,4 +1,4 @@
-use Rattle.script_output.proofs.Fronts.{begins_with_the_first}
+use Rattle.script_lines.proofs.Fronts.{begins_with_the_first}
 use Rattle.console_command.proofs.Lines.{begins_with_itself}
 use Rattle.console_command.proofs.Results.{begins_anyhow, not_ok}
 use Rattle.console_command.proofs.shown.show_silo.Goals as goal

@@ -2,7 +2,7 @@ use Rattle.std.proofs.Common.{drop}
 use Rattle.directory_rules.specs.Happens.{node_of}
 use Rattle.script_rules.specs.Show.{silo_lines}
 use Rattle.directory_rules.specs.World.{current_view}
-use Rattle.script_output.specs.Spaced.{BeginsWith}
+use Rattle.script_lines.specs.Spaced.{BeginsWith}
 use Rattle.console_command.proofs.Rows.{Shows}
 use Rattle.console_command.proofs.shown.show_silos.Given as goal
 

@@ -1,7 +1,7 @@
 use Rattle.std.proofs.Common.{◌+◌, drop, true, false, refl}
 use Rattle.std.specs.Prelude.{flat_map}
 use Rattle.console_command.specs.Commands.{sights}
-use Rattle.script_output.proofs.Fronts.{begins_with_the_first}
+use Rattle.script_lines.proofs.Fronts.{begins_with_the_first}
 use Rattle.console_command.proofs.Lines.{begins_with_itself}
 use Rattle.console_command.proofs.Results.{not_ok, on_err}
 use Rattle.console_command.proofs.Sights.{all_went, goes_from_start, goes_no_further, goes_on, no_silo_left, silo_left, turns_alone, turns_begin}

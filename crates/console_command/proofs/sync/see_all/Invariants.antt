@@ -1,6 +1,6 @@
 use Rattle.std.proofs.Common.{drop}
 use Rattle.std.specs.Prelude.{flat_map}
-use Rattle.script_output.specs.Spaced.{BeginsWith}
+use Rattle.script_lines.specs.Spaced.{BeginsWith}
 use Rattle.console_command.specs.Commands.{sights}
 use Rattle.console_command.proofs.Sights.{GoesOn}
 use Rattle.console_command.proofs.sync.see_all.Given as goal

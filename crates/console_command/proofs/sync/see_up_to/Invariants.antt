@@ -1,7 +1,7 @@
 use Rattle.std.proofs.Common.{◌+◌, ◌-◌, map}
 use Rattle.std.specs.List.{range_with_len}
 use Rattle.directory_rules.specs.Event.{See}
-use Rattle.script_output.specs.Spaced.{BeginsWith}
+use Rattle.script_lines.specs.Spaced.{BeginsWith}
 use Rattle.console_command.specs.Commands.{sights}
 use Rattle.console_command.proofs.Sights.{GoesOn}
 use Rattle.console_command.proofs.sync.see_up_to.Given as goal

@@ -1,6 +1,6 @@
 use Rattle.std.proofs.Common.{List, map, subst}
-use Rattle.script_commands.specs.CommandModel.{command_of}
-use Rattle.script_commands.specs.declared.command.Command.{Command}
+use Rattle.script_lines.specs.CommandModel.{command_of}
+use Rattle.script_lines.specs.declared.command.Command.{Command}
 use Rattle.threaded_play.specs.CarriedOut.{CarriesOut}
 use Rattle.console_threads.proofs.Closed.{told_lacking, told_nothing}
 use Rattle.console_threads.proofs.Endings.{script_ends}

@@ -1,5 +1,5 @@
 use Rattle.std.proofs.Common.{map}
-use Rattle.script_commands.specs.CommandModel.{command_of}
+use Rattle.script_lines.specs.CommandModel.{command_of}
 use Rattle.threaded_play.specs.declared.ended.ThreadsEnded.TheVariants.{Lacking}
 use Rattle.threaded_play.proofs.Nothing.{nothing_told}
 use Rattle.console_threads.proofs.Entered.{closed_carries_out}

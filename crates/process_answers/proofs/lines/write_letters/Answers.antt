@@ -1,5 +1,5 @@
 use Rattle.process_rules.specs.LetterText.{letter_line}
-use Rattle.script_output.proofs.Fronts.{begins_with_itself, begins_with_the_first}
+use Rattle.script_lines.proofs.Fronts.{begins_with_itself, begins_with_the_first}
 use Rattle.process_answers.proofs.Written.{begins_unchanged, begins_with_more, each_row, no_line, row_by_row}
 use Rattle.process_answers.proofs.lines.write_letters.Goals as goal
 

@@ -1,6 +1,6 @@
 use Rattle.std.proofs.Common.{◌≡◌, ◌++◌, map, take}
 use Rattle.texts.specs.Printed.{text_of_lines}
-use Rattle.script_output.specs.Spaced.{BeginsWith}
+use Rattle.script_lines.specs.Spaced.{BeginsWith}
 use Rattle.process_rules.specs.LetterText.{letter_line}
 use Rattle.process_answers.proofs.lines.write_letters.Given as goal
 

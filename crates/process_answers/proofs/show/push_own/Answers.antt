@@ -4,10 +4,10 @@ use Rattle.silo_address.specs.SiloText.{silo_text}
 use Rattle.membership_view.specs.View.{ViewValue}
 use Rattle.directory_rules.specs.Host.{Host}
 use Rattle.directory_rules.specs.Node.{Node}
-use Rattle.script_output.specs.Spaced.{spaced}
+use Rattle.script_lines.specs.Spaced.{spaced}
 use Rattle.process_rules.specs.Show.{own_word}
-use Rattle.script_output.proofs.Fronts.{begins_with_the_first}
-use Rattle.script_output.proofs.SpacedWords.{then_spaced}
+use Rattle.script_lines.proofs.Fronts.{begins_with_the_first}
+use Rattle.script_lines.proofs.SpacedWords.{then_spaced}
 use Rattle.process_answers.proofs.show.push_own.Goals as goal
 
 pub returns-in_err-push_silo-clause-kept : goal.returns-in_err-push_silo-clause-kept

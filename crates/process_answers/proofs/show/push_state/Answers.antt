@@ -1,7 +1,7 @@
 use Rattle.std.proofs.Common.{◌≡◌, ◌++◌, subst}
 use Rattle.std.specs.Result.{OnOk}
 use Rattle.directory_rules.specs.declared.piece_state.PieceState.{PieceState}
-use Rattle.script_output.specs.Spaced.{spaced}
+use Rattle.script_lines.specs.Spaced.{spaced}
 use Rattle.process_rules.specs.Show.{state_words}
 use Rattle.process_answers.proofs.show.push_state.Goals as goal
 

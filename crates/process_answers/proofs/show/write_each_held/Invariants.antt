@@ -1,7 +1,7 @@
 use Rattle.std.proofs.Common.{◌≡◌, ◌++◌, map, take}
 use Rattle.texts.specs.Printed.{text_of_lines}
 use Rattle.script_rules.specs.Show.{held_line}
-use Rattle.script_output.specs.Spaced.{BeginsWith}
+use Rattle.script_lines.specs.Spaced.{BeginsWith}
 use Rattle.process_answers.proofs.show.write_each_held.Given as goal
 
 abbrev pub invariant-loop-row : goal.invariant-loop-row

@@ -1,6 +1,6 @@
 use Rattle.std.proofs.Common.{◌≡◌, ◌++◌, map}
 use Rattle.texts.specs.Printed.{text_of_lines}
-use Rattle.script_output.specs.Spaced.{BeginsWith}
+use Rattle.script_lines.specs.Spaced.{BeginsWith}
 use Rattle.process_rules.specs.Show.{piece_line}
 use Rattle.process_answers.proofs.show.write_pieces.Given as goal
 

@@ -1,7 +1,7 @@
 use Rattle.std.proofs.Common.{ap, ◌∙◌, ◌++◌, ◌∷◌, []}
-use Rattle.script_output.specs.Spaced.{spaced}
-use Rattle.script_output.proofs.Fronts.{begins_with_the_first}
-use Rattle.script_output.proofs.SpacedWords.{then_spaced}
+use Rattle.script_lines.specs.Spaced.{spaced}
+use Rattle.script_lines.proofs.Fronts.{begins_with_the_first}
+use Rattle.script_lines.proofs.SpacedWords.{then_spaced}
 use Rattle.process_answers.proofs.telling.push_delivered.Goals as goal
 
 pub returns-in_err-push_word-2-clause-kept : goal.returns-in_err-push_word-2-clause-kept

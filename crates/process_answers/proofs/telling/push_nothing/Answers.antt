@@ -1,5 +1,5 @@
-use Rattle.script_output.proofs.Fronts.{begins_with_the_first}
-use Rattle.script_output.proofs.SpacedWords.{then_spaced}
+use Rattle.script_lines.proofs.Fronts.{begins_with_the_first}
+use Rattle.script_lines.proofs.SpacedWords.{then_spaced}
 use Rattle.process_answers.proofs.telling.push_nothing.Goals as goal
 
 pub returns-in_err-push_grain_if_any-clause-kept : goal.returns-in_err-push_grain_if_any-clause-kept

@@ -1,4 +1,4 @@
-use Rattle.script_output.proofs.Fronts.{begins_with_itself, begins_with_the_first}
+use Rattle.script_lines.proofs.Fronts.{begins_with_itself, begins_with_the_first}
 use Rattle.process_lines.proofs.Written.{all_written, more_written, none_written}
 use Rattle.process_lines.proofs.write.push_entries.Goals as goal
 

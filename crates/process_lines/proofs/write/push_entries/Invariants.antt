@@ -1,5 +1,5 @@
 use Rattle.std.proofs.Common.{◌≡◌, ◌++◌, take}
-use Rattle.script_output.specs.Spaced.{spaced, BeginsWith}
+use Rattle.script_lines.specs.Spaced.{spaced, BeginsWith}
 use Rattle.process_rules.specs.LetterText.{entries_words}
 use Rattle.process_lines.proofs.write.push_entries.Given as goal
 

@@ -2,9 +2,9 @@ use Rattle.std.proofs.Common.{ap, ◌∙◌, ◌++◌, ◌∷◌, []}
 use Rattle.std.specs.Fmt.{decimal}
 use Rattle.silo_address.specs.SiloText.{silo_text}
 use Rattle.script_rules.specs.Lines.{kind_word}
-use Rattle.script_output.specs.Spaced.{spaced}
-use Rattle.script_output.proofs.Fronts.{begins_with_the_first}
-use Rattle.script_output.proofs.SpacedWords.{then_spaced}
+use Rattle.script_lines.specs.Spaced.{spaced}
+use Rattle.script_lines.proofs.Fronts.{begins_with_the_first}
+use Rattle.script_lines.proofs.SpacedWords.{then_spaced}
 use Rattle.process_lines.proofs.write.push_front.Goals as goal
 
 pub returns-in_err-push_silo-clause-kept : goal.returns-in_err-push_silo-clause-kept

@@ -1,8 +1,8 @@
 use Rattle.std.proofs.Common.{ap, ◌∙◌, ◌++◌}
 use Rattle.process_rules.specs.LetterText.{body_words}
-use Rattle.script_output.specs.Spaced.{spaced}
-use Rattle.script_output.proofs.Fronts.{begins_with_the_first}
-use Rattle.script_output.proofs.SpacedWords.{then_spaced}
+use Rattle.script_lines.specs.Spaced.{spaced}
+use Rattle.script_lines.proofs.Fronts.{begins_with_the_first}
+use Rattle.script_lines.proofs.SpacedWords.{then_spaced}
 use Rattle.process_lines.proofs.write.push_letter.Goals as goal
 
 pub returns-in_err-push_body-clause-kept : goal.returns-in_err-push_body-clause-kept

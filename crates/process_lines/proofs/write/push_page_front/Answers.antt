@@ -2,9 +2,9 @@ use Rattle.std.proofs.Common.{ap, ◌∙◌, ◌++◌, ◌∷◌, []}
 use Rattle.std.specs.Fmt.{decimal}
 use Rattle.hex.specs.Hex.{encode_lower}
 use Rattle.ring_range.specs.Text.{range_text}
-use Rattle.script_output.specs.Spaced.{spaced}
-use Rattle.script_output.proofs.Fronts.{begins_with_the_first}
-use Rattle.script_output.proofs.SpacedWords.{then_spaced}
+use Rattle.script_lines.specs.Spaced.{spaced}
+use Rattle.script_lines.proofs.Fronts.{begins_with_the_first}
+use Rattle.script_lines.proofs.SpacedWords.{then_spaced}
 use Rattle.process_lines.proofs.write.push_page_front.Goals as goal
 
 pub returns-in_err-push_number-clause-kept : goal.returns-in_err-push_number-clause-kept

@@ -1,9 +1,9 @@
 use Rattle.std.proofs.Common.{ℕ, ◌++◌, None, Some, ap, refl, subst, sym, ◌∙◌}
-use Rattle.script_commands.specs.CommandModel.{command_of}
-use Rattle.script_commands.specs.Numbers.{script_fault_number}
-use Rattle.script_commands.specs.declared.error.ScriptFault.{ScriptFault}
+use Rattle.script_lines.specs.CommandModel.{command_of}
+use Rattle.script_lines.specs.Numbers.{script_fault_number}
+use Rattle.script_lines.specs.declared.error.ScriptFault.{ScriptFault}
 use Rattle.script_loop.specs.Lines.{PlaysLine}
-use Rattle.script_output.specs.Printed.{printed}
+use Rattle.script_lines.specs.Printed.{printed}
 use Rattle.script_rules.specs.Lines.{fault_line}
 use Rattle.console_command.specs.Play.{lines_played}
 use Rattle.console_command.proofs.LinesPlayed.{command_played, fault_told, passed_over}

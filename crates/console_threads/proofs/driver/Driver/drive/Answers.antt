@@ -1,5 +1,5 @@
 use Rattle.std.proofs.Common.{◌+◌, drop, map}
-use Rattle.script_commands.specs.CommandModel.{command_of}
+use Rattle.script_lines.specs.CommandModel.{command_of}
 use Rattle.console_threads.proofs.Posted.{all_performed, none_left, one_left, one_performed}
 use Rattle.console_threads.proofs.driver.Driver.drive.Goals as goal
 

@@ -1,5 +1,5 @@
 use Rattle.std.proofs.Common.{drop, map}
-use Rattle.script_commands.specs.CommandModel.{command_of}
+use Rattle.script_lines.specs.CommandModel.{command_of}
 use Rattle.silo_threads.specs.Replies.{IsReceiptOf}
 use Rattle.threaded_play.specs.CarriedOut.{AreCarriedOut}
 use Rattle.console_threads.proofs.SoFar.{PutsSoFar}

@@ -1,9 +1,9 @@
 use Rattle.std.proofs.Common.{ℕ, ◌++◌, None, Some, ap, refl, subst, sym, ◌∙◌}
-use Rattle.script_commands.specs.CommandModel.{command_of}
-use Rattle.script_commands.specs.Numbers.{script_fault_number}
-use Rattle.script_commands.specs.declared.error.ScriptFault.{ScriptFault}
+use Rattle.script_lines.specs.CommandModel.{command_of}
+use Rattle.script_lines.specs.Numbers.{script_fault_number}
+use Rattle.script_lines.specs.declared.error.ScriptFault.{ScriptFault}
 use Rattle.script_loop.specs.Lines.{PlaysLine}
-use Rattle.script_output.specs.Printed.{printed}
+use Rattle.script_lines.specs.Printed.{printed}
 use Rattle.script_rules.specs.Lines.{fault_line}
 use Rattle.threaded_play.specs.Faults.{faults_alone}
 use Rattle.console_threads.proofs.Commands.{kept_at_fault, kept_none, kept_one}

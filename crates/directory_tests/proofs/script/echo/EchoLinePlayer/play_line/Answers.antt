@@ -1,5 +1,5 @@
 use Rattle.std.proofs.Common.{ℕ, List, [], ◌∷◌, ◌++◌, ap, arith, ◌∙◌}
-use Rattle.script_output.specs.Printed.{printed}
+use Rattle.script_lines.specs.Printed.{printed}
 use Rattle.script_rules.specs.Lines.{fault_line}
 use Rattle.directory_tests.proofs.Echoed.{echoes, echoes_fault}
 use Rattle.directory_tests.proofs.script.echo.EchoLinePlayer.play_line.Goals as goal

@@ -1,5 +1,0 @@
-pub mod CommandModel
-pub mod Laws
-pub mod Numbers
-pub mod ReadAs
-pub mod WordCounts

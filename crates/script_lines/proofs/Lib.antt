@@ -1,0 +1,10 @@
+pub mod Pieces
+pub mod WordLaws
+pub mod Placed
+pub mod LineLaws
+pub mod VerbLaws
+pub mod Fronts
+pub mod SpacedWords
+pub mod Texts
+pub mod SomeWords
+pub mod WrittenPieces

@@ -1,0 +1,17 @@
+use Rattle.std.proofs.Common.{ap, ◌∙◌, ◌++◌, ◌∷◌, [], codes}
+use Rattle.std.specs.Fmt.{decimal}
+use Rattle.script_lines.specs.Spaced.{spaced}
+use Rattle.script_lines.proofs.Fronts.{begins_with_the_first}
+use Rattle.script_lines.proofs.SpacedWords.{then_spaced}
+use Rattle.script_lines.proofs.event_lines.push_fault.Goals as goal
+
+pub returns-in_err-push_named-2-clause-kept : goal.returns-in_err-push_named-2-clause-kept
+returns-in_err-push_named-2-clause-kept c = begins_with_the_first _ _ _ c.push_named.ensures.kept c.push_named-2.ensures.kept
+
+pub returns-clause-written : goal.returns-clause-written
+returns-clause-written c =
+    then_spaced _ _ _ _ _ c.in_ok-push_named.ensures.written
+    (c.in_ok-push_named-2.ensures.written ∙ ap (λ fault. c.push_named.new.out.items ++ spaced (codes "fault" ∷ decimal fault ∷ [])) c.from.ensures)
+
+pub returns-clause-kept : goal.returns-clause-kept
+returns-clause-kept c = begins_with_the_first _ _ _ c.push_named.ensures.kept c.push_named-2.ensures.kept

@@ -1,0 +1,9 @@
+pub mod CommandModel
+pub mod Laws
+pub mod Numbers
+pub mod ReadAs
+pub mod WordCounts
+pub mod Spaced
+pub mod Printed
+pub mod Effects
+pub mod Shown

@@ -1,6 +1,0 @@
-use Rattle.std.proofs.Common.{arith}
-use Rattle.script_output.proofs.Pieces.{word_by_word}
-use Rattle.script_output.proofs.show_lines.write_version.Goals as goal
-
-pub returns-clause-written : goal.returns-clause-written
-returns-clause-written c = grind (arith, word_by_word)

@@ -1,4 +1,0 @@
-pub mod Spaced
-pub mod Printed
-pub mod Effects
-pub mod Shown
