@@ -5,7 +5,7 @@ ghost use Rattle.dump_headline.specs.Told.{IsRightlyTold};
 
 use crate::World;
 use crate::rows::listed_rows;
-use dumps::{Dump, Node};
+use dumps::{Dump, ListedNode};
 use directory_node::listed_node;
 use std::alloc::{AllocError, Global};
 
@@ -32,7 +32,7 @@ impl World {
 }
 
 // The node of each silo that isn't Dead, by address, with all that it holds.
-fn listed_nodes(alloc: Global, world: &World) -> Result<Vec<Node<'static>>, AllocError>
+fn listed_nodes(alloc: Global, world: &World) -> Result<Vec<ListedNode<'static>>, AllocError>
     ensures { IfOk result (λ nodes. nodes.items ≡ map (λ e. dump_node e.0 e.1) world.now.nodes) }
 {
     let mut nodes = Vec::new(alloc);

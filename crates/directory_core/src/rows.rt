@@ -4,14 +4,14 @@ ghost use Rattle.hash_ring.specs.declared.hashing.Hashing.{Hashing as HashingSee
 ghost use Rattle.dump_rules.specs.Dump.{dump_row, named_places};
 
 use crate::World;
-use dumps::Row as DumpRow;
+use dumps::ListedRow;
 use hash_ring::{Hashing, Places};
 use membership_view::Row;
 use silo_address::SiloAddress;
 use std::alloc::{AllocError, Global};
 
 /// A row for each silo that ever joined, by address (`docs/RULES.md#the-dump-and-the-verdict`). Fails only when memory runs out.
-pub(crate) fn listed_rows(alloc: Global, world: &World) -> Result<Vec<DumpRow>, AllocError>
+pub(crate) fn listed_rows(alloc: Global, world: &World) -> Result<Vec<ListedRow>, AllocError>
     ensures { IfOk result (λ rows. rows.items ≡ map (λ e. dump_row world.now.places e.0 e.1) world.now.views.rows) }
 {
     let mut rows = Vec::new(alloc);
@@ -27,11 +27,11 @@ fn dumped(
     places: &Places,
     silo: &SiloAddress,
     row: &Row,
-) -> Result<DumpRow, AllocError>
+) -> Result<ListedRow, AllocError>
     ensures { IfOk result (λ dumped. dumped ≡ dump_row places.now silo.now row.now) }
 {
     let places = named(alloc, places, silo)?;
-    Ok(DumpRow {
+    Ok(ListedRow {
         dead: row.dead.unwrap_or(0),
         joined: row.joined,
         left: row.left.unwrap_or(0),

@@ -6,7 +6,7 @@ ghost use Rattle.dumps.specs.DumpModel.{phase_of};
 use crate::pieces::pieces;
 use crate::Node;
 use directory_rules::{Held, Phase};
-use dumps::{Held as DumpHeld, LentGrain, ListedPoint, Node as DumpNode, Phase as DumpPhase};
+use dumps::{ListedHeld, LentGrain, ListedPoint, ListedNode, ListedPhase};
 use hash_ring::Point;
 use host_activations::Host;
 use silo_address::{ActivationId, GrainId, SiloAddress};
@@ -18,13 +18,13 @@ pub fn listed_node(
     alloc: Global,
     silo: &SiloAddress,
     node: &Node,
-) -> Result<DumpNode<'static>, AllocError>
+) -> Result<ListedNode<'static>, AllocError>
     ensures { IfOk result (λ listed. listed ≡ dump_node silo.now node.now) }
 {
     let held = held(alloc, silo, node.host())?;
     let pieces = pieces(alloc, node.holding())?;
     let ring = points(alloc, node.ring().points())?;
-    Ok(DumpNode {
+    Ok(ListedNode {
         held,
         pieces,
         ring,
@@ -38,7 +38,7 @@ fn held(
     alloc: Global,
     silo: &SiloAddress,
     host: &Host,
-) -> Result<Vec<DumpHeld<'static>>, AllocError>
+) -> Result<Vec<ListedHeld<'static>>, AllocError>
     ensures { IfOk result (λ held. held.items ≡ map (λ e. dump_held silo.now e.0 e.1) host.now.held) }
 {
     let activations = host.activations(alloc)?;
@@ -55,7 +55,7 @@ fn dumped_held(
     silo: &SiloAddress,
     grain: &GrainId,
     held: &Held,
-) -> Result<DumpHeld<'static>, AllocError>
+) -> Result<ListedHeld<'static>, AllocError>
     ensures { IfOk result (λ dumped. dumped ≡ dump_held silo.now grain.now held.now) }
 {
     let activation = ActivationId {
@@ -63,20 +63,20 @@ fn dumped_held(
         count: held.count,
     };
     let grain = LentGrain::owned(alloc, grain)?;
-    Ok(DumpHeld {
+    Ok(ListedHeld {
         activation,
         grain,
         phase: phase(&held.phase),
     })
 }
 
-fn phase(phase: &Phase) -> DumpPhase
+fn phase(phase: &Phase) -> ListedPhase
     ensures { phase_of result ≡ dump_phase phase.now }
 {
     match phase {
-        Phase::Asking(_) => DumpPhase::Asking,
-        Phase::Firm => DumpPhase::Firm,
-        Phase::Closing(_) => DumpPhase::Closing,
+        Phase::Asking(_) => ListedPhase::Asking,
+        Phase::Firm => ListedPhase::Firm,
+        Phase::Closing(_) => ListedPhase::Closing,
     }
 }
 

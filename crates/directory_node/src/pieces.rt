@@ -5,7 +5,7 @@ ghost use Rattle.dump_rules.specs.Dump.{awaited_from, dump_piece, dump_state};
 ghost use Rattle.dumps.specs.DumpModel.{state_of};
 
 use directory_rules::PieceState;
-use dumps::{Entry as DumpEntry, LentGrain, Piece as DumpPiece, State};
+use dumps::{ListedEntry, LentGrain, ListedPiece, ListedState};
 use grain_partition::{Holding, Piece};
 use grain_table::Table;
 use silo_address::{Entry, SiloAddress};
@@ -15,7 +15,7 @@ use std::alloc::{AllocError, Global};
 pub(crate) fn pieces(
     alloc: Global,
     holding: &Holding,
-) -> Result<Vec<DumpPiece<'static>>, AllocError>
+) -> Result<Vec<ListedPiece<'static>>, AllocError>
     ensures { IfOk result (λ pieces. pieces.items ≡ map (λ e. dump_piece e.1) holding.now.pieces) }
 {
     let mut pieces = Vec::new(alloc);
@@ -26,11 +26,11 @@ pub(crate) fn pieces(
     Ok(pieces)
 }
 
-fn dumped(alloc: Global, piece: &Piece) -> Result<DumpPiece<'static>, AllocError>
+fn dumped(alloc: Global, piece: &Piece) -> Result<ListedPiece<'static>, AllocError>
     ensures { IfOk result (λ dumped. dumped ≡ dump_piece piece.now) }
 {
     let entries = entries(alloc, piece.entries())?;
-    Ok(DumpPiece {
+    Ok(ListedPiece {
         entries,
         from: awaited(&piece.state()),
         range: piece.range(),
@@ -39,7 +39,7 @@ fn dumped(alloc: Global, piece: &Piece) -> Result<DumpPiece<'static>, AllocError
 }
 
 // The entries, in the order of their grains.
-fn entries(alloc: Global, table: &Table) -> Result<Vec<DumpEntry<'static>>, AllocError>
+fn entries(alloc: Global, table: &Table) -> Result<Vec<ListedEntry<'static>>, AllocError>
     ensures { IfOk result (λ entries. entries.items ≡ entries_of table.now.entries) }
 {
     let entries = table.in_order(alloc)?;
@@ -51,11 +51,11 @@ fn entries(alloc: Global, table: &Table) -> Result<Vec<DumpEntry<'static>>, Allo
     Ok(listed)
 }
 
-fn dumped_entry(alloc: Global, entry: &Entry) -> Result<DumpEntry<'static>, AllocError>
+fn dumped_entry(alloc: Global, entry: &Entry) -> Result<ListedEntry<'static>, AllocError>
     ensures { IfOk result (λ dumped. dumped ≡ entry.now) }
 {
     let grain = LentGrain::owned(alloc, &entry.grain)?;
-    Ok(DumpEntry {
+    Ok(ListedEntry {
         grain,
         activation: entry.activation,
     })
@@ -71,12 +71,12 @@ fn awaited(state: &PieceState) -> Option<SiloAddress>
     }
 }
 
-fn state(state: &PieceState) -> State
+fn state(state: &PieceState) -> ListedState
     ensures { state_of result ≡ dump_state state.now }
 {
     match state {
-        PieceState::Settled => State::Settled,
-        PieceState::Awaiting(_) => State::Awaiting,
-        PieceState::Recovering => State::Recovering,
+        PieceState::Settled => ListedState::Settled,
+        PieceState::Awaiting(_) => ListedState::Awaiting,
+        PieceState::Recovering => ListedState::Recovering,
     }
 }

@@ -6,7 +6,7 @@ use std::marker::Model;
 
 /// The phase of an activation.
 #[derive(Clone, Copy, PartialEq, Eq)]
-pub enum Phase {
+pub enum ListedPhase {
     Asking,
     Firm,
     Closing,
@@ -14,7 +14,7 @@ pub enum Phase {
 
 /// The state of a piece. From whom an awaiting piece expects its entries is said beside it.
 #[derive(Clone, Copy, PartialEq, Eq)]
-pub enum State {
+pub enum ListedState {
     Settled,
     Awaiting,
     Recovering,
@@ -22,13 +22,13 @@ pub enum State {
 
 /// An activation on its silo.
 #[derive(Drop)]
-pub struct Held<'a> {
+pub struct ListedHeld<'a> {
     pub activation: ActivationId,
     pub grain: LentGrain<'a>,
-    pub phase: Phase,
+    pub phase: ListedPhase,
 }
 
-impl<'a> Model for Held<'a> {
+impl<'a> Model for ListedHeld<'a> {
     ghost use Rattle.dump_rules.specs.Dump.{DumpHeld};
 
     ghost Value = { DumpHeld };
@@ -58,12 +58,12 @@ impl Model for ListedPoint {
 
 /// An entry of a piece: a grain and its activation.
 #[derive(Drop)]
-pub struct Entry<'a> {
+pub struct ListedEntry<'a> {
     pub grain: LentGrain<'a>,
     pub activation: ActivationId,
 }
 
-impl<'a> Model for Entry<'a> {
+impl<'a> Model for ListedEntry<'a> {
     ghost use Rattle.silo_address.specs.declared.Entry.{Entry as EntryValue};
 
     ghost Value = { EntryValue };
@@ -73,15 +73,15 @@ impl<'a> Model for Entry<'a> {
 
 /// A piece of what a silo owns.
 #[derive(Drop)]
-pub struct Piece<'a> {
-    pub entries: Vec<Entry<'a>>,
+pub struct ListedPiece<'a> {
+    pub entries: Vec<ListedEntry<'a>>,
     /// The silo from which it awaits its entries.
     pub from: Option<SiloAddress>,
     pub range: RingRange,
-    pub state: State,
+    pub state: ListedState,
 }
 
-impl<'a> Model for Piece<'a> {
+impl<'a> Model for ListedPiece<'a> {
     ghost use Rattle.dump_rules.specs.Dump.{DumpPiece};
 
     ghost Value = { DumpPiece };
@@ -93,18 +93,18 @@ impl<'a> Model for Piece<'a> {
 
 /// What one silo has.
 #[derive(Drop)]
-pub struct Node<'a> {
+pub struct ListedNode<'a> {
     /// In the order in which they began.
-    pub held: Vec<Held<'a>>,
+    pub held: Vec<ListedHeld<'a>>,
     /// By start.
-    pub pieces: Vec<Piece<'a>>,
+    pub pieces: Vec<ListedPiece<'a>>,
     pub ring: Vec<ListedPoint>,
     /// The version that the silo has seen.
     pub seen: u64,
     pub silo: SiloAddress,
 }
 
-impl<'a> Model for Node<'a> {
+impl<'a> Model for ListedNode<'a> {
     ghost use Rattle.dump_rules.specs.Dump.{DumpNode};
 
     ghost Value = { DumpNode };
@@ -114,7 +114,7 @@ impl<'a> Model for Node<'a> {
 
 /// A silo that ever joined, with the versions in which it became Dead, joined and became Leaving: 0 for never.
 #[derive(Drop)]
-pub struct Row {
+pub struct ListedRow {
     pub dead: u64,
     pub joined: u64,
     pub left: u64,
@@ -123,7 +123,7 @@ pub struct Row {
     pub silo: SiloAddress,
 }
 
-impl Model for Row {
+impl Model for ListedRow {
     ghost use Rattle.dump_rules.specs.Dump.{DumpRow};
 
     ghost Value = { DumpRow };
@@ -139,11 +139,11 @@ pub struct Dump<'a> {
     pub current: u64,
     pub hashing: Hashing,
     /// By address.
-    pub nodes: Vec<Node<'a>>,
+    pub nodes: Vec<ListedNode<'a>>,
     /// How many points a silo has where points are hashed.
     pub points: u64,
     /// By address.
-    pub rows: Vec<Row>,
+    pub rows: Vec<ListedRow>,
 }
 
 impl<'a> Model for Dump<'a> {

@@ -12,7 +12,7 @@ use crate::tokens::{
     push_comma, push_name, push_number, push_number_member, push_quoted, push_text_member,
 };
 use crate::words::{word_of_hashing, word_of_phase, word_of_state};
-use crate::{Dump, Entry, Held, ListedPoint, Node, Piece, Row};
+use crate::{Dump, ListedEntry, ListedHeld, ListedPoint, ListedNode, ListedPiece, ListedRow};
 use ring_range::RingRange;
 use silo_address::SiloAddress;
 use std::alloc::{AllocError, Global};
@@ -37,7 +37,7 @@ pub fn write_dump(alloc: Global, dump: &Dump) -> Result<Vec<u8>, AllocError>
 }
 
 /// The text of one silo's node, as it stands in a dump's (`docs/RULES.md#the-dump-and-the-verdict`). Fails only when memory runs out.
-pub fn write_node(alloc: Global, node: &Node) -> Result<Vec<u8>, AllocError>
+pub fn write_node(alloc: Global, node: &ListedNode) -> Result<Vec<u8>, AllocError>
     ensures { IfOk result (λ text. text.items ≡ node_json node.now) }
 {
     let mut out = Vec::new(alloc);
@@ -59,7 +59,7 @@ impl<'a> WriteJson for Dump<'a> {
     }
 }
 
-impl WriteJson for Row {
+impl WriteJson for ListedRow {
     ghost json = { row_json };
 
     fn write_to(&self, alloc: Global, out: &mut Vec<u8>) -> Result<(), AllocError> {
@@ -73,7 +73,7 @@ impl WriteJson for Row {
     }
 }
 
-impl<'a> WriteJson for Node<'a> {
+impl<'a> WriteJson for ListedNode<'a> {
     ghost json = { node_json };
 
     fn write_to(&self, alloc: Global, out: &mut Vec<u8>) -> Result<(), AllocError> {
@@ -87,7 +87,7 @@ impl<'a> WriteJson for Node<'a> {
     }
 }
 
-impl<'a> WriteJson for Piece<'a> {
+impl<'a> WriteJson for ListedPiece<'a> {
     ghost json = { piece_json };
 
     fn write_to(&self, alloc: Global, out: &mut Vec<u8>) -> Result<(), AllocError> {
@@ -100,7 +100,7 @@ impl<'a> WriteJson for Piece<'a> {
     }
 }
 
-impl<'a> WriteJson for Held<'a> {
+impl<'a> WriteJson for ListedHeld<'a> {
     ghost json = { held_json };
 
     fn write_to(&self, alloc: Global, out: &mut Vec<u8>) -> Result<(), AllocError> {
@@ -128,7 +128,7 @@ impl WriteJson for ListedPoint {
     }
 }
 
-impl<'a> WriteJson for Entry<'a> {
+impl<'a> WriteJson for ListedEntry<'a> {
     ghost json = { entry_json };
 
     fn write_to(&self, alloc: Global, out: &mut Vec<u8>) -> Result<(), AllocError> {

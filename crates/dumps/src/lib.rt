@@ -27,7 +27,7 @@ mod values;
 mod words;
 
 pub use distinct::{are_distinct, are_in_order, set_of};
-pub use dump::{Dump, Entry, Held, ListedPoint, Node, Phase, Piece, Row, State};
+pub use dump::{Dump, ListedEntry, ListedHeld, ListedPoint, ListedNode, ListedPhase, ListedPiece, ListedRow, ListedState};
 pub use dump_text::{write_dump, write_node};
 pub use error::ReadError;
 pub use lent_grain::LentGrain;

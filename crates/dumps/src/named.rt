@@ -10,7 +10,7 @@ ghost use Rattle.dumps.specs.DumpModel.{phase_of, state_of};
 ghost use Rattle.dumps.specs.declared.error.ReadError.TheVariants.{OutOfMemory};
 ghost use Rattle.dumps.specs.ReadAs.{IsReading, IsReadingBy};
 
-use crate::{LentGrain, Phase, ReadError, State};
+use crate::{LentGrain, ListedPhase, ReadError, ListedState};
 use hash_ring::Hashing;
 use ring_range::RingRange;
 use silo_address::{ActivationId, SiloAddress};
@@ -91,35 +91,35 @@ pub fn hashing(text: &[u8]) -> Result<Hashing, ReadError>
 }
 
 /// Reads the phase of an activation: `asking`, `firm` or `closing`. Refused by `NotADump` where the text is another word.
-pub fn phase(text: &[u8]) -> Result<Phase, ReadError>
+pub fn phase(text: &[u8]) -> Result<ListedPhase, ReadError>
     ensures read { IsReadingBy phase_of result (phase_in (string text.now)) }
     ensures needs_no_memory { result ≢ Err OutOfMemory }
 {
     if text == b"asking".as_slice() {
-        return Ok(Phase::Asking);
+        return Ok(ListedPhase::Asking);
     }
     if text == b"firm".as_slice() {
-        return Ok(Phase::Firm);
+        return Ok(ListedPhase::Firm);
     }
     if text == b"closing".as_slice() {
-        return Ok(Phase::Closing);
+        return Ok(ListedPhase::Closing);
     }
     Err(ReadError::NotADump)
 }
 
 /// Reads the state of a piece: `settled`, `awaiting` or `recovering`. Refused by `NotADump` where the text is another word.
-pub fn state(text: &[u8]) -> Result<State, ReadError>
+pub fn state(text: &[u8]) -> Result<ListedState, ReadError>
     ensures read { IsReadingBy state_of result (state_in (string text.now)) }
     ensures needs_no_memory { result ≢ Err OutOfMemory }
 {
     if text == b"settled".as_slice() {
-        return Ok(State::Settled);
+        return Ok(ListedState::Settled);
     }
     if text == b"awaiting".as_slice() {
-        return Ok(State::Awaiting);
+        return Ok(ListedState::Awaiting);
     }
     if text == b"recovering".as_slice() {
-        return Ok(State::Recovering);
+        return Ok(ListedState::Recovering);
     }
     Err(ReadError::NotADump)
 }

@@ -7,7 +7,7 @@ ghost use Rattle.dump_rules.specs.DumpShape as rule;
 ghost use Rattle.dumps.specs.Sets.{HasItems};
 
 use crate::node_shape::is_node;
-use crate::{Dump, Node, set_of};
+use crate::{Dump, ListedNode, set_of};
 use silo_address::SiloAddress;
 use std::alloc::{AllocError, Global};
 use std::collections::BTreeSet;
@@ -41,7 +41,7 @@ fn each_is_one(
     alloc: Global,
     dump: &Dump,
     silos: &BTreeSet<SiloAddress>,
-    nodes: &[Node],
+    nodes: &[ListedNode],
 ) -> Result<bool, AllocError>
     requires { HasItems silo_cmp silos.now (rule.row_silos dump.now) }
     ensures { IfOk result (λ answer. answer ≡ list_all (rule.is_node_of dump.now) nodes.now) }

@@ -5,7 +5,7 @@ ghost use Rattle.std.specs.List.{list_all};
 ghost use Rattle.dump_rules.specs.DumpShape as rule;
 
 use crate::conjunction::all_hold;
-use crate::{Dump, ListedPoint, Node, Piece, Row};
+use crate::{Dump, ListedPoint, ListedNode, ListedPiece, ListedRow};
 
 /// How many hashes there are.
 const CIRCLE: u64 = 4_294_967_296;
@@ -52,7 +52,7 @@ fn have_node_numbers(dump: &Dump) -> bool
 }
 
 /// Whether the numbers of a row are in their ranges.
-fn has_row_numbers(row: &Row) -> bool
+fn has_row_numbers(row: &ListedRow) -> bool
     ensures { result ≡ rule.has_row_numbers row.now }
 {
     versions_fit(row);
@@ -60,7 +60,7 @@ fn has_row_numbers(row: &Row) -> bool
 }
 
 /// A law: the versions of a row fit.
-fn versions_fit(row: &Row)
+fn versions_fit(row: &ListedRow)
     ensures dead { row.now.dead < 2 ^ 64 }
     ensures joined { row.now.joined < 2 ^ 64 }
     ensures left { row.now.left < 2 ^ 64 }
@@ -71,14 +71,14 @@ fn versions_fit(row: &Row)
 }
 
 /// Whether the places of a row are hashes.
-fn has_hashes(row: &Row) -> bool
+fn has_hashes(row: &ListedRow) -> bool
     ensures { result ≡ list_all rule.is_hash row.now.places }
 {
     row.places.iter().all(|place| *place < CIRCLE)
 }
 
 /// Whether the numbers of a node are in their ranges.
-fn has_node_numbers(node: &Node) -> bool
+fn has_node_numbers(node: &ListedNode) -> bool
     ensures { result ≡ rule.has_node_numbers node.now }
 {
     seen_fits(node);
@@ -86,13 +86,13 @@ fn has_node_numbers(node: &Node) -> bool
 }
 
 /// A law: the version that a silo has seen fits.
-fn seen_fits(node: &Node)
+fn seen_fits(node: &ListedNode)
     ensures { node.now.seen < 2 ^ 64 }
 {
     let _seen = node.seen;
 }
 
-fn has_ring_numbers(node: &Node) -> bool
+fn has_ring_numbers(node: &ListedNode) -> bool
     ensures { result ≡ list_all rule.has_point_numbers node.now.ring }
 {
     node.ring.iter().all(|point| has_point_numbers(point))
@@ -106,14 +106,14 @@ fn has_point_numbers(point: &ListedPoint) -> bool
     point.place < CIRCLE
 }
 
-fn has_ranges(node: &Node) -> bool
+fn has_ranges(node: &ListedNode) -> bool
     ensures { result ≡ list_all rule.has_piece_numbers node.now.pieces }
 {
     node.pieces.iter().all(|piece| has_piece_numbers(piece))
 }
 
 /// Whether the range of a piece is one of the circle, as every range is.
-fn has_piece_numbers(piece: &Piece) -> bool
+fn has_piece_numbers(piece: &ListedPiece) -> bool
     ensures { result ≡ rule.has_piece_numbers piece.now }
 {
     piece.range.in_range();

@@ -5,17 +5,17 @@ ghost use Rattle.std.specs.List.{list_all};
 ghost use Rattle.dump_rules.specs.DumpShape as rule;
 
 use crate::conjunction::all_hold;
-use crate::{Node, Piece, State};
+use crate::{ListedNode, ListedPiece, ListedState};
 
 /// Whether each piece of the node is one.
-pub(crate) fn are_pieces(node: &Node) -> bool
+pub(crate) fn are_pieces(node: &ListedNode) -> bool
     ensures { result ≡ list_all rule.is_piece node.now.pieces }
 {
     node.pieces.iter().all(|piece| is_piece(piece))
 }
 
 /// Whether only a settled piece has entries, by grain, and just an awaiting one tells from whom.
-fn is_piece(piece: &Piece) -> bool
+fn is_piece(piece: &ListedPiece) -> bool
     ensures { result ≡ rule.is_piece piece.now }
 {
     all_hold(&[
@@ -26,27 +26,27 @@ fn is_piece(piece: &Piece) -> bool
 }
 
 /// Whether only a settled piece has entries.
-fn has_entries_if_settled(piece: &Piece) -> bool
+fn has_entries_if_settled(piece: &ListedPiece) -> bool
     ensures { result ≡ rule.has_entries_if_settled piece.now }
 {
     match piece.state {
-        State::Settled => true,
-        State::Awaiting | State::Recovering => piece.entries.is_empty(),
+        ListedState::Settled => true,
+        ListedState::Awaiting | ListedState::Recovering => piece.entries.is_empty(),
     }
 }
 
 /// Whether just an awaiting piece tells from whom.
-fn has_from_if_awaiting(piece: &Piece) -> bool
+fn has_from_if_awaiting(piece: &ListedPiece) -> bool
     ensures { result ≡ rule.has_from_if_awaiting piece.now }
 {
     match piece.state {
-        State::Awaiting => piece.from.is_some(),
-        State::Settled | State::Recovering => piece.from.is_none(),
+        ListedState::Awaiting => piece.from.is_some(),
+        ListedState::Settled | ListedState::Recovering => piece.from.is_none(),
     }
 }
 
 /// Whether entries stand by grain.
-fn has_entries_in_order(piece: &Piece) -> bool
+fn has_entries_in_order(piece: &ListedPiece) -> bool
     ensures { result ≡ rule.has_entries_in_order piece.now }
 {
     piece

@@ -9,7 +9,7 @@ ghost use Rattle.dumps.specs.Straight.{Tells, TellsBy};
 ghost use Rattle.dumps.specs.declared.error.ReadError.TheVariants.{OutOfMemory};
 
 use crate::plain_text::PlainText;
-use crate::{LentGrain, Phase, ReadError, State, named};
+use crate::{LentGrain, ListedPhase, ReadError, ListedState, named};
 use hash_ring::Hashing;
 use ring_range::RingRange;
 use silo_address::{ActivationId, SiloAddress};
@@ -109,24 +109,24 @@ impl<'a> ReadText<'a> for Hashing {
     }
 }
 
-impl<'a> ReadText<'a> for Phase {
+impl<'a> ReadText<'a> for ListedPhase {
     ghost tells = { λ value phase. phase_in value ≡ Some (phase_of phase) };
 
     ghost deep = { 0 };
 
     #[inline(always)]
-    fn read_text(alloc: Global, reader: &mut PlainText<'a>) -> Result<Phase, ReadError> {
+    fn read_text(alloc: Global, reader: &mut PlainText<'a>) -> Result<ListedPhase, ReadError> {
         named::phase(reader.text(alloc)?.as_slice())
     }
 }
 
-impl<'a> ReadText<'a> for State {
+impl<'a> ReadText<'a> for ListedState {
     ghost tells = { λ value state. state_in value ≡ Some (state_of state) };
 
     ghost deep = { 0 };
 
     #[inline(always)]
-    fn read_text(alloc: Global, reader: &mut PlainText<'a>) -> Result<State, ReadError> {
+    fn read_text(alloc: Global, reader: &mut PlainText<'a>) -> Result<ListedState, ReadError> {
         named::state(reader.text(alloc)?.as_slice())
     }
 }

@@ -7,7 +7,7 @@ ghost use Rattle.dump_rules.specs.DumpShape as rule;
 use crate::conjunction::all_hold;
 use crate::nodes::{are_nodes, row_silos};
 use crate::numbers::has_numbers;
-use crate::{Dump, Row, are_distinct, are_in_order};
+use crate::{Dump, ListedRow, are_distinct, are_in_order};
 use hash_ring::Hashing;
 use silo_address::SiloAddress;
 use std::alloc::{AllocError, Global};
@@ -78,21 +78,21 @@ fn are_rows(dump: &Dump) -> bool
 }
 
 /// Whether the silo joined in a version that was made, with as many places as a join may name.
-fn is_row(dump: &Dump, row: &Row) -> bool
+fn is_row(dump: &Dump, row: &ListedRow) -> bool
     ensures { result ≡ rule.is_row_of dump.now row.now }
 {
     all_hold(&[has_joined(dump, row), has_places(dump, row)])
 }
 
 /// Whether the silo joined in a version that was made.
-fn has_joined(dump: &Dump, row: &Row) -> bool
+fn has_joined(dump: &Dump, row: &ListedRow) -> bool
     ensures { result ≡ rule.has_joined dump.now row.now }
 {
     1 <= row.joined && row.joined <= dump.current
 }
 
 /// Whether a row has as many places as a join may name.
-fn has_places(dump: &Dump, row: &Row) -> bool
+fn has_places(dump: &Dump, row: &ListedRow) -> bool
     ensures { result ≡ rule.has_places dump.now row.now }
 {
     let places = row.places.len();

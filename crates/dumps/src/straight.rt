@@ -16,7 +16,7 @@ use crate::member_name::MemberName;
 use crate::members::{Member, NoMember, read_members};
 use crate::plain_text::PlainText;
 use crate::read_text::ReadText;
-use crate::{Dump, Entry, Held, ListedPoint, Node, Piece, ReadError, Row};
+use crate::{Dump, ListedEntry, ListedHeld, ListedPoint, ListedNode, ListedPiece, ReadError, ListedRow};
 use std::alloc::Global;
 
 /// Reads the dump that the text tells as JSON (`docs/RULES.md#the-dump-and-the-verdict`). Its grains are lent from the text, but for
@@ -89,12 +89,12 @@ impl<'a> ReadItem<'a> for u64 {
     }
 }
 
-impl<'a> ReadItem<'a> for Row {
+impl<'a> ReadItem<'a> for ListedRow {
     ghost reads = { row_in };
 
     ghost deep = { 2 };
 
-    fn read_item(alloc: Global, reader: &mut PlainText<'a>) -> Result<Row, ReadError> {
+    fn read_item(alloc: Global, reader: &mut PlainText<'a>) -> Result<ListedRow, ReadError> {
         let silo = Member::unread(MemberName::Silo, NoMember);
         let places = Member::unread(MemberName::Places, silo);
         let left = Member::unread(MemberName::Left, places);
@@ -106,7 +106,7 @@ impl<'a> ReadItem<'a> for Row {
         let (left, others) = others.read()?;
         let (places, others) = others.read()?;
         let (silo, _) = others.read()?;
-        Ok(Row {
+        Ok(ListedRow {
             dead,
             joined,
             left,
@@ -116,12 +116,12 @@ impl<'a> ReadItem<'a> for Row {
     }
 }
 
-impl<'a> ReadItem<'a> for Node<'a> {
+impl<'a> ReadItem<'a> for ListedNode<'a> {
     ghost reads = { node_in };
 
     ghost deep = { 5 };
 
-    fn read_item(alloc: Global, reader: &mut PlainText<'a>) -> Result<Node<'a>, ReadError> {
+    fn read_item(alloc: Global, reader: &mut PlainText<'a>) -> Result<ListedNode<'a>, ReadError> {
         let silo = Member::unread(MemberName::Silo, NoMember);
         let seen = Member::unread(MemberName::Seen, silo);
         let ring = Member::unread(MemberName::Ring, seen);
@@ -133,7 +133,7 @@ impl<'a> ReadItem<'a> for Node<'a> {
         let (ring, others) = others.read()?;
         let (seen, others) = others.read()?;
         let (silo, _) = others.read()?;
-        Ok(Node {
+        Ok(ListedNode {
             held,
             pieces,
             ring,
@@ -143,12 +143,12 @@ impl<'a> ReadItem<'a> for Node<'a> {
     }
 }
 
-impl<'a> ReadItem<'a> for Piece<'a> {
+impl<'a> ReadItem<'a> for ListedPiece<'a> {
     ghost reads = { piece_in };
 
     ghost deep = { 3 };
 
-    fn read_item(alloc: Global, reader: &mut PlainText<'a>) -> Result<Piece<'a>, ReadError> {
+    fn read_item(alloc: Global, reader: &mut PlainText<'a>) -> Result<ListedPiece<'a>, ReadError> {
         let state = Member::unread(MemberName::State, NoMember);
         let range = Member::unread(MemberName::Range, state);
         let from = Member::unread(MemberName::From, range);
@@ -158,7 +158,7 @@ impl<'a> ReadItem<'a> for Piece<'a> {
         let (from, others) = others.read()?;
         let (range, others) = others.read()?;
         let (state, _) = others.read()?;
-        Ok(Piece {
+        Ok(ListedPiece {
             entries,
             from,
             range,
@@ -167,12 +167,12 @@ impl<'a> ReadItem<'a> for Piece<'a> {
     }
 }
 
-impl<'a> ReadItem<'a> for Held<'a> {
+impl<'a> ReadItem<'a> for ListedHeld<'a> {
     ghost reads = { held_in };
 
     ghost deep = { 1 };
 
-    fn read_item(alloc: Global, reader: &mut PlainText<'a>) -> Result<Held<'a>, ReadError> {
+    fn read_item(alloc: Global, reader: &mut PlainText<'a>) -> Result<ListedHeld<'a>, ReadError> {
         let phase = Member::unread(MemberName::Phase, NoMember);
         let grain = Member::unread(MemberName::Grain, phase);
         let mut members = Member::unread(MemberName::Activation, grain);
@@ -180,7 +180,7 @@ impl<'a> ReadItem<'a> for Held<'a> {
         let (activation, others) = members.read()?;
         let (grain, others) = others.read()?;
         let (phase, _) = others.read()?;
-        Ok(Held {
+        Ok(ListedHeld {
             activation,
             grain,
             phase,
@@ -203,17 +203,17 @@ impl<'a> ReadItem<'a> for ListedPoint {
     }
 }
 
-impl<'a> ReadItem<'a> for Entry<'a> {
+impl<'a> ReadItem<'a> for ListedEntry<'a> {
     ghost reads = { entry_in };
 
     ghost deep = { 1 };
 
-    fn read_item(alloc: Global, reader: &mut PlainText<'a>) -> Result<Entry<'a>, ReadError> {
+    fn read_item(alloc: Global, reader: &mut PlainText<'a>) -> Result<ListedEntry<'a>, ReadError> {
         reader.begin_items()?;
         let grain = ReadText::read_text(alloc, reader)?;
         let activation = ReadText::read_text(alloc, reader)?;
         reader.end_items()?;
-        Ok(Entry { grain, activation })
+        Ok(ListedEntry { grain, activation })
     }
 }
 

@@ -12,7 +12,7 @@ use crate::values::{
     activation, from, grain, hashing, items, member, members_of, number, phase, range, silo, state,
     three_items, two_items,
 };
-use crate::{Dump, Entry, Held, ListedPoint, Node, Piece, ReadError, Row};
+use crate::{Dump, ListedEntry, ListedHeld, ListedPoint, ListedNode, ListedPiece, ReadError, ListedRow};
 use serde_json::{Map, Value};
 use silo_address::SiloAddress;
 use std::alloc::Global;
@@ -87,17 +87,17 @@ fn silo_member(members: &Map<String, Value>) -> Result<SiloAddress, ReadError>
     silo(member(members, "silo")?)
 }
 
-impl ReadJson for Row {
+impl ReadJson for ListedRow {
     ghost reads = { row_in };
 
-    fn read(alloc: Global, value: &Value) -> Result<Row, ReadError> {
+    fn read(alloc: Global, value: &Value) -> Result<ListedRow, ReadError> {
         let members = members_of(value, 5)?;
         let dead = number_member(members, "dead")?;
         let joined = number_member(members, "joined")?;
         let left = number_member(members, "left")?;
         let silo = silo_member(members)?;
         let places = list_member(alloc, members, "places")?;
-        Ok(Row {
+        Ok(ListedRow {
             dead,
             joined,
             left,
@@ -107,17 +107,17 @@ impl ReadJson for Row {
     }
 }
 
-impl ReadJson for Node<'static> {
+impl ReadJson for ListedNode<'static> {
     ghost reads = { node_in };
 
-    fn read(alloc: Global, value: &Value) -> Result<Node<'static>, ReadError> {
+    fn read(alloc: Global, value: &Value) -> Result<ListedNode<'static>, ReadError> {
         let members = members_of(value, 5)?;
         let seen = number_member(members, "seen")?;
         let silo = silo_member(members)?;
         let held = list_member(alloc, members, "held")?;
         let pieces = list_member(alloc, members, "pieces")?;
         let ring = list_member(alloc, members, "ring")?;
-        Ok(Node {
+        Ok(ListedNode {
             held,
             pieces,
             ring,
@@ -127,16 +127,16 @@ impl ReadJson for Node<'static> {
     }
 }
 
-impl ReadJson for Piece<'static> {
+impl ReadJson for ListedPiece<'static> {
     ghost reads = { piece_in };
 
-    fn read(alloc: Global, value: &Value) -> Result<Piece<'static>, ReadError> {
+    fn read(alloc: Global, value: &Value) -> Result<ListedPiece<'static>, ReadError> {
         let members = members_of(value, 4)?;
         let from = from(member(members, "from")?)?;
         let range = range(member(members, "range")?)?;
         let state = state(member(members, "state")?)?;
         let entries = list_member(alloc, members, "entries")?;
-        Ok(Piece {
+        Ok(ListedPiece {
             entries,
             from,
             range,
@@ -145,15 +145,15 @@ impl ReadJson for Piece<'static> {
     }
 }
 
-impl ReadJson for Held<'static> {
+impl ReadJson for ListedHeld<'static> {
     ghost reads = { held_in };
 
-    fn read(alloc: Global, value: &Value) -> Result<Held<'static>, ReadError> {
+    fn read(alloc: Global, value: &Value) -> Result<ListedHeld<'static>, ReadError> {
         let members = members_of(value, 3)?;
         let activation = activation(member(members, "activation")?)?;
         let phase = phase(member(members, "phase")?)?;
         let grain = grain(alloc, member(members, "grain")?)?;
-        Ok(Held {
+        Ok(ListedHeld {
             activation,
             grain,
             phase,
@@ -176,14 +176,14 @@ impl ReadJson for ListedPoint {
     }
 }
 
-impl ReadJson for Entry<'static> {
+impl ReadJson for ListedEntry<'static> {
     ghost reads = { entry_in };
 
-    fn read(alloc: Global, value: &Value) -> Result<Entry<'static>, ReadError> {
+    fn read(alloc: Global, value: &Value) -> Result<ListedEntry<'static>, ReadError> {
         let (grain_text, activation_text) = two_items(value)?;
         let activation = activation(activation_text)?;
         let grain = grain(alloc, grain_text)?;
-        Ok(Entry { grain, activation })
+        Ok(ListedEntry { grain, activation })
     }
 }
 

@@ -10,7 +10,7 @@ ghost use Rattle.dumps.specs.DumpModel.{phase_of, state_of};
 ghost use Rattle.dumps.specs.ReadAs.{IsReading, IsReadingBy};
 ghost use Rattle.dumps.specs.declared.error.ReadError.TheVariants.{OutOfMemory};
 
-use crate::{LentGrain, Phase, ReadError, State, named};
+use crate::{LentGrain, ListedPhase, ReadError, ListedState, named};
 use hash_ring::Hashing;
 use ring_range::RingRange;
 use serde_json::{Map, Value};
@@ -149,7 +149,7 @@ pub(crate) fn hashing(value: &Value) -> Result<Hashing, ReadError>
 }
 
 /// Reads the phase of an activation, as `named::phase` does. Refused by `NotADump` where the value is no such word.
-pub(crate) fn phase(value: &Value) -> Result<Phase, ReadError>
+pub(crate) fn phase(value: &Value) -> Result<ListedPhase, ReadError>
     ensures read { IsReadingBy phase_of result (phase_in (view value.now)) }
     ensures needs_no_memory { result ≢ Err OutOfMemory }
 {
@@ -157,7 +157,7 @@ pub(crate) fn phase(value: &Value) -> Result<Phase, ReadError>
 }
 
 /// Reads the state of a piece, as `named::state` does. Refused by `NotADump` where the value is no such word.
-pub(crate) fn state(value: &Value) -> Result<State, ReadError>
+pub(crate) fn state(value: &Value) -> Result<ListedState, ReadError>
     ensures read { IsReadingBy state_of result (state_in (view value.now)) }
     ensures needs_no_memory { result ≢ Err OutOfMemory }
 {

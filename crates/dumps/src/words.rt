@@ -4,7 +4,7 @@ ghost use Rattle.std.specs.Prelude.{◌≡◌};
 ghost use Rattle.dump_rules.specs.Dump.{dump_phase_word, dump_state_word, hashing_word};
 ghost use Rattle.dumps.specs.DumpModel.{phase_of, state_of};
 
-use crate::{Phase, State};
+use crate::{ListedPhase, ListedState};
 use hash_ring::Hashing;
 
 /// The word for a hashing.
@@ -18,23 +18,23 @@ pub(crate) fn word_of_hashing(hashing: Hashing) -> &'static [u8]
 }
 
 /// The word for a phase.
-pub(crate) fn word_of_phase(phase: Phase) -> &'static [u8]
+pub(crate) fn word_of_phase(phase: ListedPhase) -> &'static [u8]
     ensures { result.now ≡ dump_phase_word (phase_of phase) }
 {
     match phase {
-        Phase::Asking => b"asking",
-        Phase::Firm => b"firm",
-        Phase::Closing => b"closing",
+        ListedPhase::Asking => b"asking",
+        ListedPhase::Firm => b"firm",
+        ListedPhase::Closing => b"closing",
     }
 }
 
 /// The word for a state.
-pub(crate) fn word_of_state(state: State) -> &'static [u8]
+pub(crate) fn word_of_state(state: ListedState) -> &'static [u8]
     ensures { result.now ≡ dump_state_word (state_of state) }
 {
     match state {
-        State::Settled => b"settled",
-        State::Awaiting => b"awaiting",
-        State::Recovering => b"recovering",
+        ListedState::Settled => b"settled",
+        ListedState::Awaiting => b"awaiting",
+        ListedState::Recovering => b"recovering",
     }
 }

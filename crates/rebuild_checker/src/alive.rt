@@ -9,7 +9,7 @@ ghost use Rattle.dump_rules.specs.DumpShape.{is_dump};
 ghost use Rattle.dump_rules.specs.Verdict.{dump_view, row_in_dump, unless_never};
 ghost use Rattle.rebuild_checker.specs.Rows.{is_serving, row_of_silo};
 
-use dumps::{Dump, Row};
+use dumps::{Dump, ListedRow};
 use silo_address::SiloAddress;
 
 /// Whether the silo is Dead in the current version. Its row is found by halves.
@@ -35,7 +35,7 @@ pub(crate) fn is_active(dump: &Dump, silo: &SiloAddress, version: u64) -> bool
 }
 
 /// The row of a silo, if it ever joined.
-fn row_of<'d>(dump: &'d Dump, silo: &SiloAddress) -> Option<&'d Row>
+fn row_of<'d>(dump: &'d Dump, silo: &SiloAddress) -> Option<&'d ListedRow>
     requires { IsTrue (is_dump dump.now) }
     ensures { option_map (λ row. (row_in_dump row.now).1) result ≡ row_of_silo dump.now silo.now }
 {
@@ -46,7 +46,7 @@ fn row_of<'d>(dump: &'d Dump, silo: &SiloAddress) -> Option<&'d Row>
 }
 
 /// Whether a silo with this row had joined by a version, and had neither begun to leave nor died.
-fn serves(row: &Row, version: u64) -> bool
+fn serves(row: &ListedRow, version: u64) -> bool
     ensures { result ≡ is_serving version (row_in_dump row.now).1 }
 {
     if has_come(row.dead, version) || has_come(row.left, version) {

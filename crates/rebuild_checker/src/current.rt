@@ -4,7 +4,7 @@ ghost use Rattle.std.specs.Prelude.{◌≡◌, ◌==◌, IfOk, filter, flat_map,
 ghost use Rattle.dump_rules.specs.Verdict as rule;
 ghost use Rattle.rebuild_checker.specs.Lent.{nodes_lent, pieces_lent};
 
-use dumps::{Dump, Node, Piece, State};
+use dumps::{Dump, ListedNode, ListedPiece, ListedState};
 use std::alloc::{AllocError, Global};
 
 /// The settled pieces of those of the live nodes, which are given, that have seen the current version
@@ -12,8 +12,8 @@ use std::alloc::{AllocError, Global};
 pub(crate) fn current_pieces<'a>(
     alloc: Global,
     dump: &Dump,
-    nodes: &[&'a Node<'a>],
-) -> Result<Vec<&'a Piece<'a>>, AllocError>
+    nodes: &[&'a ListedNode<'a>],
+) -> Result<Vec<&'a ListedPiece<'a>>, AllocError>
     requires { nodes_lent nodes.now ≡ rule.live_nodes dump.now }
     ensures { IfOk result (λ pieces. pieces_lent pieces.items ≡ rule.current_pieces dump.now) }
 {
@@ -24,8 +24,8 @@ pub(crate) fn current_pieces<'a>(
 fn settled_pieces<'a>(
     alloc: Global,
     current: u64,
-    nodes: &[&'a Node<'a>],
-) -> Result<Vec<&'a Piece<'a>>, AllocError>
+    nodes: &[&'a ListedNode<'a>],
+) -> Result<Vec<&'a ListedPiece<'a>>, AllocError>
     ensures { IfOk result (λ pieces. map (λ piece. piece.now) pieces.items ≡ filter (λ piece. rule.is_settled_state piece.state) (flat_map (λ node. node.now.pieces) (filter (λ node. node.now.seen == current) nodes.now))) }
 {
     nodes
@@ -33,6 +33,6 @@ fn settled_pieces<'a>(
         .copied()
         .filter(|node| node.seen == current)
         .flat_map(|node| node.pieces.iter())
-        .filter(|piece| piece.state == State::Settled)
+        .filter(|piece| piece.state == ListedState::Settled)
         .collect(alloc)
 }

@@ -13,7 +13,7 @@ ghost use Rattle.rebuild_checker.specs.MissingFirm.{is_lacking};
 
 use crate::cover::{Cover, cover_of, is_apart, is_lacking};
 use crate::index::{Named, places_of};
-use dumps::{Dump, Held, Node, Piece};
+use dumps::{Dump, ListedHeld, ListedNode, ListedPiece};
 use hash_ring::Hashing;
 use ring_range::RingRange;
 use silo_address::GrainId;
@@ -36,10 +36,10 @@ pub(crate) struct Walked<'a> {
 pub(crate) fn walk<'a>(
     alloc: Global,
     dump: &Dump,
-    nodes: &[&Node],
-    pieces: &[&Piece],
+    nodes: &[&ListedNode],
+    pieces: &[&ListedPiece],
     entered: &[Named<'a>],
-    firm: &[&Held],
+    firm: &[&ListedHeld],
 ) -> Result<Walked<'a>, AllocError>
     requires is_dump { IsTrue (is_dump dump.now) }
     requires live { nodes_lent nodes.now ≡ rule.live_nodes dump.now }
@@ -56,7 +56,7 @@ pub(crate) fn walk<'a>(
 }
 
 /// The cover of the ranges of some pieces.
-fn cover_of_pieces(alloc: Global, pieces: &[&Piece]) -> Result<Cover, AllocError>
+fn cover_of_pieces(alloc: Global, pieces: &[&ListedPiece]) -> Result<Cover, AllocError>
     requires { All (λ piece. IsRange piece.now.range) pieces.now }
     ensures { IfOk result (λ cover. IsCover (map (λ piece. piece.now.range) pieces.now) cover) }
 {
@@ -65,7 +65,7 @@ fn cover_of_pieces(alloc: Global, pieces: &[&Piece]) -> Result<Cover, AllocError
 }
 
 /// The ranges of some pieces.
-fn ranges_of(alloc: Global, pieces: &[&Piece]) -> Result<Vec<RingRange>, AllocError>
+fn ranges_of(alloc: Global, pieces: &[&ListedPiece]) -> Result<Vec<RingRange>, AllocError>
     ensures { IfOk result (λ ranges. ranges.items ≡ map (λ piece. piece.now.range) pieces.now) }
 {
     pieces
@@ -82,7 +82,7 @@ fn walk_along<'a>(
     hashing: Hashing,
     cover: &Cover,
     entered: &[Named<'a>],
-    activations: &[&Held],
+    activations: &[&ListedHeld],
 ) -> Result<Walked<'a>, AllocError>
     requires cover { (ranges : List Range) × IsCover ranges cover.now }
     requires entered { IsSorted named_cmp entered.now }

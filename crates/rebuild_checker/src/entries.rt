@@ -9,11 +9,11 @@ ghost use Rattle.dump_rules.specs.Verdict.{has_entries_inside, has_one_entry_a_g
 ghost use Rattle.rebuild_checker.specs.Ready.{is_by_grain};
 ghost use Rattle.dumps.specs.Mixed.{grains_lent};
 
-use dumps::{Dump, Entry, LentGrain, Node, Piece, are_distinct_grains};
+use dumps::{Dump, ListedEntry, LentGrain, ListedNode, ListedPiece, are_distinct_grains};
 use std::alloc::{AllocError, Global};
 
 /// Whether the entries of each piece of the node are hashed into it.
-pub(crate) fn have_entries_inside(dump: &Dump, node: &Node) -> bool
+pub(crate) fn have_entries_inside(dump: &Dump, node: &ListedNode) -> bool
     ensures { result ≡ list_all (has_entries_inside dump.now) node.now.pieces }
 {
     node.pieces
@@ -22,7 +22,7 @@ pub(crate) fn have_entries_inside(dump: &Dump, node: &Node) -> bool
 }
 
 /// Whether the entries of the piece are hashed into it.
-fn has_entries_inside(dump: &Dump, piece: &Piece) -> bool
+fn has_entries_inside(dump: &Dump, piece: &ListedPiece) -> bool
     ensures { result ≡ has_entries_inside dump.now piece.now }
 {
     piece
@@ -32,7 +32,7 @@ fn has_entries_inside(dump: &Dump, piece: &Piece) -> bool
 }
 
 /// Whether the entry is hashed into the piece.
-fn is_inside(dump: &Dump, piece: &Piece, entry: &Entry) -> bool
+fn is_inside(dump: &Dump, piece: &ListedPiece, entry: &ListedEntry) -> bool
     ensures { result ≡ holds piece.now.range (hash_grain dump.now.hashing entry.now.grain) }
 {
     piece
@@ -42,7 +42,7 @@ fn is_inside(dump: &Dump, piece: &Piece, entry: &Entry) -> bool
 
 /// Whether in each piece of the node no entry is of the grain of the one before it. They stand by grain, so no two in a piece are of one
 /// grain then.
-pub(crate) fn have_rising_entries(node: &Node) -> bool
+pub(crate) fn have_rising_entries(node: &ListedNode) -> bool
     requires { IsTrue (list_all has_entries_in_order node.now.pieces) }
     ensures { IsTrue result → IsTrue (list_all is_by_grain node.now.pieces) }
 {
@@ -55,7 +55,7 @@ pub(crate) fn have_rising_entries(node: &Node) -> bool
 }
 
 /// Whether no entry is of the grain of the one before it. They stand by grain, so each rises above the one before it then.
-fn has_rising_entries(piece: &Piece) -> bool
+fn has_rising_entries(piece: &ListedPiece) -> bool
     requires { IsTrue (has_entries_in_order piece.now) }
     ensures { IsTrue result → IsTrue (is_by_grain piece.now) }
 {
@@ -65,7 +65,7 @@ fn has_rising_entries(piece: &Piece) -> bool
 }
 
 /// Whether the node has no two entries of one grain. Fails only when memory runs out.
-pub(crate) fn has_one_entry_a_grain(alloc: Global, node: &Node) -> Result<bool, AllocError>
+pub(crate) fn has_one_entry_a_grain(alloc: Global, node: &ListedNode) -> Result<bool, AllocError>
     ensures { IfOk result (λ answer. answer ≡ has_one_entry_a_grain node.now) }
 {
     let grains = entry_grains(alloc, node)?;
@@ -76,7 +76,7 @@ pub(crate) fn has_one_entry_a_grain(alloc: Global, node: &Node) -> Result<bool, 
 /// The grains of the node's entries.
 fn entry_grains<'a, 't>(
     alloc: Global,
-    node: &'a Node<'t>,
+    node: &'a ListedNode<'t>,
 ) -> Result<Vec<&'a LentGrain<'t>>, AllocError>
     ensures { IfOk result (λ grains. grains_lent grains.items ≡ map (λ entry. entry.grain) (node_entries node.now)) }
 {

@@ -19,7 +19,7 @@ use crate::ranges::wrong_pieces;
 use crate::rings::wrong_ring;
 use crate::strangers::stranger;
 use crate::two_firm::twice_firm;
-use dumps::{Dump, Held, Node};
+use dumps::{Dump, ListedHeld, ListedNode};
 use std::alloc::Global;
 
 /// Checks a dump, as `read_dump` reads one and `is_dump` tells of other lists. It says yes exactly where all is right in it; else it
@@ -43,7 +43,7 @@ pub fn check(alloc: Global, dump: &Dump) -> Result<(), CheckFault>
 }
 
 /// Checks activations and entries, where rings and pieces are right.
-fn check_activations(alloc: Global, dump: &Dump, nodes: &[&Node]) -> Result<(), CheckFault>
+fn check_activations(alloc: Global, dump: &Dump, nodes: &[&ListedNode]) -> Result<(), CheckFault>
     requires is_dump { IsTrue (is_dump dump.now) }
     requires live { nodes_lent nodes.now ≡ rule.live_nodes dump.now }
     requires right { IsTrue (list_all (rule.has_right_pieces dump.now) (rule.live_nodes dump.now)) }
@@ -63,8 +63,8 @@ fn check_activations(alloc: Global, dump: &Dump, nodes: &[&Node]) -> Result<(), 
 fn check_entries(
     alloc: Global,
     dump: &Dump,
-    nodes: &[&Node],
-    firm: &[&Held],
+    nodes: &[&ListedNode],
+    firm: &[&ListedHeld],
 ) -> Result<(), CheckFault>
     requires is_dump { IsTrue (is_dump dump.now) }
     requires live { nodes_lent nodes.now ≡ rule.live_nodes dump.now }

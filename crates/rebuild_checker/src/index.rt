@@ -7,7 +7,7 @@ ghost use Rattle.rebuild_checker.specs.Lent.{entries_in, entries_lent, held_lent
 ghost use Rattle.rebuild_checker.specs.Named.{IsIndex, entries_named, entry_named, named_cmp};
 ghost use Rattle.rebuild_checker.specs.Tallies.{count_below, count_up_to};
 
-use dumps::{Entry, Held, LentGrain, Node, Piece};
+use dumps::{ListedEntry, ListedHeld, LentGrain, ListedNode, ListedPiece};
 use silo_address::ActivationId;
 use std::alloc::{AllocError, Global};
 
@@ -17,7 +17,7 @@ pub(crate) type Named<'a> = (ActivationId, &'a LentGrain<'a>);
 /// What the entries of some pieces name, in order: by activation, then grain. Fails only when memory runs out.
 pub(crate) fn index_of_entries<'a>(
     alloc: Global,
-    pieces: &[&'a Piece<'a>],
+    pieces: &[&'a ListedPiece<'a>],
 ) -> Result<Vec<Named<'a>>, AllocError>
     ensures { IfOk result (λ names. IsIndex (entries_in pieces.now) names.items) }
 {
@@ -28,7 +28,7 @@ pub(crate) fn index_of_entries<'a>(
 }
 
 /// The entries of some pieces.
-fn entries_of<'a>(alloc: Global, pieces: &[&'a Piece<'a>]) -> Result<Vec<&'a Entry<'a>>, AllocError>
+fn entries_of<'a>(alloc: Global, pieces: &[&'a ListedPiece<'a>]) -> Result<Vec<&'a ListedEntry<'a>>, AllocError>
     ensures { IfOk result (λ entries. entries_lent entries.items ≡ entries_in pieces.now) }
 {
     pieces
@@ -40,7 +40,7 @@ fn entries_of<'a>(alloc: Global, pieces: &[&'a Piece<'a>]) -> Result<Vec<&'a Ent
 
 fn named_by_entries<'a>(
     alloc: Global,
-    entries: &[&'a Entry<'a>],
+    entries: &[&'a ListedEntry<'a>],
 ) -> Result<Vec<Named<'a>>, AllocError>
     ensures { IfOk result (λ names. entries_named names.items ≡ entries_lent entries.now) }
 {
@@ -54,7 +54,7 @@ fn named_by_entries<'a>(
 /// The activations on some nodes with their grains, in the same order. Fails only when memory runs out.
 pub(crate) fn index_of_held<'a>(
     alloc: Global,
-    nodes: &[&'a Node<'a>],
+    nodes: &[&'a ListedNode<'a>],
 ) -> Result<Vec<Named<'a>>, AllocError>
     ensures { IfOk result (λ names. IsIndex (map rule.entry_of_held (held_on nodes.now)) names.items) }
 {
@@ -65,7 +65,7 @@ pub(crate) fn index_of_held<'a>(
 }
 
 /// The activations on some nodes.
-fn held_on<'a>(alloc: Global, nodes: &[&'a Node<'a>]) -> Result<Vec<&'a Held<'a>>, AllocError>
+fn held_on<'a>(alloc: Global, nodes: &[&'a ListedNode<'a>]) -> Result<Vec<&'a ListedHeld<'a>>, AllocError>
     ensures { IfOk result (λ held. held_lent held.items ≡ held_on nodes.now) }
 {
     nodes
@@ -75,7 +75,7 @@ fn held_on<'a>(alloc: Global, nodes: &[&'a Node<'a>]) -> Result<Vec<&'a Held<'a>
         .collect(alloc)
 }
 
-fn named_by_held<'a>(alloc: Global, held: &[&'a Held<'a>]) -> Result<Vec<Named<'a>>, AllocError>
+fn named_by_held<'a>(alloc: Global, held: &[&'a ListedHeld<'a>]) -> Result<Vec<Named<'a>>, AllocError>
     ensures { IfOk result (λ names. entries_named names.items ≡ map rule.entry_of_held (held_lent held.now)) }
 {
     held.iter()

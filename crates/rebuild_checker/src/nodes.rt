@@ -6,7 +6,7 @@ ghost use Rattle.dump_rules.specs.Verdict as rule;
 ghost use Rattle.rebuild_checker.specs.Lent.{nodes_lent};
 
 use crate::alive::is_dead;
-use dumps::{Dump, Node};
+use dumps::{Dump, ListedNode};
 use std::alloc::{AllocError, Global};
 
 /// The nodes of silos that aren't Dead in the current version of a dump, by silo (`docs/RULES.md#the-dump-and-the-verdict`). Costs a
@@ -14,7 +14,7 @@ use std::alloc::{AllocError, Global};
 pub(crate) fn live_nodes<'a>(
     alloc: Global,
     dump: &'a Dump<'a>,
-) -> Result<Vec<&'a Node<'a>>, AllocError>
+) -> Result<Vec<&'a ListedNode<'a>>, AllocError>
     requires { IsTrue (is_dump dump.now) }
     ensures { IfOk result (λ nodes. nodes_lent nodes.items ≡ rule.live_nodes dump.now) }
 {

@@ -12,7 +12,7 @@ ghost use Rattle.rebuild_checker.specs.Ready.{IsReady, is_right_at_bounds, range
 use crate::cover::{CIRCLE, Cover, count_holding, cover_of, is_apart};
 use crate::entries::{has_one_entry_a_grain, have_entries_inside, have_rising_entries};
 use crate::owners::owns;
-use dumps::{Dump, Node};
+use dumps::{Dump, ListedNode};
 use ring_range::RingRange;
 use silo_address::SiloAddress;
 use std::alloc::{AllocError, Global};
@@ -23,7 +23,7 @@ use std::alloc::{AllocError, Global};
 pub(crate) fn wrong_pieces(
     alloc: Global,
     dump: &Dump,
-    nodes: &[&Node],
+    nodes: &[&ListedNode],
 ) -> Result<Option<SiloAddress>, AllocError>
     requires dump { IsTrue (is_dump dump.now) }
     requires live { nodes_lent nodes.now ≡ live_nodes dump.now }
@@ -40,7 +40,7 @@ pub(crate) fn wrong_pieces(
 
 /// Whether pieces and entries are as they must be. Where no two pieces have a hash in common, two entries of one grain could only stand
 /// in one piece, where their order mostly tells that they don't.
-fn has_right_pieces(alloc: Global, dump: &Dump, node: &Node) -> Result<bool, AllocError>
+fn has_right_pieces(alloc: Global, dump: &Dump, node: &ListedNode) -> Result<bool, AllocError>
     requires { IsReady node.now }
     ensures { IfOk result (λ answer. answer ≡ has_right_pieces dump.now node.now) }
 {
@@ -58,7 +58,7 @@ fn has_right_pieces(alloc: Global, dump: &Dump, node: &Node) -> Result<bool, All
 }
 
 /// The cover of the ranges of the pieces.
-fn node_cover(alloc: Global, node: &Node) -> Result<Cover, AllocError>
+fn node_cover(alloc: Global, node: &ListedNode) -> Result<Cover, AllocError>
     requires { IsReady node.now }
     ensures { IfOk result (λ cover. IsCover (ranges_of node.now) cover) }
 {
@@ -67,14 +67,14 @@ fn node_cover(alloc: Global, node: &Node) -> Result<Cover, AllocError>
 }
 
 /// The ranges of the pieces.
-fn ranges_of(alloc: Global, node: &Node) -> Result<Vec<RingRange>, AllocError>
+fn ranges_of(alloc: Global, node: &ListedNode) -> Result<Vec<RingRange>, AllocError>
     ensures { IfOk result (λ ranges. ranges.items ≡ ranges_of node.now) }
 {
     node.pieces.iter().map(|piece| piece.range).collect(alloc)
 }
 
 /// Whether the pieces hold what the silo owns, at each hash where either may change.
-fn has_its_ranges(node: &Node, cover: &Cover) -> bool
+fn has_its_ranges(node: &ListedNode, cover: &Cover) -> bool
     requires node { IsReady node.now }
     requires cover { IsCover (ranges_of node.now) cover.now }
     ensures { result ≡ has_its_ranges node.now }
@@ -86,7 +86,7 @@ fn has_its_ranges(node: &Node, cover: &Cover) -> bool
 }
 
 /// Whether this is so at each point of the ring.
-fn is_right_at_points(node: &Node, cover: &Cover) -> bool
+fn is_right_at_points(node: &ListedNode, cover: &Cover) -> bool
     requires node { IsReady node.now }
     requires cover { IsCover (ranges_of node.now) cover.now }
     ensures { result ≡ list_all (λ point. is_held_as_owned node.now point.place) node.now.ring }
@@ -100,7 +100,7 @@ fn is_right_at_points(node: &Node, cover: &Cover) -> bool
 }
 
 /// Whether this is so where each piece begins and ends.
-fn is_right_at_pieces(node: &Node, cover: &Cover) -> bool
+fn is_right_at_pieces(node: &ListedNode, cover: &Cover) -> bool
     requires node { IsReady node.now }
     requires cover { IsCover (ranges_of node.now) cover.now }
     ensures { result ≡ list_all (λ piece. is_right_at_bounds node.now piece.range) node.now.pieces }
@@ -114,7 +114,7 @@ fn is_right_at_pieces(node: &Node, cover: &Cover) -> bool
 }
 
 /// Whether this is so where a range begins and ends.
-fn is_right_at_bounds(node: &Node, cover: &Cover, range: RingRange) -> bool
+fn is_right_at_bounds(node: &ListedNode, cover: &Cover, range: RingRange) -> bool
     requires node { IsReady node.now }
     requires cover { IsCover (ranges_of node.now) cover.now }
     ensures { result ≡ is_right_at_bounds node.now range }
@@ -135,7 +135,7 @@ fn end_of(range: RingRange) -> u64
 }
 
 /// Whether one piece holds the hash where the silo owns it, and none elsewhere.
-fn is_held_as_owned(node: &Node, cover: &Cover, hash: u64) -> bool
+fn is_held_as_owned(node: &ListedNode, cover: &Cover, hash: u64) -> bool
     requires node { IsReady node.now }
     requires cover { IsCover (ranges_of node.now) cover.now }
     requires hash { hash < circle }

@@ -9,7 +9,7 @@ ghost use Rattle.rebuild_checker.specs.Lent.{nodes_lent};
 ghost use Rattle.rebuild_checker.specs.Rings.{IsRingOfView, all_points, points_by_row, row_points};
 
 use crate::alive::is_active;
-use dumps::{Dump, ListedPoint, Node, Row};
+use dumps::{Dump, ListedPoint, ListedNode, ListedRow};
 use hash_ring::{Hashing, hash_text};
 use silo_address::SiloAddress;
 use std::alloc::{AllocError, Global};
@@ -27,7 +27,7 @@ struct ViewRing {
 pub(crate) fn wrong_ring(
     alloc: Global,
     dump: &Dump,
-    nodes: &[&Node],
+    nodes: &[&ListedNode],
 ) -> Result<Option<SiloAddress>, AllocError>
     requires { IsTrue (is_dump dump.now) }
     ensures { IfOk result (λ silo. silo ≡ first_failing (has_its_ring dump.now) (nodes_lent nodes.now)) }
@@ -41,7 +41,7 @@ fn first_wrong(
     alloc: Global,
     dump: &Dump,
     points: &[ListedPoint],
-    nodes: &[&Node],
+    nodes: &[&ListedNode],
 ) -> Result<Option<SiloAddress>, AllocError>
     requires dump { IsTrue (is_dump dump.now) }
     requires points { points.now ≡ all_points dump.now }
@@ -127,7 +127,7 @@ fn push_points(
     alloc: Global,
     points: &mut Vec<ListedPoint>,
     dump: &Dump,
-    row: &Row,
+    row: &ListedRow,
 ) -> Result<(), AllocError>
     ensures { OnOk result (points.new.items ≡ points.old.items ++ row_points dump.now row.now) }
 {

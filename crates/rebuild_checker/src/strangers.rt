@@ -8,7 +8,7 @@ ghost use Rattle.rebuild_checker.specs.Named.{entries_named, named_apart_from, n
 
 use crate::index::{Named, find_named, index_of_held};
 use crate::least::least_of;
-use dumps::Node;
+use dumps::ListedNode;
 use silo_address::GrainId;
 use std::alloc::{AllocError, Global};
 
@@ -17,7 +17,7 @@ use std::alloc::{AllocError, Global};
 /// together. Costs a logarithm for each of them and, if there are any, for each activation that is held.
 pub(crate) fn stranger(
     alloc: Global,
-    nodes: &[&Node],
+    nodes: &[&ListedNode],
     passed: &[Named],
 ) -> Result<Option<GrainId>, AllocError>
     ensures { IfOk result (λ found. found ≡ rule.least_grain (map (λ one. one.1.now) (named_apart_from (map rule.entry_of_held (held_on nodes.now)) passed.now))) }

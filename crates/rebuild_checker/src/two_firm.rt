@@ -6,7 +6,7 @@ ghost use Rattle.rebuild_checker.specs.Lent.{held_lent, held_on, nodes_lent};
 
 use crate::firm::{add_firm, firm_among, held_grains};
 use crate::least::{least_of, lesser};
-use dumps::{Held, Node, are_distinct_grains};
+use dumps::{ListedHeld, ListedNode, are_distinct_grains};
 use silo_address::GrainId;
 use std::alloc::{AllocError, Global};
 use std::collections::BTreeSet;
@@ -16,8 +16,8 @@ use std::collections::BTreeSet;
 /// memory runs out.
 pub(crate) fn twice_firm(
     alloc: Global,
-    nodes: &[&Node],
-    firm: &[&Held],
+    nodes: &[&ListedNode],
+    firm: &[&ListedHeld],
 ) -> Result<Option<GrainId>, AllocError>
     requires { held_lent firm.now ≡ filter (λ held. rule.is_firm_phase held.phase) (held_on nodes.now) }
     ensures { IfOk result (λ found. found ≡ rule.least_grain (rule.firm_on_two (nodes_lent nodes.now))) }
@@ -30,7 +30,7 @@ pub(crate) fn twice_firm(
 }
 
 /// The least grain that is firm on two of the nodes, looked for in sets.
-fn least_twice(alloc: Global, nodes: &[&Node]) -> Result<Option<GrainId>, AllocError>
+fn least_twice(alloc: Global, nodes: &[&ListedNode]) -> Result<Option<GrainId>, AllocError>
     ensures { IfOk result (λ found. found ≡ rule.least_grain (rule.firm_on_two (nodes_lent nodes.now))) }
 {
     let mut later = BTreeSet::new(alloc);
