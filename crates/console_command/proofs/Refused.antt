@@ -8,11 +8,11 @@ use Rattle.clap.specs.declared.error.Error.{Error}
 use Rattle.console_command.specs.ClapCommand.{NameList, app, hashing_names}
 use Rattle.console_command.specs.CommandLine.{Reads}
 use Rattle.console_command.specs.LineRefusal.{Refuses}
-use Rattle.console_command.specs.declared.line_error.LineError.{LineError}
-use Rattle.console_command.specs.declared.line_error.LineError.TheVariants as error
+use Rattle.console_command.specs.declared.line_error.CommandLineError.{CommandLineError}
+use Rattle.console_command.specs.declared.line_error.CommandLineError.TheVariants as error
 
 -- what clap refuses is refused, unless memory ran out by one of the faults
-pub refused : (words : List Text) (names : NameList) → texts names.now ≡ hashing_names → (e : Error) (refusal : LineError)
+pub refused : (words : List Text) (names : NameList) → texts names.now ≡ hashing_names → (e : Error) (refusal : CommandLineError)
     → HasKind (fault_of (app names) words) e → Refuses e refusal → Reads words (Err refusal)
 refused words names named e (error.Usage told) kinds refuses = (
   names,

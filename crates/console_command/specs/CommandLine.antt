@@ -19,8 +19,8 @@ use Rattle.silo_address.specs.ReadSilo.{read_silo}
 use Rattle.silo_address.specs.declared.silo.SiloError.{SiloError}
 use Rattle.console_command.specs.declared.command_line.Line.TheVariants.{Play, Threads, Check, Silo}
 use Rattle.console_command.specs.declared.command_line.Options.{Options}
-use Rattle.console_command.specs.declared.line_error.LineError.{LineError}
-use Rattle.console_command.specs.declared.line_error.LineError.TheVariants as error
+use Rattle.console_command.specs.declared.line_error.CommandLineError.{CommandLineError}
+use Rattle.console_command.specs.declared.line_error.CommandLineError.TheVariants as error
 use Rattle.console_command.specs.ClapCommand.{OfCommand}
 use Rattle.console_command.specs.LineRefusal.{IsRequest}
 
@@ -97,7 +97,7 @@ abbrev pub AskToBeTold : List Text → Type 0
 AskToBeTold words = (kind : ErrorKind) × IsRequest kind × HaveFault words kind
 
 -- an accepted line is what the words ask for; a refusal has one of their faults, or the silo that they name is none, or memory ran out
-abbrev pub Reads : List Text → Result Line LineError → Type 0
+abbrev pub Reads : List Text → Result Line CommandLineError → Type 0
 Reads words (Ok line) = AskFor words line
 Reads words (Err (error.Usage e)) = HaveFault words (kind_of e)
 Reads words (Err (error.NoSilo e)) = NameNoSilo words e

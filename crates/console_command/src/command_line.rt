@@ -5,7 +5,7 @@ ghost use Rattle.clap.specs.Simple.{subcommand_rows_of};
 ghost use Rattle.console_command.specs.CommandLine.{IsInRange, Reads, hashing_named, hashing_of, line_in, number_of, options_in, silo_in, silo_text_in};
 ghost use Rattle.console_command.specs.LineRefusal.{Refuses};
 
-use crate::LineError;
+use crate::CommandLineError;
 use crate::clap_command::grain_directory;
 use clap::ArgMatches;
 use clap::error::ErrorKind;
@@ -42,7 +42,7 @@ pub struct Options {
 ///
 /// The error is what clap says of the words, be it a mistake, or the help or the version that they ask for; or why the address of a
 /// silo is none; or that memory ran out.
-pub fn read_line<S: AsStr>(alloc: Global, words: &[S]) -> Result<Line, LineError>
+pub fn read_line<S: AsStr>(alloc: Global, words: &[S]) -> Result<Line, CommandLineError>
     ensures reads { Reads (map S.text words.entry.now) result }
     ensures in_range { IfOk result IsInRange }
 {
@@ -50,7 +50,7 @@ pub fn read_line<S: AsStr>(alloc: Global, words: &[S]) -> Result<Line, LineError
     match command.try_get_matches_from(words) {
         Ok(matches) => match line_in(&matches) {
             Some(Ok(line)) => Ok(line),
-            Some(Err(error)) => Err(LineError::NoSilo(error)),
+            Some(Err(error)) => Err(CommandLineError::NoSilo(error)),
             None => unreachable!(),
         },
         Err(error) => Err(refusal(error)),
@@ -58,12 +58,12 @@ pub fn read_line<S: AsStr>(alloc: Global, words: &[S]) -> Result<Line, LineError
 }
 
 // That memory ran out is told apart from the words' faults.
-fn refusal(error: clap::Error) -> LineError
+fn refusal(error: clap::Error) -> CommandLineError
     ensures { Refuses error result }
 {
     match error.kind() {
-        ErrorKind::OutOfMemory => LineError::OutOfMemory,
-        _ => LineError::Usage(error),
+        ErrorKind::OutOfMemory => CommandLineError::OutOfMemory,
+        _ => CommandLineError::Usage(error),
     }
 }
 

@@ -1,6 +1,6 @@
 ghost use Rattle.std.specs.Prelude.{◌≡◌, ◌↔◌, IsTrue};
 ghost use Rattle.console_command.specs.LineRefusal.{IsAnswer};
-ghost use Rattle.console_command.specs.declared.line_error.LineError.TheVariants.{OutOfMemory};
+ghost use Rattle.console_command.specs.declared.line_error.CommandLineError.TheVariants.{OutOfMemory};
 
 use clap::error::ErrorKind;
 use silo_address::SiloError;
@@ -9,7 +9,7 @@ use thiserror::Error;
 
 /// Why a command line is not carried out.
 #[derive(Debug, Drop, Error)]
-pub enum LineError {
+pub enum CommandLineError {
     /// The words ask for help or for the version, or are not a line of the program; the text is for the user.
     #[error("{0}")]
     Usage(clap::Error),
@@ -21,25 +21,25 @@ pub enum LineError {
     OutOfMemory,
 }
 
-impl LineError {
+impl CommandLineError {
     /// Whether the words asked for help (`--help`, `-h`, `help`) or for the version (`--version`, `-V`), which is no mistake.
     pub fn is_request(&self) -> bool
         ensures { IsTrue result ↔ IsAnswer self.now }
     {
         match self {
-            LineError::Usage(error) => matches!(
+            CommandLineError::Usage(error) => matches!(
                 error.kind(),
                 ErrorKind::DisplayHelp | ErrorKind::DisplayVersion
             ),
-            LineError::NoSilo(_) | LineError::OutOfMemory => false,
+            CommandLineError::NoSilo(_) | CommandLineError::OutOfMemory => false,
         }
     }
 }
 
-impl From<AllocError> for LineError {
+impl From<AllocError> for CommandLineError {
     ghost from_gives = { λ _ e. e ≡ OutOfMemory };
 
-    fn from(_error: AllocError) -> LineError {
-        LineError::OutOfMemory
+    fn from(_error: AllocError) -> CommandLineError {
+        CommandLineError::OutOfMemory
     }
 }

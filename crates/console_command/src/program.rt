@@ -18,7 +18,7 @@ ghost use Rattle.console_command.specs.Outcome.{Carries, CarriesByCalls, Carries
 use crate::errors::{
     tell, tell_check, tell_end, tell_failed_call, tell_no_memory, tell_silo, tell_threads, words_or,
 };
-use crate::{Exit, Line, LineError, Options, judge, play_new_silo, play_to_new_cluster, read_line};
+use crate::{Exit, Line, CommandLineError, Options, judge, play_new_silo, play_to_new_cluster, read_line};
 use directory_rules::Settings;
 use process_loop::Stopped;
 use script_loop::{Ended, Sink, Source, send};
@@ -176,7 +176,7 @@ fn chosen_settings(options: Options) -> Settings
 // Prints the help or the version that the words ask for, or tells what is wrong with them.
 fn explain<W: Sink, E: Sink>(
     alloc: Global,
-    error: &LineError,
+    error: &CommandLineError,
     output: &mut W,
     errors: &mut E,
 ) -> Exit
@@ -186,7 +186,7 @@ fn explain<W: Sink, E: Sink>(
     ensures calls { WritesAnswer W.writes output.old output.new result }
     ensures told { IsTold E.writes E.contents result errors.old errors.new }
 {
-    if let LineError::OutOfMemory = error {
+    if let CommandLineError::OutOfMemory = error {
         return tell_no_memory(errors);
     }
     let Ok(text) = error.to_string(alloc) else {
