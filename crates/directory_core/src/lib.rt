@@ -27,5 +27,5 @@ pub use hash_ring::Hashing;
 pub use membership_view::{Status, Views};
 pub use refusal::EventRefusal;
 pub use silo_address::{ActivationId, Entry, GrainId, SiloAddress};
-pub use told::Told;
+pub use told::EventResult;
 pub use world::World;

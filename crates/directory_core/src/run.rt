@@ -7,7 +7,7 @@ ghost use Rattle.directory_rules.specs.Run.{run, told_of, world_after};
 ghost use Rattle.dump_headline.specs.Told.{IsRightlyTold};
 ghost use Rattle.directory_core.specs.PlainSteps.{AllMovePlainly, MovesBy};
 
-use crate::{Told, World};
+use crate::{EventResult, World};
 use directory_rules::Event;
 use std::alloc::{AllocError, Global};
 
@@ -18,7 +18,7 @@ impl World {
     /// The headline holds of the world that is left, and each accepted event is the step of the plain machine that it tells
     /// (`docs/RULES.md#what-is-to-hold-of-the-world`); the dump of that world is right
     /// (`docs/RULES.md#the-dump-and-the-verdict`).
-    pub fn run(&mut self, alloc: Global, events: &[Event]) -> Result<Vec<Told>, AllocError>
+    pub fn run(&mut self, alloc: Global, events: &[Event]) -> Result<Vec<EventResult>, AllocError>
         ensures told { IfOk result (λ told. told.items ≡ (run self.old (map event_of events.now)).told) }
         ensures world { OnOk result (self.new ≡ (run self.old (map event_of events.now)).world) }
         ensures plain { OnOk result (AllMovePlainly self.old (map event_of events.now)) }
@@ -35,7 +35,7 @@ impl World {
     }
 
     // The next event of a run happens, and is told. Fails only when memory runs out; then the event has happened or not.
-    fn tell_next(&mut self, event: &Event, told: &mut Vec<Told>) -> Result<(), AllocError>
+    fn tell_next(&mut self, event: &Event, told: &mut Vec<EventResult>) -> Result<(), AllocError>
         ensures told { OnOk result (told.new.items ≡ told.old.items ++ told_of (happens self.old (event_of event.now)) ∷ []) }
         ensures world { OnOk result (self.new ≡ world_after (happens self.old (event_of event.now)) self.old) }
         ensures stopped { OnErr result ((self.new ≡ self.old) ⊎ (self.new ≡ world_after (happens self.old (event_of event.now)) self.old)) }
@@ -51,7 +51,7 @@ impl World {
     }
 
     // The next event of a run happens: what it told, or why it was refused. Fails only when memory runs out.
-    fn apply_next(&mut self, event: &Event) -> Result<Told, AllocError>
+    fn apply_next(&mut self, event: &Event) -> Result<EventResult, AllocError>
         ensures told { IfOk result (λ told. told ≡ told_of (happens self.old (event_of event.now))) }
         ensures world { OnOk result (self.new ≡ world_after (happens self.old (event_of event.now)) self.old) }
         ensures unchanged { OnErr result (self.new ≡ self.old) }
@@ -60,9 +60,9 @@ impl World {
         ensures right { IsRightlyTold self.new }
     {
         match self.apply(event) {
-            Ok(outcome) => Ok(Told::new(Ok(outcome))),
+            Ok(outcome) => Ok(EventResult::new(Ok(outcome))),
             Err(refusal) => match refusal.number() {
-                Some(_) => Ok(Told::new(Err(refusal))),
+                Some(_) => Ok(EventResult::new(Err(refusal))),
                 None => Err(AllocError),
             },
         }

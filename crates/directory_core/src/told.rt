@@ -8,11 +8,11 @@ use std::marker::Model;
 
 /// What an event of a run told: its outcome, or why it was refused.
 #[derive(Drop)]
-pub struct Told {
+pub struct EventResult {
     result: Result<Outcome, EventRefusal>,
 }
 
-impl Model for Told {
+impl Model for EventResult {
     ghost use Rattle.std.specs.Prelude.{ℕ, Result};
     ghost use Rattle.directory_rules.specs.declared.outcome.Outcome.{Outcome};
 
@@ -28,13 +28,13 @@ impl Model for Told {
     ghost invariant = { λ t. IfErr t.result (λ refusal. IsSome (event_refusal_number refusal)) };
 }
 
-impl Told {
+impl EventResult {
     // That was told.
-    pub(crate) fn new(told: Result<Outcome, EventRefusal>) -> Told
+    pub(crate) fn new(told: Result<Outcome, EventRefusal>) -> EventResult
         requires { IfErr told (λ refusal. IsSome (event_refusal_number refusal)) }
         ensures { result ≡ told_as told }
     {
-        Told { result: told }
+        EventResult { result: told }
     }
 
     /// The outcome, or why the event was refused, by a refusal with a number.
