@@ -8,8 +8,8 @@ use Rattle.directory_rules.specs.Settings.{Settings}
 use Rattle.silo_rules.specs.SiloValue.{SiloValue, first_silo}
 use Rattle.process_loop.specs.Answering.{AnswersLine, MayLackMemory}
 use Rattle.process_answers.specs.ProcessSettings.{process_settings}
-use Rattle.silo_library.specs.declared.status.Status.{Status}
-use Rattle.silo_library.specs.declared.status.Status.TheVariants as status
+use Rattle.silo_library.specs.declared.status.CallStatus.{CallStatus}
+use Rattle.silo_library.specs.declared.status.CallStatus.TheVariants as status
 
 -- a silo, what it answered to the last line, and whether it answers no more
 pub record OpenSiloValue : Type 0 where
@@ -42,7 +42,7 @@ pub record Opens (address : List ℕ) (hashing points cache : ℕ) (it : OpenSil
   pub first : it ≡ first_open (process_settings way points cache) silo
 
 -- what is wrong with them: the first that applies of no silo, no way of hashing and a number out of its range; or else memory ran out
-abbrev pub RefusesToOpen : (address : List ℕ) (hashing points cache : ℕ) → Status → Type 0
+abbrev pub RefusesToOpen : (address : List ℕ) (hashing points cache : ℕ) → CallStatus → Type 0
 RefusesToOpen address hashing points cache status.NotASilo = IsErr (read_silo address)
 RefusesToOpen address hashing points cache status.NoSuchHashing = IsOk (read_silo address) × (hashing_of hashing ≡ None)
 RefusesToOpen address hashing points cache status.OutOfRange = IsOk (read_silo address) × IsSome (hashing_of hashing) × ¬ (AreInRange points cache)
@@ -51,7 +51,7 @@ RefusesToOpen address hashing points cache other = ⊥
 
 -- ---- Answering.
 -- a line makes this of an open silo, which tells so by its status
-abbrev pub Answers : (old : OpenSiloValue) (line : List ℕ) (new : OpenSiloValue) → Status → Type 0
+abbrev pub Answers : (old : OpenSiloValue) (line : List ℕ) (new : OpenSiloValue) → CallStatus → Type 0
 Answers old line new status.GoesOn = (old.ended ≡ false) × AnswersLine old.silo line [] new.silo new.answer false × (new.ended ≡ false)
 Answers old line new status.Dead = (old.ended ≡ false) × AnswersLine old.silo line [] new.silo new.answer true × (new.ended ≡ true)
 Answers old line new status.OutOfMemory = (old.ended ≡ false) × MayLackMemory old.silo line × (new.answer ≡ []) × (new.ended ≡ true)
@@ -59,7 +59,7 @@ Answers old line new status.Ended = (old.ended ≡ true) × (new ≡ record old 
 Answers old line new other = ⊥
 
 -- ---- The numbers of statuses.
-abbrev pub status_number : Status → ℕ
+abbrev pub status_number : CallStatus → ℕ
 status_number status.GoesOn = 0
 status_number status.Dead = 1
 status_number status.Ended = 2
@@ -70,8 +70,8 @@ status_number status.OutOfRange = 6
 
 -- that number tells why nothing was opened
 abbrev pub TellsRefusal : (address : List ℕ) (hashing points cache number : ℕ) → Type 0
-TellsRefusal address hashing points cache number = (status : Status) × RefusesToOpen address hashing points cache status × (number ≡ status_number status)
+TellsRefusal address hashing points cache number = (status : CallStatus) × RefusesToOpen address hashing points cache status × (number ≡ status_number status)
 
 -- that number tells what the line made of the open silo
 abbrev pub TellsAnswer : (old : OpenSiloValue) (line : List ℕ) (new : OpenSiloValue) (number : ℕ) → Type 0
-TellsAnswer old line new number = (status : Status) × Answers old line new status × (number ≡ status_number status)
+TellsAnswer old line new number = (status : CallStatus) × Answers old line new status × (number ≡ status_number status)

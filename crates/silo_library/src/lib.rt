@@ -14,7 +14,7 @@ mod status;
 mod text;
 
 pub use open_silo::{OpenSilo, may_cross};
-pub use status::Status;
+pub use status::CallStatus;
 pub use text::Text;
 
 /// Opens the silo of a text, under the way of hashing that has the number, with so many points and a cache of so many hints, and

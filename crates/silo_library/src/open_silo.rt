@@ -3,7 +3,7 @@
 ghost use Rattle.std.specs.Prelude.{◌≡◌, IfErr, IfOk};
 ghost use Rattle.silo_library.specs.OpenSiloValue.{Answers, Opens, RefusesToOpen, TellsAnswer, TellsRefusal, first_open, hashing_of};
 
-use crate::Status;
+use crate::CallStatus;
 use directory_rules::Settings;
 use directory_silo::Silo;
 use hash_ring::Hashing;
@@ -56,22 +56,22 @@ impl OpenSilo {
         hashing: u32,
         points: usize,
         cache: usize,
-    ) -> Result<Box<OpenSilo>, Status>
+    ) -> Result<Box<OpenSilo>, CallStatus>
         ensures opened { IfOk result (λ it. Opens address.now hashing points cache it.value) }
         ensures refused { IfErr result (λ status. RefusesToOpen address.now hashing points cache status) }
     {
         let Ok(silo) = SiloAddress::parse(address) else {
-            return Err(Status::NotASilo);
+            return Err(CallStatus::NotASilo);
         };
         let Some(hashing) = hashing_of(hashing) else {
-            return Err(Status::NoSuchHashing);
+            return Err(CallStatus::NoSuchHashing);
         };
         let Some(settings) = process_settings(hashing, points, cache) else {
-            return Err(Status::OutOfRange);
+            return Err(CallStatus::OutOfRange);
         };
         match first(alloc, settings, silo) {
             Ok(it) => Ok(it),
-            Err(_) => Err(Status::OutOfMemory),
+            Err(_) => Err(CallStatus::OutOfMemory),
         }
     }
 
@@ -83,22 +83,22 @@ impl OpenSilo {
     }
 
     // The same, with the status by its name.
-    fn answered(&mut self, line: &[u8]) -> Status
+    fn answered(&mut self, line: &[u8]) -> CallStatus
         ensures { Answers self.old line.now self.new result }
     {
         self.answer.clear();
         if self.ended {
-            return Status::Ended;
+            return CallStatus::Ended;
         }
         match self.player.answer_line(self.alloc, line, &mut self.answer) {
-            Ok(false) => Status::GoesOn,
+            Ok(false) => CallStatus::GoesOn,
             Ok(true) => {
                 self.ended = true;
-                Status::Dead
+                CallStatus::Dead
             }
             Err(_) => {
                 self.ended = true;
-                Status::OutOfMemory
+                CallStatus::OutOfMemory
             }
         }
     }

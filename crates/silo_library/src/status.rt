@@ -3,7 +3,7 @@ ghost use Rattle.silo_library.specs.OpenSiloValue.{status_number};
 
 /// What the functions of the library answer, besides the lines (`docs/DEPLOYMENT.md#from-other-languages`).
 #[derive(Clone, Copy)]
-pub enum Status {
+pub enum CallStatus {
     /// The silo is open, or has answered the line and goes on.
     GoesOn,
     /// The silo has answered the line, by which it is dead: it answers no more.
@@ -20,19 +20,19 @@ pub enum Status {
     OutOfRange,
 }
 
-impl Status {
+impl CallStatus {
     /// The number by which C knows it.
     pub(crate) fn number(self) -> u32
         ensures { result ≡ status_number self }
     {
         match self {
-            Status::GoesOn => 0,
-            Status::Dead => 1,
-            Status::Ended => 2,
-            Status::OutOfMemory => 3,
-            Status::NotASilo => 4,
-            Status::NoSuchHashing => 5,
-            Status::OutOfRange => 6,
+            CallStatus::GoesOn => 0,
+            CallStatus::Dead => 1,
+            CallStatus::Ended => 2,
+            CallStatus::OutOfMemory => 3,
+            CallStatus::NotASilo => 4,
+            CallStatus::NoSuchHashing => 5,
+            CallStatus::OutOfRange => 6,
         }
     }
 }

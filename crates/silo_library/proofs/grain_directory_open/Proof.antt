@@ -54,7 +54,7 @@ use Rattle.std.specs.Prelude.{IfOk, IfErr}
 use Rattle.std.specs.contracts.result.Result as result
 use Rattle.silo_library.specs.OpenSiloValue.{OpenSiloValue, Opens, TellsRefusal}
 use Rattle.silo_library.specs.Handle.{has_opened, is_handle}
-use Rattle.silo_library.specs.declared.status.Status.TheVariants as status
+use Rattle.silo_library.specs.declared.status.CallStatus.TheVariants as status
 use Rattle.std.specs.contracts.boxed.Box.{the_row as box_row}
 use Rattle.std.specs.Box.Ownership.{box_owns}
 use Rattle.std.proofs.ResultValues.{and_tt}
