@@ -3,7 +3,7 @@ use Rattle.std.specs.Prelude.{◌≡◌, ℕ, List, Option, Some, None}
 use Rattle.texts.specs.Printed.{Output}
 use Rattle.dump_rules.specs.Judgement.{refused_by}
 use Rattle.dumps.specs.ReadNumbers.{read_error_number}
-use Rattle.dumps.specs.declared.error.ReadError.{ReadError}
+use Rattle.dumps.specs.declared.error.DumpError.{DumpError}
 use Rattle.console_command.specs.declared.checked.Checked.{Checked}
 use Rattle.console_command.specs.declared.checked.Checked.TheVariants.{Right, Faulty}
 
@@ -19,5 +19,5 @@ IsSaidOf None text checked = ⊥
 IsSaidOf (Some number) text checked = IsSaid (refused_by number) text checked
 
 -- where no dump was read, the number of the refusal is said
-abbrev pub IsRefusal : ReadError → (text : List ℕ) → Checked → Type 0
+abbrev pub IsRefusal : DumpError → (text : List ℕ) → Checked → Type 0
 IsRefusal error = IsSaidOf (read_error_number error)

@@ -7,7 +7,7 @@ ghost use Rattle.dump_rules.specs.Judgement.{judgement_of};
 ghost use Rattle.console_command.specs.Verdicts.{IsRefusal, IsSaid};
 
 use crate::Checked;
-use rebuild_checker::{Dump, ReadError, check, read_dump, verdict_text};
+use rebuild_checker::{Dump, DumpError, check, read_dump, verdict_text};
 use std::alloc::{AllocError, Global};
 
 /// What is said of the bytes, and how the check ends once it is written: all is right, or not.
@@ -34,7 +34,7 @@ fn judge_dump(alloc: Global, dump: &Dump) -> Result<(String, Checked), AllocErro
 }
 
 // What is said where no dump was read: the number of the refusal.
-fn refuse(alloc: Global, error: ReadError) -> Result<(String, Checked), AllocError>
+fn refuse(alloc: Global, error: DumpError) -> Result<(String, Checked), AllocError>
     ensures { IfOk result (λ judged. IsRefusal error (string_bytes judged.0) judged.1) }
 {
     let Some(number) = error.number() else {

@@ -9,7 +9,7 @@ use Rattle.json.proofs.Grammar.{value_is, value-begin_array, value-begin_object,
 use Rattle.serde_json.specs.Data.{Data, unsigned, number, string, array, object, Items, no_items, item, Members, no_members, put}
 use Rattle.serde_json.specs.Read.{of_json, of_items, of_members, converted, number_of, read}
 use Rattle.dump_rules.specs.Values.{items_in, list_in, number_in}
-use Rattle.dumps.specs.declared.error.ReadError.{ReadError}
+use Rattle.dumps.specs.declared.error.DumpError.{DumpError}
 use Rattle.dumps.specs.Straight.{IsAt, Tells, AreItems, TellItems}
 
 -- ---- what was converted: what it came from, and what it gives
@@ -150,7 +150,7 @@ straight_told reads deep text ts r x low is over one = (one.0, read_whole text d
 pub number_told : (ts : List Token) (s : List ℕ) (r : List Token) (n : ℕ) → ts ≡ Token.number s ∷ r → number_of s ≡ Some (unsigned n) → Tells number_in 0 ts n r
 number_told ts s r n is told = (number (unsigned n), number_at ts s r n is told, refl)
 
-pub list_if : {A X : Type 0} (see : A → List X) (reads : Data → Option X) (deep : ℕ) (ts r rest : List Token) (result : Result A ReadError)
+pub list_if : {A X : Type 0} (see : A → List X) (reads : Data → Option X) (deep : ℕ) (ts r rest : List Token) (result : Result A DumpError)
     → ts ≡ Token.begin_array ∷ r → IfOk result (λ list. TellItems reads deep r (see list) rest) → IfOk result (λ list. Tells (list_in reads) (suc deep) ts (see list) rest)
 list_if see reads deep ts r rest (Ok list) is more = list_told reads deep ts r (see list) rest is more
 list_if see reads deep ts r rest (Err e) is more = tt

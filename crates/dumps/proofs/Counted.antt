@@ -10,7 +10,7 @@ use Rattle.serde_json.specs.declared.value.Value.{Value}
 use Rattle.serde_json.proofs.Views.{Entry, members_len-members_view}
 use Rattle.dump_rules.specs.Values.{members_in, two_items, three_items}
 use Rattle.dumps.specs.ReadAs.{IsReadingBy}
-use Rattle.dumps.specs.declared.error.ReadError.TheVariants.{NotADump}
+use Rattle.dumps.specs.declared.error.DumpError.TheVariants.{NotADump}
 
 -- what stands there, or nothing
 pub found_or_not : {A B : Type 0} (see : A → B) (found : Option A) (told : Option B) → option_map see found ≡ told → IsReadingBy see (ok_or found NotADump) told

@@ -15,7 +15,7 @@ use Rattle.serde_json.proofs.Views.{get_member-put}
 use Rattle.dump_rules.specs.Values.{member_in}
 use Rattle.dumps.specs.ReadAs.{IsReadingBy}
 use Rattle.dumps.specs.Straight.{IsAt, TellsBy}
-use Rattle.dumps.specs.declared.error.ReadError.{ReadError}
+use Rattle.dumps.specs.declared.error.DumpError.{DumpError}
 use Rattle.dumps.specs.MembersRead.{AreRead, IsApart, IsRead, Stands, filled}
 use Rattle.dumps.specs.MemberNames.{text_of_name}
 use Rattle.dumps.specs.declared.member_name.MemberName.{MemberName}
@@ -155,7 +155,7 @@ module _ {S : Type 0} (stands : S → Members → Type 0) (names : S → List (L
   }
 
 -- ---- a text that was read
-pub text_if : {X Y : Type 0} (reads : Data → Option Y) (see : X → Y) (ts : List Token) (text lent : List ℕ) (rest : List Token) (result : Result X ReadError)
+pub text_if : {X Y : Type 0} (reads : Data → Option Y) (see : X → Y) (ts : List Token) (text lent : List ℕ) (rest : List Token) (result : Result X DumpError)
     → ts ≡ Token.string text ∷ rest → lent ≡ text → IsReadingBy see result (reads (string lent)) → IfOk result (λ x. TellsBy (λ value x. reads value ≡ Some (see x)) 0 ts x rest)
 text_if reads see ts text lent rest (Ok x) is same told = text_told reads ts text lent rest (see x) is same told
 text_if reads see ts text lent rest (Err e) is same told = tt

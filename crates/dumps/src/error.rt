@@ -6,7 +6,7 @@ use thiserror::Error;
 
 /// Why no dump was read from bytes.
 #[derive(Clone, Copy, Debug, PartialEq, Eq, Error)]
-pub enum ReadError {
+pub enum DumpError {
     /// The bytes are not UTF-8, or not one JSON value nested at most 127 deep.
     #[error("a dump is one JSON value, nested at most 127 deep")]
     NotJson,
@@ -18,37 +18,37 @@ pub enum ReadError {
     OutOfMemory,
 }
 
-impl ReadError {
+impl DumpError {
     /// The number by which users know the refusal, 971 or 972; none where memory ran out.
     pub fn number(self) -> Option<u16>
         ensures { result ≡ read_error_number self }
     {
         match self {
-            ReadError::NotJson => Some(971),
-            ReadError::NotADump => Some(972),
-            ReadError::OutOfMemory => None,
+            DumpError::NotJson => Some(971),
+            DumpError::NotADump => Some(972),
+            DumpError::OutOfMemory => None,
         }
     }
 }
 
-impl From<AllocError> for ReadError {
+impl From<AllocError> for DumpError {
     ghost use Rattle.std.specs.Prelude.{◌≡◌};
-    ghost use Rattle.dumps.specs.declared.error.ReadError.TheVariants.{OutOfMemory};
+    ghost use Rattle.dumps.specs.declared.error.DumpError.TheVariants.{OutOfMemory};
 
     ghost from_gives = { λ _ error. error ≡ OutOfMemory };
 
-    fn from(_failure: AllocError) -> ReadError {
-        ReadError::OutOfMemory
+    fn from(_failure: AllocError) -> DumpError {
+        DumpError::OutOfMemory
     }
 }
 
-impl<T: Drop> From<AllocFailed<T>> for ReadError {
+impl<T: Drop> From<AllocFailed<T>> for DumpError {
     ghost use Rattle.std.specs.Prelude.{◌≡◌};
-    ghost use Rattle.dumps.specs.declared.error.ReadError.TheVariants.{OutOfMemory};
+    ghost use Rattle.dumps.specs.declared.error.DumpError.TheVariants.{OutOfMemory};
 
     ghost from_gives = { λ _ error. error ≡ OutOfMemory };
 
-    fn from(_failure: AllocFailed<T>) -> ReadError {
-        ReadError::OutOfMemory
+    fn from(_failure: AllocFailed<T>) -> DumpError {
+        DumpError::OutOfMemory
     }
 }

@@ -29,7 +29,7 @@ mod words;
 pub use distinct::{are_distinct, are_in_order, set_of};
 pub use dump::{Dump, ListedEntry, ListedHeld, ListedPoint, ListedNode, ListedPhase, ListedPiece, ListedRow, ListedState};
 pub use dump_text::{write_dump, write_node};
-pub use error::ReadError;
+pub use error::DumpError;
 pub use lent_grain::LentGrain;
 pub use mixed::are_distinct_grains;
 pub use shape::is_dump;

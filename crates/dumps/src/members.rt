@@ -6,9 +6,9 @@ ghost use Rattle.json.specs.Token.{key};
 ghost use Rattle.serde_json.specs.Data.{Data, Members, no_members, put};
 ghost use Rattle.dumps.specs.MemberNames.{text_of_name};
 ghost use Rattle.dumps.specs.MembersRead.{AreRead, BeginsObject, IsApart, IsRead, Stands, filled};
-ghost use Rattle.dumps.specs.declared.error.ReadError.TheVariants.{NotADump, OutOfMemory};
+ghost use Rattle.dumps.specs.declared.error.DumpError.TheVariants.{NotADump, OutOfMemory};
 
-use crate::ReadError;
+use crate::DumpError;
 use crate::member_name::MemberName;
 use crate::plain_text::PlainText;
 use crate::read_text::ReadText;
@@ -25,7 +25,7 @@ pub(crate) trait ReadMembers<'a>: Drop {
     ghost deep: { ℕ };
 
     /// Reads the next member. It has to be one of these, and not to have been read.
-    fn read_next(&mut self, alloc: Global, reader: &mut PlainText<'a>) -> Result<(), ReadError>
+    fn read_next(&mut self, alloc: Global, reader: &mut PlainText<'a>) -> Result<(), DumpError>
         ensures { OnOk result (IsRead stands names many deep self.old self.new reader.old reader.new) };
 
     /// A law: what has been read stands on when a member of another name is found.
@@ -46,10 +46,10 @@ impl<'a> ReadMembers<'a> for NoMember {
 
     ghost deep = { 0 };
 
-    fn read_next(&mut self, _alloc: Global, _reader: &mut PlainText<'a>) -> Result<(), ReadError>
+    fn read_next(&mut self, _alloc: Global, _reader: &mut PlainText<'a>) -> Result<(), DumpError>
         ensures { result ≡ Err NotADump }
     {
-        Err(ReadError::NotADump)
+        Err(DumpError::NotADump)
     }
 
     fn stand_on(&self) {}
@@ -87,7 +87,7 @@ impl<T: Drop, R: Drop> Member<T, R> {
 
     /// The value, if it has been read, and the others.
     #[inline(always)]
-    pub(crate) fn read(self) -> Result<(T, R), ReadError>
+    pub(crate) fn read(self) -> Result<(T, R), DumpError>
         ensures value { IfOk result (λ parts. self.value ≡ Some parts.0) }
         ensures others { IfOk result (λ parts. self.others ≡ parts.1) }
         ensures needs_no_memory { result ≢ Err OutOfMemory }
@@ -95,7 +95,7 @@ impl<T: Drop, R: Drop> Member<T, R> {
         let Member { value, others, .. } = self;
         match value {
             Some(value) => Ok((value, others)),
-            None => Err(ReadError::NotADump),
+            None => Err(DumpError::NotADump),
         }
     }
 }
@@ -110,7 +110,7 @@ impl<'a, T: ReadText<'a>, R: ReadMembers<'a>> ReadMembers<'a> for Member<T, R> {
     ghost deep = { max T.deep R.deep };
 
     #[inline]
-    fn read_next(&mut self, alloc: Global, reader: &mut PlainText<'a>) -> Result<(), ReadError> {
+    fn read_next(&mut self, alloc: Global, reader: &mut PlainText<'a>) -> Result<(), DumpError> {
         if !self.takes_name(reader) {
             return self.others.read_next(alloc, reader);
         }
@@ -130,7 +130,7 @@ pub(crate) fn read_members<'a, M: ReadMembers<'a>>(
     alloc: Global,
     members: &mut M,
     reader: &mut PlainText<'a>,
-) -> Result<(), ReadError>
+) -> Result<(), DumpError>
     requires none { M.stands members.old no_members }
     requires unread { M.many members.old ≡ 0 }
     ensures read { OnOk result (AreRead M.stands M.names M.many M.deep members.old members.new reader.old reader.new) }

@@ -14,10 +14,10 @@ ghost use Rattle.json.specs.Word.{is_space};
 ghost use Rattle.json.specs.Token.{begin_array, begin_object, end_array, end_object, key, string};
 ghost use Rattle.dump_rules.specs.Values.{number_in};
 ghost use Rattle.dumps.specs.Straight.{Tells};
-ghost use Rattle.dumps.specs.declared.error.ReadError.TheVariants.{OutOfMemory};
+ghost use Rattle.dumps.specs.declared.error.DumpError.TheVariants.{OutOfMemory};
 ghost use Rattle.dumps.specs.PlainText.{AreDigitsOf, IsBegun, IsNamed, IsQuoted, StandsFor, behind_blanks, ends_value, is_plain_byte, keeps_its_meaning};
 
-use crate::ReadError;
+use crate::DumpError;
 use memchr::memchr;
 use std::alloc::Global;
 use std::borrow::CowSlice;
@@ -66,7 +66,7 @@ impl<'a> PlainText<'a> {
     }
 
     /// Takes the brace that opens an object.
-    pub(crate) fn begin_members(&mut self) -> Result<(), ReadError>
+    pub(crate) fn begin_members(&mut self) -> Result<(), DumpError>
         ensures taken { OnOk result (self.old ≡ begin_object ∷ self.new) }
         ensures needs_no_memory { result ≢ Err OutOfMemory }
     {
@@ -90,7 +90,7 @@ impl<'a> PlainText<'a> {
     }
 
     /// Takes the bracket that opens a list.
-    pub(crate) fn begin_items(&mut self) -> Result<(), ReadError>
+    pub(crate) fn begin_items(&mut self) -> Result<(), DumpError>
         ensures taken { OnOk result (self.old ≡ begin_array ∷ self.new) }
         ensures needs_no_memory { result ≢ Err OutOfMemory }
     {
@@ -114,14 +114,14 @@ impl<'a> PlainText<'a> {
     }
 
     /// Takes the bracket that closes a list.
-    pub(crate) fn end_items(&mut self) -> Result<(), ReadError>
+    pub(crate) fn end_items(&mut self) -> Result<(), DumpError>
         ensures taken { OnOk result (after_end_array self.old ≡ Some self.new) }
         ensures needs_no_memory { result ≢ Err OutOfMemory }
     {
         if self.take_end_array() {
             Ok(())
         } else {
-            Err(ReadError::NotADump)
+            Err(DumpError::NotADump)
         }
     }
 
@@ -144,13 +144,13 @@ impl<'a> PlainText<'a> {
     }
 
     /// Takes a string. It is lent from the text where each of its bytes stands for itself there.
-    pub(crate) fn text(&mut self, alloc: Global) -> Result<CowSlice<'a, u8>, ReadError>
+    pub(crate) fn text(&mut self, alloc: Global) -> Result<CowSlice<'a, u8>, DumpError>
         ensures { IfOk result (λ text. self.old ≡ string (cow_slice_items text) ∷ self.new) }
     {
         let quoted = opened(self.rest, self.place, b'"')?;
         let (text, rest) = string(alloc, &mut self.scratch, quoted)?;
         if !ends_value(rest) {
-            return Err(ReadError::NotADump);
+            return Err(DumpError::NotADump);
         }
         self.rest = rest;
         self.place = Place::AfterValue;
@@ -158,20 +158,20 @@ impl<'a> PlainText<'a> {
     }
 
     /// Takes a number below 2^64 that is written in digits alone.
-    pub(crate) fn number(&mut self) -> Result<u64, ReadError>
+    pub(crate) fn number(&mut self) -> Result<u64, DumpError>
         ensures taken { IfOk result (λ value. Tells number_in 0 self.old value self.new) }
         ensures needs_no_memory { result ≢ Err OutOfMemory }
     {
         let Some(begun) = begun(self.rest, self.place) else {
-            return Err(ReadError::NotADump);
+            return Err(DumpError::NotADump);
         };
         let end = digits_end(begun);
         let rest = &begun[end..];
         if !ends_value(rest) {
-            return Err(ReadError::NotADump);
+            return Err(DumpError::NotADump);
         }
         let Ok(value) = number_up_to(&begun[..end], u64::MAX) else {
-            return Err(ReadError::NotADump);
+            return Err(DumpError::NotADump);
         };
         self.rest = rest;
         self.place = Place::AfterValue;
@@ -188,16 +188,16 @@ impl<'a> PlainText<'a> {
 
 /// The bytes behind the mark with which a value or a name begins.
 #[inline(always)]
-fn opened(bytes: &[u8], place: Place, mark: u8) -> Result<&[u8], ReadError>
+fn opened(bytes: &[u8], place: Place, mark: u8) -> Result<&[u8], DumpError>
     ensures begun { IfOk result (λ rest. IsBegun place bytes.now (mark ∷ rest.now)) }
     ensures needs_no_memory { result ≢ Err OutOfMemory }
 {
     let Some(begun) = begun(bytes, place) else {
-        return Err(ReadError::NotADump);
+        return Err(DumpError::NotADump);
     };
     match behind(begun, mark) {
         Some(rest) => Ok(rest),
-        None => Err(ReadError::NotADump),
+        None => Err(DumpError::NotADump),
     }
 }
 
@@ -298,11 +298,11 @@ fn string<'a>(
     alloc: Global,
     scratch: &mut Vec<u8>,
     bytes: &'a [u8],
-) -> Result<(CowSlice<'a, u8>, &'a [u8]), ReadError>
+) -> Result<(CowSlice<'a, u8>, &'a [u8]), DumpError>
     ensures { IfOk result (λ parts. IsQuoted bytes.now (cow_slice_items parts.0) parts.1.now) }
 {
     let Some(end) = memchr(b'"', bytes) else {
-        return Err(ReadError::NotADump);
+        return Err(DumpError::NotADump);
     };
     let text = &bytes[..end];
     if are_plain(text) {
@@ -316,7 +316,7 @@ fn string<'a>(
 /// The bytes of such a string in which some are escaped, part by part, and what comes behind it. It stands apart, as few strings are
 /// so.
 #[inline(never)]
-fn unescape<'a>(bytes: &'a [u8], text: &mut Vec<u8>) -> Result<&'a [u8], ReadError>
+fn unescape<'a>(bytes: &'a [u8], text: &mut Vec<u8>) -> Result<&'a [u8], DumpError>
     ensures { IfOk result (λ rest. IsQuoted bytes.now text.new.items rest.now) }
 {
     text.clear();
@@ -327,12 +327,12 @@ fn unescape<'a>(bytes: &'a [u8], text: &mut Vec<u8>) -> Result<&'a [u8], ReadErr
         left = rest;
     }
     let Some((part, marked)) = up_to_mark(left) else {
-        return Err(ReadError::NotADump);
+        return Err(DumpError::NotADump);
     };
     text.extend_from_slice(part)?;
     match behind(marked, b'"') {
         Some(rest) => Ok(rest),
-        None => Err(ReadError::NotADump),
+        None => Err(DumpError::NotADump),
     }
 }
 

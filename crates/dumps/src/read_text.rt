@@ -6,10 +6,10 @@ ghost use Rattle.dump_rules.specs.DumpIn.{hashing_in, phase_in, state_in};
 ghost use Rattle.dump_rules.specs.Values.{activation_in, from_in, grain_in, number_in, range_in, silo_in};
 ghost use Rattle.dumps.specs.DumpModel.{phase_of, state_of};
 ghost use Rattle.dumps.specs.Straight.{Tells, TellsBy};
-ghost use Rattle.dumps.specs.declared.error.ReadError.TheVariants.{OutOfMemory};
+ghost use Rattle.dumps.specs.declared.error.DumpError.TheVariants.{OutOfMemory};
 
 use crate::plain_text::PlainText;
-use crate::{LentGrain, ListedPhase, ReadError, ListedState, named};
+use crate::{LentGrain, ListedPhase, DumpError, ListedState, named};
 use hash_ring::Hashing;
 use ring_range::RingRange;
 use silo_address::{ActivationId, SiloAddress};
@@ -22,7 +22,7 @@ pub(crate) trait ReadText<'a>: Drop {
     ghost deep: { ℕ };
 
     /// What the next value tells.
-    fn read_text(alloc: Global, reader: &mut PlainText<'a>) -> Result<Self, ReadError>
+    fn read_text(alloc: Global, reader: &mut PlainText<'a>) -> Result<Self, DumpError>
         ensures { IfOk result (λ read. TellsBy tells deep reader.old read reader.new) };
 }
 
@@ -32,7 +32,7 @@ impl<'a> ReadText<'a> for u64 {
     ghost deep = { 0 };
 
     #[inline(always)]
-    fn read_text(_alloc: Global, reader: &mut PlainText<'a>) -> Result<u64, ReadError>
+    fn read_text(_alloc: Global, reader: &mut PlainText<'a>) -> Result<u64, DumpError>
         ensures told { IfOk result (λ number. Tells number_in 0 reader.old number reader.new) }
         ensures needs_no_memory { result ≢ Err OutOfMemory }
     {
@@ -46,7 +46,7 @@ impl<'a> ReadText<'a> for SiloAddress {
     ghost deep = { 0 };
 
     #[inline(always)]
-    fn read_text(alloc: Global, reader: &mut PlainText<'a>) -> Result<SiloAddress, ReadError> {
+    fn read_text(alloc: Global, reader: &mut PlainText<'a>) -> Result<SiloAddress, DumpError> {
         named::silo(reader.text(alloc)?.as_slice())
     }
 }
@@ -60,7 +60,7 @@ impl<'a> ReadText<'a> for Option<SiloAddress> {
     fn read_text(
         alloc: Global,
         reader: &mut PlainText<'a>,
-    ) -> Result<Option<SiloAddress>, ReadError> {
+    ) -> Result<Option<SiloAddress>, DumpError> {
         named::from(reader.text(alloc)?.as_slice())
     }
 }
@@ -71,7 +71,7 @@ impl<'a> ReadText<'a> for LentGrain<'a> {
     ghost deep = { 0 };
 
     #[inline(always)]
-    fn read_text(alloc: Global, reader: &mut PlainText<'a>) -> Result<LentGrain<'a>, ReadError> {
+    fn read_text(alloc: Global, reader: &mut PlainText<'a>) -> Result<LentGrain<'a>, DumpError> {
         named::grain(reader.text(alloc)?)
     }
 }
@@ -82,7 +82,7 @@ impl<'a> ReadText<'a> for ActivationId {
     ghost deep = { 0 };
 
     #[inline(always)]
-    fn read_text(alloc: Global, reader: &mut PlainText<'a>) -> Result<ActivationId, ReadError> {
+    fn read_text(alloc: Global, reader: &mut PlainText<'a>) -> Result<ActivationId, DumpError> {
         named::activation(reader.text(alloc)?.as_slice())
     }
 }
@@ -93,7 +93,7 @@ impl<'a> ReadText<'a> for RingRange {
     ghost deep = { 0 };
 
     #[inline(always)]
-    fn read_text(alloc: Global, reader: &mut PlainText<'a>) -> Result<RingRange, ReadError> {
+    fn read_text(alloc: Global, reader: &mut PlainText<'a>) -> Result<RingRange, DumpError> {
         named::range(reader.text(alloc)?.as_slice())
     }
 }
@@ -104,7 +104,7 @@ impl<'a> ReadText<'a> for Hashing {
     ghost deep = { 0 };
 
     #[inline(always)]
-    fn read_text(alloc: Global, reader: &mut PlainText<'a>) -> Result<Hashing, ReadError> {
+    fn read_text(alloc: Global, reader: &mut PlainText<'a>) -> Result<Hashing, DumpError> {
         named::hashing(reader.text(alloc)?.as_slice())
     }
 }
@@ -115,7 +115,7 @@ impl<'a> ReadText<'a> for ListedPhase {
     ghost deep = { 0 };
 
     #[inline(always)]
-    fn read_text(alloc: Global, reader: &mut PlainText<'a>) -> Result<ListedPhase, ReadError> {
+    fn read_text(alloc: Global, reader: &mut PlainText<'a>) -> Result<ListedPhase, DumpError> {
         named::phase(reader.text(alloc)?.as_slice())
     }
 }
@@ -126,7 +126,7 @@ impl<'a> ReadText<'a> for ListedState {
     ghost deep = { 0 };
 
     #[inline(always)]
-    fn read_text(alloc: Global, reader: &mut PlainText<'a>) -> Result<ListedState, ReadError> {
+    fn read_text(alloc: Global, reader: &mut PlainText<'a>) -> Result<ListedState, DumpError> {
         named::state(reader.text(alloc)?.as_slice())
     }
 }

@@ -10,27 +10,27 @@ ghost use Rattle.dump_rules.specs.DumpIn.{dump_in, entry_in, held_in, node_in, p
 ghost use Rattle.dump_rules.specs.Values.{list_in, number_in};
 ghost use Rattle.dumps.specs.MembersRead.{BeginsObject};
 ghost use Rattle.dumps.specs.Straight.{TellItems, Tells};
-ghost use Rattle.dumps.specs.declared.error.ReadError.TheVariants.{OutOfMemory};
+ghost use Rattle.dumps.specs.declared.error.DumpError.TheVariants.{OutOfMemory};
 
 use crate::member_name::MemberName;
 use crate::members::{Member, NoMember, read_members};
 use crate::plain_text::PlainText;
 use crate::read_text::ReadText;
-use crate::{Dump, ListedEntry, ListedHeld, ListedPoint, ListedNode, ListedPiece, ReadError, ListedRow};
+use crate::{Dump, ListedEntry, ListedHeld, ListedPoint, ListedNode, ListedPiece, DumpError, ListedRow};
 use std::alloc::Global;
 
 /// Reads the dump that the text tells as JSON (`docs/RULES.md#the-dump-and-the-verdict`). Its grains are lent from the text, but for
 /// names with escapes, and its lists may still be no dump. An error other than `OutOfMemory`, which comes only when memory runs out,
 /// says nothing of the text: it may tell a dump that is written otherwise. No memory is needed where the text doesn't begin with an
 /// object.
-pub fn read_straight(alloc: Global, text: &str) -> Result<Dump<'_>, ReadError>
+pub fn read_straight(alloc: Global, text: &str) -> Result<Dump<'_>, DumpError>
     ensures read { IfOk result (λ dump. (value : Data) × (read_json text.now ≡ Some value) × (dump_in value ≡ Some dump)) }
     ensures memory { IsErrOf result OutOfMemory → BeginsObject (tokens text.now) }
 {
     let mut reader = PlainText::new(alloc, text);
     let dump = Dump::read_text(alloc, &mut reader)?;
     if !reader.is_over() {
-        return Err(ReadError::NotADump);
+        return Err(DumpError::NotADump);
     }
     Ok(dump)
 }
@@ -40,7 +40,7 @@ impl<'a> ReadText<'a> for Dump<'a> {
 
     ghost deep = { 7 };
 
-    fn read_text(alloc: Global, reader: &mut PlainText<'a>) -> Result<Dump<'a>, ReadError>
+    fn read_text(alloc: Global, reader: &mut PlainText<'a>) -> Result<Dump<'a>, DumpError>
         ensures told { IfOk result (λ dump. Tells dump_in 7 reader.old dump reader.new) }
         ensures memory { IsErrOf result OutOfMemory → BeginsObject reader.old }
     {
@@ -72,7 +72,7 @@ pub(crate) trait ReadItem<'a>: Drop {
     ghost deep: { ℕ };
 
     /// What the next value tells.
-    fn read_item(alloc: Global, reader: &mut PlainText<'a>) -> Result<Self, ReadError>
+    fn read_item(alloc: Global, reader: &mut PlainText<'a>) -> Result<Self, DumpError>
         ensures { IfOk result (λ item. Tells reads deep reader.old item reader.new) };
 }
 
@@ -81,7 +81,7 @@ impl<'a> ReadItem<'a> for u64 {
 
     ghost deep = { 0 };
 
-    fn read_item(_alloc: Global, reader: &mut PlainText<'a>) -> Result<u64, ReadError>
+    fn read_item(_alloc: Global, reader: &mut PlainText<'a>) -> Result<u64, DumpError>
         ensures told { IfOk result (λ number. Tells number_in 0 reader.old number reader.new) }
         ensures needs_no_memory { result ≢ Err OutOfMemory }
     {
@@ -94,7 +94,7 @@ impl<'a> ReadItem<'a> for ListedRow {
 
     ghost deep = { 2 };
 
-    fn read_item(alloc: Global, reader: &mut PlainText<'a>) -> Result<ListedRow, ReadError> {
+    fn read_item(alloc: Global, reader: &mut PlainText<'a>) -> Result<ListedRow, DumpError> {
         let silo = Member::unread(MemberName::Silo, NoMember);
         let places = Member::unread(MemberName::Places, silo);
         let left = Member::unread(MemberName::Left, places);
@@ -121,7 +121,7 @@ impl<'a> ReadItem<'a> for ListedNode<'a> {
 
     ghost deep = { 5 };
 
-    fn read_item(alloc: Global, reader: &mut PlainText<'a>) -> Result<ListedNode<'a>, ReadError> {
+    fn read_item(alloc: Global, reader: &mut PlainText<'a>) -> Result<ListedNode<'a>, DumpError> {
         let silo = Member::unread(MemberName::Silo, NoMember);
         let seen = Member::unread(MemberName::Seen, silo);
         let ring = Member::unread(MemberName::Ring, seen);
@@ -148,7 +148,7 @@ impl<'a> ReadItem<'a> for ListedPiece<'a> {
 
     ghost deep = { 3 };
 
-    fn read_item(alloc: Global, reader: &mut PlainText<'a>) -> Result<ListedPiece<'a>, ReadError> {
+    fn read_item(alloc: Global, reader: &mut PlainText<'a>) -> Result<ListedPiece<'a>, DumpError> {
         let state = Member::unread(MemberName::State, NoMember);
         let range = Member::unread(MemberName::Range, state);
         let from = Member::unread(MemberName::From, range);
@@ -172,7 +172,7 @@ impl<'a> ReadItem<'a> for ListedHeld<'a> {
 
     ghost deep = { 1 };
 
-    fn read_item(alloc: Global, reader: &mut PlainText<'a>) -> Result<ListedHeld<'a>, ReadError> {
+    fn read_item(alloc: Global, reader: &mut PlainText<'a>) -> Result<ListedHeld<'a>, DumpError> {
         let phase = Member::unread(MemberName::Phase, NoMember);
         let grain = Member::unread(MemberName::Grain, phase);
         let mut members = Member::unread(MemberName::Activation, grain);
@@ -193,7 +193,7 @@ impl<'a> ReadItem<'a> for ListedPoint {
 
     ghost deep = { 1 };
 
-    fn read_item(alloc: Global, reader: &mut PlainText<'a>) -> Result<ListedPoint, ReadError> {
+    fn read_item(alloc: Global, reader: &mut PlainText<'a>) -> Result<ListedPoint, DumpError> {
         reader.begin_items()?;
         let place = reader.number()?;
         let silo = ReadText::read_text(alloc, reader)?;
@@ -208,7 +208,7 @@ impl<'a> ReadItem<'a> for ListedEntry<'a> {
 
     ghost deep = { 1 };
 
-    fn read_item(alloc: Global, reader: &mut PlainText<'a>) -> Result<ListedEntry<'a>, ReadError> {
+    fn read_item(alloc: Global, reader: &mut PlainText<'a>) -> Result<ListedEntry<'a>, DumpError> {
         reader.begin_items()?;
         let grain = ReadText::read_text(alloc, reader)?;
         let activation = ReadText::read_text(alloc, reader)?;
@@ -222,7 +222,7 @@ impl<'a, T: ReadItem<'a>> ReadText<'a> for Vec<T> {
 
     ghost deep = { suc T.deep };
 
-    fn read_text(alloc: Global, reader: &mut PlainText<'a>) -> Result<Vec<T>, ReadError> {
+    fn read_text(alloc: Global, reader: &mut PlainText<'a>) -> Result<Vec<T>, DumpError> {
         reader.begin_items()?;
         items(alloc, reader)
     }
@@ -232,7 +232,7 @@ impl<'a, T: ReadItem<'a>> ReadText<'a> for Vec<T> {
 fn items<'a, T: ReadItem<'a>>(
     alloc: Global,
     reader: &mut PlainText<'a>,
-) -> Result<Vec<T>, ReadError>
+) -> Result<Vec<T>, DumpError>
     ensures { IfOk result (λ list. TellItems T.reads T.deep reader.old list.items reader.new) }
 {
     let mut list = Vec::new(alloc);

@@ -9,8 +9,8 @@ use Rattle.serde_json.specs.Read.{read}
 use Rattle.dump_rules.specs.Dump.{DumpValue}
 use Rattle.dumps.specs.MembersRead.{BeginsObject}
 use Rattle.rebuild_checker.specs.Told.{lists_told, text_told, told_value}
-use Rattle.dumps.specs.declared.error.ReadError.{ReadError}
-use Rattle.dumps.specs.declared.error.ReadError.TheVariants.{NotJson, OutOfMemory}
+use Rattle.dumps.specs.declared.error.DumpError.{DumpError}
+use Rattle.dumps.specs.declared.error.DumpError.TheVariants.{NotJson, OutOfMemory}
 
 -- the empty text has no token, and so tells no value and begins with no object
 no_tokens : tokens [] ≡ []
@@ -33,7 +33,7 @@ pub no_object : (text : List ℕ) → text ≡ [] → ¬ (BeginsObject (tokens t
 no_object text empty object = no_front _ object.0 (sym no_tokens ∙ ap tokens (sym empty) ∙ object.1)
 
 -- bytes that are a text, and bytes that are none
-pub text_in : (result : Result DumpValue ReadError) (bytes text : List ℕ) → text ≡ bytes → IsUtf8 bytes
+pub text_in : (result : Result DumpValue DumpError) (bytes text : List ℕ) → text ≡ bytes → IsUtf8 bytes
     → (result ≡ Err OutOfMemory) ⊎ (result ≡ text_told text) → (result ≡ Err OutOfMemory) ⊎ (result ≡ lists_told bytes)
 text_in result bytes text same utf8 (inl out) = inl out
 text_in result bytes text same utf8 (inr is) =
@@ -47,7 +47,7 @@ no_text bytes broken = by (is_utf8 bytes) refl
     by false other = ap (λ t. told_value (cond t (read bytes) None)) other
 
 -- what the empty text tells
-pub nothing_told : (result : Result DumpValue ReadError) (text : List ℕ)
+pub nothing_told : (result : Result DumpValue DumpError) (text : List ℕ)
     → (result ≡ Err OutOfMemory) ⊎ (result ≡ text_told text) → (text ≡ [] → result ≢ Err OutOfMemory) → text ≡ [] → result ≡ Err NotJson
 nothing_told result text (inl out) memory empty = absurd (memory empty out)
 nothing_told result text (inr is) memory empty = is ∙ ap text_told empty ∙ ap told_value no_value

@@ -24,7 +24,7 @@ mod two_firm;
 
 pub use check_fault::CheckFault;
 pub use dumps::{
-    Dump, ListedEntry, ListedHeld, LentGrain, ListedPoint, ListedNode, ListedPhase, ListedPiece, ReadError, ListedRow, ListedState,
+    Dump, ListedEntry, ListedHeld, LentGrain, ListedPoint, ListedNode, ListedPhase, ListedPiece, DumpError, ListedRow, ListedState,
 };
 pub use dumps::is_dump;
 pub use dumps::{write_dump, write_node};

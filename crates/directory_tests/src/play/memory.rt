@@ -7,7 +7,7 @@ use crate::play::read_dumps::{
 use crate::play::rows::Row;
 use console_command::play_to_new_cluster;
 use hash_ring::Hashing;
-use rebuild_checker::{Dump, ReadError, read_dump, write_dump};
+use rebuild_checker::{Dump, DumpError, read_dump, write_dump};
 use script_loop::Ended;
 use std::alloc::Global;
 use std::process::Abort;
@@ -46,9 +46,9 @@ pub(crate) fn is_played(rt: &(impl Abort + Eprint), alloc: Global, row: Row) -> 
 }
 
 // What is read of the text, by a second call where memory was refused.
-fn read<'a>(rt: &impl Eprint, alloc: Global, text: &'a str) -> Result<Dump<'a>, ReadError> {
+fn read<'a>(rt: &impl Eprint, alloc: Global, text: &'a str) -> Result<Dump<'a>, DumpError> {
     let read = read_dump(alloc, text.as_bytes());
-    if let Err(ReadError::OutOfMemory) = read {
+    if let Err(DumpError::OutOfMemory) = read {
         notice(rt, "a dump");
         return read_dump(alloc, text.as_bytes());
     }
