@@ -2,16 +2,16 @@ ghost use Rattle.std.specs.Prelude.{◌≡◌, [], true, false, length};
 ghost use Rattle.directory_rules.specs.World.{first_world};
 ghost use Rattle.cluster_journal.specs.Journal.{IsJournaled};
 
+use crate::{Blocks, Mark, Marks, Names};
 use cluster_journal::Entry;
 use directory_core::World;
-use directory_rules::Settings;
 use directory_node::SharedNode;
+use directory_rules::Settings;
 use silo_address::SiloAddress;
 use std::alloc::Global;
 use std::collections::BTreeMap;
 use std::marker::Model;
 use std::sync::ledger::{Blank, Book, Ledger, Share};
-use crate::{Blocks, Mark, Marks, Names};
 
 /// A cluster and its journal, as they stand under one lock: the world is what the run of the journal's events leaves, and these
 /// tell just what the journal says. Whoever posts or commits has a share of the board's ledger, whose total is the journal's

@@ -9,16 +9,14 @@ ghost use Rattle.cluster_board.specs.Work.{IsCurrent};
 
 use crate::marks::forget;
 use crate::post::{drafts, entered};
-use crate::{Board, CommitRefusal, Job, Prepared};
+use crate::{Board, CommitRefusal, Job, Mark, Names, Prepared};
 use cluster_journal::Receipt;
 use directory_core::World;
 use directory_letters::Letter;
-use directory_node::Plan;
+use directory_node::{Plan, SharedNode};
 use directory_rules::{Event, Outcome};
-use directory_node::SharedNode;
 use silo_address::SiloAddress;
 use std::sync::ledger::{Ledger, Share};
-use crate::{Mark, Names};
 
 /// Prepared work that a board didn't take: why, and what is left of it.
 pub struct Uncommitted<N: Names> {

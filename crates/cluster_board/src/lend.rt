@@ -3,14 +3,13 @@ ghost use Rattle.directory_rules.specs.Mail.{letter_of};
 ghost use Rattle.cluster_board.specs.Due.{HasNoWork, IsWorkOf};
 
 use crate::marks::mark_of;
-use crate::{Board, Job};
+use crate::{Board, Job, Names};
 use directory_core::World;
 use directory_letters::Letter;
 use letter_mail::MailedLetter;
 use silo_address::SiloAddress;
 use std::alloc::AllocError;
 use std::sync::ledger::Ledger;
-use crate::Names;
 
 impl<L: Ledger + Names> Board<L> {
     /// The silo's node, shared, with the least fresh letter to it and that letter's number; `None` where the silo has no node, or

@@ -5,12 +5,12 @@ ghost use Rattle.directory_rules.specs.EventModel.{event_of};
 ghost use Rattle.cluster_board.specs.Changed.{IsReceiver, MayChange};
 ghost use Rattle.cluster_board.specs.Marked.{AreLeft, AreMore, marked_at};
 
+use crate::{Mark, Marks, Names};
 use directory_core::World;
-use directory_rules::Event;
 use directory_node::SharedNode;
+use directory_rules::Event;
 use silo_address::SiloAddress;
 use std::collections::BTreeMap;
-use crate::{Mark, Marks, Names};
 
 /// The silo's mark, which is of this node if there is one, or else a new one, which is kept if there is memory for it.
 pub(crate) fn mark_of<N: Names>(

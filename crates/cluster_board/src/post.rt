@@ -5,14 +5,13 @@ ghost use Rattle.directory_rules.specs.World.{accepted_as};
 ghost use Rattle.directory_node.specs.Follows.{Follows};
 ghost use Rattle.directory_core.specs.Numbers.{IsNumberedUnlessMemory, event_refusal_number};
 
-use crate::Board;
 use crate::marks::forget_by;
+use crate::{Board, Names};
 use cluster_journal::{Draft, Entry, Receipt};
 use directory_core::EventRefusal;
 use directory_rules::{Event, Outcome};
 use std::alloc::{AllocError, Global};
 use std::sync::ledger::{Ledger, Share};
-use crate::Names;
 
 impl<L: Ledger + Names> Board<L> {
     /// An event happens, as `World::apply` says, and its entry is the journal's last one, which the receipt names. Out of memory

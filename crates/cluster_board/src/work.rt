@@ -3,13 +3,12 @@ ghost use Rattle.directory_rules.specs.Receive.{received};
 ghost use Rattle.directory_node.specs.Memory.{Counts};
 ghost use Rattle.directory_node.specs.Plans.{answer_count};
 
+use crate::{Mark, Names};
 use directory_letters::Letter;
-use directory_node::Plan;
-use directory_node::SharedNode;
+use directory_node::{Plan, SharedNode};
 use silo_address::SiloAddress;
 use std::alloc::Global;
 use std::marker::Model;
-use crate::{Mark, Names};
 
 /// A letter and the node of its receiver, as a board lent them. A job is prepared or given back: it can't be dropped
 /// (`docs/RULES.md#the-board`).

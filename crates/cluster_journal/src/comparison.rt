@@ -2,8 +2,7 @@ ghost use Rattle.std.specs.Prelude.{IfErr, OnOk};
 ghost use Rattle.cluster_journal.specs.Agreement.{Agree};
 ghost use Rattle.cluster_journal.specs.Comparison.{Declines};
 
-use crate::CloseRefusal;
-use crate::{Entry, Receipt, agree};
+use crate::{CloseRefusal, Entry, Receipt, agree};
 use std::alloc::Global;
 
 /// Compares receipts with a journal. Refused by 953 where a receipt's event and outcome aren't the journal's at its number, two

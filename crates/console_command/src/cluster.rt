@@ -6,9 +6,8 @@ ghost use Rattle.script_loop.specs.Lines.{IsPassedOver, PlaysLine};
 
 use crate::commands::perform;
 use directory_core::World;
-use script_lines::{ReadError, read_command};
+use script_lines::{ReadError, read_command, write_fault};
 use script_loop::{LineFault, LinePlayer};
-use script_lines::write_fault;
 use std::alloc::{AllocError, Global};
 
 /// A cluster, as far as a script has brought it.

@@ -16,8 +16,7 @@ use crate::shown::{show, tell_owner};
 use crate::sync::sync;
 use directory_core::World;
 use directory_rules::Event;
-use script_lines::Command;
-use script_lines::{write_outcome, write_refusal};
+use script_lines::{Command, write_outcome, write_refusal};
 use std::alloc::{AllocError, Global};
 use texts::taken_back_at_error;
 

@@ -18,7 +18,9 @@ ghost use Rattle.console_command.specs.Outcome.{Carries, CarriesByCalls, Carries
 use crate::errors::{
     tell, tell_check, tell_end, tell_failed_call, tell_no_memory, tell_silo, tell_threads, words_or,
 };
-use crate::{Exit, Line, CommandLineError, Options, judge, play_new_silo, play_to_new_cluster, read_line};
+use crate::{
+    CommandLineError, Exit, Line, Options, judge, play_new_silo, play_to_new_cluster, read_line,
+};
 use directory_rules::Settings;
 use process_loop::Stopped;
 use script_loop::{Ended, Sink, Source, send};

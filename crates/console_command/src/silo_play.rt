@@ -10,10 +10,10 @@ ghost use Rattle.console_command.specs.SiloPlay.{WritesOutput};
 use directory_rules::Settings;
 use directory_silo::Silo;
 use hash_ring::Hashing;
+use process_answers::{Player, process_settings};
 use process_loop::Stopped;
 use script_loop::{Sink, Source};
 use silo_address::SiloAddress;
-use process_answers::{Player, process_settings};
 use std::alloc::Global;
 
 /// Plays the process of a new silo, under a way of hashing, with a number of points, 1 to 128, and of hints that its cache keeps, 0 to

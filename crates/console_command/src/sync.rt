@@ -10,8 +10,8 @@ ghost use Rattle.console_command.specs.Commands.{Performs, TakeTurns, in_session
 
 use crate::commands::take_turn;
 use directory_core::World;
-use directory_rules::Event;
 use directory_node::SharedNode;
+use directory_rules::Event;
 use silo_address::SiloAddress;
 use std::alloc::{AllocError, Global};
 

@@ -11,7 +11,7 @@ ghost use Rattle.console_threads.specs.Endings.{IsUnclosed, unclosed_by};
 
 use crate::driver::Driver;
 use crate::order::ascend;
-use cluster_board::Board;
+use cluster_board::{Board, Names};
 use cluster_journal::CloseRefusal;
 use directory_rules::Settings;
 use script_loop::{Sink, send};
@@ -22,7 +22,6 @@ use std::sync::Wait;
 use std::sync::ledger::Ledger;
 use std::thread::Threads;
 use threaded_play::ThreadsEnded;
-use cluster_board::Names;
 
 impl<L: Ledger + Names> Driver<L, OpenGate> {
     /// Stops the workers and joins their threads, in every case; tells why workers gave up; and closes the cluster, whose settings

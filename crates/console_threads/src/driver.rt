@@ -9,6 +9,7 @@ ghost use Rattle.silo_threads.specs.Replies.{IsReceiptOf};
 ghost use Rattle.silo_threads.specs.declared.cluster.TheConstants.{PARTS};
 ghost use Rattle.threaded_play.specs.CarriedOut.{AreCarriedOut};
 
+use cluster_board::Names;
 use cluster_journal::Receipt;
 use directory_rules::Event;
 use script_lines::Command;
@@ -18,7 +19,6 @@ use std::alloc::{AllocError, Global};
 use std::sync::Wait;
 use std::sync::ledger::{Ledger, Share};
 use std::thread::Threads;
-use cluster_board::Names;
 
 /// A cluster that commands are given to, and what is kept of that: the share that workers don't have, and the receipts.
 pub(crate) struct Driver<L: Ledger + Names, G: Gate + Drop> {

@@ -9,11 +9,11 @@ use crate::driver::Driver;
 use crate::lines::play_lines;
 use crate::print::print;
 use crate::script::Script;
-use cluster_board::Board;
+use cluster_board::{Blocks, Board, Names};
+use directory_node::SharedNode;
 use directory_rules::Settings;
 use script_lines::Command;
 use script_loop::{Sink, Source};
-use directory_node::SharedNode;
 use silo_threads::{Cluster, PARTS};
 use silo_workers::OpenGate;
 use std::alloc::Global;
@@ -21,7 +21,6 @@ use std::sync::Wait;
 use std::sync::ledger::{Blank, Ledger};
 use std::thread::Threads;
 use threaded_play::ThreadsEnded;
-use cluster_board::{Blocks, Names};
 
 /// How many blocks of marks a cluster may use: enough for a mark at each event.
 pub const MARK_BLOCKS: usize = 1024;

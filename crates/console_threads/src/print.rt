@@ -4,13 +4,12 @@ ghost use Rattle.std.specs.Prelude.{◌≡◌, IfOk};
 ghost use Rattle.console_threads.specs.Endings.{EndsBy, IsWritten, LacksOnlyAfter, Tells, WritesOnce};
 
 use crate::lines::Lines;
-use cluster_board::Board;
+use cluster_board::{Board, Names};
 use console_command::{show, tell_verdict};
 use script_loop::{Ended, Sink, send};
 use std::alloc::{AllocError, Global};
 use std::sync::ledger::Ledger;
 use threaded_play::ThreadsEnded;
-use cluster_board::Names;
 
 /// Prints what there is to print: the line of the fault, or without one what the cluster came to.
 pub(crate) fn print<L: Ledger + Names, W: Sink>(

@@ -6,9 +6,8 @@ ghost use Rattle.script_loop.specs.Lines.{IsPassedOver, PlaysLine};
 ghost use Rattle.console_threads.specs.Kept.{KeepsLine};
 ghost use Rattle.threaded_play.specs.Faults.{faults_alone, long_lines_are_faults, nothing_is_wrong, passed_lines_are_quiet};
 
-use script_lines::{Command, ReadError, read_command};
+use script_lines::{Command, ReadError, read_command, write_fault};
 use script_loop::{LineFault, LinePlayer};
-use script_lines::write_fault;
 use std::alloc::{AllocError, Global};
 
 /// The commands of a script, in order.

@@ -4,6 +4,7 @@ ghost use Rattle.threaded_play.specs.Endings as threads;
 ghost use Rattle.console_command.specs.Program.{DoesInTurn};
 ghost use Rattle.directory_console.specs.Carrying.{IsCarriedOut, IsDone, MakesCalls, Tells};
 
+use cluster_board::Slots;
 use console_command::{Exit, Run, end_threads, run_words};
 use console_threads::{MARK_BLOCKS, play_on_threads};
 use directory_rules::Settings;
@@ -17,7 +18,6 @@ use std::sync::Wait;
 use std::sync::ledger::Blank;
 use std::thread::Threads;
 use threaded_play::ThreadsEnded;
-use cluster_board::Slots;
 
 /// Does what the words of a command line ask for, the program's name first, over these streams, and gives the code with which the
 /// program exits (`docs/RULES.md#the-program`).

@@ -5,8 +5,8 @@ ghost use Rattle.dump_headline.specs.Told.{IsRightlyTold};
 
 use crate::World;
 use crate::rows::listed_rows;
-use dumps::{Dump, ListedNode};
 use directory_node::listed_node;
+use dumps::{Dump, ListedNode};
 use std::alloc::{AllocError, Global};
 
 impl World {

@@ -14,10 +14,10 @@ ghost use Rattle.directory_core.specs.Whole.{IsWorld, LeavesWorld};
 
 use crate::nodes::{put_new_node, remove_node};
 use crate::{EventRefusal, World};
+use directory_node::SharedNode;
 use directory_rules::{Happening, Outcome, Settings};
 use hash_ring::{Places, RingError};
 use membership_view::{Joined, Views};
-use directory_node::SharedNode;
 use silo_address::SiloAddress;
 use std::alloc::{AllocError, Global};
 use std::collections::BTreeMap;

@@ -6,9 +6,8 @@ ghost use Rattle.std.specs.BTreeMap.{insert_entry, is_at};
 ghost use Rattle.silo_address.specs.Silo.{silo_cmp};
 ghost use Rattle.directory_rules.specs.Node.{new_node};
 
-use directory_node::Node;
+use directory_node::{Node, SharedNode};
 use directory_rules::Settings;
-use directory_node::SharedNode;
 use silo_address::SiloAddress;
 use std::alloc::{AllocError, Global};
 use std::collections::BTreeMap;

@@ -9,9 +9,8 @@ ghost use Rattle.directory_node.specs.Plans.{Fits, changed};
 ghost use Rattle.letter_mail.specs.Mail.{letter_in, with_posted, with_stale};
 
 use directory_letters::Letter;
-use directory_node::Change;
+use directory_node::{Change, SharedNode};
 use letter_mail::Mail;
-use directory_node::SharedNode;
 use silo_address::SiloAddress;
 use std::alloc::AllocError;
 use std::collections::BTreeMap;

@@ -18,12 +18,11 @@ ghost use Rattle.directory_core.specs.CurrentView.{HasSeenCurrent, IsCurrentSeen
 ghost use Rattle.directory_core.specs.WorldMail.{mail_of};
 ghost use Rattle.directory_core.specs.Whole.{IsWorld};
 
-use directory_node::{Node, Transition};
+use directory_node::{Node, SharedNode, Transition};
 use directory_rules::Settings;
 use hash_ring::{Places, Point, Ring};
 use letter_mail::{Mail, MailedLetter};
 use membership_view::Views;
-use directory_node::SharedNode;
 use silo_address::SiloAddress;
 use std::alloc::{AllocError, Global};
 use std::collections::BTreeMap;

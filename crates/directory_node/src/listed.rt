@@ -3,10 +3,10 @@ ghost use Rattle.std.specs.Prelude.{◌≡◌, IfOk, map};
 ghost use Rattle.dump_rules.specs.Dump.{dump_held, dump_node, dump_phase};
 ghost use Rattle.dumps.specs.DumpModel.{phase_of};
 
-use crate::pieces::pieces;
 use crate::Node;
+use crate::pieces::pieces;
 use directory_rules::{Held, Phase};
-use dumps::{ListedHeld, LentGrain, ListedPoint, ListedNode, ListedPhase};
+use dumps::{LentGrain, ListedHeld, ListedNode, ListedPhase, ListedPoint};
 use hash_ring::Point;
 use host_activations::Host;
 use silo_address::{ActivationId, GrainId, SiloAddress};

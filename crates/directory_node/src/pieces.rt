@@ -5,7 +5,7 @@ ghost use Rattle.dump_rules.specs.Dump.{awaited_from, dump_piece, dump_state};
 ghost use Rattle.dumps.specs.DumpModel.{state_of};
 
 use directory_rules::PieceState;
-use dumps::{ListedEntry, LentGrain, ListedPiece, ListedState};
+use dumps::{LentGrain, ListedEntry, ListedPiece, ListedState};
 use grain_partition::{Holding, Piece};
 use grain_table::Table;
 use silo_address::{Entry, SiloAddress};

@@ -1,7 +1,6 @@
 //! Lines of a silo's process: each command, lines that ask for nothing, faults, and what no line feed ended.
 use hash_ring::Hashing;
-use process_lines::LineError;
-use process_lines::{Asked, read_line, unended_fault};
+use process_lines::{Asked, LineError, read_line, unended_fault};
 use std::alloc::Global;
 use std::test::Fail;
 

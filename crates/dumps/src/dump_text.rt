@@ -12,7 +12,7 @@ use crate::tokens::{
     push_comma, push_name, push_number, push_number_member, push_quoted, push_text_member,
 };
 use crate::words::{word_of_hashing, word_of_phase, word_of_state};
-use crate::{Dump, ListedEntry, ListedHeld, ListedPoint, ListedNode, ListedPiece, ListedRow};
+use crate::{Dump, ListedEntry, ListedHeld, ListedNode, ListedPiece, ListedPoint, ListedRow};
 use ring_range::RingRange;
 use silo_address::SiloAddress;
 use std::alloc::{AllocError, Global};

@@ -27,7 +27,10 @@ mod values;
 mod words;
 
 pub use distinct::{are_distinct, are_in_order, set_of};
-pub use dump::{Dump, ListedEntry, ListedHeld, ListedPoint, ListedNode, ListedPhase, ListedPiece, ListedRow, ListedState};
+pub use dump::{
+    Dump, ListedEntry, ListedHeld, ListedNode, ListedPhase, ListedPiece, ListedPoint, ListedRow,
+    ListedState,
+};
 pub use dump_text::{write_dump, write_node};
 pub use error::DumpError;
 pub use lent_grain::LentGrain;

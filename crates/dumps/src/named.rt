@@ -10,7 +10,7 @@ ghost use Rattle.dumps.specs.DumpModel.{phase_of, state_of};
 ghost use Rattle.dumps.specs.declared.error.DumpError.TheVariants.{OutOfMemory};
 ghost use Rattle.dumps.specs.ReadAs.{IsReading, IsReadingBy};
 
-use crate::{LentGrain, ListedPhase, DumpError, ListedState};
+use crate::{DumpError, LentGrain, ListedPhase, ListedState};
 use hash_ring::Hashing;
 use ring_range::RingRange;
 use silo_address::{ActivationId, SiloAddress};

@@ -10,7 +10,9 @@ ghost use Rattle.dumps.specs.Sets.{HasItems};
 
 use crate::conjunction::all_hold;
 use crate::piece_shape::are_pieces;
-use crate::{Dump, LentGrain, ListedNode, ListedPiece, are_distinct, are_distinct_grains, are_in_order};
+use crate::{
+    Dump, LentGrain, ListedNode, ListedPiece, are_distinct, are_distinct_grains, are_in_order,
+};
 use silo_address::{ActivationId, SiloAddress};
 use std::alloc::{AllocError, Global};
 use std::collections::BTreeSet;

@@ -5,7 +5,7 @@ ghost use Rattle.std.specs.List.{list_all};
 ghost use Rattle.dump_rules.specs.DumpShape as rule;
 
 use crate::conjunction::all_hold;
-use crate::{Dump, ListedPoint, ListedNode, ListedPiece, ListedRow};
+use crate::{Dump, ListedNode, ListedPiece, ListedPoint, ListedRow};
 
 /// How many hashes there are.
 const CIRCLE: u64 = 4_294_967_296;

@@ -9,7 +9,7 @@ ghost use Rattle.dumps.specs.Straight.{Tells, TellsBy};
 ghost use Rattle.dumps.specs.declared.error.DumpError.TheVariants.{OutOfMemory};
 
 use crate::plain_text::PlainText;
-use crate::{LentGrain, ListedPhase, DumpError, ListedState, named};
+use crate::{DumpError, LentGrain, ListedPhase, ListedState, named};
 use hash_ring::Hashing;
 use ring_range::RingRange;
 use silo_address::{ActivationId, SiloAddress};

@@ -16,7 +16,9 @@ use crate::member_name::MemberName;
 use crate::members::{Member, NoMember, read_members};
 use crate::plain_text::PlainText;
 use crate::read_text::ReadText;
-use crate::{Dump, ListedEntry, ListedHeld, ListedPoint, ListedNode, ListedPiece, DumpError, ListedRow};
+use crate::{
+    Dump, DumpError, ListedEntry, ListedHeld, ListedNode, ListedPiece, ListedPoint, ListedRow,
+};
 use std::alloc::Global;
 
 /// Reads the dump that the text tells as JSON (`docs/RULES.md#the-dump-and-the-verdict`). Its grains are lent from the text, but for

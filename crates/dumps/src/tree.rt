@@ -12,7 +12,9 @@ use crate::values::{
     activation, from, grain, hashing, items, member, members_of, number, phase, range, silo, state,
     three_items, two_items,
 };
-use crate::{Dump, ListedEntry, ListedHeld, ListedPoint, ListedNode, ListedPiece, DumpError, ListedRow};
+use crate::{
+    Dump, DumpError, ListedEntry, ListedHeld, ListedNode, ListedPiece, ListedPoint, ListedRow,
+};
 use serde_json::{Map, Value};
 use silo_address::SiloAddress;
 use std::alloc::Global;

@@ -10,7 +10,7 @@ ghost use Rattle.dumps.specs.DumpModel.{phase_of, state_of};
 ghost use Rattle.dumps.specs.ReadAs.{IsReading, IsReadingBy};
 ghost use Rattle.dumps.specs.declared.error.DumpError.TheVariants.{OutOfMemory};
 
-use crate::{LentGrain, ListedPhase, DumpError, ListedState, named};
+use crate::{DumpError, LentGrain, ListedPhase, ListedState, named};
 use hash_ring::Hashing;
 use ring_range::RingRange;
 use serde_json::{Map, Value};

@@ -7,9 +7,9 @@ ghost use Rattle.texts.specs.Printed.{text_of_lines};
 ghost use Rattle.script_lines.specs.Spaced.{BeginsWith};
 ghost use Rattle.process_rules.specs.Show.{dump_line};
 
+use directory_node::listed_node;
 use directory_silo::Silo;
 use dumps::write_node;
-use directory_node::listed_node;
 use std::alloc::{AllocError, Global};
 
 /// Writes the silo's object among the nodes of a dump, as a line.

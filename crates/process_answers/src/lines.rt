@@ -79,7 +79,7 @@ pub(crate) fn write_pong(out: &mut Vec<u8>, word: &[u8]) -> Result<(), AllocErro
     end_line(out, start, written)
 }
 
-#[tactic(auto, using(script_lines::proofs::Pieces::word_by_word))]
+#[tactic(auto, using(script_lines::proofs::WrittenPieces::word_by_word))]
 fn push_pong(out: &mut Vec<u8>, word: &[u8]) -> Result<(), AllocError>
     ensures written { OnOk result (out.new.items ≡ out.old.items ++ spaced (codes "pong" ∷ word.now ∷ [])) }
     ensures kept { BeginsWith out.old.items out.new.items }

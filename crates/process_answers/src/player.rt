@@ -5,11 +5,10 @@ ghost use Rattle.process_rules.specs.ReadLine as rule;
 ghost use Rattle.process_rules.specs.Output.{after_last};
 ghost use Rattle.process_loop.specs.Answering.{AnswersLine, MayLackMemory};
 
+use crate::answer;
 use crate::fault::write_fault;
 use directory_silo::Silo;
-use crate::answer;
-use process_lines::LineError;
-use process_lines::{read_line, unended_fault};
+use process_lines::{LineError, read_line, unended_fault};
 use process_loop::SiloPlayer;
 use script_lines::without_return;
 use std::alloc::{AllocError, Global};

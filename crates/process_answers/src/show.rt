@@ -48,7 +48,7 @@ fn write_own(out: &mut Vec<u8>, silo: &Silo) -> Result<(), AllocError>
     end_line(out, start, written)
 }
 
-#[tactic(auto, using(script_lines::proofs::Pieces::word_by_word))]
+#[tactic(auto, using(script_lines::proofs::WrittenPieces::word_by_word))]
 fn push_own(out: &mut Vec<u8>, silo: &Silo) -> Result<(), AllocError>
     ensures written { OnOk result (out.new.items ≡ out.old.items ++ spaced (codes "silo" ∷ silo_text silo.now.node.host.silo ∷ own_word (own_status silo.now) ∷ seen_words (Some silo.now.node))) }
     ensures kept { BeginsWith out.old.items out.new.items }
@@ -115,7 +115,7 @@ fn write_piece(out: &mut Vec<u8>, piece: &Piece) -> Result<(), AllocError>
     end_line(out, start, written)
 }
 
-#[tactic(auto, using(script_lines::proofs::Pieces::word_by_word))]
+#[tactic(auto, using(script_lines::proofs::WrittenPieces::word_by_word))]
 fn push_piece(out: &mut Vec<u8>, piece: &Piece) -> Result<(), AllocError>
     ensures written { OnOk result (out.new.items ≡ out.old.items ++ spaced (codes "range" ∷ range_text piece.now.range ∷ state_words piece.now.state piece.now.entries)) }
     ensures kept { BeginsWith out.old.items out.new.items }
@@ -127,7 +127,7 @@ fn push_piece(out: &mut Vec<u8>, piece: &Piece) -> Result<(), AllocError>
 }
 
 // The state; a piece that serves tells how many entries it has.
-#[tactic(auto, using(script_lines::proofs::Pieces::word_by_word))]
+#[tactic(auto, using(script_lines::proofs::WrittenPieces::word_by_word))]
 fn push_state(out: &mut Vec<u8>, piece: &Piece) -> Result<(), AllocError>
     ensures written { OnOk result (out.new.items ≡ out.old.items ++ spaced (state_words piece.now.state piece.now.entries)) }
     ensures kept { BeginsWith out.old.items out.new.items }
@@ -139,7 +139,7 @@ fn push_state(out: &mut Vec<u8>, piece: &Piece) -> Result<(), AllocError>
     }
 }
 
-#[tactic(auto, using(script_lines::proofs::Pieces::word_by_word))]
+#[tactic(auto, using(script_lines::proofs::WrittenPieces::word_by_word))]
 fn push_settled(out: &mut Vec<u8>, entries: usize) -> Result<(), AllocError>
     ensures written { OnOk result (out.new.items ≡ out.old.items ++ spaced (codes "settled" ∷ codes "entries" ∷ decimal entries ∷ [])) }
     ensures kept { BeginsWith out.old.items out.new.items }
@@ -149,7 +149,7 @@ fn push_settled(out: &mut Vec<u8>, entries: usize) -> Result<(), AllocError>
     Ok(())
 }
 
-#[tactic(auto, using(script_lines::proofs::Pieces::word_by_word))]
+#[tactic(auto, using(script_lines::proofs::WrittenPieces::word_by_word))]
 fn push_awaiting(out: &mut Vec<u8>, from: &SiloAddress) -> Result<(), AllocError>
     ensures written { OnOk result (out.new.items ≡ out.old.items ++ spaced (codes "awaiting" ∷ silo_text from.now ∷ [])) }
     ensures kept { BeginsWith out.old.items out.new.items }

@@ -1,6 +1,6 @@
 //! What a letter tells the silo's application, and its words.
 
-#![tactic(auto, using(script_lines::proofs::Pieces::word_by_word))]
+#![tactic(auto, using(script_lines::proofs::WrittenPieces::word_by_word))]
 
 ghost use Rattle.std.specs.Prelude.{◌≡◌, ◌++◌, [], ◌∷◌, List, ℕ, OnOk, codes};
 ghost use Rattle.std.specs.Option.{option_map};

@@ -13,9 +13,8 @@ ghost use Rattle.process_lines.specs.Known.{change_commands};
 ghost use Rattle.process_lines.specs.Memory.{WordsNeedMemory};
 ghost use Rattle.process_lines.specs.Named.{grammar_of};
 
-use crate::Asked;
 use crate::names::CommandName;
-use crate::{LineError, LineFault, number_word, silo_word};
+use crate::{Asked, LineError, LineFault, number_word, silo_word};
 use script_lines::{ReadError, only_two_words, places_in, split_word};
 use silo_address::SiloAddress;
 use std::alloc::Global;

@@ -11,13 +11,12 @@ ghost use Rattle.process_lines.specs.Known.{other_commands};
 ghost use Rattle.process_lines.specs.Memory.{LineNeedsMemory, WordsNeedMemory};
 ghost use Rattle.process_lines.specs.Named.{grammar_of};
 
-use crate::Asked;
 use crate::changes::{change_name, dead, joined, leaving};
 use crate::names::CommandName;
 use crate::questions::{dump, ping, question_name, show};
 use crate::steps::{close, find, forget, nudge, offer, see, step_name, wake};
+use crate::{Asked, LineError, LineFault, read_letter};
 use hash_ring::Hashing;
-use crate::{LineError, LineFault, read_letter};
 use std::alloc::Global;
 
 /// What is asked for under that name, with the words behind it.

@@ -9,10 +9,9 @@ ghost use Rattle.process_lines.specs.AskedModel.{asked_of};
 ghost use Rattle.process_lines.specs.Known.{question_commands};
 ghost use Rattle.process_lines.specs.Named.{grammar_of};
 
-use crate::Asked;
 use crate::names::CommandName;
 use crate::steps::no_word;
-use crate::LineFault;
+use crate::{Asked, LineFault};
 use script_lines::only_word;
 
 /// The question of that name.

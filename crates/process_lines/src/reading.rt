@@ -5,10 +5,9 @@ ghost use Rattle.process_lines.specs.ReadAs.{Reads};
 ghost use Rattle.process_lines.specs.AskedModel.{asked_of};
 ghost use Rattle.process_lines.specs.Memory.{LineNeedsMemory};
 
-use crate::Asked;
 use crate::known::asked_under;
+use crate::{Asked, LineError, LineFault};
 use hash_ring::Hashing;
-use crate::{LineError, LineFault};
 use script_lines::{is_remark, is_text, split_word};
 use std::alloc::Global;
 

@@ -10,9 +10,8 @@ ghost use Rattle.process_lines.specs.AskedModel.{asked_of};
 ghost use Rattle.process_lines.specs.Known.{step_commands};
 ghost use Rattle.process_lines.specs.Named.{grammar_of};
 
-use crate::Asked;
 use crate::names::CommandName;
-use crate::{LineFault, grain_word, number_word, silo_word};
+use crate::{Asked, LineFault, grain_word, number_word, silo_word};
 use script_lines::{only_two_words, only_word, split_word};
 use silo_address::GrainId;
 

@@ -1,6 +1,6 @@
 //! Letters, written as lines.
 
-#![tactic(auto, using(script_lines::proofs::Pieces::word_by_word))]
+#![tactic(auto, using(script_lines::proofs::WrittenPieces::word_by_word))]
 
 ghost use Rattle.std.specs.Prelude.{◌≡◌, [], ◌∷◌, ◌++◌, OnOk, OnErr, codes};
 ghost use Rattle.std.specs.Fmt.{decimal};

@@ -9,7 +9,7 @@ ghost use Rattle.dump_rules.specs.Verdict.{has_entries_inside, has_one_entry_a_g
 ghost use Rattle.rebuild_checker.specs.Ready.{is_by_grain};
 ghost use Rattle.dumps.specs.Mixed.{grains_lent};
 
-use dumps::{Dump, ListedEntry, LentGrain, ListedNode, ListedPiece, are_distinct_grains};
+use dumps::{Dump, LentGrain, ListedEntry, ListedNode, ListedPiece, are_distinct_grains};
 use std::alloc::{AllocError, Global};
 
 /// Whether the entries of each piece of the node are hashed into it.

@@ -7,7 +7,7 @@ ghost use Rattle.dump_rules.specs.Verdict as rule;
 ghost use Rattle.rebuild_checker.specs.Lent.{held_lent, held_on};
 ghost use Rattle.dumps.specs.Mixed.{grains_lent};
 
-use dumps::{ListedHeld, LentGrain, ListedNode, ListedPhase};
+use dumps::{LentGrain, ListedHeld, ListedNode, ListedPhase};
 use silo_address::GrainId;
 use std::alloc::{AllocError, Global};
 use std::collections::BTreeSet;

@@ -7,7 +7,7 @@ ghost use Rattle.rebuild_checker.specs.Lent.{entries_in, entries_lent, held_lent
 ghost use Rattle.rebuild_checker.specs.Named.{IsIndex, entries_named, entry_named, named_cmp};
 ghost use Rattle.rebuild_checker.specs.Tallies.{count_below, count_up_to};
 
-use dumps::{ListedEntry, ListedHeld, LentGrain, ListedNode, ListedPiece};
+use dumps::{LentGrain, ListedEntry, ListedHeld, ListedNode, ListedPiece};
 use silo_address::ActivationId;
 use std::alloc::{AllocError, Global};
 
@@ -28,7 +28,10 @@ pub(crate) fn index_of_entries<'a>(
 }
 
 /// The entries of some pieces.
-fn entries_of<'a>(alloc: Global, pieces: &[&'a ListedPiece<'a>]) -> Result<Vec<&'a ListedEntry<'a>>, AllocError>
+fn entries_of<'a>(
+    alloc: Global,
+    pieces: &[&'a ListedPiece<'a>],
+) -> Result<Vec<&'a ListedEntry<'a>>, AllocError>
     ensures { IfOk result (λ entries. entries_lent entries.items ≡ entries_in pieces.now) }
 {
     pieces
@@ -65,7 +68,10 @@ pub(crate) fn index_of_held<'a>(
 }
 
 /// The activations on some nodes.
-fn held_on<'a>(alloc: Global, nodes: &[&'a ListedNode<'a>]) -> Result<Vec<&'a ListedHeld<'a>>, AllocError>
+fn held_on<'a>(
+    alloc: Global,
+    nodes: &[&'a ListedNode<'a>],
+) -> Result<Vec<&'a ListedHeld<'a>>, AllocError>
     ensures { IfOk result (λ held. held_lent held.items ≡ held_on nodes.now) }
 {
     nodes
@@ -75,7 +81,10 @@ fn held_on<'a>(alloc: Global, nodes: &[&'a ListedNode<'a>]) -> Result<Vec<&'a Li
         .collect(alloc)
 }
 
-fn named_by_held<'a>(alloc: Global, held: &[&'a ListedHeld<'a>]) -> Result<Vec<Named<'a>>, AllocError>
+fn named_by_held<'a>(
+    alloc: Global,
+    held: &[&'a ListedHeld<'a>],
+) -> Result<Vec<Named<'a>>, AllocError>
     ensures { IfOk result (λ names. entries_named names.items ≡ map rule.entry_of_held (held_lent held.now)) }
 {
     held.iter()

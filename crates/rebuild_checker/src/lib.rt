@@ -24,10 +24,9 @@ mod two_firm;
 
 pub use check_fault::CheckFault;
 pub use dumps::{
-    Dump, ListedEntry, ListedHeld, LentGrain, ListedPoint, ListedNode, ListedPhase, ListedPiece, DumpError, ListedRow, ListedState,
+    Dump, DumpError, LentGrain, ListedEntry, ListedHeld, ListedNode, ListedPhase, ListedPiece,
+    ListedPoint, ListedRow, ListedState, is_dump, write_dump, write_node,
 };
-pub use dumps::is_dump;
-pub use dumps::{write_dump, write_node};
 pub use first_fault::check;
 pub use read::read_dump;
 pub use text::verdict_text;

@@ -5,8 +5,7 @@ ghost use Rattle.serde_json.specs.Errors.{IsMemory};
 ghost use Rattle.dump_rules.specs.DumpShape as rule;
 ghost use Rattle.rebuild_checker.specs.Told.{lists_told, text_told, told};
 
-use dumps::{Dump, DumpError, read_straight};
-use dumps::{is_dump, read_tree};
+use dumps::{Dump, DumpError, is_dump, read_straight, read_tree};
 use serde_json::Value;
 use simdutf8::basic::from_utf8;
 use std::alloc::Global;

@@ -9,7 +9,7 @@ ghost use Rattle.rebuild_checker.specs.Lent.{nodes_lent};
 ghost use Rattle.rebuild_checker.specs.Rings.{IsRingOfView, all_points, points_by_row, row_points};
 
 use crate::alive::is_active;
-use dumps::{Dump, ListedPoint, ListedNode, ListedRow};
+use dumps::{Dump, ListedNode, ListedPoint, ListedRow};
 use hash_ring::{Hashing, hash_text};
 use silo_address::SiloAddress;
 use std::alloc::{AllocError, Global};

@@ -15,7 +15,9 @@ ghost use Rattle.script_lines.specs.Spaced.{spaced, BeginsWith};
 
 use crate::line::end_line;
 use crate::tables::{phase_word, status_word};
-use crate::written_words::{push_activation, push_grain, push_named, push_range, push_silo, push_word};
+use crate::written_words::{
+    push_activation, push_grain, push_named, push_range, push_silo, push_word,
+};
 use directory_rules::Held;
 use membership_view::Status;
 use ring_range::RingRange;

@@ -7,8 +7,7 @@ ghost use Rattle.std.specs.Io.BufRead.{strip_last};
 
 use crate::step::Step;
 use crate::{Ended, LineFault, LinePlayer};
-use script_lines::{ScriptFault, first_line, laws, without_return};
-use script_lines::write_fault;
+use script_lines::{ScriptFault, first_line, laws, without_return, write_fault};
 use std::alloc::{AllocError, Global};
 
 /// How many bytes are read at once at most.

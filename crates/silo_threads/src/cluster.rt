@@ -4,17 +4,16 @@ ghost use Rattle.silo_threads.specs.Cluster.{first_cluster};
 
 use crate::publication::newest;
 use crate::start::Worker;
-use cluster_board::Board;
+use cluster_board::{Blocks, Board, Names};
 use crossbeam_channel::{Receiver, Sender, bounded};
+use directory_node::SharedNode;
 use directory_rules::Settings;
 use published_rings::{Publisher, RouteError, RouteReader};
-use directory_node::SharedNode;
 use silo_workers::{Cause, Gate, Site};
 use std::alloc::Global;
 use std::marker::Model;
 use std::sync::ledger::{Blank, Ledger, Share};
 use std::sync::{Arc, Wait};
-use cluster_board::{Blocks, Names};
 
 /// The greatest number of workers that a cluster may ever have: as many as silos may ever join.
 pub const MOST_WORKERS: usize = 256;

@@ -6,13 +6,13 @@ ghost use Rattle.silo_threads.specs.Tallied.{HasMore};
 use crate::cluster::PARTS;
 use crate::start::{Worker, stop};
 use crate::{Cluster, EndFault, Ended};
+use cluster_board::Names;
 use cluster_journal::Receipt;
 use silo_workers::{Gate, Site, Tally};
 use std::alloc::AllocError;
 use std::sync::ledger::{Ledger, Share};
 use std::sync::{Arc, Wait};
 use std::thread::Threads;
-use cluster_board::Names;
 
 impl<L: Ledger + Names, G: Gate + Drop> Cluster<L, G> {
     /// Stops all workers, joins their threads, ends the publisher, and puts the workers' parts of the share and their receipts, each of

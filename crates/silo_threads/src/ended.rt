@@ -4,15 +4,13 @@ ghost use Rattle.cluster_journal.specs.Agreement.{Agree};
 ghost use Rattle.cluster_journal.specs.Journal.{IsJournaled};
 ghost use Rattle.cluster_journal.specs.Comparison.{Declines};
 
-use cluster_board::Board;
-use cluster_journal::Receipt;
-use cluster_journal::{CloseRefusal, compare};
+use cluster_board::{Board, Names};
+use cluster_journal::{CloseRefusal, Receipt, compare};
 use crossbeam_channel::Receiver;
 use silo_workers::Cause;
 use std::alloc::Global;
 use std::sync::Wait;
 use std::sync::ledger::{Ledger, Share};
-use cluster_board::Names;
 
 /// A cluster that has ended: its board, the share, the receipts of all who posted and committed, and why workers gave up.
 #[derive(Drop)]

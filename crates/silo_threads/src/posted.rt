@@ -6,7 +6,7 @@ ghost use Rattle.silo_threads.specs.Replies.{IsReceiptOf, IsRefusalOf};
 
 use crate::publication::newest;
 use crate::run::post_to;
-use cluster_board::Board;
+use cluster_board::{Board, Names};
 use cluster_journal::Receipt;
 use directory_core::EventRefusal;
 use directory_rules::Event;
@@ -16,7 +16,6 @@ use silo_workers::{Gate, Site};
 use std::alloc::{AllocError, Global};
 use std::sync::Wait;
 use std::sync::ledger::{Ledger, Share};
-use cluster_board::Names;
 
 /// An event that was accepted: its receipt, and the view and the places that it left, unless memory ran out when they were copied.
 #[derive(Drop)]

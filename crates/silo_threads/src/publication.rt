@@ -6,7 +6,7 @@ ghost use Rattle.silo_threads.specs.Followed.{HasPublished, IsLeftBy, Shows};
 
 use crate::posted::Posted;
 use crate::{Cluster, Lack};
-use cluster_board::Board;
+use cluster_board::{Board, Names};
 use hash_ring::Places;
 use membership_view::View;
 use published_rings::{Publisher, RouteError};
@@ -14,7 +14,6 @@ use silo_workers::Gate;
 use std::alloc::{AllocError, Global};
 use std::sync::Wait;
 use std::sync::ledger::Ledger;
-use cluster_board::Names;
 
 /// The current view of a board's world, which events have made, and each silo's places. Fails only when memory runs out.
 pub(crate) fn newest<L: Ledger + Names>(

@@ -7,7 +7,7 @@ use crate::cluster::{MOST_WORKERS, PARTS};
 use crate::posted::post_change;
 use crate::start::{Desk, start};
 use crate::{Cluster, Lack};
-use cluster_board::Board;
+use cluster_board::{Board, Names};
 use cluster_journal::Receipt;
 use directory_core::EventRefusal;
 use directory_rules::Event;
@@ -17,7 +17,6 @@ use std::alloc::AllocError;
 use std::sync::ledger::{Ledger, Share};
 use std::sync::{Arc, Wait};
 use std::thread::Threads;
-use cluster_board::Names;
 
 /// An event that was accepted: its receipt, and what it should have had behind it and lacks.
 #[derive(Drop)]

@@ -5,6 +5,7 @@ ghost use Rattle.silo_threads.specs.Followed.{LacksThread, with_worker};
 
 use crate::Lack;
 use crate::cluster::MOST_WORKERS;
+use cluster_board::Names;
 use crossbeam_channel::Sender;
 use silo_address::SiloAddress;
 use silo_workers::{Cause, Gate, Site, Tally, work};
@@ -13,7 +14,6 @@ use std::marker::Model;
 use std::sync::ledger::{Ledger, Share};
 use std::sync::{Arc, Wait};
 use std::thread::{self, Promise, PromisedHandle, Threads};
-use cluster_board::Names;
 
 /// A silo's worker: its thread, or what it did where no thread could be made.
 #[derive(Drop)]

@@ -8,16 +8,15 @@ ghost use Rattle.script_rules.specs.Output.{sync_events, unseen_versions};
 ghost use Rattle.silo_threads.specs.Unseen.{WereUnseen};
 
 use crate::Cluster;
-use cluster_board::Board;
+use cluster_board::{Board, Names};
 use directory_core::World;
-use directory_rules::Event;
 use directory_node::SharedNode;
+use directory_rules::Event;
 use silo_address::SiloAddress;
 use silo_workers::Gate;
 use std::alloc::{AllocError, Global};
 use std::sync::Wait;
 use std::sync::ledger::Ledger;
-use cluster_board::Names;
 
 impl<L: Ledger + Names, G: Gate + Drop> Cluster<L, G> {
     /// The sights that would bring each silo that isn't Dead, by address, from the version that it has seen up to the current one.

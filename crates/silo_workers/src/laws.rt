@@ -1,10 +1,9 @@
-use cluster_board::{Board, Job, Prepared};
+use crate::{Cause, Gate, Site, Tally};
+use cluster_board::{Board, Job, Names, Prepared};
 use cluster_journal::Receipt;
 use crossbeam_channel::Sender;
-use crate::{Cause, Gate, Site, Tally};
 use std::sync::Arc;
 use std::sync::ledger::Ledger;
-use cluster_board::Names;
 
 fn sends<T: Send>() {}
 

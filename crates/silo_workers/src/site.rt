@@ -1,8 +1,7 @@
 use crate::Gate;
-use cluster_board::Board;
+use cluster_board::{Board, Names};
 use std::sync::ledger::Ledger;
 use std::sync::{Condvar, Mutex};
-use cluster_board::Names;
 
 /// What all workers share: the board under its lock, the bell that rings whenever the board has changed, and the gate.
 #[derive(Drop)]

@@ -1,12 +1,11 @@
 ghost use Rattle.std.specs.Prelude.{◌≡◌, [], ◌<◌, OnErr, OnOk, vec_capacity, vec_len};
 ghost use Rattle.silo_workers.specs.Delivered.{HasDelivered};
 
-use cluster_board::{Board, Prepared, Uncommitted};
+use cluster_board::{Board, Names, Prepared, Uncommitted};
 use cluster_journal::Receipt;
 use std::alloc::{AllocError, Global};
 use std::marker::Model;
 use std::sync::ledger::{Ledger, Share};
-use cluster_board::Names;
 
 /// What a worker did: its part of the ledger's share, and the receipts of what it committed, as many as the part counts.
 #[derive(Drop)]

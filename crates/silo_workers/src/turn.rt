@@ -4,12 +4,11 @@ ghost use Rattle.silo_workers.specs.Causes.{cause_of};
 ghost use Rattle.silo_workers.specs.Delivered.{HasDelivered};
 
 use crate::{Cause, Gate, Site, Tally};
-use cluster_board::{Board, Job, Prepared, Uncommitted};
+use cluster_board::{Board, Job, Names, Prepared, Uncommitted};
 use silo_address::SiloAddress;
 use std::alloc::Global;
 use std::sync::Wait;
 use std::sync::ledger::Ledger;
-use cluster_board::Names;
 
 /// What a worker goes by: the silo that it serves, and where its steps are prepared.
 #[derive(Drop)]

@@ -2,12 +2,12 @@ ghost use Rattle.silo_workers.specs.Delivered.{HasDelivered};
 
 use crate::turn::{Post, turn};
 use crate::{Cause, Gate, Site, Tally};
+use cluster_board::Names;
 use crossbeam_channel::Sender;
 use silo_address::SiloAddress;
 use std::alloc::Global;
 use std::sync::Wait;
 use std::sync::ledger::Ledger;
-use cluster_board::Names;
 
 /// Delivers the letters to a silo, one after the other, until all are to stop, a worker gives up, or the silo is Dead. To the receipts
 /// that it is given it puts that of each delivery, and no others. Where memory runs out, or a delivery is refused by 908 or 909, this

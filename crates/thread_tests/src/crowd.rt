@@ -5,8 +5,9 @@ ghost use Rattle.silo_threads.specs.declared.cluster.TheConstants.{PARTS};
 use crate::driver::{Driver, grain, join, silo};
 use crate::readers::Watchers;
 use crate::replay::tells;
-use directory_rules::Event;
+use cluster_board::{Blocks, Names};
 use directory_node::SharedNode;
+use directory_rules::Event;
 use silo_address::{GrainId, SiloAddress};
 use silo_threads::PARTS;
 use silo_workers::OpenGate;
@@ -17,7 +18,6 @@ use std::process::Abort;
 use std::sync::Wait;
 use std::sync::ledger::{Blank, Ledger};
 use std::thread::Threads;
-use cluster_board::{Blocks, Names};
 
 /// How much is posted.
 #[derive(Clone, Copy)]

@@ -4,14 +4,13 @@
 ghost use Rattle.std.specs.Prelude.{◌≡◌, ◌<◌};
 
 use crate::steps::{A, FIRST, Step, event_of, silo};
-use cluster_board::{Board, CommitRefusal, Job, Prepared, Uncommitted};
+use cluster_board::{Blocks, Board, CommitRefusal, Job, Names, Prepared, Uncommitted};
 use cluster_journal::Receipt;
-use directory_rules::Settings;
 use directory_node::SharedNode;
+use directory_rules::Settings;
 use std::alloc::Global;
 use std::process::Abort;
 use std::sync::ledger::{Blank, Ledger, Share};
-use cluster_board::{Blocks, Names};
 
 #[derive(Drop)]
 pub(crate) struct Desk<L: Ledger + Names> {

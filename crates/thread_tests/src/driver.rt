@@ -2,11 +2,11 @@
 ghost use Rattle.std.specs.Prelude.{◌≡◌, ◌+◌, ◌<◌, ◌≤◌, length};
 ghost use Rattle.silo_threads.specs.declared.cluster.TheConstants.{PARTS};
 
-use cluster_board::Board;
+use cluster_board::{Blocks, Board, Names};
 use cluster_journal::Receipt;
+use directory_node::SharedNode;
 use directory_rules::{Event, Settings};
 use hash_ring::Hashing;
-use directory_node::SharedNode;
 use silo_address::{GrainId, SiloAddress};
 use silo_threads::{Cluster, Ran};
 use silo_workers::Gate;
@@ -15,7 +15,6 @@ use std::process::Abort;
 use std::sync::Wait;
 use std::sync::ledger::{Blank, Ledger, Share};
 use std::thread::Threads;
-use cluster_board::{Blocks, Names};
 
 pub(crate) struct Driver<L: Ledger + Names, G: Gate + Drop> {
     pub(crate) cluster: Cluster<L, G>,

@@ -5,9 +5,10 @@ ghost use Rattle.std.specs.Prelude.{◌≡◌};
 ghost use Rattle.silo_threads.specs.declared.cluster.TheConstants.{PARTS};
 
 use crate::driver::{Driver, grain, join, silo};
+use cluster_board::{Blocks, Names};
 use cluster_journal::Entry;
-use directory_rules::Event;
 use directory_node::SharedNode;
+use directory_rules::Event;
 use silo_address::SiloAddress;
 use silo_threads::PARTS;
 use silo_workers::Gate;
@@ -19,7 +20,6 @@ use std::sync::ledger::{Blank, Ledger};
 use std::sync::{Arc, Wait};
 use std::thread::{self, Threads};
 use std::time::{Clock, Duration};
-use cluster_board::{Blocks, Names};
 
 const A: &str = "10.0.0.1:1000@1";
 

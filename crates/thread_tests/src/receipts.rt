@@ -1,7 +1,6 @@
 //! Receipts are compared with a journal. Any one refusal of an allocation leaves the test true (`--fail-alloc`).
 
-use cluster_journal::{Draft, Entry, Receipt};
-use cluster_journal::{CloseRefusal, compare};
+use cluster_journal::{CloseRefusal, Draft, Entry, Receipt, compare};
 use directory_rules::{Event, Happening, Outcome};
 use std::alloc::Global;
 use std::process::Abort;

@@ -2,6 +2,7 @@
 
 ghost use Rattle.std.specs.Prelude.{Some};
 
+use cluster_board::Slots;
 use console_command::{Run, end_threads, run_words};
 use console_threads::{MARK_BLOCKS, play_on_threads};
 use silo_threads::PARTS;
@@ -11,7 +12,6 @@ use std::marker::Brand;
 use std::sync::Wait;
 use std::sync::ledger::Blank;
 use std::thread::Threads;
-use cluster_board::Slots;
 
 const WORDS: [&str; 4] = ["g", "threads", "--hashing", "stated"];
 

@@ -4,16 +4,15 @@ ghost use Rattle.std.specs.Prelude.{◌≡◌, ◌<◌};
 
 use crate::desk::Desk;
 use crate::steps::{A, ASKED, B, Step, WOKEN};
-use cluster_board::CommitRefusal;
+use cluster_board::{Blocks, CommitRefusal, Names};
 use cluster_journal::Receipt;
+use directory_node::SharedNode;
 use directory_rules::{Effect, Happening, LetterKind, Settings};
 use hash_ring::Hashing;
-use directory_node::SharedNode;
 use std::alloc::Global;
 use std::marker::Brand;
 use std::process::Abort;
 use std::sync::ledger::{Blank, Ledger};
-use cluster_board::{Blocks, Names};
 
 // What a commit answers.
 enum Answer {

@@ -11,8 +11,7 @@ use directory_core::{EventRefusal, Told, World};
 use directory_rules::{Event, Outcome, Settings};
 use hash_ring::Hashing;
 use rebuild_checker::write_dump;
-use script_lines::{Command, first_line, read_command};
-use script_lines::{write_outcome, write_refusal};
+use script_lines::{Command, first_line, read_command, write_outcome, write_refusal};
 use std::alloc::{AllocError, Global};
 use std::process::Abort;
 

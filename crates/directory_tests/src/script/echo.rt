@@ -3,9 +3,8 @@
 ghost use Rattle.std.specs.Prelude.{⊤};
 ghost use Rattle.directory_tests.specs.Echoes.{echoed, long_lines_fault, nothing_echoed};
 
-use script_lines::ScriptFault;
+use script_lines::{ScriptFault, write_fault};
 use script_loop::{LineFault, LinePlayer};
-use script_lines::write_fault;
 use std::alloc::{AllocError, Global};
 
 #[derive(Drop)]
