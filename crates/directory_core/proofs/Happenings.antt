@@ -19,9 +19,8 @@ use Rattle.directory_rules.specs.Happens.{attempted, deliver, delivers, delivers
 use Rattle.directory_rules.specs.Receive.{received}
 use Rattle.directory_rules.specs.declared.Effect.{Effect}
 use Rattle.directory_node.specs.Follows.{RefusesBy}
-use Rattle.directory_node.specs.Memory.{Counts, MayLackMemory}
+use Rattle.directory_node.specs.Memory.{MayLackMemory}
 use Rattle.directory_node.specs.Plans.{Sends}
-use Rattle.directory_core.specs.Applied.{IsOkOfUse}
 use Rattle.directory_core.specs.Steps.{IsOwn, after_step, letters_number}
 use Rattle.directory_core.specs.Whole.{IsWorld, LeavesWorld}
 
@@ -59,17 +58,17 @@ pub leaves_taken : (world : World) (silo : Silo) (happening : Happening) (steppe
 leaves_taken world silo happening stepped room leaves = subst LeavesWorld (taken_told world silo happening stepped room) leaves
 
 -- ---- an event that sends a known number of letters, where memory runs out
-sending_decided : (excuses : Result Accepted ℕ → Type 0) (world : World) (letters : List Letter) (accepted : Accepted) (count : ℕ) → excuses (Ok accepted) → length letters ≡ count
-    → RefusesBy excuses (letters_number world count) (cond (not (has_room_for world letters)) (Err 909) (Ok accepted))
-sending_decided excuses world [] accepted count excused none = subst (λ n. RefusesBy excuses (letters_number world n) (Ok accepted)) none excused
-sending_decided excuses world (letter ∷ letters) accepted count excused some =
+sending_decided : (world : World) (letters : List Letter) (accepted : Accepted) (count : ℕ) → length letters ≡ count
+    → RefusesBy IsOk (letters_number world count) (cond (not (has_room_for world letters)) (Err 909) (Ok accepted))
+sending_decided world [] accepted count none = subst (λ n. RefusesBy IsOk (letters_number world n) (Ok accepted)) none refl
+sending_decided world (letter ∷ letters) accepted count some =
     let any : (length (letter ∷ letters) == 0) ≡ false = grind (arith, nat_tests) in
     let room = nat_le (world.sent + length (letter ∷ letters)) world.settings.letters in
-    subst (λ n. RefusesBy excuses (letters_number world n) (cond (not room) (Err 909) (Ok accepted))) some
-    (subst (λ b. RefusesBy excuses (cond (b || room) None (Some 909)) (cond (not room) (Err 909) (Ok accepted))) (sym any) (by room))
+    subst (λ n. RefusesBy IsOk (letters_number world n) (cond (not room) (Err 909) (Ok accepted))) some
+    (subst (λ b. RefusesBy IsOk (cond (b || room) None (Some 909)) (cond (not room) (Err 909) (Ok accepted))) (sym any) (by room))
   where
-    by : (b : Bool) → RefusesBy excuses (cond b None (Some 909)) (cond (not b) (Err 909) (Ok accepted))
-    by true = excused
+    by : (b : Bool) → RefusesBy IsOk (cond b None (Some 909)) (cond (not b) (Err 909) (Ok accepted))
+    by true = refl
     by false = refl
 
 -- a step of the silo's own is refused by the step's number, or by the letter's
@@ -79,7 +78,7 @@ refused_told world silo input node number own there refuses =
     subst (λ n. RefusesBy IsOk (option_or number (letters_number world 1)) (does_at n world silo input)) (sym there) (by (step node input) number refuses)
   where
     by_none : (outcome : Result Stepped ℕ) → Sends 1 outcome → RefusesBy IsOk (letters_number world 1) (done_by outcome world silo)
-    by_none (Ok stepped) one = sending_decided IsOk world stepped.letters _ 1 refl one
+    by_none (Ok stepped) one = sending_decided world stepped.letters _ 1 one
     by_none (Err refusal) one = absurd one
 
     by : (outcome : Result Stepped ℕ) (number : Option ℕ) → RefusesBy (MayLackMemory node input) number outcome → RefusesBy IsOk (option_or number (letters_number world 1)) (done_by outcome world silo)
@@ -89,15 +88,11 @@ refused_told world silo input node number own there refuses =
 
 -- so is a delivery
 pub delivery_refused : (world : World) (number : ℕ) (letter : Letter) (node : Node) (count : ℕ) → letter_of world number ≡ Some letter → node_of world letter.to ≡ Some node
-    → length (received node letter).letters ≡ count → Counts node letter → RefusesBy IsOkOfUse (letters_number world count) (deliver world number)
-delivery_refused world number letter node count is there sends counts =
-    let stepped = received node letter in
-    let before = with_delivered world number letter in
-    subst (λ o. RefusesBy IsOkOfUse (letters_number world count) (delivers o world number)) (sym is)
-    (subst (λ n. RefusesBy IsOkOfUse (letters_number world count) (delivers_to n world number letter)) (sym there)
-    (sending_decided IsOkOfUse before stepped.letters
-    (record { outcome = record { happening = Delivered number (kind_of letter.body) stepped.effect; sent = span_of before stepped.letters }; world = after_step before letter.to stepped.node stepped.letters })
-    count counts sends))
+    → length (received node letter).letters ≡ count → RefusesBy IsOk (letters_number world count) (deliver world number)
+delivery_refused world number letter node count is there sends =
+    subst (λ o. RefusesBy IsOk (letters_number world count) (delivers o world number)) (sym is)
+    (subst (λ n. RefusesBy IsOk (letters_number world count) (delivers_to n world number letter)) (sym there)
+    (sending_decided (with_delivered world number letter) (received node letter).letters _ count sends))
 
 -- ---- a delivery
 room_delivered : (world : World) (number : ℕ) (letter : Letter) (letters : List Letter) → has_room_for (with_delivered world number letter) letters ≡ has_room_for world letters

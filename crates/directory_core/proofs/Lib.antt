@@ -4,6 +4,3 @@ pub mod Made
 pub mod Tidied
 pub mod Happenings
 pub mod Runs
-pub mod CurrentView
-pub mod Idle
-pub mod Unchanged

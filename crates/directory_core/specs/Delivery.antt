@@ -1,14 +1,11 @@
 -- A plan that a silo made beside the world, with a letter to it.
 use Rattle.std.specs.Prelude.{◌≡◌, ℕ, Option, Some, None}
-use Rattle.directory_rules.specs.declared.effect.Effect.{Effect}
-use Rattle.directory_rules.specs.declared.letter_kind.LetterKind.{LetterKind}
-use Rattle.directory_rules.specs.Letter.{Letter, kind_of}
+use Rattle.directory_rules.specs.Letter.{Letter}
 use Rattle.directory_rules.specs.Node.{Node}
 use Rattle.directory_rules.specs.Receive.{received}
 use Rattle.directory_rules.specs.World.{World}
 use Rattle.directory_rules.specs.Mail.{letter_of}
 use Rattle.directory_rules.specs.Happens.{node_of}
-use Rattle.directory_node.specs.Memory.{IsIdle}
 use Rattle.directory_node.specs.Plans.{Fits, step_by}
 use Rattle.directory_node.specs.declared.Plan.{Plan}
 use Rattle.directory_core.specs.declared.delivery.Undelivered.{Undelivered}
@@ -31,14 +28,3 @@ undelivered_number undelivered = event_refusal_number undelivered.refusal
 abbrev pub plan_back : Option ℕ → Plan → Option Plan
 plan_back (Some number) plan = Some plan
 plan_back None plan = None
-
--- the letter of the number is in the mail, its receiver isn't Dead, and of this letter, of that kind, nothing comes there, with that
--- effect
-pub record Passes (world : World) (number : ℕ) (kind : LetterKind) (effect : Effect) : Type 0 where
-  pub letter : Letter
-  pub node : Node
-  pub mailed : letter_of world number ≡ Some letter
-  pub live : node_of world letter.to ≡ Some node
-  pub its_kind : kind_of letter.body ≡ kind
-  pub its_effect : (received node letter).effect ≡ effect
-  pub idle : IsIdle kind effect

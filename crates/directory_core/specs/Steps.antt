@@ -20,7 +20,7 @@ after_step world silo node letters = counted (with_sent (with_node world silo no
 abbrev pub letters_number : World → (count : ℕ) → Option ℕ
 letters_number world count = if (count == 0) || nat_le (world.sent + count) world.settings.letters then None else Some 909
 
--- an input of the silo's own that is no sight and no nudge: a plan of it needs memory only for the one letter that it sends
+-- an input of the silo's own that is no sight and no nudge: a plan of it may lack memory only for the one letter that it sends
 pub record IsOwn (input : Input) : Type 0 where
   pub placed : (node : Node) → IsPlaced node input
   pub one : (node : Node) (outcome : Result Stepped ℕ) → MayLackMemory node input outcome → Sends 1 outcome

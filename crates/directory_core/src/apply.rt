@@ -17,14 +17,13 @@ impl World {
     /// An event happens. It is accepted, with what it tells, or refused by a refusal with its number, and then nothing changes
     /// (`docs/RULES.md#the-world`). Out of memory changes nothing either, is told by `OutOfMemory` alone, and comes only where no
     /// number refuses the event; but at a sight and a nudge, whose letters are known only when they are made, it may come before
-    /// 909. It never comes where nothing is to be made: at a letter of which nothing comes, a forget of what the cache doesn't have,
-    /// a nudge of a silo that waits for nothing (`docs/RULES.md#memory`).
+    /// 909 (`docs/RULES.md#memory`).
     ///
     /// The headline holds of the world that is left, and what is accepted is the step of the plain machine that it tells
     /// (`docs/RULES.md#what-is-to-hold-of-the-world`); the dump of that world is right
     /// (`docs/RULES.md#the-dump-and-the-verdict`).
     pub fn apply(&mut self, event: &Event) -> Result<Outcome, EventRefusal>
-        ensures told { Follows (accepted_as self.new) event_refusal_number (excused self.old event.now) (happens self.old (event_of event.now)) result }
+        ensures told { Follows (accepted_as self.new) event_refusal_number (excused event.now) (happens self.old (event_of event.now)) result }
         ensures numbered { IfErr result IsNumberedUnlessMemory }
         ensures unchanged { OnErr result (self.new ≡ self.old) }
         ensures headline { Headline self.new }
@@ -41,7 +40,7 @@ impl World {
     // An event happens, as the rule says.
     fn follow(&mut self, event: &Event) -> Result<Outcome, EventRefusal>
         requires leaves { LeavesWorld (happens self.old (event_of event.now)) }
-        ensures told { Follows (accepted_as self.new) event_refusal_number (excused self.old event.now) (happens self.old (event_of event.now)) result }
+        ensures told { Follows (accepted_as self.new) event_refusal_number (excused event.now) (happens self.old (event_of event.now)) result }
         ensures numbered { IfErr result IsNumberedUnlessMemory }
         ensures unchanged { OnErr result (self.new ≡ self.old) }
     {
@@ -55,7 +54,7 @@ impl World {
     fn attempt(&mut self, event: &Event) -> Result<Outcome, EventRefusal>
         requires room { self.old.accepted < self.old.settings.events }
         requires leaves { LeavesWorld (attempted self.old (event_of event.now)) }
-        ensures told { Follows (accepted_as self.new) event_refusal_number (excused self.old event.now) (attempted self.old (event_of event.now)) result }
+        ensures told { Follows (accepted_as self.new) event_refusal_number (excused event.now) (attempted self.old (event_of event.now)) result }
         ensures numbered { IfErr result IsNumberedUnlessMemory }
         ensures unchanged { OnErr result (self.new ≡ self.old) }
     {
@@ -67,7 +66,7 @@ impl World {
             Event::Wake { silo, grain } => self.does(silo, &Input::Wakes(grain)),
             Event::Close { silo, grain } => self.does(silo, &Input::Closes(grain)),
             Event::Find { silo, grain } => self.does(silo, &Input::Finds(grain)),
-            Event::Forget { silo, grain } => self.forgets(silo, grain),
+            Event::Forget { silo, grain } => self.does(silo, &Input::Forgets(grain)),
             Event::Deliver { number } => self.deliver(*number),
             Event::Lose { number } => self.lose(*number),
             Event::Nudge { silo } => self.nudges(silo),

@@ -1,18 +1,18 @@
 //! A letter delivered as its receiver planned beside the world.
-ghost use Rattle.std.specs.Prelude.{◌≡◌, ◌<◌, IfErr, IfOk, OnErr};
+ghost use Rattle.std.specs.Prelude.{◌≡◌, ◌<◌, IfErr, IfOk, IsOk, OnErr};
 ghost use Rattle.directory_rules.specs.Event.{Deliver};
 ghost use Rattle.directory_rules.specs.Happens.{deliver, happens};
 ghost use Rattle.directory_rules.specs.Headline.{Headline};
 ghost use Rattle.directory_rules.specs.World.{accepted_as};
 ghost use Rattle.dump_headline.specs.Told.{IsRightlyTold};
 ghost use Rattle.directory_node.specs.Follows.{Follows};
-ghost use Rattle.directory_core.specs.Applied.{IsOkOfUse, IsPlainlyTold};
+ghost use Rattle.directory_core.specs.Applied.{IsPlainlyTold};
 ghost use Rattle.directory_core.specs.Delivery.{IsPlanWith, plan_back, undelivered_number};
 ghost use Rattle.directory_core.specs.Numbers.{IsNumberedUnlessMemory};
 ghost use Rattle.directory_core.specs.Whole.{LeavesWorld};
 
 use crate::{EventRefusal, World};
-use directory_node::{Plan, is_idle};
+use directory_node::Plan;
 use directory_rules::{Happening, Outcome};
 
 /// A plan that couldn't be carried out: why, and the plan itself, which may be tried again. Where memory runs out it is used up.
@@ -25,11 +25,11 @@ pub struct Undelivered {
 impl World {
     /// The letter of a number comes to its receiver, whose plan with it was made beside the world, by `Node::plan_letter`; then this
     /// is `apply` of the delivery (`docs/RULES.md#the-world`). Refused by 908, then by 909, which hand the plan back; out of memory
-    /// comes last, only where something comes of the letter, and uses the plan up. A refusal changes nothing. Where nobody else
-    /// holds the receiver's node, it is changed where it is, and nothing is copied.
+    /// comes last, and uses the plan up. A refusal changes nothing. Where nobody else holds the receiver's node, it is changed where
+    /// it is, and nothing is copied.
     pub fn deliver_with(&mut self, number: u64, plan: Plan) -> Result<Outcome, Undelivered>
         requires its { IsPlanWith self.old number plan }
-        ensures told { Follows (accepted_as self.new) undelivered_number IsOkOfUse (happens self.old (Deliver number)) result }
+        ensures told { Follows (accepted_as self.new) undelivered_number IsOk (happens self.old (Deliver number)) result }
         ensures numbered { IfErr result (λ undelivered. IsNumberedUnlessMemory undelivered.refusal) }
         ensures back { IfErr result (λ undelivered. undelivered.plan ≡ plan_back (undelivered_number undelivered) plan) }
         ensures unchanged { OnErr result (self.new ≡ self.old) }
@@ -47,7 +47,7 @@ impl World {
     fn follow_with(&mut self, number: u64, plan: Plan) -> Result<Outcome, Undelivered>
         requires its { IsPlanWith self.old number plan }
         requires leaves { LeavesWorld (happens self.old (Deliver number)) }
-        ensures told { Follows (accepted_as self.new) undelivered_number IsOkOfUse (happens self.old (Deliver number)) result }
+        ensures told { Follows (accepted_as self.new) undelivered_number IsOk (happens self.old (Deliver number)) result }
         ensures numbered { IfErr result (λ undelivered. IsNumberedUnlessMemory undelivered.refusal) }
         ensures back { IfErr result (λ undelivered. undelivered.plan ≡ plan_back (undelivered_number undelivered) plan) }
         ensures unchanged { OnErr result (self.new ≡ self.old) }
@@ -66,7 +66,7 @@ impl World {
         requires room { self.old.accepted < self.old.settings.events }
         requires its { IsPlanWith self.old number plan }
         requires leaves { LeavesWorld (deliver self.old number) }
-        ensures told { Follows (accepted_as self.new) undelivered_number IsOkOfUse (deliver self.old number) result }
+        ensures told { Follows (accepted_as self.new) undelivered_number IsOk (deliver self.old number) result }
         ensures numbered { IfErr result (λ undelivered. IsNumberedUnlessMemory undelivered.refusal) }
         ensures back { IfErr result (λ undelivered. undelivered.plan ≡ plan_back (undelivered_number undelivered) plan) }
         ensures unchanged { OnErr result (self.new ≡ self.old) }
@@ -84,9 +84,6 @@ impl World {
         let to = letter.to();
         let kind = letter.kind();
         drop(mailed);
-        if is_idle(kind, plan.effect) {
-            return Ok(self.pass(number, kind, plan.effect));
-        }
         let outcome = Outcome {
             happening: Happening::Delivered {
                 number,

@@ -8,7 +8,6 @@ mod dumping;
 mod join;
 mod leave;
 mod nodes;
-mod pass;
 mod post;
 mod refusal;
 mod rows;

@@ -55,7 +55,7 @@ impl World {
         ensures told { IfOk result (λ told. told ≡ told_of (happens self.old (event_of event.now))) }
         ensures world { OnOk result (self.new ≡ world_after (happens self.old (event_of event.now)) self.old) }
         ensures unchanged { OnErr result (self.new ≡ self.old) }
-        ensures memory { OnErr result (excused self.old event.now (happens self.old (event_of event.now))) }
+        ensures memory { OnErr result (excused event.now (happens self.old (event_of event.now))) }
         ensures headline { Headline self.new }
         ensures right { IsRightlyTold self.new }
     {

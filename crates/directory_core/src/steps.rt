@@ -1,6 +1,6 @@
 ghost use Rattle.std.specs.Prelude.{◌≡◌, ◌<◌, ◌+◌, nat_le, true, IfErr, IsOk, IsSome, OnOk, OnErr, Some};
 ghost use Rattle.directory_rules.specs.Happens.{absent_number, counted, deliver, does, lose, node_of, taken};
-ghost use Rattle.directory_rules.specs.Input.{Forgets, Nudges};
+ghost use Rattle.directory_rules.specs.Input.{Nudges};
 ghost use Rattle.directory_rules.specs.Letter.{Letter as LetterValue};
 ghost use Rattle.directory_rules.specs.Mail.{has_room_for, letter_of, span_of, with_delivered, with_lost};
 ghost use Rattle.directory_rules.specs.Node.{Node as NodeValue};
@@ -10,7 +10,7 @@ ghost use Rattle.directory_node.specs.InputModel.{input_of};
 ghost use Rattle.directory_node.specs.Numbers.{step_refusal_number};
 ghost use Rattle.directory_node.specs.Plans.{Fits, changed, step_by};
 ghost use Rattle.std.specs.Option.{option_or};
-ghost use Rattle.directory_core.specs.Applied.{HasForgotten, IsAwaited, IsNever, IsOkOfUse};
+ghost use Rattle.directory_core.specs.Applied.{IsNever, IsOkOrFull};
 ghost use Rattle.directory_core.specs.Numbers.{IsNumberedUnlessMemory, event_refusal_number};
 ghost use Rattle.directory_core.specs.Steps.{IsOwn, after_step, letters_number};
 ghost use Rattle.directory_core.specs.Whole.{IsWorld, LeavesWorld};
@@ -18,14 +18,14 @@ ghost use Rattle.directory_core.specs.Whole.{IsWorld, LeavesWorld};
 use crate::post::{carry_out_at, receive_at};
 use crate::{EventRefusal, World};
 use directory_letters::Letter;
-use directory_node::{Change, Input, Plan, StepRefusal, is_idle};
-use directory_rules::{Effect, Happening, Outcome, Span};
-use silo_address::{GrainId, SiloAddress};
+use directory_node::{Change, Input, Plan, StepRefusal};
+use directory_rules::{Happening, Outcome, Span};
+use silo_address::SiloAddress;
 use std::alloc::AllocError;
 
 // Steps of silos in the world: a step is planned, which changes nothing yet, then its letters are sent and it is carried out.
 impl World {
-    // A silo takes a step of its own, which is no sight, no nudge and no forget: 901, 902, then as the step refuses, then 909.
+    // A silo takes a step of its own, which is no sight and no nudge: 901, 902, then as the step refuses, then 909.
     #[inline(never)]
     pub(crate) fn does(
         &mut self,
@@ -53,50 +53,15 @@ impl World {
         self.take(silo, happening, plan)
     }
 
-    // A silo forgets what its cache has of a grain: 901, 902. Needs memory only where the cache has something of it.
-    #[inline(never)]
-    pub(crate) fn forgets(
-        &mut self,
-        silo: &SiloAddress,
-        grain: &GrainId,
-    ) -> Result<Outcome, EventRefusal>
-        requires room { self.old.accepted < self.old.settings.events }
-        requires leaves { LeavesWorld (does self.old silo.now (Forgets grain.now)) }
-        ensures told { Follows (accepted_as self.new) event_refusal_number (HasForgotten silo.now grain.now) (does self.old silo.now (Forgets grain.now)) result }
-        ensures numbered { IfErr result IsNumberedUnlessMemory }
-        ensures unchanged { OnErr result (self.new ≡ self.old) }
-    {
-        self.whole();
-        let Some(node) = self.node(silo) else {
-            return Err(self.absent(silo));
-        };
-        let plan = match node.plan(self.alloc, &Input::Forgets(grain)) {
-            Ok(plan) => plan,
-            Err(_) => unreachable!(),
-        };
-        match plan.effect {
-            Effect::NothingCached(_) => Ok(self.stay(silo, plan.effect)),
-            effect => {
-                let happening = Happening::Did {
-                    silo: *silo,
-                    effect,
-                };
-                self.take(silo, happening, plan)
-            }
-        }
-    }
-
-    // A silo sends again what it has outstanding: 901, 902, then as the step refuses, then 909. Needs memory only where it waits for
-    // something.
+    // A silo sends again what it has outstanding: 901, 902, then as the step refuses, then 909. Out of memory may come before 909.
     #[inline(never)]
     pub(crate) fn nudges(&mut self, silo: &SiloAddress) -> Result<Outcome, EventRefusal>
         requires room { self.old.accepted < self.old.settings.events }
         requires leaves { LeavesWorld (does self.old silo.now Nudges) }
-        ensures told { Follows (accepted_as self.new) event_refusal_number (IsAwaited self.old silo.now) (does self.old silo.now Nudges) result }
+        ensures told { Follows (accepted_as self.new) event_refusal_number IsOkOrFull (does self.old silo.now Nudges) result }
         ensures numbered { IfErr result IsNumberedUnlessMemory }
         ensures unchanged { OnErr result (self.new ≡ self.old) }
     {
-        self.whole();
         let Some(node) = self.node(silo) else {
             return Err(self.absent(silo));
         };
@@ -104,9 +69,6 @@ impl World {
             Ok(plan) => plan,
             Err(refusal) => return Err(EventRefusal::of_node(refusal)),
         };
-        if node.is_quiet() {
-            return Ok(self.stay(silo, Effect::Nudged));
-        }
         let happening = Happening::Did {
             silo: *silo,
             effect: plan.effect,
@@ -205,12 +167,12 @@ impl World {
         }
     }
 
-    // A letter comes to its receiver: 905, 902, then 909. Needs memory only where something comes of it.
+    // A letter comes to its receiver: 905, 902, then 909.
     #[inline(never)]
     pub(crate) fn deliver(&mut self, number: u64) -> Result<Outcome, EventRefusal>
         requires room { self.old.accepted < self.old.settings.events }
         requires leaves { LeavesWorld (deliver self.old number) }
-        ensures told { Follows (accepted_as self.new) event_refusal_number IsOkOfUse (deliver self.old number) result }
+        ensures told { Follows (accepted_as self.new) event_refusal_number IsOk (deliver self.old number) result }
         ensures numbered { IfErr result IsNumberedUnlessMemory }
         ensures unchanged { OnErr result (self.new ≡ self.old) }
     {
@@ -229,9 +191,6 @@ impl World {
             return Err(self.refused_sending(node.answer_count(letter)));
         };
         drop(found);
-        if is_idle(kind, plan.effect) {
-            return Ok(self.pass(number, kind, plan.effect));
-        }
         if !self.has_room_for(&plan.letters) {
             return Err(EventRefusal::MailFull);
         }

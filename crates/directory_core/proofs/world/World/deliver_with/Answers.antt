@@ -1,5 +1,5 @@
+use Rattle.std.specs.Prelude.{IsOk}
 use Rattle.directory_rules.specs.Event.{Deliver}
-use Rattle.directory_core.specs.Applied.{IsOkOfUse}
 use Rattle.directory_core.specs.Delivery.{undelivered_number}
 use Rattle.directory_core.proofs.Made.{further, plain_of_all}
 use Rattle.directory_core.proofs.Runs.{moves_by, told_plainly}
@@ -10,5 +10,5 @@ follow_with-told-requires-clause-leaves c = further c.args.self.now (Deliver c.a
 
 pub returns-clause-plain : goal.returns-clause-plain
 returns-clause-plain c =
-    told_plainly undelivered_number IsOkOfUse c.args.self.now _ (Deliver c.args.number) c.follow_with-told.result
+    told_plainly undelivered_number IsOk c.args.self.now _ (Deliver c.args.number) c.follow_with-told.result
     (moves_by c.args.self.now (Deliver c.args.number) (plain_of_all c.args.self.now c.whole.ensures) tt) c.follow_with-told.ensures.told

@@ -1,9 +1,9 @@
 use Rattle.std.proofs.Common.{◌≤◌, ◌<◌, sym, subst, ap, arith}
+use Rattle.std.specs.Prelude.{IsOk}
 use Rattle.directory_rules.specs.Settings.{Settings}
 use Rattle.directory_rules.specs.Event.{Deliver}
 use Rattle.directory_rules.specs.World.{accepted_as}
 use Rattle.directory_node.specs.Follows.{Follows}
-use Rattle.directory_core.specs.Applied.{IsOkOfUse}
 use Rattle.directory_core.specs.Delivery.{undelivered_number}
 use Rattle.directory_core.specs.Whole.{LeavesWorld}
 use Rattle.directory_core.proofs.Happenings.{full, has_room}
@@ -25,4 +25,4 @@ pub returns-clause-told : goal.returns-clause-told
 returns-clause-told c =
     let events_are = ap (λ (s : Settings). s.events) c.settings.ensures in
     let room : c.args.self.now.accepted < c.args.self.now.settings.events = omega (arith, c.if-accepted-events.false, c.accepted.ensures, c.events.ensures, events_are) in
-    subst (λ h. Follows (accepted_as c.take_with.new.self) undelivered_number IsOkOfUse h c.take_with.result) (sym (has_room c.args.self.now (Deliver c.args.number) room)) c.take_with.ensures.told
+    subst (λ h. Follows (accepted_as c.take_with.new.self) undelivered_number IsOk h c.take_with.result) (sym (has_room c.args.self.now (Deliver c.args.number) room)) c.take_with.ensures.told

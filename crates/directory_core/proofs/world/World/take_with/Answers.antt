@@ -1,20 +1,18 @@
 use Rattle.std.proofs.Common.{◌≡◌, true, List, Ok, Some, refl, sym, ◌∙◌, ap, subst, arith}
+use Rattle.std.specs.Prelude.{IsOk}
 use Rattle.std.proofs.lemmas.Option.{same_Some}
 use Rattle.silo_address.specs.Silo.{Silo}
 use Rattle.directory_rules.specs.declared.LetterKind.{LetterKind}
 use Rattle.directory_rules.specs.declared.outcome.Happening.TheVariants.{Delivered}
 use Rattle.directory_rules.specs.Letter.{Letter, kind_of}
 use Rattle.directory_rules.specs.Node.{Node}
-use Rattle.directory_rules.specs.Step.{Stepped}
 use Rattle.directory_rules.specs.World.{World}
 use Rattle.directory_rules.specs.Mail.{has_room_for, letter_of, span_of, with_delivered}
 use Rattle.directory_rules.specs.Happens.{node_of}
 use Rattle.directory_node.specs.Plans.{Fits, changed}
-use Rattle.directory_core.specs.Applied.{IsOkOfUse}
 use Rattle.directory_core.specs.Steps.{after_step}
 use Rattle.directory_core.specs.Whole.{IsWorld}
 use Rattle.directory_core.proofs.Happenings.{delivered_told, leaves_delivered}
-use Rattle.directory_core.proofs.Idle.{of_use}
 use Rattle.directory_core.proofs.world.World.take_with.Goals as goal
 
 pub receive-requires-clause-fits : goal.receive-requires-clause-fits
@@ -47,11 +45,8 @@ returns-in-Err-clause-told c =
     let its = c.requires.its in
     let letters = c.args.plan.letters.items in
     let room : has_room_for world c.deref.result.now ≡ true = grind arith in
-    let found : letter_of world c.args.number ≡ Some c.letter-letter.result.now = sym c.in-Some.ensures ∙ ap (λ (x : Letter). Some x) (sym c.letter-letter.ensures) in
-    let kind_is : c.kind-kind.result ≡ kind_of its.letter.body = c.kind-kind.ensures ∙ ap (λ (x : Letter). kind_of x.body) (same_Some c.letter-letter.result.now its.letter (sym found ∙ its.mailed)) in
-    subst IsOkOfUse (sym (delivered_told world c.args.number its.letter its.node (changed c.args.plan.change its.node) letters c.args.plan.effect _ its.mailed its.live (sym its.its)
-    (ap (λ (x : List Letter). has_room_for world x) (sym c.deref.ensures.value) ∙ room) refl))
-    (of_use c.kind-kind.result (kind_of its.letter.body) c.args.plan.effect c.is_idle.result c.is_idle.ensures kind_is c.if-is_idle.false)
+    subst IsOk (sym (delivered_told world c.args.number its.letter its.node (changed c.args.plan.change its.node) letters c.args.plan.effect _ its.mailed its.live (sym its.its)
+    (ap (λ (x : List Letter). has_room_for world x) (sym c.deref.ensures.value) ∙ room) refl)) refl
 
 pub returns-in-Ok-clause-told : goal.returns-in-Ok-clause-told
 returns-in-Ok-clause-told c =
@@ -78,18 +73,3 @@ returns-in-Ok-clause-told c =
       world = w;
     })) (ap (λ (s : Silo). after_step (with_delivered world c.args.number its.letter) s after letters) (sym to_is)
     ∙ sym (c.in-Ok.ensures.made its.letter its.node its.mailed (ap (λ (s : Silo). node_of world s) to_is ∙ its.live)))
-
-pub pass-requires-clause-passes : goal.pass-requires-clause-passes
-pass-requires-clause-passes c =
-    let its = c.requires.its in
-    let found : letter_of c.args.self.now c.args.number ≡ Some c.letter-letter.result.now = sym c.in-Some.ensures ∙ ap (λ (x : Letter). Some x) (sym c.letter-letter.ensures) in
-    let same : c.letter-letter.result.now ≡ its.letter = same_Some c.letter-letter.result.now its.letter (sym found ∙ its.mailed) in
-    record {
-      letter = its.letter;
-      node = its.node;
-      mailed = its.mailed;
-      live = its.live;
-      its_kind = sym (c.kind-kind.ensures ∙ ap (λ (x : Letter). kind_of x.body) same);
-      its_effect = sym (ap (λ (s : Stepped). s.effect) its.its);
-      idle = c.is_idle.ensures.0 c.if-is_idle.true;
-    }
