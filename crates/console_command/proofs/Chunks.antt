@@ -3,8 +3,8 @@ use Rattle.std.proofs.Common.{◌≡◌, ℕ, ◌+◌, ◌<◌, ◌≤◌, Bool,
 use Rattle.std.proofs.lemmas.List.{length-append}
 use Rattle.std.proofs.KnownBytes.{Consumes-all, Consumes-kept, Consumes-nil, Consumes-trans}
 use Rattle.std.specs.Io.KnownBytes.{Consumes, IsAtEnd, Keeps}
-use Rattle.script_loop.specs.Calls.{ReadsInTurn, no_read, read_some, read_nothing, read_failed}
-use Rattle.script_loop.specs.Endings.{most_at_once, most_read}
+use Rattle.line_loop.specs.Calls.{ReadsInTurn, most_at_once, no_read, read_some, read_nothing, read_failed}
+use Rattle.line_loop.specs.Scripts.{most_read}
 use Rattle.console_command.specs.Source.{HasRead, IsRead, IsUnread, were_well}
 use Rattle.console_command.specs.declared.source.Unread.{Unread}
 use Rattle.console_command.specs.declared.source.Unread.TheVariants.{TooLong, OutOfMemory, Broken}

@@ -1,6 +1,6 @@
 -- The calls of a check.
 use Rattle.std.proofs.Common.{ℕ, true, List, Option, inr}
-use Rattle.script_loop.specs.Calls.{ReadsInTurn}
+use Rattle.line_loop.specs.Calls.{ReadsInTurn}
 use Rattle.console_command.specs.Checks.{MakesCalls, WritesSaid}
 use Rattle.console_command.specs.declared.checked.Checked.{Checked}
 use Rattle.console_command.specs.declared.checked.Checked.TheVariants.{Broken}

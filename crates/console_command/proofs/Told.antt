@@ -3,10 +3,10 @@ use Rattle.std.proofs.Common.{◌≡◌, ◌≢◌, ◌<◌, ◌++◌, ℕ, true
 use Rattle.std.proofs.KnownBytes.{Appends-nil}
 use Rattle.std.specs.declared.io.ErrorKind.{ErrorKind}
 use Rattle.std.specs.declared.io.ErrorKind.TheVariants as kinds
-use Rattle.script_loop.specs.Calls.{wrote_all}
-use Rattle.script_loop.specs.declared.ended.Ended.{Ended}
-use Rattle.script_loop.specs.declared.ended.Ended.TheVariants as ends
-use Rattle.script_loop.specs.declared.ended.LineFault.{LineFault}
+use Rattle.line_loop.specs.Calls.{wrote_all}
+use Rattle.line_loop.specs.declared.ended.Ended.{Ended}
+use Rattle.line_loop.specs.declared.ended.Ended.TheVariants as ends
+use Rattle.line_loop.specs.declared.fault.LineFault.{LineFault}
 use Rattle.console_command.specs.declared.exit.Exit.{Exit}
 use Rattle.console_command.specs.declared.exit.Exit.TheVariants.{Played, Refused}
 use Rattle.console_command.specs.Exits.{exit_without_words}
@@ -18,8 +18,8 @@ pub nothing_told : {E : Type 0} (writes : E → List ℕ → Option ℕ → E �
 nothing_told writes contents exit errors tells = ([], tells, (true, Appends-nil (contents errors), wrote_all))
 
 -- of a whole play there is nothing to tell
-pub all_played : (ended : Ended) → ended ≡ ends.Played → Tells (Played ended) []
-all_played ended is = let P : Ended → Type 0 = λ e. TellsEnd e [] in subst P (sym is) refl
+pub all_played : (ended : Ended LineFault) → ended ≡ ends.AtEnd → Tells (Played ended) []
+all_played ended is = let P : Ended LineFault → Type 0 = λ e. TellsEnd e [] in subst P (sym is) refl
 
 -- words that can't be had, though there is memory, are refused
 pub refused_without : (kind : ErrorKind) → kind ≢ kinds.OutOfMemory → Refused ≡ exit_without_words kind

@@ -1,37 +1,49 @@
 -- What a process writes of its output.
-use Rattle.std.proofs.Common.{◌≡◌, ℕ, List, Option, Some, None, IfSome, ap, subst, sym}
-use Rattle.texts.specs.Printed.{Output}
+use Rattle.std.proofs.Common.{◌≡◌, ℕ, Bool, List, [], Option, Some, None, IfSome, refl, subst}
+use Rattle.std.proofs.KnownBytes.{Appends-nil}
+use Rattle.texts.specs.Words.{line_feed, pieces_at}
 use Rattle.silo_address.specs.Silo.{Silo}
 use Rattle.directory_rules.specs.Settings.{Settings}
 use Rattle.silo_rules.specs.SiloValue.{SiloValue, first_silo}
-use Rattle.process_rules.specs.Output.{silo_output}
-use Rattle.process_loop.specs.declared.stopped.Stopped.{Stopped}
-use Rattle.process_loop.specs.declared.stopped.Stopped.TheVariants as stopped
-use Rattle.process_loop.specs.Endings.{Stops}
-use Rattle.console_command.specs.SiloPlay.{WritesOutput}
+use Rattle.process_rules.specs.Output.{written_on}
+use Rattle.line_loop.specs.Endings.{Ends, EndsInTurn}
+use Rattle.line_loop.specs.Lines.{PlaysLines, PrintsLine}
+use Rattle.line_loop.specs.Outputs.{WritesOutput}
+use Rattle.line_loop.specs.declared.ended.Ended.{Ended}
+use Rattle.line_loop.specs.declared.ended.Ended.TheVariants as ended
+use Rattle.line_loop.proofs.Calls.{in_turn_so}
+use Rattle.process_answers.specs.LineAnswers.{PlaysLine, PrintsAnswer, PrintsLines, most_begun, most_read}
+use Rattle.process_answers.specs.declared.player.Dead.{Dead}
+use Rattle.process_answers.specs.declared.player.Player.{Player}
+use Rattle.process_answers.proofs.Runs.{prints_answer, prints_lines, writes_output}
+use Rattle.console_command.specs.SiloPlay.{AnswersInTurn, WritesAnswers}
 
--- a text is an output whose status is 0
-status_0 : (text whole : List ℕ) → text ≡ whole → let o : Output = record { text = whole; status = 0 } in o ≡ record { text = text; status = 0 }
-status_0 text whole is = ap (λ (t : List ℕ). let o : Output = record { text = t; status = 0 } in o) (sym is)
+-- what a player does with a line
+abbrev pub plays : Player → ℕ → List ℕ → Bool → List ℕ → Option Dead → Player → Type 0
+plays old number line feed text stop new = PlaysLine old.silo line feed text stop new.silo
 
--- the text of a process is one of its output, as it stops
-writes_output : (settings : Settings) (silo : Silo) (input : List ℕ) (rest begun written : Option (List ℕ)) (stopping : Stopped) → Stops input (first_silo settings silo) rest begun written stopping
-    → WritesOutput (silo_output settings silo input) begun written stopping
-writes_output settings silo input rest begun written stopped.AtEnd stops = (stops.text, stops.writes, status_0 stops.text _ stops.concludes)
-writes_output settings silo input rest begun written stopped.Dead stops = (stops.text, stops.writes, status_0 stops.text _ stops.concludes)
-writes_output settings silo input rest begun written stopped.TooManyReads stops = (stops.text, stops.writes, stops.concludes)
-writes_output settings silo input rest begun written stopped.OutOfMemory stops = (stops.text, stops.writes, stops.concludes)
-writes_output settings silo input rest begun written stopped.Broken stops = (stops.text, stops.writes, stops.concludes)
+-- the text of a run is of the output of its first silo
+pub writes_answers : (settings : Settings) (silo : Silo) (first last : Player) (read rest begun written : Option (List ℕ)) (ending : Ended Dead) → first.silo ≡ first_silo settings silo
+    → IfSome read (λ input. Ends plays most_read first last input rest begun written ending) → IfSome read (λ input. WritesAnswers settings silo input rest begun written ending)
+writes_answers settings silo first last None rest begun written ending is ends = tt
+writes_answers settings silo first last (Some input) rest begun written ending is ends =
+    subst (λ (s : SiloValue). WritesOutput (λ dead text. Unit {0}) 0 most_read (record { text = written_on (pieces_at line_feed input) s; status = 0 }) input rest begun written ending) is
+    (writes_output plays (λ (p : Player). p.silo) (λ a b number line feed text stop made. made) first last input rest begun written ending ends)
 
--- where the input is known
-pub writes_if_known : (settings chosen : Settings) (silo : Silo) (read rest begun written : Option (List ℕ)) (stopping : Stopped) → settings ≡ chosen
-    → IfSome read (λ input. Stops input (first_silo settings silo) rest begun written stopping)
-    → IfSome read (λ input. WritesOutput (silo_output chosen silo input) begun written stopping)
-writes_if_known settings chosen silo None rest begun written stopping is stops = tt
-writes_if_known settings chosen silo (Some input) rest begun written stopping is stops =
-    writes_output chosen silo input rest begun written stopping (subst (λ (s : Settings). Stops input (first_silo s silo) rest begun written stopping) is stops)
+-- before the first line nothing is written
+pub nothing_answered : (settings : Settings) (silo : Silo) (read begun : Option (List ℕ)) → IfSome read (λ input. WritesAnswers settings silo input read begun begun ended.OutOfMemory)
+nothing_answered settings silo None begun = tt
+nothing_answered settings silo (Some input) begun = record {
+  text = [];
+  writes = Appends-nil begun;
+  concludes = record { more = written_on (pieces_at line_feed input) (first_silo settings silo); joined = refl };
+  reads = tt;
+}
 
--- by an equal silo
-pub stops_by : (silo first : SiloValue) (read rest begun written : Option (List ℕ)) (stopping : Stopped) → silo ≡ first
-    → IfSome read (λ input. Stops input silo rest begun written stopping) → IfSome read (λ input. Stops input first rest begun written stopping)
-stops_by silo first read rest begun written stopping is stops = subst (λ (s : SiloValue). IfSome read (λ input. Stops input s rest begun written stopping)) is stops
+-- in turn
+pub answers_in_turn : {R W : Type 0} (reads : R → Option (List ℕ) → R → Type 0) (writes : W → List ℕ → Option ℕ → W → Type 0) (old new : R × W) (silo : SiloValue) (first : Player) (ending : Ended Dead) → first.silo ≡ silo
+    → EndsInTurn reads writes most_begun most_read (PlaysLines plays first) (PrintsLine plays) old new ending → AnswersInTurn reads writes silo old new ending
+answers_in_turn reads writes old new silo first ending is turn =
+    subst (λ (s : SiloValue). AnswersInTurn reads writes s old new ending) is
+    (in_turn_so reads writes old most_begun most_read (PlaysLines plays first) (PrintsLines first.silo) (PrintsLine plays) PrintsAnswer
+    (prints_lines plays (λ (p : Player). p.silo) (λ a b number line feed text stop made. made) first) (prints_answer plays (λ (p : Player). p.silo) (λ a b number line feed text stop made. made) first) new ending turn)

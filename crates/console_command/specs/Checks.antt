@@ -4,9 +4,9 @@ use Rattle.std.specs.Io.KnownBytes.{Appends, IsAtEnd}
 use Rattle.texts.specs.Printed.{Output}
 use Rattle.dump_rules.specs.Judged.{judged_text}
 use Rattle.script_lines.specs.Spaced.{BeginsWith}
-use Rattle.script_loop.specs.Calls.{ReadsInTurn, WritesText}
-use Rattle.script_loop.specs.Endings.{StaysWithin, most_read}
-use Rattle.console_command.specs.Source.{HasRead}
+use Rattle.line_loop.specs.Calls.{ReadsInTurn, WritesText}
+use Rattle.line_loop.specs.Scripts.{most_read}
+use Rattle.console_command.specs.Source.{HasRead, StaysWithin}
 use Rattle.console_command.specs.declared.checked.Checked.{Checked}
 use Rattle.console_command.specs.declared.checked.Checked.TheVariants.{Right, Faulty, TooLong, OutOfMemory, Broken}
 

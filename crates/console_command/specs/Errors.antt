@@ -4,16 +4,15 @@ use Rattle.std.specs.Fmt.{decimal}
 use Rattle.std.specs.declared.io.ErrorKind.{ErrorKind}
 use Rattle.std.specs.declared.io.ErrorKind.TheVariants as kind
 use Rattle.script_lines.specs.Printed.{printed}
-use Rattle.script_loop.specs.declared.ended.Ended.{Ended}
-use Rattle.script_loop.specs.declared.ended.Ended.TheVariants as ended
-use Rattle.script_loop.specs.declared.ended.LineFault.{LineFault}
+use Rattle.line_loop.specs.declared.ended.Ended.{Ended}
+use Rattle.line_loop.specs.declared.ended.Ended.TheVariants as ended
+use Rattle.line_loop.specs.declared.fault.LineFault.{LineFault}
 use Rattle.threaded_play.specs.Endings.{IsSent}
 use Rattle.threaded_play.specs.declared.ended.ThreadsEnded.{ThreadsEnded}
 use Rattle.threaded_play.specs.declared.ended.ThreadsEnded.TheVariants as threads
 use Rattle.console_command.specs.declared.checked.Checked.{Checked as Check}
 use Rattle.console_command.specs.declared.checked.Checked.TheVariants as checked
-use Rattle.process_loop.specs.declared.stopped.Stopped.{Stopped}
-use Rattle.process_loop.specs.declared.stopped.Stopped.TheVariants as stopped
+use Rattle.process_answers.specs.declared.player.Dead.{Dead}
 use Rattle.console_command.specs.declared.exit.Exit.{Exit}
 use Rattle.console_command.specs.declared.exit.Exit.TheVariants.{Played, Threaded, Checked, Silo, AnswerBroken, Refused, OutOfMemory}
 
@@ -34,9 +33,9 @@ abbrev pub TellsFault : LineFault → (text : List ℕ) → Type 0
 TellsFault fault text = (words : List ℕ) × (0 < length words) × (text ≡ fault_text fault.line words)
 
 -- what a play's end tells: nothing where all was played
-abbrev pub TellsEnd : Ended → (text : List ℕ) → Type 0
-TellsEnd ended.Played text = text ≡ []
-TellsEnd (ended.Faulted fault) text = TellsFault fault text
+abbrev pub TellsEnd : Ended LineFault → (text : List ℕ) → Type 0
+TellsEnd ended.AtEnd text = text ≡ []
+TellsEnd (ended.Stopped fault) text = TellsFault fault text
 TellsEnd ended.TooLong text = text ≡ printed (codes "error: the script has more than 268435456 bytes")
 TellsEnd ended.OutOfMemory text = text ≡ out_of_memory
 TellsEnd ended.Broken text = text ≡ failed_call
@@ -56,19 +55,19 @@ TellsCheck checked.OutOfMemory text = text ≡ out_of_memory
 TellsCheck checked.Broken text = text ≡ failed_call
 
 -- what the end of a silo's process tells: nothing where its input ended, or the silo is dead
-abbrev pub TellsSilo : Stopped → (text : List ℕ) → Type 0
-TellsSilo stopped.AtEnd text = text ≡ []
-TellsSilo stopped.Dead text = text ≡ []
-TellsSilo stopped.TooManyReads text = text ≡ printed (codes "error: the input came by more than 18446744073709551615 reads")
-TellsSilo stopped.OutOfMemory text = text ≡ out_of_memory
-TellsSilo stopped.Broken text = text ≡ failed_call
+abbrev pub TellsSilo : Ended Dead → (text : List ℕ) → Type 0
+TellsSilo ended.AtEnd text = text ≡ []
+TellsSilo (ended.Stopped dead) text = text ≡ []
+TellsSilo ended.TooLong text = text ≡ printed (codes "error: the input has more than 9223372036854775807 bytes")
+TellsSilo ended.OutOfMemory text = text ≡ out_of_memory
+TellsSilo ended.Broken text = text ≡ failed_call
 
 -- what the program's end tells: of a mistake some words, of an answer nothing, unless it could not be written
 abbrev pub Tells : Exit → (text : List ℕ) → Type 0
 Tells (Played ended) text = TellsEnd ended text
 Tells (Threaded ended) text = TellsThreads ended text
 Tells (Checked ending) text = TellsCheck ending text
-Tells (Silo stopping) text = TellsSilo stopping text
+Tells (Silo ending) text = TellsSilo ending text
 Tells AnswerBroken text = text ≡ failed_call
 Tells Refused text = 0 < length text
 Tells OutOfMemory text = text ≡ out_of_memory

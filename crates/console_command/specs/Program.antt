@@ -5,17 +5,15 @@ use Rattle.clap.specs.Walk.{Text}
 use Rattle.clap.specs.declared.error.kind.ErrorKind.{ErrorKind}
 use Rattle.directory_rules.specs.Settings.{Settings, directory_settings}
 use Rattle.directory_rules.specs.World.{first_world}
-use Rattle.script_loop.specs.Endings.{Ends, PrintsInTurn}
-use Rattle.script_loop.specs.Lines.{IsPassedOver}
-use Rattle.script_loop.specs.Sent.{WritesFront}
-use Rattle.script_loop.specs.declared.ended.Ended.{Ended}
+use Rattle.line_loop.specs.Scripts.{PlaysInTurn, WritesScript}
+use Rattle.line_loop.specs.Sent.{WritesFront}
+use Rattle.line_loop.specs.declared.ended.Ended.{Ended}
+use Rattle.line_loop.specs.declared.fault.LineFault.{LineFault}
 use Rattle.silo_address.specs.Silo.{Silo as SiloValue}
 use Rattle.silo_rules.specs.SiloValue.{first_silo}
-use Rattle.process_rules.specs.Output.{silo_output}
-use Rattle.process_loop.specs.Endings.{AnswersInTurn, Stops}
-use Rattle.process_loop.specs.declared.stopped.Stopped.{Stopped}
 use Rattle.process_answers.specs.ProcessSettings.{process_settings}
-use Rattle.console_command.specs.SiloPlay.{WritesOutput}
+use Rattle.process_answers.specs.declared.player.Dead.{Dead}
+use Rattle.console_command.specs.SiloPlay.{AnswersInTurn, WritesAnswers}
 use Rattle.console_command.specs.Play.{lines_played}
 use Rattle.console_command.specs.Checks.{Checks}
 use Rattle.console_command.specs.declared.checked.Checked.{Checked}
@@ -37,18 +35,18 @@ abbrev pub chosen_settings : Options → Settings
 chosen_settings options = directory_settings options.hashing options.points options.cache
 
 -- the source's script is played to a new cluster, with those settings
-abbrev pub Plays : Options → (old new : Streams) → Ended → Type 0
+abbrev pub Plays : Options → (old new : Streams) → Ended LineFault → Type 0
 Plays options old new ended = IfSome old.rest (λ script.
-    Ends IsPassedOver script (lines_played (first_world (chosen_settings options)) 1) new.rest old.output new.output ended)
+    WritesScript (lines_played (first_world (chosen_settings options)) 1) script new.rest old.output new.output ended)
 
 -- the settings that the options choose for a silo's process
 abbrev pub chosen_process_settings : Options → Settings
 chosen_process_settings options = process_settings options.hashing options.points options.cache
 
 -- the source's lines are those of the silo's process, with those settings, and are answered
-pub record PlaysSilo (silo : SiloValue) (options : Options) (old new : Streams) (stopped : Stopped) : Type 0 where
-  pub writes : IfSome old.rest (λ input. WritesOutput (silo_output (chosen_process_settings options) silo input) old.output new.output stopped)
-  pub stops : IfSome old.rest (λ input. Stops input (first_silo (chosen_process_settings options) silo) new.rest old.output new.output stopped)
+abbrev pub PlaysSilo : SiloValue → Options → (old new : Streams) → Ended Dead → Type 0
+PlaysSilo silo options old new ended = IfSome old.rest (λ input.
+    WritesAnswers (chosen_process_settings options) silo input new.rest old.output new.output ended)
 
 -- the source's dump is judged
 abbrev pub ChecksDump : (old new : Streams) → Checked → Type 0
@@ -72,7 +70,7 @@ abbrev pub Does : (words : List Text) → (old new : Streams) → Exit → Type 
 Does words old new (Played ended) = (options : Options) × AskFor words (Play options) × Plays options old new ended
 Does words old new (Threaded ended) = ⊥
 Does words old new (CheckedDump checked) = AskFor words Check × ChecksDump old new checked
-Does words old new (SiloStopped stopped) = (silo : SiloValue) × (options : Options) × AskFor words (Silo silo options) × PlaysSilo silo options old new stopped
+Does words old new (SiloStopped ended) = (silo : SiloValue) × (options : Options) × AskFor words (Silo silo options) × PlaysSilo silo options old new ended
 Does words old new Answered = AskToBeTold words × Prints old new
 Does words old new AnswerBroken = AskToBeTold words × PrintsFront old new
 Does words old new Refused = AreMistaken words × (new ≡ old)
@@ -81,7 +79,7 @@ Does words old new OutOfMemory = new ≡ old
 -- and in turn: what the lines read so far print, or what is answered to them, is written before more is read
 abbrev pub DoesInTurn : {R W : Type 0} → (reads : R → Option (List ℕ) → R → Type 0) → (writes : W → List ℕ → Option ℕ → W → Type 0) → (words : List Text) → (old new : R × W) → Exit → Type 0
 DoesInTurn reads writes words old new (Played ended) =
-    (options : Options) × AskFor words (Play options) × PrintsInTurn reads writes (lines_played (first_world (chosen_settings options)) 1) old new ended
-DoesInTurn reads writes words old new (SiloStopped stopped) =
-    (silo : SiloValue) × (options : Options) × AskFor words (Silo silo options) × AnswersInTurn reads writes (first_silo (chosen_process_settings options) silo) old new stopped
+    (options : Options) × AskFor words (Play options) × PlaysInTurn reads writes lines_played (first_world (chosen_settings options)) old new ended
+DoesInTurn reads writes words old new (SiloStopped ended) =
+    (silo : SiloValue) × (options : Options) × AskFor words (Silo silo options) × AnswersInTurn reads writes (first_silo (chosen_process_settings options) silo) old new ended
 DoesInTurn reads writes words old new other = ⊤

@@ -1,18 +1,20 @@
 -- Processes of silos, by the rule.
-use Rattle.std.specs.Prelude.{◌≡◌, ℕ, List, Option}
-use Rattle.std.specs.Io.KnownBytes.{Appends}
-use Rattle.texts.specs.Printed.{Output}
-use Rattle.script_lines.specs.Spaced.{BeginsWith}
-use Rattle.process_loop.specs.declared.stopped.Stopped.{Stopped}
-use Rattle.process_loop.specs.declared.stopped.Stopped.TheVariants.{AtEnd, Dead}
-use Rattle.process_loop.specs.Endings.{status_of}
+use Rattle.std.specs.Prelude.{ℕ, List, Option, ⊤}
+use Rattle.silo_address.specs.Silo.{Silo}
+use Rattle.directory_rules.specs.Settings.{Settings}
+use Rattle.silo_rules.specs.SiloValue.{SiloValue}
+use Rattle.process_rules.specs.Output.{silo_output}
+use Rattle.line_loop.specs.Endings.{EndsInTurn}
+use Rattle.line_loop.specs.Outputs.{WritesOutput}
+use Rattle.line_loop.specs.declared.ended.Ended.{Ended}
+use Rattle.process_answers.specs.LineAnswers.{PrintsAnswer, PrintsLines, most_begun, most_read}
+use Rattle.process_answers.specs.declared.player.Dead.{Dead}
 
--- the text is the output, whose status is the exit's, where the process came to its end; else a beginning of its text
-abbrev pub IsOfOutput : Output → (text : List ℕ) → Stopped → Type 0
-IsOfOutput output text AtEnd = output ≡ record { text = text; status = status_of AtEnd }
-IsOfOutput output text Dead = output ≡ record { text = text; status = status_of Dead }
-IsOfOutput output text other = BeginsWith text output.text
+-- the lines of a process are answered, and its output is written
+abbrev pub WritesAnswers : Settings → Silo → (input : List ℕ) → (rest begun written : Option (List ℕ)) → Ended Dead → Type 0
+WritesAnswers settings silo input rest begun written ended = WritesOutput (λ dead text. ⊤) 0 most_read (silo_output settings silo input) input rest begun written ended
 
--- that is written behind what the sink had before
-abbrev pub WritesOutput : Output → (begun written : Option (List ℕ)) → Stopped → Type 0
-WritesOutput output begun written stopped = (text : List ℕ) × Appends begun written text × IsOfOutput output text stopped
+-- in turn: more is read only where all is written that is answered to the lines that were read whole, by which the process doesn't end; to
+-- one that is begun too, where it is too long
+abbrev pub AnswersInTurn : {R W : Type 0} → (reads : R → Option (List ℕ) → R → Type 0) → (writes : W → List ℕ → Option ℕ → W → Type 0) → SiloValue → (old new : R × W) → Ended Dead → Type 0
+AnswersInTurn reads writes silo old new ended = EndsInTurn reads writes most_begun most_read (PrintsLines silo) PrintsAnswer old new ended

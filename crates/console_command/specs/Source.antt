@@ -1,7 +1,8 @@
 -- All that a source has, read to its end.
 use Rattle.std.specs.Prelude.{◌≡◌, ℕ, ◌<◌, ◌≤◌, Bool, true, false, List, ◌++◌, length, Option, Some, Result, Ok, Err}
 use Rattle.std.specs.Io.KnownBytes.{Consumes, IsAtEnd}
-use Rattle.script_loop.specs.Endings.{StaysWithin, most_at_once, most_read}
+use Rattle.line_loop.specs.Calls.{most_at_once}
+use Rattle.line_loop.specs.Scripts.{most_read}
 use Rattle.console_command.specs.declared.source.Unread.{Unread}
 use Rattle.console_command.specs.declared.source.Unread.TheVariants.{TooLong, OutOfMemory, Broken}
 
@@ -19,6 +20,12 @@ pub record HasRead (all : List ℕ) (rest : Option (List ℕ)) : Type 0 where
   pub consumes : Consumes (Some all) rest (front ++ chunk)
   pub front_fits : length front ≤ most_read
   pub chunk_fits : length chunk ≤ most_at_once
+
+-- what was read of all bytes is no more than there may be
+pub record StaysWithin (all : List ℕ) (rest : Option (List ℕ)) : Type 0 where
+  pub bytes : List ℕ
+  pub consumes : Consumes (Some all) rest bytes
+  pub fits : length bytes ≤ most_read
 
 -- why not all is read: where there are too many bytes, there are; where memory runs out, it is within as many as there may be
 abbrev pub IsUnread : (all : List ℕ) → (rest : Option (List ℕ)) → Unread → Type 0

@@ -1,13 +1,14 @@
 //! A cluster that lines are played to.
 
-ghost use Rattle.console_command.specs.Play.{lines_played, nothing_is_played, long_lines_are_faults, passed_lines_are_quiet};
-ghost use Rattle.std.specs.Prelude.{◌≡◌, ⊤, IfOk, OnErr};
-ghost use Rattle.script_loop.specs.Lines.{IsPassedOver, PlaysLine};
+ghost use Rattle.std.proofs.Common.{arith};
+ghost use Rattle.line_loop.specs.Scripts.{PlaysLine, most_begun, most_read};
+ghost use Rattle.line_loop.specs.TooLong.{too_long as plays_as_it_begins};
+ghost use Rattle.console_command.specs.Play.{lines_played, long_lines_are_faults};
 
 use crate::commands::perform;
 use directory_core::World;
-use script_lines::{ReadError, read_command, write_fault};
-use script_loop::{LineFault, LinePlayer};
+use line_loop::{LineFault, LinePlayer};
+use script_lines::{ReadError, read_command, without_return, write_fault};
 use std::alloc::{AllocError, Global};
 
 /// A cluster, as far as a script has brought it.
@@ -17,30 +18,31 @@ pub(crate) struct Cluster {
 }
 
 impl LinePlayer for Cluster {
-    ghost output = { λ cluster. lines_played cluster.world };
+    type Stop = LineFault;
 
-    ghost makes = { λ _ _ _. ⊤ };
+    ghost plays = { λ old number line _ text fault new. PlaysLine (lines_played old.world) (lines_played new.world) number line text fault };
 
-    ghost passes_over = { IsPassedOver };
+    ghost MOST_KEPT = { most_begun };
 
-    ghost nothing = { λ cluster. nothing_is_played cluster.world };
+    ghost MOST_READ = { most_read };
 
-    ghost passes_quietly = { λ cluster. passed_lines_are_quiet cluster.world };
+    ghost too_long = { λ old new number line more text _ fault. plays_as_it_begins (lines_played old.world) (lines_played new.world) number line more text fault (long_lines_are_faults old.world number) };
 
-    ghost too_long = { λ cluster. long_lines_are_faults cluster.world };
+    ghost countable = { Prim.omega arith };
+
+    const MOST_KEPT: usize = 8193;
+
+    const MOST_READ: u64 = 268_435_456;
 
     fn play_line(
         &mut self,
         alloc: Global,
         number: u64,
         line: &[u8],
+        _ended: bool,
         out: &mut Vec<u8>,
-    ) -> Result<Option<LineFault>, AllocError>
-        ensures played { IfOk result (PlaysLine (lines_played self.old.world) (lines_played self.new.world) number line.now out.old.items out.new.items) }
-        ensures unwritten { OnErr result (out.new.items ≡ out.old.items) }
-        ensures memory { OnErr result (¬ (IsPassedOver line.now)) }
-    {
-        match read_command(alloc, line) {
+    ) -> Result<Option<LineFault>, AllocError> {
+        match read_command(alloc, without_return(line)) {
             Ok(None) => Ok(None),
             Ok(Some(command)) => {
                 perform(alloc, &mut self.world, &command, out)?;

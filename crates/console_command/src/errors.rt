@@ -6,8 +6,8 @@ ghost use Rattle.console_command.specs.Errors.{IsTold, TellsFault, failed_call, 
 
 use crate::{Checked, Exit};
 use itoa::Buffer;
-use process_loop::Stopped;
-use script_loop::{Ended, LineFault, Sink, send};
+use line_loop::{Ended, LineFault, Sink, send};
+use process_answers::Dead;
 use std::alloc::{AllocError, Global};
 use threaded_play::ThreadsEnded;
 
@@ -18,12 +18,12 @@ const UNEXPLAINED: &str = "a fault, whose number stands on the output";
 const MOST_TOLD: usize = 128;
 
 /// Tells what ended a play too early; nothing where all was played.
-pub(crate) fn tell_end<E: Sink>(alloc: Global, ended: Ended, errors: &mut E)
+pub(crate) fn tell_end<E: Sink>(alloc: Global, ended: Ended<LineFault>, errors: &mut E)
     ensures { IsTold E.writes E.contents (Exit.Played ended) errors.old errors.new }
 {
     match ended {
-        Ended::Played => {}
-        Ended::Faulted(fault) => tell_fault(alloc, fault, errors),
+        Ended::AtEnd => {}
+        Ended::Stopped(fault) => tell_fault(alloc, fault, errors),
         Ended::TooLong => tell(errors, b"error: the script has more than 268435456 bytes\n"),
         Ended::OutOfMemory => tell(errors, b"error: out of memory\n"),
         Ended::Broken => tell_failed_call(errors),
@@ -59,23 +59,23 @@ pub(crate) fn tell_check<E: Sink>(checked: Checked, errors: &mut E)
 }
 
 /// Tells what ended a silo's process too early; nothing where its input ended, or the silo is dead.
-pub(crate) fn tell_silo<E: Sink>(stopped: Stopped, errors: &mut E)
-    ensures { IsTold E.writes E.contents (Exit.Silo stopped) errors.old errors.new }
+pub(crate) fn tell_silo<E: Sink>(ended: Ended<Dead>, errors: &mut E)
+    ensures { IsTold E.writes E.contents (Exit.Silo ended) errors.old errors.new }
 {
-    match stopped {
-        Stopped::AtEnd | Stopped::Dead => {}
-        Stopped::TooManyReads => tell(
+    match ended {
+        Ended::AtEnd | Ended::Stopped(_) => {}
+        Ended::TooLong => tell(
             errors,
-            b"error: the input came by more than 18446744073709551615 reads\n",
+            b"error: the input has more than 9223372036854775807 bytes\n",
         ),
-        Stopped::OutOfMemory => tell(errors, b"error: out of memory\n"),
-        Stopped::Broken => tell_failed_call(errors),
+        Ended::OutOfMemory => tell(errors, b"error: out of memory\n"),
+        Ended::Broken => tell_failed_call(errors),
     }
 }
 
 // Tells the fault of a line: in words, and where there is no memory for them, by the line alone.
 fn tell_fault<E: Sink>(alloc: Global, fault: LineFault, errors: &mut E)
-    ensures { IsTold E.writes E.contents (Exit.Played (Ended.Faulted fault)) errors.old errors.new }
+    ensures { IsTold E.writes E.contents (Exit.Played (Ended.Stopped fault)) errors.old errors.new }
 {
     match fault_text(alloc, fault) {
         Ok(text) => tell(errors, text.as_bytes()),
@@ -99,7 +99,7 @@ fn line_and_words(alloc: Global, line: u64, words: &str) -> Result<String, Alloc
 
 // Tells a fault by its line, without an allocator.
 fn tell_line<E: Sink>(fault: LineFault, errors: &mut E)
-    ensures { IsTold E.writes E.contents (Exit.Played (Ended.Faulted fault)) errors.old errors.new }
+    ensures { IsTold E.writes E.contents (Exit.Played (Ended.Stopped fault)) errors.old errors.new }
 {
     let mut digits = Buffer::new();
     let mut text = [0; MOST_TOLD];

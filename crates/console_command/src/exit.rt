@@ -2,21 +2,21 @@ ghost use Rattle.std.specs.Prelude.{◌≡◌};
 ghost use Rattle.console_command.specs.Exits.{status_of};
 
 use crate::Checked;
-use process_loop::Stopped;
-use script_loop::Ended;
+use line_loop::{Ended, LineFault};
+use process_answers::Dead;
 use threaded_play::ThreadsEnded;
 
 /// How the program ends.
 #[derive(Clone, Copy, PartialEq, Eq)]
 pub enum Exit {
     /// The script was played, up to its end or to what ended it before.
-    Played(Ended),
+    Played(Ended<LineFault>),
     /// The script was played with a thread per silo, up to its end or to what ended it before.
     Threaded(ThreadsEnded),
     /// The dump was judged, or what ended it before.
     Checked(Checked),
     /// The silo's process came to its end, or to what ended it before.
-    Silo(Stopped),
+    Silo(Ended<Dead>),
     /// The words asked for help or for the version, which is written.
     Answered,
     /// The words asked for help or for the version, and a write of it failed.
@@ -33,10 +33,10 @@ impl Exit {
         ensures { result ≡ status_of self }
     {
         match self {
-            Exit::Played(ended) => ended.status(),
+            Exit::Played(ended) => ended.status(2),
             Exit::Threaded(ended) => ended.status(),
             Exit::Checked(checked) => checked.status(),
-            Exit::Silo(stopped) => stopped.status(),
+            Exit::Silo(ended) => ended.status(0),
             Exit::Answered => 0,
             Exit::OutOfMemory => 3,
             Exit::Refused => 4,

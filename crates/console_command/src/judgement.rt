@@ -6,7 +6,7 @@ ghost use Rattle.console_command.specs.Checks.{Checks, MakesCalls, Tells, Writes
 use crate::Checked;
 use crate::source::{Unread, read_all};
 use crate::verdict::verdict_on;
-use script_loop::{Sink, Source, send};
+use line_loop::{Sink, Source, send};
 use std::alloc::Global;
 
 /// Reads a dump to its end, judges it, and writes what is said of it: one line. A dump may have 268435456 bytes; the read that goes

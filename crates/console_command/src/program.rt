@@ -5,12 +5,13 @@ ghost use Rattle.clap.specs.Walk.{Text};
 ghost use Rattle.console_command.specs.CommandLine.{AreInRange, AskFor, AskToBeTold, IsInRange, Reads};
 ghost use Rattle.console_command.specs.Play.{lines_played};
 ghost use Rattle.directory_rules.specs.World.{first_world};
-ghost use Rattle.script_loop.specs.Endings as play;
+ghost use Rattle.line_loop.specs.Endings.{MakesCalls};
+ghost use Rattle.line_loop.specs.Scripts.{PlaysInTurn};
 ghost use Rattle.silo_address.specs.Silo.{Silo};
 ghost use Rattle.silo_rules.specs.SiloValue.{first_silo};
 ghost use Rattle.threaded_play.specs.Endings.{IsSent};
 ghost use Rattle.console_command.specs.Exits.{WritesAnswer, exit_without_words};
-ghost use Rattle.process_loop.specs.Endings as process;
+ghost use Rattle.console_command.specs.SiloPlay.{AnswersInTurn};
 ghost use Rattle.console_command.specs.Program.{Does, Plays, PlaysSilo, chosen_process_settings, chosen_settings};
 ghost use Rattle.console_command.specs.Errors.{IsTold, told_without_words};
 ghost use Rattle.console_command.specs.Outcome.{Carries, CarriesByCalls, CarriesInTurn, CarriesTold};
@@ -22,8 +23,8 @@ use crate::{
     CommandLineError, Exit, Line, Options, judge, play_new_silo, play_to_new_cluster, read_line,
 };
 use directory_rules::Settings;
-use process_loop::Stopped;
-use script_loop::{Ended, Sink, Source, send};
+use line_loop::{Ended, LineFault, Sink, Source, send};
+use process_answers::Dead;
 use silo_address::SiloAddress;
 use std::alloc::Global;
 use std::convert::AsStr;
@@ -99,9 +100,9 @@ fn run_line<R: Source, W: Sink, E: Sink>(
             Run::Ended(Exit::Checked(checked))
         }
         Line::Silo(silo, options) => {
-            let stopped = play_silo(alloc, silo, options, source, output);
-            tell_silo(stopped, errors);
-            Run::Ended(Exit::Silo(stopped))
+            let ended = play_silo(alloc, silo, options, source, output);
+            tell_silo(ended, errors);
+            Run::Ended(Exit::Silo(ended))
         }
     }
 }
@@ -120,13 +121,13 @@ fn play<R: Source, W: Sink>(
     options: Options,
     source: &mut R,
     output: &mut W,
-) -> Ended
+) -> Ended<LineFault>
     requires { AreInRange options }
     ensures plays { Plays options
         (record { rest = R.remaining source.old; output = W.contents output.old })
         (record { rest = R.remaining source.new; output = W.contents output.new }) result }
-    ensures calls { play.MakesCalls R.reads W.writes (source.old, output.old) (source.new, output.new) result }
-    ensures in_turn { play.PrintsInTurn R.reads W.writes (lines_played (first_world (chosen_settings options)) 1) (source.old, output.old) (source.new, output.new) result }
+    ensures calls { MakesCalls R.reads W.writes (source.old, output.old) (source.new, output.new) result }
+    ensures in_turn { PlaysInTurn R.reads W.writes lines_played (first_world (chosen_settings options)) (source.old, output.old) (source.new, output.new) result }
 {
     let Options {
         hashing,
@@ -145,13 +146,13 @@ fn play_silo<R: Source, W: Sink>(
     options: Options,
     source: &mut R,
     output: &mut W,
-) -> Stopped
+) -> Ended<Dead>
     requires { AreInRange options }
     ensures plays { PlaysSilo silo options
         (record { rest = R.remaining source.old; output = W.contents output.old })
         (record { rest = R.remaining source.new; output = W.contents output.new }) result }
-    ensures calls { process.MakesCalls R.reads W.writes (source.old, output.old) (source.new, output.new) result }
-    ensures in_turn { process.AnswersInTurn R.reads W.writes (first_silo (chosen_process_settings options) silo) (source.old, output.old) (source.new, output.new) result }
+    ensures calls { MakesCalls R.reads W.writes (source.old, output.old) (source.new, output.new) result }
+    ensures in_turn { AnswersInTurn R.reads W.writes (first_silo (chosen_process_settings options) silo) (source.old, output.old) (source.new, output.new) result }
 {
     let Options {
         hashing,
@@ -159,7 +160,7 @@ fn play_silo<R: Source, W: Sink>(
         cache,
     } = options;
     match play_new_silo(alloc, silo, hashing, points, cache, source, output) {
-        Some(stopped) => stopped,
+        Some(answered) => answered,
         None => unreachable!(),
     }
 }

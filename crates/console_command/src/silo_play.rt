@@ -2,17 +2,15 @@
 
 ghost use Rattle.std.specs.Prelude.{◌≡◌, ◌≤◌, ◌↔◌, IfSome, IsSome, MatchOption};
 ghost use Rattle.silo_rules.specs.SiloValue.{first_silo};
-ghost use Rattle.process_rules.specs.Output.{silo_output};
-ghost use Rattle.process_loop.specs.Endings.{AnswersInTurn, MakesCalls, Stops};
+ghost use Rattle.line_loop.specs.Endings.{MakesCalls};
 ghost use Rattle.process_answers.specs.ProcessSettings.{process_settings};
-ghost use Rattle.console_command.specs.SiloPlay.{WritesOutput};
+ghost use Rattle.console_command.specs.SiloPlay.{AnswersInTurn, WritesAnswers};
 
 use directory_rules::Settings;
 use directory_silo::Silo;
 use hash_ring::Hashing;
-use process_answers::{Player, process_settings};
-use process_loop::Stopped;
-use script_loop::{Sink, Source};
+use line_loop::{Ended, Sink, Source};
+use process_answers::{Dead, Player, process_settings};
 use silo_address::SiloAddress;
 use std::alloc::Global;
 
@@ -27,15 +25,13 @@ pub fn play_new_silo<R: Source, W: Sink>(
     cache: usize,
     reader: &mut R,
     writer: &mut W,
-) -> Option<Stopped>
+) -> Option<Ended<Dead>>
     ensures in_range { IsSome result ↔ ((1 ≤ points) × (points ≤ 128) × (cache ≤ 65536)) }
 
     // What is written of the output, which is the rule's.
-    ensures writes { IfSome result (λ stopped. IfSome (R.remaining reader.old) (λ input.
-        WritesOutput (silo_output (process_settings hashing points cache) silo input) (W.contents writer.old) (W.contents writer.new) stopped)) }
-    ensures stops { IfSome result (λ stopped. IfSome (R.remaining reader.old) (λ input.
-        Stops input (first_silo (process_settings hashing points cache) silo)
-        (R.remaining reader.new) (W.contents writer.old) (W.contents writer.new) stopped)) }
+    ensures writes { IfSome result (λ ended. IfSome (R.remaining reader.old) (λ input.
+        WritesAnswers (process_settings hashing points cache) silo input
+        (R.remaining reader.new) (W.contents writer.old) (W.contents writer.new) ended)) }
     ensures calls { MatchOption result ((reader.new ≡ reader.old) × (writer.new ≡ writer.old))
         (MakesCalls R.reads W.writes (reader.old, writer.old) (reader.new, writer.new)) }
     ensures in_turn { IfSome result (AnswersInTurn R.reads W.writes
@@ -45,21 +41,21 @@ pub fn play_new_silo<R: Source, W: Sink>(
     Some(play(alloc, settings, silo, reader, writer))
 }
 
-// Plays the process of a silo that was told nothing yet, as `process_loop::play` does.
+// Plays the process of a silo that was told nothing yet, as `line_loop::play` does.
 fn play<R: Source, W: Sink>(
     alloc: Global,
     settings: Settings,
     silo: SiloAddress,
     reader: &mut R,
     writer: &mut W,
-) -> Stopped
-    ensures stops { IfSome (R.remaining reader.old) (λ input.
-        Stops input (first_silo settings silo) (R.remaining reader.new) (W.contents writer.old) (W.contents writer.new) result) }
+) -> Ended<Dead>
+    ensures writes { IfSome (R.remaining reader.old) (λ input.
+        WritesAnswers settings silo input (R.remaining reader.new) (W.contents writer.old) (W.contents writer.new) result) }
     ensures calls { MakesCalls R.reads W.writes (reader.old, writer.old) (reader.new, writer.new) result }
     ensures in_turn { AnswersInTurn R.reads W.writes (first_silo settings silo) (reader.old, writer.old) (reader.new, writer.new) result }
 {
     let Ok(silo) = Silo::new(alloc, settings, silo) else {
-        return Stopped::OutOfMemory;
+        return Ended::OutOfMemory;
     };
-    process_loop::play(alloc, &mut Player { silo }, reader, writer)
+    line_loop::play(alloc, &mut Player { silo }, reader, writer)
 }

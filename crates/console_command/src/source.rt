@@ -1,10 +1,10 @@
 //! All that a source has.
 ghost use Rattle.std.specs.Prelude.{◌≡◌, ◌≤◌, ◌<◌, ◌++◌, ◌+◌, IfErr, IfOk, IfSome, IsErrOf, OnOk, length, vec_len};
-ghost use Rattle.script_loop.specs.Calls.{ReadsInTurn};
+ghost use Rattle.line_loop.specs.Calls.{ReadsInTurn};
 ghost use Rattle.console_command.specs.Source.{IsRead, IsUnread, are_well};
 ghost use Rattle.console_command.specs.declared.source.Unread.TheVariants.{OutOfMemory};
 
-use script_loop::Source;
+use line_loop::Source;
 use std::alloc::{AllocError, Global};
 
 /// How many bytes are read at once at most.

@@ -1,17 +1,23 @@
 -- The commands of a script's lines, one line after the other.
-use Rattle.std.proofs.Common.{◌≡◌, ℕ, List, [], ◌∷◌, ◌++◌, Option, Some, None, Result, Ok, Err, map, ap, sym, ◌∙◌, append_assoc, append-nil, subst}
+use Rattle.std.proofs.Common.{◌≡◌, ◌∙◌, ℕ, Bool, List, [], ◌∷◌, ◌++◌, Option, Some, None, IfSome, Result, Ok, Err, map, ap, append_assoc, append-nil, refl, subst, sym}
+use Rattle.std.proofs.lemmas.Grind.{flat_map-append}
 use Rattle.std.proofs.lemmas.List.{map-append}
+use Rattle.texts.specs.Words.{line_feed, pieces_at}
 use Rattle.script_rules.specs.Script as rule
 use Rattle.script_lines.specs.CommandModel.{command_of}
 use Rattle.script_lines.specs.declared.command.Command.{Command}
 use Rattle.cluster_journal.specs.Entry.{EntryValue}
-use Rattle.script_loop.specs.Endings.{LeavesPlayer}
-use Rattle.script_loop.specs.Lines.{LinesMake, no_line, then_line}
-use Rattle.script_loop.specs.declared.ended.Ended.{Ended}
-use Rattle.script_loop.specs.declared.ended.Ended.TheVariants as ended
+use Rattle.line_loop.specs.Endings.{Ends}
+use Rattle.line_loop.specs.Lines.{PlaysOn, PlaysTo, no_line, then_line}
+use Rattle.line_loop.specs.Scripts.{WritesScript, most_read, stripped}
+use Rattle.line_loop.specs.declared.ended.Ended.{Ended}
+use Rattle.line_loop.specs.declared.ended.Ended.TheVariants as ended
+use Rattle.line_loop.specs.declared.fault.LineFault.{LineFault}
+use Rattle.line_loop.proofs.Scripts.{writes_script}
 use Rattle.threaded_play.specs.CarriedOut.{CarriesOut, command_in, commands_of}
+use Rattle.threaded_play.specs.Faults.{faults_alone, nothing_is_wrong}
 use Rattle.console_threads.specs.Endings.{HasCarriedOut}
-use Rattle.console_threads.specs.Kept.{KeepsLine}
+use Rattle.console_threads.specs.Kept.{KeepsLine, KeepsLines, PlaysAndKeeps}
 use Rattle.console_threads.specs.declared.script.Script.{Script}
 
 -- a line without a command
@@ -37,20 +43,54 @@ kept_one line commands after command read is =
 abbrev pub kept_by : Script → List rule.Command
 kept_by script = map command_of script.commands.items
 
-abbrev pub keeps : Script → List ℕ → Script → Type 0
-keeps before line after = KeepsLine line (kept_by before) (kept_by after)
+-- what a script that is read does with a line
+abbrev pub plays : Script → ℕ → List ℕ → Bool → List ℕ → Option LineFault → Script → Type 0
+plays old number line feed text fault new = PlaysAndKeeps number line text fault (kept_by old) (kept_by new)
 
-kept_in_turn : (before after : Script) (lines : List (List ℕ)) → LinesMake keeps before lines after → kept_by after ≡ kept_by before ++ commands_of lines
-kept_in_turn before after lines (no_line {player = player}) = sym (append-nil (kept_by player))
-kept_in_turn before after lines (then_line {before = first} {between = between} {lines = later} line makes made) =
-    kept_in_turn between after later made
-    ∙ (ap (λ (l : List rule.Command). l ++ commands_of later) makes ∙ append_assoc (kept_by first) (command_in (rule.read_line line)) (commands_of later))
+commands_behind : (lines others : List (List ℕ)) → commands_of (map stripped (lines ++ others)) ≡ commands_of (map stripped lines) ++ commands_of (map stripped others)
+commands_behind lines others =
+    ap commands_of (map-append stripped lines others) ∙ flat_map-append (λ (line : List ℕ). command_in (rule.read_line line)) (map stripped lines) (map stripped others)
+
+kept_in_turn : (first now : Script) (lines : List (List ℕ)) (text : List ℕ) → PlaysOn plays first lines text now → kept_by now ≡ kept_by first ++ commands_of (map stripped lines)
+kept_in_turn first now lines text no_line = sym (append-nil (kept_by first))
+kept_in_turn first now lines text (then_line {lines = front} {text = before} {before = between} on line more made) =
+    made.1
+    ∙ (ap (λ (l : List rule.Command). l ++ command_in (rule.read_line (stripped line))) (kept_in_turn first between front before on)
+    ∙ (append_assoc (kept_by first) (commands_of (map stripped front)) (command_in (rule.read_line (stripped line)))
+    ∙ ap (λ (l : List rule.Command). kept_by first ++ l)
+    (ap (λ (l : List rule.Command). commands_of (map stripped front) ++ l) (sym (append-nil (command_in (rule.read_line (stripped line))))) ∙ sym (commands_behind front (line ∷ [])))))
+
+-- where all were played, those of the last too
+kept_to_the_end : (first last : Script) (script text : List ℕ) → PlaysTo plays first (pieces_at line_feed script) text None last → kept_by last ≡ kept_by first ++ commands_of (rule.lines_of script)
+kept_to_the_end first last script text to =
+    let cut : pieces_at line_feed script ≡ to.lines ++ to.line ∷ [] = to.cut ∙ ap (λ (ls : List (List ℕ)). to.lines ++ to.line ∷ ls) (to.whole refl) in
+    to.plays_line.1
+    ∙ (ap (λ (l : List rule.Command). l ++ command_in (rule.read_line (stripped to.line))) (kept_in_turn first to.between to.lines to.before to.on)
+    ∙ (append_assoc (kept_by first) (commands_of (map stripped to.lines)) (command_in (rule.read_line (stripped to.line)))
+    ∙ ap (λ (l : List rule.Command). kept_by first ++ l)
+    (ap (λ (l : List rule.Command). commands_of (map stripped to.lines) ++ l) (sym (append-nil (command_in (rule.read_line (stripped to.line)))))
+    ∙ (sym (commands_behind to.lines (to.line ∷ [])) ∙ ap (λ (ps : List (List ℕ)). commands_of (map stripped ps)) (sym cut)))))
+
+-- so the commands of a script are kept
+pub lines_kept : (first last : Script) (read rest begun written : Option (List ℕ)) (end : Ended LineFault) → IfSome read (λ script. Ends plays most_read first last script rest begun written end)
+    → IfSome read (λ script. KeepsLines script (kept_by first) (kept_by last) end)
+lines_kept first last None rest begun written end ends = tt
+lines_kept first last (Some script) rest begun written ended.AtEnd ends = kept_to_the_end first last script ends.text ends.concludes
+lines_kept first last (Some script) rest begun written (ended.Stopped fault) ends = tt
+lines_kept first last (Some script) rest begun written ended.TooLong ends = tt
+lines_kept first last (Some script) rest begun written ended.OutOfMemory ends = tt
+lines_kept first last (Some script) rest begun written ended.Broken ends = tt
+
+-- and its fault is printed
+pub lines_end : (first last : Script) (read rest begun written : Option (List ℕ)) (end : Ended LineFault) → IfSome read (λ script. Ends plays most_read first last script rest begun written end)
+    → IfSome read (λ script. WritesScript (faults_alone 1) script rest begun written end)
+lines_end first last None rest begun written end ends = tt
+lines_end first last (Some script) rest begun written end ends =
+    writes_script plays (λ s. faults_alone) (λ a b number line feed text fault made. made.0) (λ s number. nothing_is_wrong number) first last script rest begun written end ends
 
 -- those of a player that kept none before are the script's
-pub carried_whole : (journal : List EntryValue) (script : List ℕ) (before after : Script) (end : Ended) → before.commands.items ≡ [] → LeavesPlayer keeps script before after end
+pub carried_whole : (journal : List EntryValue) (script : List ℕ) (before after : Script) (end : Ended LineFault) → before.commands.items ≡ [] → KeepsLines script (kept_by before) (kept_by after) end
     → CarriesOut journal (kept_by after) → HasCarriedOut journal script end
-carried_whole journal script before after ended.Played none leaves carried =
-    let all = kept_in_turn before after (rule.lines_of script) leaves in
-    let is = all ∙ ap (λ (l : List Command). map command_of l ++ commands_of (rule.lines_of script)) none in
-    subst (CarriesOut journal) is carried
-carried_whole journal script before after other none leaves carried = tt
+carried_whole journal script before after ended.AtEnd none keeps carried =
+    subst (CarriesOut journal) (keeps ∙ ap (λ (l : List Command). map command_of l ++ commands_of (rule.lines_of script)) none) carried
+carried_whole journal script before after other none keeps carried = tt

@@ -9,13 +9,11 @@ use Rattle.cluster_journal.specs.Journal.{IsJournaled}
 use Rattle.script_rules.specs.Script.{Command, lines_of, read_line}
 use Rattle.texts.specs.Printed.{Output}
 use Rattle.script_lines.specs.Spaced.{BeginsWith}
-use Rattle.script_loop.specs.Endings as play
-use Rattle.script_loop.specs.Endings.{LeavesPlayer}
-use Rattle.script_loop.specs.Lines.{IsPassedOver, no_output}
-use Rattle.script_loop.specs.Sent.{Sends}
-use Rattle.script_loop.specs.declared.ended.Ended.{Ended}
-use Rattle.script_loop.specs.declared.ended.Ended.TheVariants as ended
-use Rattle.script_loop.specs.declared.ended.LineFault.{LineFault}
+use Rattle.line_loop.specs.Scripts.{WritesScript, no_output}
+use Rattle.line_loop.specs.Sent.{Sends}
+use Rattle.line_loop.specs.declared.ended.Ended.{Ended}
+use Rattle.line_loop.specs.declared.ended.Ended.TheVariants as ended
+use Rattle.line_loop.specs.declared.fault.LineFault.{LineFault}
 use Rattle.threaded_play.specs.CarriedOut.{CarriesOut}
 use Rattle.threaded_play.specs.Endings.{Ends}
 use Rattle.threaded_play.specs.Faults.{faults_alone, line_told}
@@ -23,7 +21,8 @@ use Rattle.threaded_play.specs.declared.ended.ThreadsEnded.{ThreadsEnded}
 use Rattle.threaded_play.specs.declared.ended.ThreadsEnded.TheVariants.{Lacking}
 use Rattle.console_threads.specs.Endings.{EndsBy, IsWritten, LacksOnlyAfter, LinesEnd, Tells, sent_ending}
 use Rattle.console_threads.specs.declared.script.Script.{Script}
-use Rattle.console_threads.proofs.Commands.{carried_whole, keeps, kept_by}
+use Rattle.console_threads.specs.Kept.{KeepsLines}
+use Rattle.console_threads.proofs.Commands.{carried_whole, kept_by}
 
 -- ---- What the lines print by themselves.
 
@@ -38,32 +37,30 @@ silent number (line ∷ lines) text is = go (read_line line) (silent (number + 1
     go (Ok command) later same = later same
     go (Err fault) later same = absurd (omega (arith, ap (λ (o : Output). o.status) same))
 
-module _ (script : List ℕ) (rest : Option (List ℕ)) (text : List ℕ) (end : Ended) (lines : LinesEnd script rest text end) where
+module _ (script : List ℕ) (rest : Option (List ℕ)) (text : List ℕ) (end : Ended LineFault) (lines : LinesEnd script rest text end) where
   -- so the script ends, whatever the sink had
-  abbrev alone : play.Ends IsPassedOver script (faults_alone 1) rest None None end
-  alone = record { text = lines.text; writes = tt; concludes = lines.concludes; read = lines.read; reads = lines.reads; memory = lines.memory }
+  abbrev alone : WritesScript (faults_alone 1) script rest None None end
+  alone = record { text = lines.text; writes = tt; concludes = lines.concludes; reads = lines.reads }
 
 -- a text begins with itself
 whole : (text : List ℕ) → BeginsWith text text
 whole text = record { more = []; joined = sym (append-nil text) }
 
-broken : (script : List ℕ) (rest : Option (List ℕ)) (text : List ℕ) (end : Ended) → BeginsWith text (faults_alone 1 (lines_of script)).text
-    → (lines : play.Ends IsPassedOver script (faults_alone 1) rest None None end) → lines.text ≡ text → play.Ends IsPassedOver script (faults_alone 1) rest None None ended.Broken
+broken : (script : List ℕ) (rest : Option (List ℕ)) (text : List ℕ) (end : Ended LineFault) → BeginsWith text (faults_alone 1 (lines_of script)).text
+    → (lines : WritesScript (faults_alone 1) script rest None None end) → lines.text ≡ text → WritesScript (faults_alone 1) script rest None None ended.Broken
 broken script rest text end begins lines is = record {
   text = lines.text;
   writes = tt;
   concludes = subst (λ (t : List ℕ). BeginsWith t (faults_alone 1 (lines_of script)).text) (sym is) begins;
-  read = lines.read;
   reads = tt;
-  memory = tt;
 }
 
 -- what is sent lacks nothing
-sent_never_lacks : (end : Ended) (whole : Bool) → sent_ending end whole ≡ Lacking → ⊥
+sent_never_lacks : (end : Ended LineFault) (whole : Bool) → sent_ending end whole ≡ Lacking → ⊥
 sent_never_lacks end true is = absurd (cc)
 sent_never_lacks end false is = absurd (cc)
 
-pub written_never_lacks : {W : Type 0} (writes : W → List ℕ → Option ℕ → W → Type 0) (contents : W → Option (List ℕ)) (text : List ℕ) (end : Ended) (old new : W) (result : ThreadsEnded)
+pub written_never_lacks : {W : Type 0} (writes : W → List ℕ → Option ℕ → W → Type 0) (contents : W → Option (List ℕ)) (text : List ℕ) (end : Ended LineFault) (old new : W) (result : ThreadsEnded)
     → IsWritten writes contents text end old new result → LacksOnlyAfter end result
 written_never_lacks writes contents text end old new result written = λ lacks. absurd (sent_never_lacks end written.0 (sym written.1 ∙ lacks))
 
@@ -72,7 +69,7 @@ written_never_lacks writes contents text end old new result written = λ lacks. 
 module _ {W : Type 0} (writes : W → List ℕ → Option ℕ → W → Type 0) (contents : W → Option (List ℕ)) (journal : List EntryValue) (world : World) where
   -- the line of a fault
   fault_ends : (text : List ℕ) (fault : LineFault) (old new : W) (well : Bool) → Sends text (contents old) (contents new) well
-      → EndsBy journal world text (ended.Faulted fault) (contents old) (contents new) (sent_ending (ended.Faulted fault) well)
+      → EndsBy journal world text (ended.Stopped fault) (contents old) (contents new) (sent_ending (ended.Stopped fault) well)
   fault_ends text fault old new true sent = λ settings script rest journaled carried lines.
       let output : faults_alone 1 (lines_of script) ≡ record { text = lines.text; status = 2 } = lines.concludes.0 in
       let same : text ≡ (faults_alone 1 (lines_of script)).text = lines.writes ∙ sym (ap (λ (o : Output). o.text) output) in
@@ -85,7 +82,7 @@ module _ {W : Type 0} (writes : W → List ℕ → Option ℕ → W → Type 0) 
 
   -- what the cluster came to
   world_ends : (printed text : List ℕ) (old new : W) (well : Bool) → Tells journal world text → Sends text (contents old) (contents new) well
-      → EndsBy journal world printed ended.Played (contents old) (contents new) (sent_ending ended.Played well)
+      → EndsBy journal world printed ended.AtEnd (contents old) (contents new) (sent_ending ended.AtEnd well)
   world_ends printed text old new true tells sent = λ settings script rest journaled carried lines.
       (alone script rest printed _ lines, (text, tells settings script journaled carried, sent))
   world_ends printed text old new false tells sent = λ settings script rest journaled carried lines.
@@ -94,25 +91,25 @@ module _ {W : Type 0} (writes : W → List ℕ → Option ℕ → W → Type 0) 
       let none : faults_alone 1 (lines_of script) ≡ no_output = silent 1 (lines_of script) lines.text output in
       (broken script rest lines.text _ begins (alone script rest printed _ lines) refl, inr (text, inr (none, tells settings script journaled carried), sent))
 
-  pub fault_written : (text : List ℕ) (fault : LineFault) (end : Ended) (old new : W) (result : ThreadsEnded) → end ≡ ended.Faulted fault
+  pub fault_written : (text : List ℕ) (fault : LineFault) (end : Ended LineFault) (old new : W) (result : ThreadsEnded) → end ≡ ended.Stopped fault
       → IsWritten writes contents text end old new result → EndsBy journal world text end (contents old) (contents new) result
   fault_written text fault end old new result is written =
       subst (λ (r : ThreadsEnded). EndsBy journal world text end (contents old) (contents new) r) (sym written.1)
-      (subst (λ (e : Ended). EndsBy journal world text e (contents old) (contents new) (sent_ending e written.0)) (sym is)
+      (subst (λ (e : Ended LineFault). EndsBy journal world text e (contents old) (contents new) (sent_ending e written.0)) (sym is)
       (fault_ends text fault old new written.0 written.2))
 
   pub world_written : (printed text : List ℕ) (old new : W) (result : ThreadsEnded) → Tells journal world text
-      → IsWritten writes contents text ended.Played old new result → EndsBy journal world printed ended.Played (contents old) (contents new) result
+      → IsWritten writes contents text ended.AtEnd old new result → EndsBy journal world printed ended.AtEnd (contents old) (contents new) result
   world_written printed text old new result tells written =
-      subst (λ (r : ThreadsEnded). EndsBy journal world printed ended.Played (contents old) (contents new) r) (sym written.1)
+      subst (λ (r : ThreadsEnded). EndsBy journal world printed ended.AtEnd (contents old) (contents new) r) (sym written.1)
       (world_ends printed text old new written.0 tells written.2)
 
 -- ---- A script that was read.
 
 -- so it ends, if it is known, whose lines were played, and whose kept commands were carried out
-pub script_ends : (known : Option (List ℕ)) (settings : Settings) (journal : List EntryValue) (world : World) (text : List ℕ) (end : Ended) (before after : Script)
+pub script_ends : (known : Option (List ℕ)) (settings : Settings) (journal : List EntryValue) (world : World) (text : List ℕ) (end : Ended LineFault) (before after : Script)
     → (rest begun written : Option (List ℕ)) (result : ThreadsEnded) → before.commands.items ≡ [] → IsJournaled settings journal world → CarriesOut journal (kept_by after)
-    → IfSome known (λ script. LinesEnd script rest text end) → IfSome known (λ script. LeavesPlayer keeps script before after end)
+    → IfSome known (λ script. LinesEnd script rest text end) → IfSome known (λ script. KeepsLines script (kept_by before) (kept_by after) end)
     → EndsBy journal world text end begun written result → IfSome known (λ script. Ends settings script rest begun written result)
 script_ends None settings journal world text end before after rest begun written result none journaled carried lines leaves ends = tt
 script_ends (Some script) settings journal world text end before after rest begun written result none journaled carried lines leaves ends =

@@ -14,7 +14,7 @@ use crate::order::ascend;
 use cluster_board::{Board, Names};
 use cluster_journal::CloseRefusal;
 use directory_rules::Settings;
-use script_loop::{Sink, send};
+use line_loop::{Sink, send};
 use silo_threads::{Ended, MOST_WORKERS, PARTS};
 use silo_workers::OpenGate;
 use std::alloc::{AllocError, Global};

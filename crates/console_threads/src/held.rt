@@ -1,9 +1,10 @@
 //! What lines print is held back until all threads are joined.
 
 ghost use Rattle.std.specs.Prelude.{◌≡◌, [], Some, false, length};
+ghost use Rattle.line_loop.specs.Calls.{WritesKnown};
 ghost use Rattle.console_threads.specs.Held.{Holds};
 
-use script_loop::Sink;
+use line_loop::Sink;
 use std::alloc::Global;
 use std::io;
 
@@ -30,7 +31,9 @@ impl Held {
 impl Sink for Held {
     ghost contents = { λ held. Some held.text.items };
 
-    ghost writes = { λ old bytes took new. Holds old.lost (length bytes) took new.lost };
+    ghost writes = { λ old bytes took new. Holds old.lost (length bytes) took new.lost × WritesKnown (Some old.text.items) bytes took (Some new.text.items) };
+
+    ghost known = { λ old bytes took new once. once.1 };
 
     fn write_front(&mut self, bytes: &[u8]) -> io::Result<usize> {
         match self.text.extend_from_slice(bytes) {

@@ -6,7 +6,7 @@ ghost use Rattle.console_threads.specs.Endings.{EndsBy, IsWritten, LacksOnlyAfte
 use crate::lines::Lines;
 use cluster_board::{Board, Names};
 use console_command::{show, tell_verdict};
-use script_loop::{Ended, Sink, send};
+use line_loop::{Ended, LineFault, Sink, send};
 use std::alloc::{AllocError, Global};
 use std::sync::ledger::Ledger;
 use threaded_play::ThreadsEnded;
@@ -23,8 +23,8 @@ pub(crate) fn print<L: Ledger + Names, W: Sink>(
     ensures lacking { LacksOnlyAfter lines.now.ended result }
 {
     match lines.ended {
-        Ended::Played => print_world(alloc, &lines.text, board, writer),
-        Ended::Faulted(_) => write(lines.ended, &lines.text, writer),
+        Ended::AtEnd => print_world(alloc, &lines.text, board, writer),
+        Ended::Stopped(_) => write(lines.ended, &lines.text, writer),
         Ended::TooLong => ThreadsEnded::Played(Ended::TooLong),
         Ended::OutOfMemory => ThreadsEnded::Lacking,
         Ended::Broken => ThreadsEnded::Played(Ended::Broken),
@@ -38,17 +38,17 @@ fn print_world<L: Ledger + Names, W: Sink>(
     board: &Board<L>,
     writer: &mut W,
 ) -> ThreadsEnded
-    ensures ends { EndsBy board.now.journal board.now.world printed.now Ended.Played (W.contents writer.old) (W.contents writer.new) result }
-    ensures once { WritesOnce W.writes writer.old writer.new Ended.Played result }
+    ensures ends { EndsBy board.now.journal board.now.world printed.now Ended.AtEnd (W.contents writer.old) (W.contents writer.new) result }
+    ensures once { WritesOnce W.writes writer.old writer.new Ended.AtEnd result }
 {
     match world_text(alloc, board) {
-        Ok(text) => write(Ended::Played, &text, writer),
+        Ok(text) => write(Ended::AtEnd, &text, writer),
         Err(_) => ThreadsEnded::Lacking,
     }
 }
 
 // Writes the text with which a script ends so; it is broken where a write fails.
-fn write<W: Sink>(ended: Ended, text: &[u8], writer: &mut W) -> ThreadsEnded
+fn write<W: Sink>(ended: Ended<LineFault>, text: &[u8], writer: &mut W) -> ThreadsEnded
     ensures { IsWritten W.writes W.contents text.now ended writer.old writer.new result }
 {
     if send(writer, text) {

@@ -1,13 +1,13 @@
 //! Lines read as commands, which are kept until the whole script is read.
 
-ghost use Rattle.std.specs.Prelude.{◌≡◌, IfNone, IfOk, OnErr, OnOk, map};
+ghost use Rattle.std.specs.Prelude.{map};
+ghost use Rattle.std.proofs.Common.{arith};
 ghost use Rattle.script_lines.specs.CommandModel.{command_of};
-ghost use Rattle.script_loop.specs.Lines.{IsPassedOver, PlaysLine};
-ghost use Rattle.console_threads.specs.Kept.{KeepsLine};
-ghost use Rattle.threaded_play.specs.Faults.{faults_alone, long_lines_are_faults, nothing_is_wrong, passed_lines_are_quiet};
+ghost use Rattle.line_loop.specs.Scripts.{most_begun, most_read};
+ghost use Rattle.console_threads.specs.Kept.{PlaysAndKeeps, long_lines};
 
-use script_lines::{Command, ReadError, read_command, write_fault};
-use script_loop::{LineFault, LinePlayer};
+use line_loop::{LineFault, LinePlayer};
+use script_lines::{Command, ReadError, read_command, without_return, write_fault};
 use std::alloc::{AllocError, Global};
 
 /// The commands of a script, in order.
@@ -17,32 +17,31 @@ pub(crate) struct Script {
 }
 
 impl LinePlayer for Script {
-    ghost output = { λ _. faults_alone };
+    type Stop = LineFault;
 
-    ghost makes = { λ before line after. KeepsLine line (map command_of before.commands.items) (map command_of after.commands.items) };
+    ghost plays = { λ old number line _ text fault new. PlaysAndKeeps number line text fault (map command_of old.commands.items) (map command_of new.commands.items) };
 
-    ghost passes_over = { IsPassedOver };
+    ghost MOST_KEPT = { most_begun };
 
-    ghost nothing = { λ _. nothing_is_wrong };
+    ghost MOST_READ = { most_read };
 
-    ghost passes_quietly = { λ _. passed_lines_are_quiet };
+    ghost too_long = { λ old new number line more text _ fault. long_lines number line more text fault (map command_of old.commands.items) (map command_of new.commands.items) };
 
-    ghost too_long = { λ _. long_lines_are_faults };
+    ghost countable = { Prim.omega arith };
+
+    const MOST_KEPT: usize = 8193;
+
+    const MOST_READ: u64 = 268_435_456;
 
     fn play_line(
         &mut self,
         alloc: Global,
         number: u64,
         line: &[u8],
+        _ended: bool,
         out: &mut Vec<u8>,
-    ) -> Result<Option<LineFault>, AllocError>
-        ensures played { IfOk result (PlaysLine faults_alone faults_alone number line.now out.old.items out.new.items) }
-        ensures made { IfOk result (λ fault. IfNone fault (KeepsLine line.now (map command_of self.old.commands.items) (map command_of self.new.commands.items))) }
-        ensures kept { OnOk result (KeepsLine line.now (map command_of self.old.commands.items) (map command_of self.new.commands.items)) }
-        ensures unwritten { OnErr result (out.new.items ≡ out.old.items) }
-        ensures memory { OnErr result (¬ (IsPassedOver line.now)) }
-    {
-        match read_command(alloc, line) {
+    ) -> Result<Option<LineFault>, AllocError> {
+        match read_command(alloc, without_return(line)) {
             Ok(None) => Ok(None),
             Ok(Some(command)) => {
                 self.commands.push(command)?;

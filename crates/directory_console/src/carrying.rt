@@ -8,7 +8,7 @@ use cluster_board::Slots;
 use console_command::{Exit, Run, end_threads, run_words};
 use console_threads::{MARK_BLOCKS, play_on_threads};
 use directory_rules::Settings;
-use script_loop::{Sink, Source};
+use line_loop::{Sink, Source};
 use silo_threads::PARTS;
 use std::alloc::Global;
 use std::convert::AsStr;

@@ -1,5 +1,5 @@
 use crate::limits::{accept, boxed, refuse};
-use directory_core::{EventRefusal, Told, World};
+use directory_core::{EventRefusal, EventResult, World};
 use directory_rules::{Effect, Event, Happening, LetterKind, Outcome, Settings, Span};
 use hash_ring::Hashing;
 use silo_address::{ActivationId, Entry, GrainId, SiloAddress};
@@ -171,7 +171,7 @@ fn refused_and_joined(rt: &impl Abort, alloc: Global) -> Vec<Event> {
     events
 }
 
-fn goes_on(told: &[Told]) -> bool {
+fn goes_on(told: &[EventResult]) -> bool {
     told.len() == 2
         && *told[0].result() == Err(EventRefusal::NoSuchLetter)
         && told[1].result().is_ok()

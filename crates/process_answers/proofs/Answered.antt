@@ -1,22 +1,18 @@
 -- Lines answered by a silo.
-use Rattle.std.proofs.Common.{◌≡◌, ◌≢◌, ◌⊎◌, inl, inr, ◌++◌, ℕ, Bool, false, List, [], ◌∷◌, Option, None, Some, Result, Ok, Err, ap, subst, sym, ◌∙◌, append-nil}
+use Rattle.std.proofs.Common.{◌≡◌, ◌∙◌, ◌++◌, ℕ, Bool, true, false, List, [], ◌∷◌, Option, None, Some, Result, Ok, Err, ap, append-nil, is_some, refl, subst, sym}
 use Rattle.std.specs.Prelude.{IfOk, OnOk}
 use Rattle.std.specs.Io.BufRead.{strip_last}
 use Rattle.texts.specs.Printed.{text_of_lines}
-use Rattle.texts.specs.Words.{carriage_return, sentence}
-use Rattle.silo_address.specs.Silo.{Silo}
-use Rattle.membership_view.specs.declared.status.Status.{Status}
-use Rattle.membership_view.specs.declared.status.Status.TheVariants as status
+use Rattle.texts.specs.Words.{carriage_return}
 use Rattle.hash_ring.specs.declared.hashing.Hashing.{Hashing}
-use Rattle.silo_rules.specs.Membership.{Change, Join}
-use Rattle.silo_rules.specs.SiloValue.{SiloValue, own_status}
-use Rattle.silo_rules.specs.Told.{Heard, told}
-use Rattle.process_rules.specs.ReadLine.{Asked, Joined, Receive, read_silo_line}
-use Rattle.process_lines.specs.Memory.{LineNeedsMemory}
-use Rattle.process_rules.specs.Answer.{answered, heard, printing, unless_dead}
-use Rattle.process_rules.specs.Happened.{news_words}
-use Rattle.process_rules.specs.Output.{answered_to, fault_line, said}
-use Rattle.process_loop.specs.Answering.{AnswersLine, BringsEntries, MayLackMemory}
+use Rattle.silo_rules.specs.SiloValue.{SiloValue}
+use Rattle.process_rules.specs.ReadLine.{Asked, read_silo_line, unended_fault}
+use Rattle.process_rules.specs.Answer.{answered}
+use Rattle.process_rules.specs.Output.{after_last, answered_to, fault_line, said}
+use Rattle.line_loop.specs.Lines.{Prints}
+use Rattle.process_answers.specs.LineAnswers.{AnswersLine, PlaysLine}
+use Rattle.process_answers.specs.declared.player.Dead.{Dead}
+use Rattle.process_answers.specs.declared.player.Player.{Player}
 
 -- what the line says, by equal hashing and an equal line
 pub said_so : (s : SiloValue) (line stripped : List ℕ) (hashing : Hashing) (read : Result (Option Asked) ℕ) → hashing ≡ s.node.settings.hashing
@@ -54,28 +50,25 @@ asked_answered s t line before after asked (Ok end) is silo lines ends = record 
   stops = ends ∙ ap (λ (r : Result (Option Asked) ℕ). (answered_to r s).ends) (sym is);
 }
 
--- ---- Memory.
+-- ---- Played.
 
--- something is printed of each change of membership
-alive_or_dead : (status : Option Status) (line : List ℕ) (s : SiloValue) → (unless_dead status (printing (line ∷ []) s)).lines ≢ []
-alive_or_dead None line s = λ none. cc
-alive_or_dead (Some status.Active) line s = λ none. cc
-alive_or_dead (Some status.Leaving) line s = λ none. cc
-alive_or_dead (Some status.Dead) line s = λ none. cc
+-- what a player does with a line
+abbrev pub plays : Player → List ℕ → (feed : Bool) → (text : List ℕ) → Option Dead → Player → Type 0
+plays old line feed text stop new = PlaysLine old.silo line feed text stop new.silo
 
-told_or_refused : (it : Result Heard ℕ) (version : ℕ) (change : Change) (s : SiloValue) → (heard it version change s).lines ≢ []
-told_or_refused (Err number) version change s = λ none. cc
-told_or_refused (Ok it) version change s = let next = record s { membership = it.membership } in alive_or_dead (own_status next) (sentence (news_words version change it.news)) next
+-- a line that a line feed ended is answered behind what was written before
+pub plays_ended : (old new : Player) (line before after : List ℕ) (feed ends : Bool) (stop : Option Dead) → feed ≡ true → ends ≡ is_some stop → AnswersLine old.silo line before new.silo after ends
+    → Prints (plays old line feed) before after stop new
+plays_ended old new line before after feed ends stop fed is answers = subst (λ (f : Bool). Prints (plays old line f) before after stop new) (sym fed) (record {
+  text = text_of_lines (answered_to (said line old.silo) old.silo).lines;
+  behind = answers.text;
+  plays = record { silo = answers.silo; text = refl; stops = sym is ∙ answers.stops };
+})
 
-join_prints : (version : ℕ) (silo : Silo) (places : List ℕ) (s : SiloValue) → (answered (Joined version silo places) s).lines ≢ []
-unfolding answered
-join_prints version silo places s = told_or_refused (told s.node.settings s.membership version (Join silo places)) version (Join silo places) s
-
--- a list that is read takes memory: so does what is printed of a join, or the letter tells entries
-list_lacks : (s : SiloValue) (read : Result (Option Asked) ℕ) → LineNeedsMemory read → ((answered_to read s).lines ≢ []) ⊎ BringsEntries read
-list_lacks s (Ok (Some (Joined version silo (place ∷ places)))) needs = inl (join_prints version silo (place ∷ places) s)
-list_lacks s (Ok (Some (Receive letter))) needs = inr needs
-list_lacks s other needs = absurd needs
-
-pub unread_lacks : (s : SiloValue) (line : List ℕ) (read : Result (Option Asked) ℕ) → said line s ≡ read → LineNeedsMemory read → MayLackMemory s line
-unread_lacks s line read is needs = subst (λ (r : Result (Option Asked) ℕ). ((answered_to r s).lines ≢ []) ⊎ BringsEntries r) (sym is) (list_lacks s read needs)
+-- of one that none did the fault is told
+pub plays_unended : (old : Player) (line before after : List ℕ) (feed : Bool) → feed ≡ false → after ≡ before ++ after_last (unended_fault line) → Prints (plays old line feed) before after None old
+plays_unended old line before after feed unfed told = subst (λ (f : Bool). Prints (plays old line f) before after None old) (sym unfed) (record {
+  text = after_last (unended_fault line);
+  behind = told;
+  plays = (refl, refl, refl);
+})

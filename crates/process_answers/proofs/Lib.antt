@@ -4,4 +4,4 @@ pub mod Printing
 pub mod Tellings
 pub mod Received
 mod Answered
-mod Unended
+pub mod Runs

@@ -15,5 +15,5 @@ mod steps;
 mod telling;
 
 pub use answering::answer;
-pub use player::Player;
+pub use player::{Dead, Player};
 pub use settings::process_settings;

@@ -6,7 +6,7 @@ use Rattle.hash_ring.specs.declared.Hashing.TheVariants.{Sha256, Stated}
 use Rattle.silo_address.specs.Silo.{Silo}
 use Rattle.directory_rules.specs.Settings.{Settings}
 use Rattle.silo_rules.specs.SiloValue.{SiloValue, first_silo}
-use Rattle.process_loop.specs.Answering.{AnswersLine}
+use Rattle.process_answers.specs.LineAnswers.{AnswersLine}
 use Rattle.process_answers.specs.ProcessSettings.{process_settings}
 use Rattle.silo_library.specs.declared.status.CallStatus.{CallStatus}
 use Rattle.silo_library.specs.declared.status.CallStatus.TheVariants as status

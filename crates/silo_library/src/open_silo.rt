@@ -8,7 +8,6 @@ use directory_rules::Settings;
 use directory_silo::Silo;
 use hash_ring::Hashing;
 use process_answers::{Player, process_settings};
-use process_loop::SiloPlayer;
 use silo_address::SiloAddress;
 use std::alloc::{AllocError, Global};
 use std::marker::Model;

@@ -2,7 +2,7 @@
 use Rattle.std.proofs.Common.{ℕ, true, List, [], Option, None, Some, refl}
 use Rattle.std.specs.Io.KnownBytes.{Keeps}
 use Rattle.std.proofs.KnownBytes.{Appends-nil}
-use Rattle.script_loop.specs.Calls.{wrote_all}
+use Rattle.line_loop.specs.Calls.{wrote_all}
 use Rattle.threaded_play.specs.Endings.{TellsCauses}
 use Rattle.threaded_play.specs.declared.ended.ThreadsEnded.{ThreadsEnded}
 use Rattle.threaded_play.specs.declared.ended.ThreadsEnded.TheVariants.{Played, ReceiptDiffers, Lacking}

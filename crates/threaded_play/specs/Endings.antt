@@ -3,12 +3,13 @@ use Rattle.std.specs.Prelude.{◌≡◌, ◌⊎◌, ℕ, Bool, true, false, List
 use Rattle.std.specs.Io.KnownBytes.{Appends, Keeps}
 use Rattle.directory_rules.specs.Settings.{Settings}
 use Rattle.script_rules.specs.Script.{lines_of}
-use Rattle.script_loop.specs.Calls.{ReadsInTurn, WritesText}
-use Rattle.script_loop.specs.Endings as play
-use Rattle.script_loop.specs.Lines.{IsPassedOver}
-use Rattle.script_loop.specs.Sent.{Sends, WritesFront}
-use Rattle.script_loop.specs.declared.ended.Ended.{Ended}
-use Rattle.script_loop.specs.declared.ended.Ended.TheVariants as ended
+use Rattle.line_loop.specs.Calls.{ReadsInTurn, WritesText}
+use Rattle.line_loop.specs.Endings as play
+use Rattle.line_loop.specs.Scripts.{WritesScript}
+use Rattle.line_loop.specs.Sent.{Sends, WritesFront}
+use Rattle.line_loop.specs.declared.ended.Ended.{Ended}
+use Rattle.line_loop.specs.declared.ended.Ended.TheVariants as ended
+use Rattle.line_loop.specs.declared.fault.LineFault.{LineFault}
 use Rattle.threaded_play.specs.Faults.{faults_alone}
 use Rattle.threaded_play.specs.Printed.{IsPrinted, TellsWorld}
 use Rattle.threaded_play.specs.declared.ended.ThreadsEnded.{ThreadsEnded}
@@ -16,14 +17,14 @@ use Rattle.threaded_play.specs.declared.ended.ThreadsEnded.TheVariants.{Played, 
 
 -- the exit status of an ending
 abbrev pub status_of : ThreadsEnded → ℕ
-status_of (Played ended) = play.status_of ended
+status_of (Played ended) = play.status_of 2 ended
 status_of ReceiptDiffers = 1
 status_of Lacking = 3
 
 -- what is written behind what the sink had: all that the script comes to; where a write breaks the play a beginning of it; else nothing
-abbrev pub Writes : Settings → (script : List ℕ) → (begun written : Option (List ℕ)) → Ended → Type 0
-Writes settings script begun written ended.Played = (text : List ℕ) × TellsWorld settings script text × Appends begun written text
-Writes settings script begun written (ended.Faulted fault) = Appends begun written (faults_alone 1 (lines_of script)).text
+abbrev pub Writes : Settings → (script : List ℕ) → (begun written : Option (List ℕ)) → Ended LineFault → Type 0
+Writes settings script begun written ended.AtEnd = (text : List ℕ) × TellsWorld settings script text × Appends begun written text
+Writes settings script begun written (ended.Stopped fault) = Appends begun written (faults_alone 1 (lines_of script)).text
 Writes settings script begun written ended.TooLong = Keeps begun written
 Writes settings script begun written ended.OutOfMemory = ⊥
 Writes settings script begun written ended.Broken =
@@ -33,7 +34,7 @@ Writes settings script begun written ended.Broken =
 -- a receipt differs, or something lacks, nothing is written.
 abbrev pub Ends : Settings → (script : List ℕ) → (rest begun written : Option (List ℕ)) → ThreadsEnded → Type 0
 Ends settings script rest begun written (Played ended) =
-    play.Ends IsPassedOver script (faults_alone 1) rest None None ended × Writes settings script begun written ended
+    WritesScript (faults_alone 1) script rest None None ended × Writes settings script begun written ended
 Ends settings script rest begun written other = Keeps begun written
 
 -- some text is written, whole or not
@@ -42,8 +43,8 @@ WritesSome writes old new well = (text : List ℕ) × WritesText writes text old
 
 -- the reads of the source and the writes to the sink: all writes are of one text, and none is made where nothing is written
 abbrev pub MakesCalls : {R W : Type 0} → (reads : R → Option (List ℕ) → R → Type 0) → (writes : W → List ℕ → Option ℕ → W → Type 0) → (old new : R × W) → ThreadsEnded → Type 0
-MakesCalls reads writes old new (Played ended.Played) = ReadsInTurn reads old.0 new.0 true × WritesSome writes old.1 new.1 true
-MakesCalls reads writes old new (Played (ended.Faulted fault)) = ReadsInTurn reads old.0 new.0 true × WritesSome writes old.1 new.1 true
+MakesCalls reads writes old new (Played ended.AtEnd) = ReadsInTurn reads old.0 new.0 true × WritesSome writes old.1 new.1 true
+MakesCalls reads writes old new (Played (ended.Stopped fault)) = ReadsInTurn reads old.0 new.0 true × WritesSome writes old.1 new.1 true
 MakesCalls reads writes old new (Played ended.Broken) =
     (ReadsInTurn reads old.0 new.0 false × (new.1 ≡ old.1)) ⊎ (ReadsInTurn reads old.0 new.0 true × WritesSome writes old.1 new.1 false)
 MakesCalls reads writes old new (Played other) = ReadsInTurn reads old.0 new.0 true × (new.1 ≡ old.1)

@@ -1,10 +1,9 @@
 -- Lines of which nothing is printed but the fault that ends them.
 use Rattle.std.specs.Prelude.{◌≡◌, ℕ, ◌+◌, ◌<◌, List, [], ◌∷◌, length, Option, Result, Ok, Err, refl}
-use Rattle.std.proofs.Common.{ap}
 use Rattle.std.proofs.lemmas.Bool.{lt-ltb}
 use Rattle.script_rules.specs.Script.{Command, longest_line, read_line}
 use Rattle.texts.specs.Printed.{Output}
-use Rattle.script_loop.specs.Lines.{IsPassedOver, faulty_output, no_output}
+use Rattle.line_loop.specs.Scripts.{faulty_output, no_output}
 
 -- what one line prints, by its number from 1, and what comes next
 abbrev pub line_told : Result (Option Command) ℕ → ℕ → Output → Output
@@ -26,8 +25,3 @@ pub long_lines_are_faults : (number : ℕ) (line : List ℕ) (lines : List (List
     → faults_alone number (line ∷ lines) ≡ faulty_output number 924
 unfolding faults_alone read_line
 long_lines_are_faults number line lines long = rw (lt-ltb longest_line (length line) long) refl
-
--- a line that is passed over prints nothing
-pub passed_lines_are_quiet : (number : ℕ) (line : List ℕ) (lines : List (List ℕ)) → IsPassedOver line → faults_alone number (line ∷ lines) ≡ faults_alone (number + 1) lines
-unfolding faults_alone
-passed_lines_are_quiet number line lines passed = ap (λ r. line_told r number (faults_alone (number + 1) lines)) passed

@@ -10,7 +10,7 @@ use Rattle.dump_rules.specs.Verdict.{verdict, verdict_line}
 use Rattle.script_rules.specs.Script.{lines_of}
 use Rattle.script_rules.specs.Show.{show_lines}
 use Rattle.texts.specs.Printed.{text_of_lines}
-use Rattle.script_loop.specs.Lines.{no_output}
+use Rattle.line_loop.specs.Scripts.{no_output}
 use Rattle.threaded_play.specs.CarriedOut.{CarriesOut, commands_of}
 use Rattle.threaded_play.specs.Faults.{faults_alone}
 

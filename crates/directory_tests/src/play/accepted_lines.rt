@@ -1,5 +1,5 @@
 use clap::error::ErrorKind;
-use console_command::{Line, LineError, Options, read_line};
+use console_command::{CommandLineError, Line, Options, read_line};
 use hash_ring::Hashing;
 use silo_address::SiloAddress;
 use std::alloc::Global;
@@ -16,9 +16,9 @@ const fn options(hashing: Hashing, points: usize, cache: usize) -> Options {
 fn answer(alloc: Global, words: &[&str]) -> Result<Line, ErrorKind> {
     match read_line(alloc, words) {
         Ok(line) => Ok(line),
-        Err(LineError::Usage(error)) => Err(error.kind()),
-        Err(LineError::NoSilo(_)) => Err(ErrorKind::InvalidValue),
-        Err(LineError::OutOfMemory) => Err(ErrorKind::OutOfMemory),
+        Err(CommandLineError::Usage(error)) => Err(error.kind()),
+        Err(CommandLineError::NoSilo(_)) => Err(ErrorKind::InvalidValue),
+        Err(CommandLineError::OutOfMemory) => Err(ErrorKind::OutOfMemory),
     }
 }
 
@@ -251,7 +251,7 @@ const SHOWN: [(&'static [&'static str], &str, bool); 5] = [
 ];
 
 // Whether the refusal shows just the text.
-fn shows(alloc: Global, refusal: &LineError, wanted: &str) -> bool {
+fn shows(alloc: Global, refusal: &CommandLineError, wanted: &str) -> bool {
     match refusal.to_string(alloc) {
         Ok(text) => text.as_str() == wanted,
         Err(_) => false,

@@ -4,7 +4,7 @@ use crate::fakes::{BrokenReader, NarrowWriter};
 use console_command::{Exit, Run, end_threads, run_without_words, run_words};
 use directory_rules::Settings;
 use hash_ring::Hashing;
-use script_loop::Ended;
+use line_loop::Ended;
 use std::alloc::Global;
 use std::io::ErrorKind;
 use std::process::Abort;

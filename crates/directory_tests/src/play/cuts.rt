@@ -2,7 +2,7 @@
 
 use crate::play::plays::played;
 use crate::play::rows::ONE_SILO;
-use script_loop::Ended;
+use line_loop::{Ended, LineFault};
 use std::alloc::Global;
 use std::process::Abort;
 
@@ -56,10 +56,10 @@ fn fault_at(faults: Faults<'_>, length: usize) -> Option<u16> {
 }
 
 // Whether a script ends so where its last line, of that number, has the fault or none.
-fn ends_so(ended: Ended, line: u64, fault: Option<u16>) -> bool {
+fn ends_so(ended: Ended<LineFault>, line: u64, fault: Option<u16>) -> bool {
     match ended {
-        Ended::Played => fault.is_none(),
-        Ended::Faulted(told) => told.line == line && Some(told.fault.number()) == fault,
+        Ended::AtEnd => fault.is_none(),
+        Ended::Stopped(told) => told.line == line && Some(told.fault.number()) == fault,
         _ => false,
     }
 }
@@ -100,7 +100,7 @@ fn check_line(
 ) {
     let script = ONE_SILO.script.as_bytes();
     let (ended, before) = played(rt, alloc, &script[..usize::min(start, script.len())]);
-    assert!(rt; ended == Ended::Played && ONE_SILO.out.as_bytes().starts_with(&before));
+    assert!(rt; ended == Ended::AtEnd && ONE_SILO.out.as_bytes().starts_with(&before));
     for count in 0..=length {
         let end = usize::min(start.saturating_add(count), script.len());
         let fault = fault_at(faults, count);

@@ -21,7 +21,7 @@ fn check_prints(rt: &impl Abort, alloc: Global, script: &str, text: &str) {
     let mut written = Vec::new(alloc);
     let ended = play(alloc, world, &mut reader, &mut written);
     assert!(rt; written.as_slice() == text.as_bytes());
-    assert!(rt; ended.status() == 0);
+    assert!(rt; ended.status(2) == 0);
 }
 
 // The sight's query fills the mail: no wake, no find and no delivery has room for its letter.

@@ -7,8 +7,8 @@ use crate::play::read_dumps::{
 use crate::play::rows::Row;
 use console_command::play_to_new_cluster;
 use hash_ring::Hashing;
+use line_loop::Ended;
 use rebuild_checker::{Dump, DumpError, read_dump, write_dump};
-use script_loop::Ended;
 use std::alloc::Global;
 use std::process::Abort;
 
@@ -41,7 +41,7 @@ pub(crate) fn is_played(rt: &(impl Abort + Eprint), alloc: Global, row: Row) -> 
             notice(rt, "a play");
             row.out.as_bytes().starts_with(&written)
         }
-        ended => ended.status() == row.status && written.as_slice() == row.out.as_bytes(),
+        ended => ended.status(2) == row.status && written.as_slice() == row.out.as_bytes(),
     }
 }
 

@@ -2,7 +2,7 @@
 
 use console_command::play_to_new_cluster;
 use hash_ring::Hashing;
-use script_loop::Ended;
+use line_loop::{Ended, LineFault};
 use std::alloc::Global;
 use std::process::Abort;
 
@@ -18,11 +18,11 @@ pub(crate) fn check_play(
     let mut written = Vec::new(alloc);
     let ended = play_to_new_cluster(alloc, hashing, points, 1024, &mut reader, &mut written);
     assert!(rt; written.as_slice() == text);
-    assert!(rt; ended.expect(rt, "1 to 128 points").status() == status);
+    assert!(rt; ended.expect(rt, "1 to 128 points").status(2) == status);
 }
 
 // How a script with stated places ends, and what it prints.
-pub(crate) fn played(rt: &impl Abort, alloc: Global, script: &[u8]) -> (Ended, Vec<u8>) {
+pub(crate) fn played(rt: &impl Abort, alloc: Global, script: &[u8]) -> (Ended<LineFault>, Vec<u8>) {
     let mut reader = script;
     let mut written = Vec::new(alloc);
     let ended = play_to_new_cluster(alloc, Hashing::Stated, 30, 1024, &mut reader, &mut written);

@@ -7,7 +7,7 @@ use crate::play::memory::{is_played, notice};
 use crate::play::rows::{
     CACHE_AND_FORGET, LOST_LETTER, OFFER_TO_A_LAGGING_SILO, ONE_SILO, RECOVERY, Row,
 };
-use directory_core::{EventRefusal, Told, World};
+use directory_core::{EventRefusal, EventResult, World};
 use directory_rules::{Event, Outcome, Settings};
 use hash_ring::Hashing;
 use rebuild_checker::write_dump;
@@ -218,7 +218,11 @@ fn are_told(out: &[u8], told: &[u8]) -> bool {
 }
 
 // What a run of the events tells, in a world of its own.
-fn try_run(rt: &impl Abort, alloc: Global, events: &[Event]) -> Result<Vec<Told>, AllocError> {
+fn try_run(
+    rt: &impl Abort,
+    alloc: Global,
+    events: &[Event],
+) -> Result<Vec<EventResult>, AllocError> {
     let mut world = empty(rt, alloc);
     let told = world.run(alloc, events);
     drop(world);
@@ -226,7 +230,7 @@ fn try_run(rt: &impl Abort, alloc: Global, events: &[Event]) -> Result<Vec<Told>
 }
 
 // The same, which is asked again where it was refused memory.
-fn run(rt: &(impl Abort + Eprint), alloc: Global, events: &[Event]) -> Vec<Told> {
+fn run(rt: &(impl Abort + Eprint), alloc: Global, events: &[Event]) -> Vec<EventResult> {
     match try_run(rt, alloc, events) {
         Ok(told) => told,
         Err(_) => {

@@ -4,7 +4,7 @@
 use crate::fakes::{SparseReader, SparseWriter};
 use console_command::play_to_new_cluster;
 use hash_ring::Hashing;
-use script_loop::Ended;
+use line_loop::{Ended, LineFault};
 use std::alloc::Global;
 
 // The script of `examples/every-command.script` without its remarks, and what it prints.
@@ -97,7 +97,7 @@ range 0+4294967296 10.0.0.1:1000@1 unsettled
 ";
 
 // Plays the script where the read after so many fails, and the write after so many: the ending, and what was written.
-fn play(alloc: Global, reads: u64, writes: u64) -> (Option<Ended>, Vec<u8>) {
+fn play(alloc: Global, reads: u64, writes: u64) -> (Option<Ended<LineFault>>, Vec<u8>) {
     let mut reader = SparseReader {
         rest: SCRIPT.as_bytes(),
         most: 1,
@@ -144,5 +144,5 @@ fn each_read_fails(rt: HostRuntime) {
 #[test]
 fn nothing_fails(rt: HostRuntime) {
     let (ended, taken) = play(rt.alloc(), u64::MAX, u64::MAX);
-    assert!(rt; ended == Some(Ended::Played) && taken.as_slice() == TEXT.as_bytes());
+    assert!(rt; ended == Some(Ended::AtEnd) && taken.as_slice() == TEXT.as_bytes());
 }

@@ -1,35 +1,43 @@
 //! A player that prints each line as it stands.
 
-ghost use Rattle.std.specs.Prelude.{⊤};
-ghost use Rattle.directory_tests.specs.Echoes.{echoed, long_lines_fault, nothing_echoed};
+ghost use Rattle.std.proofs.Common.{arith};
+ghost use Rattle.line_loop.specs.Scripts.{PlaysLine, most_begun, most_read};
+ghost use Rattle.line_loop.specs.TooLong.{too_long as plays_as_it_begins};
+ghost use Rattle.directory_tests.specs.Echoes.{echoed, long_lines_fault};
 
-use script_lines::{ScriptFault, write_fault};
-use script_loop::{LineFault, LinePlayer};
+use line_loop::{LineFault, LinePlayer};
+use script_lines::{ScriptFault, without_return, write_fault};
 use std::alloc::{AllocError, Global};
 
 #[derive(Drop)]
 pub(crate) struct Echo;
 
 impl LinePlayer for Echo {
-    ghost output = { λ _. echoed };
+    type Stop = LineFault;
 
-    ghost makes = { λ _ _ _. ⊤ };
+    ghost plays = { λ _ number line _ text fault _. PlaysLine echoed echoed number line text fault };
 
-    ghost passes_over = { λ _. ⊥ };
+    ghost MOST_KEPT = { most_begun };
 
-    ghost nothing = { λ _. nothing_echoed };
+    ghost MOST_READ = { most_read };
 
-    ghost passes_quietly = { λ _ _ _ _ passed. absurd passed };
+    ghost too_long = { λ _ _ number line more text _ fault. plays_as_it_begins echoed echoed number line more text fault (long_lines_fault number) };
 
-    ghost too_long = { λ _. long_lines_fault };
+    ghost countable = { Prim.omega arith };
+
+    const MOST_KEPT: usize = 8193;
+
+    const MOST_READ: u64 = 268_435_456;
 
     fn play_line(
         &mut self,
         alloc: Global,
         number: u64,
         line: &[u8],
+        _ended: bool,
         out: &mut Vec<u8>,
     ) -> Result<Option<LineFault>, AllocError> {
+        let line = without_return(line);
         if line.len() > 8192 {
             let fault = ScriptFault::LineTooLong;
             write_fault(out, number, fault.number())?;

@@ -1,15 +1,20 @@
 //! The exit status of each ending.
 
+use line_loop::{Ended, LineFault};
 use script_lines::ScriptFault;
-use script_loop::{Ended, LineFault};
 
 #[test]
 fn statuses(rt: HostRuntime) {
     let fault = ScriptFault::WordCount;
-    let faulted = Ended::Faulted(LineFault { line: 7, fault });
-    assert!(rt; Ended::Played.status() == 0);
-    assert!(rt; faulted.status() == 2);
-    assert!(rt; Ended::TooLong.status() == 5);
-    assert!(rt; Ended::OutOfMemory.status() == 3);
-    assert!(rt; Ended::Broken.status() == 5);
+    let faulted = Ended::Stopped(LineFault { line: 7, fault });
+    assert!(rt; status(Ended::AtEnd) == 0);
+    assert!(rt; status(faulted) == 2);
+    assert!(rt; status(Ended::TooLong) == 5);
+    assert!(rt; status(Ended::OutOfMemory) == 3);
+    assert!(rt; status(Ended::Broken) == 5);
+}
+
+// The status of a script that ends so, where a fault stops it.
+fn status(ended: Ended<LineFault>) -> u8 {
+    ended.status(2)
 }

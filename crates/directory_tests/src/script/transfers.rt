@@ -2,8 +2,8 @@
 
 use crate::fakes::{Counter, Refusal, Remarks, SparseReader, SparseWriter};
 use crate::script::echo::Echo;
+use line_loop::{Ended, LineFault, Sink, Source, play, send};
 use script_lines::ScriptFault;
-use script_loop::{Ended, LineFault, Sink, Source, play, send};
 use std::alloc::Global;
 use std::process::Abort;
 
@@ -12,7 +12,7 @@ const SCRIPT: &[u8] = b"one\r\ntwo\n\n; four\nfive";
 
 const TEXT: &[u8] = b"one\ntwo\n\n; four\nfive\n";
 
-fn echo(alloc: Global, reader: &mut impl Source, writer: &mut impl Sink) -> Ended {
+fn echo(alloc: Global, reader: &mut impl Source, writer: &mut impl Sink) -> Ended<LineFault> {
     play(alloc, &mut Echo, reader, writer)
 }
 
@@ -24,7 +24,7 @@ fn check_play(
     script: &[u8],
     (given, reads): (usize, u64),
     (taken, writes, refusal): (usize, u64, Refusal),
-    (wanted, text): (Ended, &[u8]),
+    (wanted, text): (Ended<LineFault>, &[u8]),
 ) {
     let mut reader = SparseReader {
         rest: script,
@@ -46,7 +46,7 @@ fn pieces(rt: HostRuntime) {
     let well = u64::MAX;
     for size in [1, 4, 20, 21, 22, 65536] {
         let writes = (size, well, Refusal::Fails);
-        let ends = (Ended::Played, TEXT);
+        let ends = (Ended::AtEnd, TEXT);
         check_play(&rt, rt.alloc(), SCRIPT, (size, well), writes, ends);
         check_play(&rt, rt.alloc(), SCRIPT, (1000, well), writes, ends);
     }
@@ -89,8 +89,8 @@ fn bytes_are_sent_whole(rt: HostRuntime) {
 #[test]
 fn a_long_line_needs_no_end(rt: HostRuntime) {
     let fault = ScriptFault::LineTooLong;
-    let faulted = Ended::Faulted(LineFault { line: 1, fault });
-    let table: [(usize, Ended, &[u8]); 2] = [
+    let faulted = Ended::Stopped(LineFault { line: 1, fault });
+    let table: [(usize, Ended<LineFault>, &[u8]); 2] = [
         (8193, Ended::Broken, b""),
         (8194, faulted, b"line 1 fault 924\n"),
     ];
@@ -105,7 +105,7 @@ fn a_long_line_needs_no_end(rt: HostRuntime) {
 const MOST_READ: u64 = 268_435_456;
 
 // Lines of 8,192 bytes, so many bytes in all: the ending, how many bytes are printed, and how many are left.
-fn play_remarks(alloc: Global, length: u64) -> (Ended, u64, u64) {
+fn play_remarks(alloc: Global, length: u64) -> (Ended<LineFault>, u64, u64) {
     let mut reader = Remarks::of(length);
     let mut writer = Counter { taken: 0 };
     let ended = echo(alloc, &mut reader, &mut writer);
@@ -116,7 +116,7 @@ fn play_remarks(alloc: Global, length: u64) -> (Ended, u64, u64) {
 #[test]
 fn the_longest_script(rt: HostRuntime) {
     let played = play_remarks(rt.alloc(), MOST_READ);
-    assert!(rt; played == (Ended::Played, MOST_READ + 1, 0));
+    assert!(rt; played == (Ended::AtEnd, MOST_READ + 1, 0));
 }
 
 #[test]

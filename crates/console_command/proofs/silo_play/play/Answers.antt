@@ -1,21 +1,20 @@
-use Rattle.std.proofs.Common.{rules}
-use Rattle.script_loop.specs.Calls.{no_call, no_read, no_text}
+use Rattle.std.proofs.Common.{[], false}
+use Rattle.line_loop.specs.Calls.{no_call, no_read, no_text}
 use Rattle.silo_rules.specs.SiloValue.{first_silo}
-use Rattle.process_loop.proofs.TurnsTaken.{stops_at_first}
-use Rattle.console_command.proofs.Written.{stops_by}
+use Rattle.console_command.proofs.Written.{answers_in_turn, nothing_answered, writes_answers}
 use Rattle.console_command.proofs.silo_play.play.Goals as goal
 
-pub returns-in_default-clause-stops : goal.returns-in_default-clause-stops
-returns-in_default-clause-stops g c = stops_at_first (first_silo c.args.settings c.args.silo) _ _
+pub returns-in_default-clause-writes : goal.returns-in_default-clause-writes
+returns-in_default-clause-writes g c = nothing_answered c.args.settings c.args.silo (g.R.Source.remaining c.args.reader.now) (g.W.Sink.contents c.args.writer.now)
 
 pub returns-in_default-clause-calls : goal.returns-in_default-clause-calls
 returns-in_default-clause-calls g c = (no_read, no_text)
 
-pub returns-clause-stops : goal.returns-clause-stops
-returns-clause-stops g c = stops_by _ (first_silo c.args.settings c.args.silo) _ _ _ _ _ c.in-Ok.ensures c.play.ensures.stops
-
 pub returns-in_default-clause-in_turn : goal.returns-in_default-clause-in_turn
-returns-in_default-clause-in_turn g c = no_call
+returns-in_default-clause-in_turn g c = ([], [], false, no_call)
+
+pub returns-clause-writes : goal.returns-clause-writes
+returns-clause-writes g c = writes_answers c.args.settings c.args.silo _ _ (g.R.Source.remaining c.args.reader.now) _ _ _ c.play.result c.in-Ok.ensures c.play.ensures.ends
 
 pub returns-clause-in_turn : goal.returns-clause-in_turn
-returns-clause-in_turn g c = search rules
+returns-clause-in_turn g c = answers_in_turn g.R.Source.reads g.W.Sink.writes _ _ (first_silo c.args.settings c.args.silo) _ c.play.result c.in-Ok.ensures c.play.ensures.in_turn

@@ -13,21 +13,22 @@ chunks-init g c = record {
 
 pub returns-in_default-clause-unread : goal.returns-in_default-clause-unread
 returns-in_default-clause-unread g c =
-    kept_unread _ _ _ c.chunks.bytes.items c.chunks.invariant.consumes c.in_default.ensures.bytes (omega (arith, c.chunks.invariant.fits, c.chunks.bytes.ok.0))
+    kept_unread _ _ _ c.chunks.bytes.items c.chunks.invariant.consumes (g.met.R.Source.known _ _ _ c.in_default.ensures.once) (omega (arith, c.chunks.invariant.fits, c.chunks.bytes.ok.0))
 
 pub returns-then-count-eq0-clause-read : goal.returns-then-count-eq0-clause-read
 returns-then-count-eq0-clause-read g c =
     let chunk = c.read_chunk.new.chunk in
-    let room : length chunk ≡ 65536 = search rules in
-    all_read _ _ _ c.chunks.bytes.items (take c.in-Ok.count chunk) c.chunks.invariant.consumes c.in-Ok.ensures.bytes.0 (ap (λ n. take n chunk) c.if-count-eq0.true)
-    (c.in-Ok.ensures.bytes.1 c.if-count-eq0.true (omega (arith, room))) (omega (arith, c.chunks.invariant.fits, c.chunks.bytes.ok.0))
+    let made = g.met.R.Source.known _ _ _ c.in-Ok.ensures.once in
+    all_read _ _ _ c.chunks.bytes.items (take c.in-Ok.count chunk) c.chunks.invariant.consumes made.0 (ap (λ n. take n chunk) c.if-count-eq0.true)
+    (made.1 (ap (λ n. take n chunk) c.if-count-eq0.true)) (omega (arith, c.chunks.invariant.fits, c.chunks.bytes.ok.0))
 
 pub chunks-preserved : goal.chunks-preserved
 chunks-preserved g c =
     let chunk = c.read_chunk.new.chunk in
     let whole : c.deref.result.now ≡ chunk = c.deref.ensures.value ∙ with_items_is c.chunks.chunk chunk (search rules) in
+    let made = g.met.R.Source.known _ _ _ c.in-Ok.ensures.once in
     record {
-      consumes = chunk_read _ _ _ c.chunks.bytes.items (take c.in-Ok.count chunk) _ c.chunks.invariant.consumes c.in-Ok.ensures.bytes.0
+      consumes = chunk_read _ _ _ c.chunks.bytes.items (take c.in-Ok.count chunk) _ c.chunks.invariant.consumes made.0
           (c.in_default-take_in.ensures.taken ∙ ap (λ l. c.chunks.bytes.items ++ take c.in-Ok.count l) whole);
       fits = c.in_default-take_in.ensures.fits;
       room = c.chunks.invariant.room;
@@ -40,7 +41,8 @@ returns-in-Err-clause-unread g c =
     let chunk = c.read_chunk.new.chunk in
     let room : length chunk ≡ 65536 = search rules in
     let whole : c.deref.result.now ≡ chunk = c.deref.ensures.value ∙ with_items_is c.chunks.chunk chunk (search rules) in
-    not_taken _ _ _ c.chunks.bytes.items (take c.in-Ok.count chunk) c.in-Err.unread c.chunks.invariant.consumes c.in-Ok.ensures.bytes.0
+    let made = g.met.R.Source.known _ _ _ c.in-Ok.ensures.once in
+    not_taken _ _ _ c.chunks.bytes.items (take c.in-Ok.count chunk) c.in-Err.unread c.chunks.invariant.consumes made.0
     (omega (arith, c.chunks.invariant.fits, c.chunks.bytes.ok.0)) (omega (arith, room, length-take-le c.in-Ok.count chunk c.in-Ok.ensures.bound.0, c.in-Ok.ensures.bound.0))
     (λ long. omega (arith, c.in-Err.ensures.too_long (ap Err long), c.chunks.bytes.ok.0, ap (λ l. length (take c.in-Ok.count l)) whole))
     (λ lacks. omega (arith, c.in-Err.ensures.within (ap Err lacks), c.chunks.bytes.ok.0, ap (λ l. length (take c.in-Ok.count l)) whole))

@@ -1,5 +1,5 @@
 use Rattle.std.proofs.Common.{true, refl}
-use Rattle.script_loop.specs.Calls.{no_read}
+use Rattle.line_loop.specs.Calls.{no_read}
 use Rattle.directory_console.proofs.carrying.run_on_threads.Goals as goal
 
 pub returns-in-Err-clause-calls : goal.returns-in-Err-clause-calls

@@ -1,44 +1,49 @@
-use Rattle.std.proofs.Common.{ℕ, ◌++◌, None, Some, ap, refl, subst, sym, ◌∙◌}
+use Rattle.std.proofs.Common.{ℕ, ◌++◌, [], Some, None, append-nil, ap, refl, subst, sym, ◌∙◌}
 use Rattle.script_lines.specs.CommandModel.{command_of}
 use Rattle.script_lines.specs.Numbers.{script_fault_number}
 use Rattle.script_lines.specs.declared.error.ScriptFault.{ScriptFault}
-use Rattle.script_loop.specs.Lines.{PlaysLine}
+use Rattle.line_loop.specs.Lines.{Prints}
+use Rattle.line_loop.specs.Scripts.{told_fault}
 use Rattle.script_lines.specs.Printed.{printed}
 use Rattle.script_rules.specs.Lines.{fault_line}
-use Rattle.threaded_play.specs.Faults.{faults_alone}
-use Rattle.console_threads.proofs.Commands.{kept_at_fault, kept_none, kept_one}
-use Rattle.console_threads.proofs.Faulted.{fault_told, passed_over}
+use Rattle.script_rules.specs.Script.{read_line}
+use Rattle.console_threads.proofs.Commands.{kept_at_fault, kept_none, kept_one, plays}
+use Rattle.console_threads.proofs.Faulted.{fault_behind, fault_told, passed_over}
 use Rattle.console_threads.proofs.script.ScriptLinePlayer.play_line.Goals as goal
 
 pub returns-in-Ok-None-clause-played : goal.returns-in-Ok-None-clause-played
-returns-in-Ok-None-clause-played c = passed_over c.args.number c.args.line.now c.args.out.now.items None None refl (rw c.in-Ok-None.field-0-is at c.in-Ok-None.ensures.reads)
+returns-in-Ok-None-clause-played c =
+    let read = ap read_line (sym c.without_return.ensures) ∙ rw c.in-Ok-None.field-0-is at c.in-Ok-None.ensures.reads in
+    record {
+      text = [];
+      behind = sym (append-nil c.args.out.now.items);
+      plays = (passed_over c.args.number c.args.line.now None read, kept_none _ c.args.self.now.commands.items read);
+    }
 
 pub returns-in_ok-push-in-Ok-Some-clause-played : goal.returns-in_ok-push-in-Ok-Some-clause-played
-returns-in_ok-push-in-Ok-Some-clause-played c = passed_over c.args.number c.args.line.now c.args.out.now.items (Some (command_of c.in-Ok-Some.command)) None refl
-    (rw c.in-Ok-Some.field-0-is at c.in-Ok-Some.ensures.reads)
+returns-in_ok-push-in-Ok-Some-clause-played c =
+    let read = ap read_line (sym c.without_return.ensures) ∙ rw c.in-Ok-Some.field-0-is at c.in-Ok-Some.ensures.reads in
+    record {
+      text = [];
+      behind = sym (append-nil c.args.out.now.items);
+      plays = (
+        passed_over c.args.number c.args.line.now (Some (command_of c.in-Ok-Some.command)) read,
+        kept_one _ c.args.self.now.commands.items _ c.in-Ok-Some.command read c.in_ok-push-in-Ok-Some.ensures.items,
+      );
+    }
 
 pub returns-in_ok-write_fault-in-Err-Fault-clause-played : goal.returns-in_ok-write_fault-in-Err-Fault-clause-played
 returns-in_ok-write_fault-in-Err-Fault-clause-played c =
+    let self = c.args.self.now in
     let number = c.args.number in
     let out = c.args.out.now.items in
-    subst (λ (f : ScriptFault). PlaysLine faults_alone faults_alone number c.args.line.now out c.write_fault.new.out.items (Some (record { line = number; fault = f }))) (sym c.in-Err-Fault.fault-is)
-    (fault_told number c.args.line.now out c.write_fault.new.out.items (record { line = number; fault = c.in-Err-Fault.fault }) refl
-    (rw c.in-Err-Fault.field-0-is at c.in-Err-Fault.ensures.reads)
-    (c.in_ok-write_fault-in-Err-Fault.ensures.written ∙ (ap (λ (n : ℕ). out ++ printed (fault_line number n)) c.number.ensures
-    ∙ ap (λ (f : ScriptFault). out ++ printed (fault_line number (script_fault_number f))) c.in-Err-Fault.fault-is)))
-
-pub returns-in-Err-OutOfMemory-clause-played : goal.returns-in-Err-OutOfMemory-clause-played
-returns-in-Err-OutOfMemory-clause-played c = tt
-
-pub returns-in-Ok-None-clause-kept : goal.returns-in-Ok-None-clause-kept
-returns-in-Ok-None-clause-kept c = kept_none c.args.line.now c.args.self.now.commands.items (rw c.in-Ok-None.field-0-is at c.in-Ok-None.ensures.reads)
-
-pub returns-in_ok-push-in-Ok-Some-clause-kept : goal.returns-in_ok-push-in-Ok-Some-clause-kept
-returns-in_ok-push-in-Ok-Some-clause-kept c =
-    kept_one c.args.line.now c.args.self.now.commands.items _ c.in-Ok-Some.command
-    (rw c.in-Ok-Some.field-0-is at c.in-Ok-Some.ensures.reads)
-    c.in_ok-push-in-Ok-Some.ensures.items
-
-pub returns-in_ok-write_fault-in-Err-Fault-clause-kept : goal.returns-in_ok-write_fault-in-Err-Fault-clause-kept
-returns-in_ok-write_fault-in-Err-Fault-clause-kept c =
-    kept_at_fault c.args.line.now c.args.self.now.commands.items (script_fault_number c.in-Err-Fault.fault) (rw c.in-Err-Fault.field-0-is at c.in-Err-Fault.ensures.reads)
+    let fault = c.in-Err-Fault.fault in
+    let read = ap read_line (sym c.without_return.ensures) ∙ rw c.in-Err-Fault.field-0-is at c.in-Err-Fault.ensures.reads in
+    subst (λ (f : ScriptFault). Prints (plays self number c.args.line.now c.args._ended) out c.write_fault.new.out.items (Some (record { line = number; fault = f })) self) (sym c.in-Err-Fault.fault-is)
+    (record {
+      text = told_fault (record { line = number; fault = fault });
+      behind = fault_behind number out c.write_fault.new.out.items (record { line = number; fault = fault }) refl
+          (c.in_ok-write_fault-in-Err-Fault.ensures.written ∙ (ap (λ (n : ℕ). out ++ printed (fault_line number n)) c.number.ensures
+          ∙ ap (λ (f : ScriptFault). out ++ printed (fault_line number (script_fault_number f))) c.in-Err-Fault.fault-is));
+      plays = (fault_told number c.args.line.now (record { line = number; fault = fault }) refl read, kept_at_fault _ self.commands.items (script_fault_number fault) read);
+    })

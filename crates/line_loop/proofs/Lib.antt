@@ -1,0 +1,8 @@
+pub mod Calls
+mod Held
+mod Pieces
+mod Played
+pub mod Scripts
+mod Sent
+mod Steps
+mod Turns

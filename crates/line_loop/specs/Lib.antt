@@ -1,0 +1,11 @@
+pub mod Calls
+pub mod Endings
+pub mod Lines
+pub mod Outputs
+pub mod Pieces
+pub mod Progress
+pub mod Scripts
+pub mod Sent
+pub mod TooLong
+pub mod Transfers
+pub mod Turns
