@@ -3,8 +3,8 @@
  * A silo takes lines and answers lines, the same as the process `grain-directory silo`, byte for byte: docs/RULES.md, "Lines of a
  * silo's process", says which lines there are. What carries letters from one silo to another is the caller's: docs/DEPLOYMENT.md.
  *
- * That these functions do what is said here is proved, but that closing frees all, which is tested. That their caller does is not, and
- * nothing tests it: what the caller owes is said with each function, and at the end. */
+ * That these functions do what is said here is proved, but for what the last one frees, which is tested. That their caller does is not,
+ * and nothing tests it: what the caller owes is said with each function, and at the end. */
 #ifndef GRAIN_DIRECTORY_H
 #define GRAIN_DIRECTORY_H
 

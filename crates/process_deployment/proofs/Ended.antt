@@ -137,7 +137,7 @@ module _ (settings : Settings) (steps : List deployment.Step) (are : AreSettings
   abbrev letters : ℕ
   letters = suc (length d.written)
 
-  peopled : (silo : Silo) (s : SiloValue) → process_of d silo ≡ Some s → IsViews d.membership.views × (is_live (status_at d.membership.views d.membership.views.version silo) ≡ true)
+  pub peopled : (silo : Silo) (s : SiloValue) → process_of d silo ≡ Some s → IsViews d.membership.views × (is_live (status_at d.membership.views d.membership.views.version silo) ≡ true)
   peopled silo s there =
       let all = made_so settings steps are named most letters (omega arith) (omega arith) in
       let its = subst (λ (w : World). ArePeopled w.views w.nodes) all.is (peopled_after (with_room most letters settings) all.events (roomy settings most letters are (omega arith) (omega arith))) in

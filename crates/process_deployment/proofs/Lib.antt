@@ -15,4 +15,9 @@ mod Following
 mod Themselves
 mod Plain
 mod Ended
+mod FirmSteps
+mod FirmLines
+mod Firm
+mod Started
+mod FirmStays
 mod Worked

@@ -20,15 +20,15 @@ pub record IsWritten (c : Cluster) (letter : Letter) : Type 0 where
 
 -- a change by which the silo knows one version more is the one that was decided for that version. Of a change that it knows or refuses
 -- nothing is asked
-abbrev pub IsDecided : Cluster → SiloValue → (version : ℕ) → Change → Type 0
-IsDecided c s version change = MakesVersion s.membership version (told s.node.settings s.membership version change) → slice_get c.changes (version - 1) ≡ Some change
+abbrev pub IsDecided : (changes : List Change) → SiloValue → (version : ℕ) → Change → Type 0
+IsDecided changes s version change = MakesVersion s.membership version (told s.node.settings s.membership version change) → slice_get changes (version - 1) ≡ Some change
 
 -- what may be asked of a silo that isn't Dead by the changes decided: a letter to it was written, unless the silo wasn't told of its own
 -- join yet, and refuses it. All else may be asked of it at any time
 abbrev pub MayAsk : Cluster → SiloValue → Asked → Type 0
-MayAsk c s (Joined version silo places) = IsDecided c s version (Join silo places)
-MayAsk c s (Leaving version silo) = IsDecided c s version (Leave silo)
-MayAsk c s (Dead version silo) = IsDecided c s version (Die silo)
+MayAsk c s (Joined version silo places) = IsDecided c.changes s version (Join silo places)
+MayAsk c s (Leaving version silo) = IsDecided c.changes s version (Leave silo)
+MayAsk c s (Dead version silo) = IsDecided c.changes s version (Die silo)
 MayAsk c s (Receive letter) = letter.to ≡ s.node.host.silo → told_of_its_join s ≡ true → IsWritten c letter
 MayAsk c s other = ⊤
 

@@ -5,3 +5,5 @@ pub mod Allowed
 pub mod Theorems
 pub mod Worked
 pub mod Wrong
+pub mod Firm
+pub mod Started

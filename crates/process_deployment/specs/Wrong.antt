@@ -1,14 +1,16 @@
--- Clusters in which a line comes that may not come, or a dead silo's process goes on, and two processes have the grain firm.
+-- Clusters in which a line comes that may not come, a dead silo's process goes on, or a process begins anew as the same silo, and two
+-- processes have the grain firm.
 use Rattle.std.specs.Prelude.{◌≡◌, List, [], ◌∷◌, ◌++◌, map, filter, codes}
-use Rattle.silo_address.specs.Silo.{Silo}
+use Rattle.std.specs.BTreeMap.{insert_entry}
+use Rattle.silo_address.specs.Silo.{Silo, silo_cmp}
 use Rattle.silo_address.specs.Grain.{Grain}
 use Rattle.directory_rules.specs.Worked.{silo_a, silo_b, grain_a}
 use Rattle.silo_rules.specs.Membership.{Join, Die}
 use Rattle.deployment_headline.specs.Worked.{worked_settings}
 use Rattle.deployment_headline.specs.Wrong.{has_firm}
-use Rattle.process_deployment.specs.Cluster.{Cluster}
+use Rattle.process_deployment.specs.Cluster.{started, Cluster}
 use Rattle.process_deployment.specs.Steps.{Step, Decide, Read, after, after_all, clustered}
-use Rattle.process_deployment.specs.Worked.{opening, joining}
+use Rattle.process_deployment.specs.Worked.{opening, joining, asking}
 
 -- the silos, not Dead by the changes decided, at whose processes it is firm
 abbrev pub firm_at : Grain → Cluster → List Silo
@@ -67,4 +69,21 @@ AnotherChangeIsTold =
     ∷ Read silo_b (codes "letter 10.0.0.2:1000@1 10.0.0.2:1000@1 1 register 1 user/a#7 10.0.0.2:1000@1!1")
     ∷ Read silo_b (codes "letter 10.0.0.2:1000@1 10.0.0.2:1000@1 1 registered 1 user/a#7 10.0.0.2:1000@1!1")
     ∷ []))
+    ≡ silo_a ∷ silo_b ∷ []
+
+-- the first silo's process is started again, as the same silo
+abbrev pub begins_anew : Cluster → Cluster
+begins_anew c = record c { processes = insert_entry silo_cmp c.processes silo_a (started c.settings silo_a) }
+
+-- the second silo has the grain firm, and the first one, which owns the grain's hash, has forgotten that; it's told all changes again,
+-- recovers the circle from itself alone, and is woken for the grain
+abbrev pub ARestartForgets : Type 0
+ARestartForgets =
+    firm_at grain_a
+    (after_all (begins_anew (clustered worked_settings (opening ++ joining ++ asking)))
+    (Read silo_a (codes "joined 1 10.0.0.1:1000@1 0")
+    ∷ Read silo_a (codes "see 1")
+    ∷ Read silo_a (codes "letter 10.0.0.1:1000@1 10.0.0.1:1000@1 1 query 0+4294967296")
+    ∷ Read silo_a (codes "letter 10.0.0.1:1000@1 10.0.0.1:1000@1 1 report 0+4294967296")
+    ∷ waking))
     ≡ silo_a ∷ silo_b ∷ []

@@ -1,4 +1,6 @@
 //! The laws. All but the last one hold after any steps of a cluster of processes: lines come late, again, in another order, astray, faulty, or never.
+ghost use Rattle.process_deployment.specs.Firm.{FirmStays, LinesTellFirm};
+ghost use Rattle.process_deployment.specs.Started.{StartsAreRuns};
 ghost use Rattle.process_deployment.specs.Theorems.{ClustersAreDeployments, LinesArePlain, LinesKeepOneFirm, LinesKeepTheHeadline, LivingGoOn, ProcessesWriteTheirOutput};
 ghost use Rattle.process_deployment.specs.Worked.{WorkedCluster};
 
@@ -22,6 +24,17 @@ pub fn lines_are_plain()
     ensures { LinesArePlain }
 {}
 
+/// A process tells `firm` exactly where an activation becomes firm, and what is firm stays firm at every line but a close or an offer of
+/// its grain: no view ends it.
+pub fn lines_tell_firm()
+    ensures { LinesTellFirm }
+{}
+
+/// What is firm stays firm at every step of a cluster, but where its application asks for its end, or its silo dies.
+pub fn firm_stays()
+    ensures { FirmStays }
+{}
+
 /// A process ends only where its silo is Dead by the changes decided.
 pub fn living_go_on()
     ensures { LivingGoOn }
@@ -30,6 +43,12 @@ pub fn living_go_on()
 /// Each process has written exactly the output of all that it read.
 pub fn processes_write_their_output()
     ensures { ProcessesWriteTheirOutput }
+{}
+
+/// A process may be started, and read what was decided so far, before its silo's join is decided: that is such a run too, so all these laws
+/// hold of it.
+pub fn starts_are_runs()
+    ensures { StartsAreRuns }
 {}
 
 /// A cluster of two processes, worked out: what each of them wrote, and that each step may come.

@@ -1,6 +1,6 @@
-//! Wrong clusters of processes: in each a line comes that may not come, or a dead silo's process goes on, and two processes have a grain
-//! firm.
-ghost use Rattle.process_deployment.specs.Wrong.{ADeadProcessGoesOn, AForgedLineConfirms, AnotherChangeIsTold};
+//! Wrong clusters of processes: in each a line comes that may not come, a dead silo's process goes on, or one begins anew as the same
+//! silo, and two processes have a grain firm.
+ghost use Rattle.process_deployment.specs.Wrong.{ADeadProcessGoesOn, AForgedLineConfirms, AnotherChangeIsTold, ARestartForgets};
 
 /// A letter's line that no process wrote confirms an activation.
 pub fn a_forged_line_confirms()
@@ -15,4 +15,9 @@ pub fn a_dead_process_goes_on()
 /// A process reads another change than the one that was decided.
 pub fn another_change_is_told()
     ensures { AnotherChangeIsTold }
+{}
+
+/// A process that has ended is started again as the same silo, of the same generation.
+pub fn a_restart_forgets()
+    ensures { ARestartForgets }
 {}

@@ -1,9 +1,9 @@
 -- What a caller in C has, from one call to the next.
-use Rattle.std.specs.Prelude.{ℕ, zero, suc, List, [], ◌∷◌, length}
+use Rattle.std.specs.Prelude.{◌≡◌, ℕ, zero, suc, List, [], ◌∷◌, length}
 use base.Fraction.{full_share}
 use base.Fml.{Fml, ftrue, fsep, fex, feq, flft, flent}
 use mir.Raw.{raw}
-use mir.Syntax.{erased}
+use mir.Syntax.{erased, ty_struct, ty_ptr, ty_int, w64, tcons, tnil}
 use denote.Builtin.{u8}
 use denote.Memory.{lone}
 use denote.RawPtr.{Ptr, InBlock, block_ptr}
@@ -14,6 +14,7 @@ use Rattle.std.specs.declared.alloc.Global.{Global}
 use Rattle.std.specs.contracts.impls.GlobalAllocator.TheImpl.{ghosts}
 use Rattle.silo_library.specs.OpenSiloValue.{OpenSiloValue, Opens, TellsAnswer, TellsRefusal}
 use Rattle.silo_library.specs.contracts.open_silo.OpenSilo.{the_row}
+use Rattle.silo_library.specs.contracts.text.Text.{the_row as text_row}
 use Rattle.silo_library.specs.declared.text.Text.{Text}
 
 -- ---- A handle: a pointer to an open silo.
@@ -36,6 +37,11 @@ lent_for while p it = fsep (flft (while ∷ []) full_share) (fsep (flent (while 
 -- a handle of that open silo
 abbrev pub is_handle : Ptr → OpenSiloValue → Fml
 is_handle p it = fex ℕ (λ while. lent_for while p it)
+
+-- ---- A text, as C has it.
+-- it is a pointer, and behind that a number of 64 bits: so the header declares `struct grain_directory_text`
+abbrev pub LiesAsInC : Type 0
+LiesAsInC = raw (lone text_row.mir) ≡ ty_struct [] (tcons ty_ptr (tcons (ty_int w64) tnil))
 
 -- ---- A handle with an answer, which may be read until the next call on it.
 -- the text is where the slice is, which has these bytes

@@ -15,7 +15,7 @@ mod text;
 
 pub use open_silo::{OpenSilo, may_cross};
 pub use status::CallStatus;
-pub use text::Text;
+pub use text::{Text, lies_as_in_c};
 
 /// Opens the silo of a text, under the way of hashing that has the number, with so many points and a cache of so many hints, and
 /// writes its handle. Answers 0; or else the number of a refusal, and the handle is left as it was.

@@ -1,0 +1,67 @@
+-- What an application rests on: its silo's process tells it that an activation is firm exactly where that becomes firm, and firm it
+-- stays until the application closes or offers it, or its silo dies. No view ends it.
+use Rattle.std.specs.Prelude.{◌≡◌, ℕ, List, ◌∷◌, [], ◌++◌, ◌⊎◌, Contains, Option, Some, Result, Ok, codes}
+use Rattle.texts.specs.Words.{sentence}
+use Rattle.silo_address.specs.Silo.{Silo, IsSilo}
+use Rattle.silo_address.specs.Grain.{Grain}
+use Rattle.directory_rules.specs.PlainMachine.{Is_firm, life_on}
+use Rattle.silo_rules.specs.SiloValue.{SiloValue}
+use Rattle.script_rules.specs.Lines.{entry_words}
+use Rattle.process_rules.specs.ReadLine.{Asked, Close, Offer}
+use Rattle.process_rules.specs.Answer.{Answered}
+use Rattle.process_rules.specs.Output.{answered_to, said}
+use Rattle.process_deployment.specs.Allowed.{May}
+use Rattle.process_deployment.specs.Cluster.{Process, Cluster, process_at}
+use Rattle.process_deployment.specs.Steps.{Step, Decide, Read, dying, after}
+use Rattle.process_deployment.specs.Theorems.{AfterAnySteps}
+
+-- the silo has the grain's activation of that count firm
+abbrev pub HasFirm : SiloValue → Grain → (count : ℕ) → Type 0
+HasFirm s grain count = life_on grain s.node ≡ Some (Is_firm count)
+
+-- it hadn't, and has
+abbrev pub BecomesFirm : Grain → (count : ℕ) → (before after : SiloValue) → Type 0
+BecomesFirm grain count before after = (¬ HasFirm before grain count) × HasFirm after grain count
+
+-- `firm`, the activation, and its grain
+abbrev pub firm_line : Silo → Grain → (count : ℕ) → List ℕ
+firm_line silo grain count = sentence (codes "firm" ∷ entry_words (record { grain = grain; activation = record { silo = silo; count = count } }))
+
+-- the line's first word is `firm`
+abbrev pub SaysFirm : List ℕ → Type 0
+SaysFirm line = (rest : List ℕ) × (line ≡ codes "firm " ++ rest)
+
+-- the application asks that the grain's activation end
+abbrev pub AsksToEnd : Grain → Result (Option Asked) ℕ → Type 0
+AsksToEnd grain (Ok (Some (Close its))) = its ≡ grain
+AsksToEnd grain (Ok (Some (Offer its to))) = its ≡ grain
+AsksToEnd grain other = ⊥
+
+-- what a silo answers to a line that says this
+pub record TellsFirm (s : SiloValue) (read : Result (Option Asked) ℕ) (it : Answered) : Type 0 where
+  -- what becomes firm is told, and nothing else
+  pub told : (grain : Grain) (count : ℕ) → BecomesFirm grain count s it.silo → it.lines ≡ firm_line s.node.host.silo grain count ∷ []
+  -- and whatever is told so becomes firm
+  pub only : (line : List ℕ) → Contains it.lines line → SaysFirm line → (grain : Grain) × (count : ℕ) × BecomesFirm grain count s it.silo × (line ≡ firm_line s.node.host.silo grain count)
+  -- what is firm stays firm, unless the application asks for its end
+  pub stays : (grain : Grain) (count : ℕ) → HasFirm s grain count → HasFirm it.silo grain count ⊎ AsksToEnd grain read
+
+-- so does each process that isn't of a Dead silo, whatever line comes to it
+abbrev pub LinesTellFirm : Type 0
+LinesTellFirm = AfterAnySteps (λ c. (silo : Silo) (p : Process) (line : List ℕ) → IsSilo silo → process_at silo c.processes ≡ Some p → TellsFirm p.silo (said line p.silo) (answered_to (said line p.silo) p.silo))
+
+-- ---- So a firm activation ends by nothing else.
+-- a silo's process has it firm
+pub record HasItFirm (c : Cluster) (silo : Silo) (grain : Grain) (count : ℕ) : Type 0 where
+  pub process : Process
+  pub there : process_at silo c.processes ≡ Some process
+  pub firm : HasFirm process.silo grain count
+
+-- the step is a line by which the silo's application asks for the end, or the change by which the silo dies
+abbrev pub IsItsEnd : Cluster → Step → Silo → SiloValue → Grain → Type 0
+IsItsEnd c (Read its line) silo s grain = (its ≡ silo) × AsksToEnd grain (said line s)
+IsItsEnd c (Decide change) silo s grain = dying c.membership change ≡ Some silo
+
+-- whatever else happens, it stays firm
+abbrev pub FirmStays : Type 0
+FirmStays = AfterAnySteps (λ c. (step : Step) (silo : Silo) (grain : Grain) (count : ℕ) → May c step → (has : HasItFirm c silo grain count) → HasItFirm (after c step) silo grain count ⊎ IsItsEnd c step silo has.process.silo grain)
