@@ -19,11 +19,12 @@ mod world;
 
 pub use delivery::Undelivered;
 pub use directory_letters::{Body, Letter};
-pub use directory_node::Node;
+pub use directory_node::{Input, Node, Plan, SharedNode};
 pub use directory_rules::{Effect, Event, Happening, LetterKind, Outcome, Policy, Settings, Span};
 pub use dumps::Dump;
-pub use hash_ring::Hashing;
-pub use membership_view::{Status, Views};
+pub use hash_ring::{Hashing, Places, Point, Ring};
+pub use letter_mail::MailedLetter;
+pub use membership_view::{Row, Status, View, Views};
 pub use refusal::EventRefusal;
 pub use silo_address::{ActivationId, Entry, GrainId, SiloAddress};
 pub use told::EventResult;

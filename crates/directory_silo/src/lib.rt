@@ -14,8 +14,10 @@ mod step;
 
 pub use answer::Answer;
 pub use directory_letters::{Body, Letter};
+pub use directory_node::Node;
 pub use directory_rules::{Effect, LetterKind, Policy, Settings};
-pub use hash_ring::Hashing;
+pub use hash_ring::{Hashing, Places};
+pub use membership_view::{Status, Views};
 pub use refusal::SiloRefusal;
 pub use silo::Silo;
 pub use silo_address::{ActivationId, GrainId, SiloAddress};

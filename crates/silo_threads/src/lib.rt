@@ -1,4 +1,5 @@
-//! A cluster that runs: one thread per silo delivers its letters, while the caller posts events (`docs/RULES.md#running-silos`).
+//! A cluster that runs: one thread per silo delivers its letters, while the caller posts events (`docs/RULES.md#running-silos`). What
+//! its calls take and give is named here too, so that a user needs no other crate.
 #![tactic(auto)]
 
 mod cluster;
@@ -12,6 +13,12 @@ mod start;
 mod sync;
 
 pub use cluster::{Cluster, MOST_WORKERS, PARTS};
+pub use cluster_board::{Blocks, Board, Names};
+pub use cluster_journal::{CloseRefusal, Entry, Receipt};
+pub use directory_core::{Event, EventRefusal, Outcome, Settings, World};
+pub use directory_node::SharedNode;
 pub use ended::Ended;
 pub use fault::{EndFault, Lack};
+pub use published_rings::{Publisher, Route, RouteError, RouteReader, Told};
 pub use run::Ran;
+pub use silo_workers::{Cause, Gate, OpenGate};
