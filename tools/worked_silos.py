@@ -1,4 +1,4 @@
-"""The worked processes of silos, as the crate process_rows states them; and the plain Rust process that reads the same lines."""
+"""The worked processes of silos, as the crate worked_rows states them; and the plain Rust process that reads the same lines."""
 
 import re
 import sys
@@ -8,7 +8,7 @@ from subprocess import run
 TOP = Path(__file__).resolve().parent.parent
 TOKEN = re.compile(r'codes\s+"(?P<text>(?:[^"\\]|\\.)*)"|(?P<lines>text_of_lines)|(?P<byte>\d+)|(?P<none>\[\])|(?P<open>\()|(?P<close>\))|'
                    r'(?P<put>∷)|(?P<join>\+\+)|(?P<end>[;}])|\s+')
-ROW = re.compile(r"^abbrev pub (\w+) : Row\n\1 = record \{", re.M)
+ROW = re.compile(r"^abbrev pub (\w+) : ProcessRow\n\1 = record \{", re.M)
 FIELD = re.compile(r"\s*(\w+) = ")
 
 
@@ -53,7 +53,7 @@ class Bytes:
 
 def rows():
     """Each process: its name, the silo's address, what it reads, and what it writes."""
-    for file in sorted((TOP / "crates/process_rows/specs").glob("*.antt")):
+    for file in sorted((TOP / "crates/worked_rows/specs").glob("*.antt")):
         text = file.read_text()
         for row in ROW.finditer(text):
             at, fields = row.end(), {}

@@ -1,2 +1,2 @@
 pub mod Back
-pub mod Places
+pub mod TheirPlaces

@@ -1,6 +1,6 @@
 //! Carries out the program's words for stored files, which the words of this one's command line name: a script is played with stated
 //! places, and a dump, whose file's name ends with `.json`, is judged. Behind the name of each stands what is printed, and behind that
-//! the status where it isn't 0. Worked scripts and dumps stand there first, with what `rules_rows` proves of them, and two examples;
+//! the status where it isn't 0. Worked scripts and dumps stand there first, with what `worked_rows` proves of them, and two examples;
 //! then storms, of which `docs/STORMS.md` says where they come from.
 #![tactic(auto)]
 

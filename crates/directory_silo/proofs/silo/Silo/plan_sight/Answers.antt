@@ -2,7 +2,7 @@ use Rattle.std.proofs.Common.{sym, ap, ◌∙◌, ◌-◌}
 use Rattle.membership_view.specs.Views.{view_at}
 use Rattle.silo_rules.specs.SiloValue.{SiloValue}
 use Rattle.directory_silo.specs.SiloModel.{silo_of}
-use Rattle.directory_silo.proofs.Places.{sight_placed}
+use Rattle.directory_silo.proofs.TheirPlaces.{sight_placed}
 use Rattle.directory_silo.proofs.silo.Silo.plan_sight.Goals as goal
 
 pub plan-requires : goal.plan-requires
