@@ -1,0 +1,111 @@
+// Package etcdstore keeps a directory's membership in etcd, under /grain-directory/NAME/.
+package etcdstore
+
+import (
+	"context"
+	"crypto/tls"
+	"errors"
+	"strings"
+	"time"
+
+	"go.etcd.io/etcd/clientv3"
+	"go.etcd.io/etcd/mvcc/mvccpb"
+	"google.golang.org/grpc"
+	"google.golang.org/grpc/backoff"
+
+	"agent/membership"
+)
+
+// Options say where etcd is, and how one comes in.
+type Options struct {
+	Endpoints      []string
+	TLS            *tls.Config // nil: without
+	User, Password string      // "": without
+	Directory      string
+}
+
+// Store is a directory in etcd.
+type Store struct {
+	client *clientv3.Client
+	prefix string
+}
+
+// Open makes a client. It doesn't wait for a connection: each call does, as long as its context lasts.
+func Open(options Options) (*Store, error) {
+	client, err := clientv3.New(clientv3.Config{
+		Endpoints: options.Endpoints, TLS: options.TLS, Username: options.User, Password: options.Password,
+		DialTimeout: 5 * time.Second, DialKeepAliveTime: 2 * time.Second, DialKeepAliveTimeout: time.Second,
+		// Else the client would wait for up to two minutes between its tries, and beats end though etcd is back.
+		DialOptions: []grpc.DialOption{grpc.WithConnectParams(grpc.ConnectParams{MinConnectTimeout: time.Second,
+			Backoff: backoff.Config{BaseDelay: 100 * time.Millisecond, Multiplier: 1.6, Jitter: 0.2, MaxDelay: 500 * time.Millisecond}})},
+	})
+	if err != nil {
+		return nil, err
+	}
+	return &Store{client, "/grain-directory/" + options.Directory + "/"}, nil
+}
+
+// Read implements membership.Store.
+func (s *Store) Read(ctx context.Context, prefix string) ([]membership.Entry, membership.Revision, error) {
+	answer, err := s.client.Get(ctx, s.prefix+prefix, clientv3.WithPrefix())
+	if err != nil {
+		return nil, 0, err
+	}
+	entries := make([]membership.Entry, 0, len(answer.Kvs))
+	for _, kv := range answer.Kvs {
+		entries = append(entries, s.entry(kv))
+	}
+	return entries, membership.Revision(answer.Header.Revision), nil
+}
+
+func (s *Store) entry(kv *mvccpb.KeyValue) membership.Entry {
+	return membership.Entry{Key: strings.TrimPrefix(string(kv.Key), s.prefix), Value: string(kv.Value), Revision: membership.Revision(kv.ModRevision)}
+}
+
+// Watch implements membership.Store. It fails, rather than wait, where the server has lost its leader.
+func (s *Store) Watch(ctx context.Context, after membership.Revision, tell func([]membership.Event)) error {
+	watching, stop := context.WithCancel(clientv3.WithRequireLeader(ctx))
+	defer stop()
+	for answer := range s.client.Watch(watching, s.prefix, clientv3.WithPrefix(), clientv3.WithRev(int64(after)+1)) {
+		if err := answer.Err(); err != nil {
+			return err
+		}
+		events := make([]membership.Event, 0, len(answer.Events))
+		for _, event := range answer.Events {
+			events = append(events, membership.Event{Entry: s.entry(event.Kv), Gone: event.Type == mvccpb.DELETE})
+		}
+		tell(events)
+	}
+	if ctx.Err() != nil {
+		return ctx.Err()
+	}
+	return errors.New("etcd ended the watch")
+}
+
+// Commit implements membership.Store.
+func (s *Store) Commit(ctx context.Context, transaction membership.Transaction) (bool, error) {
+	var conditions []clientv3.Cmp
+	for _, condition := range transaction.If {
+		key := s.prefix + condition.Key
+		switch condition.Revision {
+		case membership.Absent:
+			conditions = append(conditions, clientv3.Compare(clientv3.CreateRevision(key), "=", 0))
+		case membership.Present:
+			conditions = append(conditions, clientv3.Compare(clientv3.CreateRevision(key), ">", 0))
+		default:
+			conditions = append(conditions, clientv3.Compare(clientv3.ModRevision(key), "=", int64(condition.Revision)))
+		}
+	}
+	var then []clientv3.Op
+	for _, key := range transaction.Delete {
+		then = append(then, clientv3.OpDelete(s.prefix+key))
+	}
+	for _, put := range transaction.Put {
+		then = append(then, clientv3.OpPut(s.prefix+put.Key, put.Value))
+	}
+	answer, err := s.client.Txn(ctx).If(conditions...).Then(then...).Commit()
+	return err == nil && answer.Succeeded, err
+}
+
+// Close implements membership.Store.
+func (s *Store) Close() error { return s.client.Close() }

@@ -1,0 +1,74 @@
+// Package servers starts the servers that tests need, on ports of their own, and ends them with the test. Where one isn't installed the test is
+// skipped.
+package servers
+
+import (
+	"fmt"
+	"net"
+	"os"
+	"os/exec"
+	"path/filepath"
+	"strconv"
+	"syscall"
+	"testing"
+	"time"
+)
+
+// Port is a port on which nobody listens just now.
+func Port(t testing.TB) int {
+	listener, err := net.Listen("tcp", "127.0.0.1:0")
+	if err != nil {
+		t.Fatal(err)
+	}
+	defer listener.Close()
+	return listener.Addr().(*net.TCPAddr).Port
+}
+
+// Etcd starts an etcd, and gives its endpoint.
+func Etcd(t testing.TB) string {
+	client, peer := fmt.Sprintf("127.0.0.1:%d", Port(t)), fmt.Sprintf("http://127.0.0.1:%d", Port(t))
+	Start(t, "etcd", client, "--name", "n1", "--data-dir", filepath.Join(t.TempDir(), "etcd"), "--listen-client-urls", "http://"+client,
+		"--advertise-client-urls", "http://"+client, "--listen-peer-urls", peer, "--initial-advertise-peer-urls", peer,
+		"--initial-cluster", "n1="+peer, "--log-level", "error")
+	return client
+}
+
+// NATS starts a NATS server, and gives its URL.
+func NATS(t testing.TB, words ...string) string {
+	port := Port(t)
+	endpoint := fmt.Sprintf("127.0.0.1:%d", port)
+	Start(t, "nats-server", endpoint, append([]string{"-a", "127.0.0.1", "-p", strconv.Itoa(port)}, words...)...)
+	return "nats://" + endpoint
+}
+
+// Start starts a program, waits until it listens at an endpoint, and ends it with the test.
+func Start(t testing.TB, program, endpoint string, words ...string) *os.Process {
+	path, err := exec.LookPath(program)
+	if err != nil {
+		t.Skipf("%s isn't installed: tools/install-agent-packages", program)
+	}
+	said, err := os.CreateTemp(t.TempDir(), filepath.Base(program))
+	if err != nil {
+		t.Fatal(err)
+	}
+	command := exec.Command(path, words...)
+	command.Stdout, command.Stderr = said, said
+	command.SysProcAttr = &syscall.SysProcAttr{Setpgid: true}
+	if err := command.Start(); err != nil {
+		t.Fatal(err)
+	}
+	t.Cleanup(func() {
+		command.Process.Kill()
+		command.Wait()
+	})
+	for until := time.Now().Add(20 * time.Second); ; time.Sleep(20 * time.Millisecond) {
+		if conn, err := net.Dial("tcp", endpoint); err == nil {
+			conn.Close()
+			return command.Process
+		}
+		if time.Now().After(until) {
+			text, _ := os.ReadFile(said.Name())
+			t.Fatalf("%s doesn't listen at %s: %s", program, endpoint, text)
+		}
+	}
+}
