@@ -394,17 +394,17 @@ func TestWhoDoesntRead(t *testing.T) {
 func TestProcesses(t *testing.T) {
 	x := start(t)
 	x.dial()
-	if processes := x.service.Processes(); processes[os.Getpid()] != began(os.Getpid()) || began(os.Getpid()) == "" {
+	if processes := x.service.Processes(); processes[os.Getpid()] != Began(os.Getpid()) || Began(os.Getpid()) == "" {
 		t.Errorf("%v", processes)
 	}
 	command := exec.Command("sleep", "60")
 	if err := command.Start(); err != nil {
 		t.Fatal(err)
 	}
-	when := began(command.Process.Pid)
+	when := Began(command.Process.Pid)
 	KillProcess(command.Process.Pid, "1") // another process of that number
 	KillProcess(command.Process.Pid, "")
-	if began(command.Process.Pid) != when {
+	if Began(command.Process.Pid) != when {
 		t.Fatal("the wrong process is killed")
 	}
 	KillProcess(command.Process.Pid, when)

@@ -119,7 +119,7 @@ func (s *Service) Serve(listener *net.UnixListener) {
 		}
 		app := &application{conn: conn, out: queue.New(mostOut), number: number, serves: map[string]bool{}}
 		app.process = processOf(conn)
-		app.began = began(app.process)
+		app.began = Began(app.process)
 		s.mu.Lock()
 		isIn := s.over == "" && len(s.apps) < mostApplications
 		if isIn {
@@ -297,7 +297,7 @@ func (s *Service) Kill() {
 
 // KillProcess ends a process by signal 9, if it is still the one that began then.
 func KillProcess(process int, when string) {
-	if process > 1 && process != os.Getpid() && when != "" && began(process) == when {
+	if process > 1 && process != os.Getpid() && when != "" && Began(process) == when {
 		log.Printf("kills the application %d, which hasn't hung up", process)
 		syscall.Kill(process, syscall.SIGKILL)
 	}
@@ -315,8 +315,8 @@ func processOf(conn *net.UnixConn) (process int) {
 	return process
 }
 
-// began is when a process began, in ticks since boot as the kernel writes it, or "" if there is none.
-func began(process int) string {
+// Began is when a process began, in ticks since boot as the kernel writes it, or "" if there is none.
+func Began(process int) string {
 	text, err := os.ReadFile(fmt.Sprintf("/proc/%d/stat", process))
 	if err != nil {
 		return ""

@@ -35,6 +35,12 @@ type Carrier interface {
 	Close()
 }
 
+// Line is what a carrier is made of once the silo's generation is known: so that an agent that reaches nobody doesn't join.
+type Line interface {
+	Carry(me directory.Silo, take Receiver) (Carrier, error)
+	Close()
+}
+
 // Receiver takes what carriers bring. It may be called by several goroutines, and doesn't wait.
 type Receiver func(message []byte)
 

@@ -25,15 +25,16 @@ type Options struct {
 // mostWaiting is how many bytes of messages that came wait here at most; what is past it is lost.
 const mostWaiting = 64 << 20
 
-type carrier struct {
+// Line is a connection to NATS.
+type Line struct {
 	conn   *nats.Conn
 	prefix string
 }
 
-// Open connects, and takes the messages to a silo.
-func Open(options Options, me directory.Silo, take transport.Receiver) (transport.Carrier, error) {
+// Open connects.
+func Open(options Options) (*Line, error) {
 	settings := []nats.Option{
-		nats.Name("grain-directory-agent " + string(me)), nats.MaxReconnects(-1), nats.ReconnectWait(250 * time.Millisecond),
+		nats.Name("grain-directory-agent"), nats.MaxReconnects(-1), nats.ReconnectWait(250 * time.Millisecond),
 		nats.ReconnectJitter(50*time.Millisecond, 50*time.Millisecond),
 		nats.ReconnectBufSize(-1), // a letter that can't go now is lost: it is sent again if it is still wanted
 		nats.PingInterval(time.Second), nats.MaxPingsOutstanding(2), nats.Timeout(2 * time.Second),
@@ -60,26 +61,31 @@ func Open(options Options, me directory.Silo, take transport.Receiver) (transpor
 	if err != nil {
 		return nil, fmt.Errorf("NATS can't be reached at %s: %w", options.Servers, err)
 	}
-	c := &carrier{conn, "grain-directory." + options.Directory + "."}
-	subscription, err := conn.Subscribe(c.prefix+string(me), func(m *nats.Msg) { take(m.Data) })
+	return &Line{conn, "grain-directory." + options.Directory + "."}, nil
+}
+
+// Carry takes the messages to a silo.
+func (l *Line) Carry(me directory.Silo, take transport.Receiver) (transport.Carrier, error) {
+	subscription, err := l.conn.Subscribe(l.prefix+string(me), func(m *nats.Msg) { take(m.Data) })
 	if err == nil {
 		err = subscription.SetPendingLimits(-1, mostWaiting)
 	}
 	if err == nil {
-		err = conn.Flush()
+		err = l.conn.Flush()
 	}
-	if err != nil {
-		conn.Close()
-		return nil, err
-	}
-	return c, nil
+	return l, err
 }
 
-func (c *carrier) Publish(to directory.Silo, message []byte) error {
-	return c.conn.Publish(c.prefix+string(to), message)
+// Publish implements transport.Carrier.
+func (l *Line) Publish(to directory.Silo, message []byte) error {
+	return l.conn.Publish(l.prefix+string(to), message)
 }
 
 // Most is NATS's own limit, which an operator may change while agents run.
-func (c *carrier) Most() int { return int(c.conn.MaxPayload()) }
-func (c *carrier) Up() bool  { return c.conn.IsConnected() }
-func (c *carrier) Close()    { c.conn.Close() }
+func (l *Line) Most() int { return int(l.conn.MaxPayload()) }
+
+// Up says whether NATS is connected.
+func (l *Line) Up() bool { return l.conn.IsConnected() }
+
+// Close ends the connection.
+func (l *Line) Close() { l.conn.Close() }

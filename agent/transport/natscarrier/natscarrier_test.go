@@ -38,7 +38,11 @@ func open(t *testing.T, url, name string, me directory.Silo) (*transport.Post, *
 	changed := make(chan bool, 100)
 	l := &lines{last: make(chan string, 10)}
 	post := transport.New(me, func() bool { return true }, l)
-	carrier, err := Open(Options{Servers: url, Directory: name, Changed: func(up bool) { changed <- up }}, me, post.Take)
+	opened, err := Open(Options{Servers: url, Directory: name, Changed: func(up bool) { changed <- up }})
+	if err != nil {
+		t.Fatal(err)
+	}
+	carrier, err := opened.Carry(me, post.Take)
 	if err != nil {
 		t.Fatal(err)
 	}
@@ -129,7 +133,7 @@ func TestFrozenBroker(t *testing.T) {
 }
 
 func TestNobodyThere(t *testing.T) {
-	if _, err := Open(Options{Servers: "nats://127.0.0.1:1", Changed: func(bool) {}}, a, nil); err == nil || !strings.Contains(err.Error(), "can't be reached") {
+	if _, err := Open(Options{Servers: "nats://127.0.0.1:1", Changed: func(bool) {}}); err == nil || !strings.Contains(err.Error(), "can't be reached") {
 		t.Error(err)
 	}
 }

@@ -40,7 +40,8 @@ var (
 	errIdle = errors.New("nothing is to be carried")
 )
 
-type carrier struct {
+// Line is a TCP endpoint at which messages come in.
+type Line struct {
 	listener net.Listener
 	tls      *tls.Config // nil: without
 	ctx      context.Context
@@ -51,23 +52,30 @@ type carrier struct {
 	incoming map[net.Conn]bool
 }
 
-// Open listens at the silo's endpoint, and takes what comes. certificates has what both ends of each connection show and want; nil is for
-// networks that no stranger reaches.
-func Open(me directory.Silo, certificates *tls.Config, take transport.Receiver) (transport.Carrier, error) {
-	listener, err := net.Listen("tcp", me.Endpoint())
+// Open listens at an endpoint. certificates has what both ends of each connection show and want; nil is for networks that no stranger reaches.
+func Open(endpoint string, certificates *tls.Config) (*Line, error) {
+	listener, err := net.Listen("tcp", endpoint)
 	if err != nil {
 		return nil, fmt.Errorf("letters over TCP come in at the silo's own endpoint: %w", err)
 	}
 	ctx, stop := context.WithCancel(context.Background())
-	c := &carrier{listener: listener, tls: certificates, ctx: ctx, stop: stop, peers: map[directory.Silo]chan []byte{}, incoming: map[net.Conn]bool{}}
+	return &Line{listener: listener, tls: certificates, ctx: ctx, stop: stop, peers: map[directory.Silo]chan []byte{}, incoming: map[net.Conn]bool{}}, nil
+}
+
+// Carry takes what comes in.
+func (c *Line) Carry(_ directory.Silo, take transport.Receiver) (transport.Carrier, error) {
 	go c.accept(take)
 	return c, nil
 }
 
-func (c *carrier) Most() int { return longestMessage }
-func (c *carrier) Up() bool  { return true }
+// Most is the longest message that peers take.
+func (c *Line) Most() int { return longestMessage }
 
-func (c *carrier) Close() {
+// Up is always so: there is no broker to be lost.
+func (c *Line) Up() bool { return true }
+
+// Close ends all connections.
+func (c *Line) Close() {
 	c.stop()
 	c.listener.Close()
 	c.mu.Lock()
@@ -77,7 +85,7 @@ func (c *carrier) Close() {
 	}
 }
 
-func (c *carrier) accept(take transport.Receiver) {
+func (c *Line) accept(take transport.Receiver) {
 	for c.ctx.Err() == nil {
 		conn, err := c.listener.Accept()
 		if err != nil {
@@ -101,7 +109,7 @@ func (c *carrier) accept(take transport.Receiver) {
 }
 
 // note keeps an incoming connection, if there aren't too many.
-func (c *carrier) note(conn net.Conn) bool {
+func (c *Line) note(conn net.Conn) bool {
 	c.mu.Lock()
 	defer c.mu.Unlock()
 	if len(c.incoming) >= mostIncoming || c.ctx.Err() != nil {
@@ -111,7 +119,7 @@ func (c *carrier) note(conn net.Conn) bool {
 	return true
 }
 
-func (c *carrier) forget(conn net.Conn) {
+func (c *Line) forget(conn net.Conn) {
 	conn.Close()
 	c.mu.Lock()
 	defer c.mu.Unlock()
@@ -119,7 +127,7 @@ func (c *carrier) forget(conn net.Conn) {
 }
 
 // serve takes the messages of a connection that came in.
-func (c *carrier) serve(raw net.Conn, take transport.Receiver) error {
+func (c *Line) serve(raw net.Conn, take transport.Receiver) error {
 	conn := raw
 	if c.tls != nil {
 		secure := tls.Server(raw, c.tls)
@@ -149,7 +157,8 @@ func (c *carrier) serve(raw net.Conn, take transport.Receiver) error {
 	}
 }
 
-func (c *carrier) Publish(to directory.Silo, message []byte) error {
+// Publish implements transport.Carrier.
+func (c *Line) Publish(to directory.Silo, message []byte) error {
 	c.mu.Lock()
 	defer c.mu.Unlock()
 	if c.ctx.Err() != nil {
@@ -170,7 +179,7 @@ func (c *carrier) Publish(to directory.Silo, message []byte) error {
 }
 
 // reach carries to one generation of a silo, and connects anew whenever that broke, until nothing was to be carried for a while.
-func (c *carrier) reach(to directory.Silo, messages chan []byte) {
+func (c *Line) reach(to directory.Silo, messages chan []byte) {
 	for {
 		message, err := c.next(messages)
 		if err != nil {
@@ -195,7 +204,7 @@ func (c *carrier) reach(to directory.Silo, messages chan []byte) {
 }
 
 // next is the next message, or why there is none.
-func (c *carrier) next(messages chan []byte) ([]byte, error) {
+func (c *Line) next(messages chan []byte) ([]byte, error) {
 	timer := time.NewTimer(idle)
 	defer timer.Stop()
 	select {
@@ -209,7 +218,7 @@ func (c *carrier) next(messages chan []byte) ([]byte, error) {
 }
 
 // end takes a peer away, if nothing waits for it.
-func (c *carrier) end(to directory.Silo, messages chan []byte) bool {
+func (c *Line) end(to directory.Silo, messages chan []byte) bool {
 	c.mu.Lock()
 	defer c.mu.Unlock()
 	if len(messages) > 0 && c.ctx.Err() == nil {
@@ -221,7 +230,7 @@ func (c *carrier) end(to directory.Silo, messages chan []byte) bool {
 
 // dial connects. What isn't acknowledged for a while breaks the connection: else the kernel would try ever more rarely, and go on with that long
 // after a cut was healed.
-func (c *carrier) dial(to directory.Silo) (net.Conn, error) {
+func (c *Line) dial(to directory.Silo) (net.Conn, error) {
 	dialer := net.Dialer{Timeout: patience, Control: func(_, _ string, raw syscall.RawConn) error {
 		const userTimeout = 18 // TCP_USER_TIMEOUT of tcp(7), in milliseconds
 		return raw.Control(func(fd uintptr) {
@@ -246,7 +255,7 @@ func (c *carrier) dial(to directory.Silo) (net.Conn, error) {
 }
 
 // carry writes messages until a fault, or until there were none for a while.
-func (c *carrier) carry(conn net.Conn, message []byte, messages chan []byte) (err error) {
+func (c *Line) carry(conn net.Conn, message []byte, messages chan []byte) (err error) {
 	writer := bufio.NewWriterSize(conn, 64<<10)
 	for ; err == nil; message, err = c.next(messages) {
 		var size [4]byte

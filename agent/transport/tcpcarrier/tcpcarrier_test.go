@@ -25,10 +25,11 @@ func silo(t *testing.T, address string) directory.Silo {
 
 func open(t *testing.T, me directory.Silo, certificates *tls.Config) (transport.Carrier, chan string) {
 	came := make(chan string, 100)
-	c, err := Open(me, certificates, func(message []byte) { came <- string(message) })
+	line, err := Open(me.Endpoint(), certificates)
 	if err != nil {
 		t.Fatal(err)
 	}
+	c, _ := line.Carry(me, func(message []byte) { came <- string(message) })
 	t.Cleanup(c.Close)
 	return c, came
 }
@@ -77,10 +78,11 @@ func TestComesAgain(t *testing.T) {
 	from, _ := open(t, a, nil)
 	for i := 0; i < 3; i++ {
 		came := make(chan string, 100)
-		c, err := Open(b, nil, func(message []byte) { came <- string(message) })
+		c, err := Open(b.Endpoint(), nil)
 		if err != nil {
 			t.Fatal(err)
 		}
+		c.Carry(b, func(message []byte) { came <- string(message) })
 		if !comes(from, b, came, 5*time.Second) {
 			t.Fatal("nothing comes")
 		}

@@ -1,0 +1,138 @@
+// Package guard ends applications, and the silo's process, where the agent itself can't: it is frozen, or was killed. The guard is a process of its
+// own, of the same program, that the agent keeps telling its deadline. When that passes, it kills those that it watches.
+package guard
+
+import (
+	"bufio"
+	"fmt"
+	"io"
+	"log"
+	"os"
+	"os/exec"
+	"strconv"
+	"strings"
+	"sync"
+	"syscall"
+	"time"
+
+	"agent/applications"
+	"agent/clock"
+)
+
+// Word is the word of the command line by which the program is a guard.
+const Word = "guard"
+
+// Guard is a guard, as its agent has it.
+type Guard struct {
+	mu      sync.Mutex
+	in      io.WriteCloser
+	command *exec.Cmd
+	watched map[int]string
+}
+
+// Start starts a guard, of the program that runs.
+func Start() (*Guard, error) {
+	command := exec.Command("/proc/self/exe", Word)
+	command.Stderr = os.Stderr
+	command.SysProcAttr = &syscall.SysProcAttr{Setpgid: true}
+	in, err := command.StdinPipe()
+	if err != nil {
+		return nil, err
+	}
+	if err := command.Start(); err != nil {
+		return nil, fmt.Errorf("the guard of the applications: %w", err)
+	}
+	return &Guard{in: in, command: command, watched: map[int]string{}}, nil
+}
+
+// say tells the guard a line. Its pipe has room for thousands, and it reads at once.
+func (g *Guard) say(format string, words ...interface{}) {
+	g.mu.Lock()
+	defer g.mu.Unlock()
+	if g.in != nil {
+		fmt.Fprintf(g.in, format+"\n", words...)
+	}
+}
+
+// Watch has a process watched that began then.
+func (g *Guard) Watch(process int, began string) {
+	g.mu.Lock()
+	isKnown := g.watched[process] == began
+	g.watched[process] = began
+	g.mu.Unlock()
+	if !isKnown && began != "" {
+		g.say("watch %d %s", process, began)
+	}
+}
+
+// Until tells a later deadline.
+func (g *Guard) Until(until clock.Time) { g.say("until %d", until.Nanoseconds()) }
+
+// Done ends the guard: what it watched has ended.
+func (g *Guard) Done() {
+	g.say("done")
+	g.mu.Lock()
+	defer g.mu.Unlock()
+	if g.in != nil {
+		g.in.Close()
+		g.in = nil
+		g.command.Wait()
+	}
+}
+
+// Run is a guard: it reads lines, and kills by kill those that are watched when the deadline passes by the clock. It returns behind `done`, or
+// when all that is watched was killed.
+func Run(in io.Reader, now clock.Clock, kill func(process int, began string)) {
+	lines := make(chan string)
+	go func() {
+		defer close(lines)
+		for scanner := bufio.NewScanner(in); scanner.Scan(); {
+			lines <- scanner.Text()
+		}
+	}()
+	watched := map[int]string{}
+	until := clock.Time(1<<63 - 1)
+	ticks := time.NewTicker(10 * time.Millisecond)
+	defer ticks.Stop()
+	for {
+		select {
+		case line, isOpen := <-lines:
+			if line == "done" {
+				return
+			}
+			if !isOpen {
+				lines = nil // the agent has ended, and its deadline stays
+				continue
+			}
+			take(line, watched, &until)
+		case <-ticks.C:
+		}
+		if now() >= until {
+			for process, began := range watched {
+				kill(process, began)
+			}
+			return
+		}
+	}
+}
+
+func take(line string, watched map[int]string, until *clock.Time) {
+	words := strings.Fields(line)
+	switch {
+	case len(words) == 3 && words[0] == "watch":
+		if process, err := strconv.Atoi(words[1]); err == nil {
+			watched[process] = words[2]
+		}
+	case len(words) == 2 && words[0] == "until":
+		if at, err := strconv.ParseInt(words[1], 10, 64); err == nil {
+			*until = clock.Time(at)
+		}
+	}
+}
+
+// Main is the guard's program.
+func Main() {
+	log.SetFlags(0)
+	log.SetPrefix("guard: ")
+	Run(os.Stdin, clock.Boot, applications.KillProcess)
+}
