@@ -131,6 +131,9 @@ func (s *Service) Serve(listener *net.UnixListener) {
 			conn.Close()
 			continue
 		}
+		if s.options.Connected != nil && app.process > 1 {
+			s.options.Connected(app.process, app.began)
+		}
 		go func() {
 			app.out.Run(conn, nil)
 			conn.CloseWrite() // and it is still heard when the other hangs up
@@ -298,7 +301,7 @@ func (s *Service) Kill() {
 // KillProcess ends a process by signal 9, if it is still the one that began then.
 func KillProcess(process int, when string) {
 	if process > 1 && process != os.Getpid() && when != "" && Began(process) == when {
-		log.Printf("kills the application %d, which hasn't hung up", process)
+		log.Printf("warning: kills the process %d, which hasn't ended", process)
 		syscall.Kill(process, syscall.SIGKILL)
 	}
 }

@@ -49,6 +49,8 @@ type Options struct {
 	Another func(grain string) directory.Silo     // where `migrate GRAIN any` goes, "" for nowhere
 	Status  func() string                         // what `status` answers, but for what is held
 	Took    func(what string, took time.Duration) // told how long each question took that was granted
+
+	Connected func(process int, began string) // told each process that connects, and when it began
 }
 
 // Service has the activations of one silo, and the connections that they belong to.

@@ -59,6 +59,7 @@ func (g *Guard) Watch(process int, began string) {
 	g.mu.Lock()
 	isKnown := g.watched[process] == began
 	g.watched[process] = began
+	prune(g.watched)
 	g.mu.Unlock()
 	if !isKnown && began != "" {
 		g.say("watch %d %s", process, began)
@@ -116,12 +117,26 @@ func Run(in io.Reader, now clock.Clock, kill func(process int, began string)) {
 	}
 }
 
+// prune forgets processes that have ended, where there are many.
+func prune(watched map[int]string) {
+	const many = 1024
+	if len(watched) < many {
+		return
+	}
+	for process, began := range watched {
+		if applications.Began(process) != began {
+			delete(watched, process)
+		}
+	}
+}
+
 func take(line string, watched map[int]string, until *clock.Time) {
 	words := strings.Fields(line)
 	switch {
 	case len(words) == 3 && words[0] == "watch":
 		if process, err := strconv.Atoi(words[1]); err == nil {
 			watched[process] = words[2]
+			prune(watched)
 		}
 	case len(words) == 2 && words[0] == "until":
 		if at, err := strconv.ParseInt(words[1], 10, 64); err == nil {
@@ -133,6 +148,7 @@ func take(line string, watched map[int]string, until *clock.Time) {
 // Main is the guard's program.
 func Main() {
 	log.SetFlags(0)
+	log.SetOutput(os.Stderr) // a package of etcd's has its own
 	log.SetPrefix("guard: ")
 	Run(os.Stdin, clock.Boot, applications.KillProcess)
 }

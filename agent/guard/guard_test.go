@@ -3,10 +3,12 @@ package guard
 import (
 	"fmt"
 	"io"
+	"os"
 	"sync/atomic"
 	"testing"
 	"time"
 
+	"agent/applications"
 	"agent/clock"
 )
 
@@ -54,5 +56,18 @@ func TestRun(t *testing.T) {
 			atomic.StoreInt64(&at, 1000)
 			<-ended
 		}
+	}
+}
+
+// What has ended is forgotten once there is much of it.
+func TestPrune(t *testing.T) {
+	watched := map[int]string{}
+	var until clock.Time
+	for i := 1; i < 3000; i++ {
+		take(fmt.Sprintf("watch %d 1", 5000000+i), watched, &until)
+	}
+	take(fmt.Sprintf("watch %d %s", os.Getpid(), applications.Began(os.Getpid())), watched, &until)
+	if len(watched) > 1100 || watched[os.Getpid()] == "" {
+		t.Errorf("%d are watched", len(watched))
 	}
 }

@@ -122,7 +122,7 @@ func Join(ctx context.Context, options Options) (*Member, error) {
 func (m *Member) start(token string) error {
 	config := m.options.Config
 	m.service = applications.New(applications.Options{Silo: (*late)(m), May: m.fence.May, Until: m.fence.Until, Now: m.options.Now, Another: m.another,
-		Status: m.statusLine, Took: m.noteTook})
+		Status: m.statusLine, Took: m.noteTook, Connected: m.watch})
 	m.post = transport.New(m.me, m.fence.May, (*letters)(m))
 	m.fence.OnExtended(func(until clock.Time) {
 		m.service.Deadline(until)
@@ -145,8 +145,8 @@ func (m *Member) start(token string) error {
 	m.mu.Lock()
 	m.running = m.silo
 	m.mu.Unlock()
+	m.watch(m.silo.Process(), applications.Began(m.silo.Process()))
 	if m.options.Guard != nil {
-		m.options.Guard.Watch(m.silo.Process(), applications.Began(m.silo.Process()))
 		m.options.Guard.Until(m.fence.Until())
 	}
 	m.run(func() {
@@ -170,6 +170,13 @@ func (m *Member) run(what func()) {
 		defer m.work.Done()
 		what()
 	}()
+}
+
+// watch has the guard, if there is one, watch a process that works for activations.
+func (m *Member) watch(process int, began string) {
+	if m.options.Guard != nil {
+		m.options.Guard.Watch(process, began)
+	}
 }
 
 // process is the silo's process, nil before it is there.
@@ -264,7 +271,6 @@ func (m *Member) settle() {
 		if now := m.options.Now(); now.Sub(swept) > time.Second {
 			swept = now
 			m.service.Sweep()
-			m.watchApplications()
 		}
 		sleep(m.ctx, settling.Look(status))
 	}
@@ -314,14 +320,6 @@ func (m *Member) look(status silo.Status) {
 	}
 	if m.fence.May() && m.patience.Nudge(status, m.silo.Pending()) {
 		m.silo.Nudge(func() {})
-	}
-}
-
-func (m *Member) watchApplications() {
-	if m.options.Guard != nil {
-		for process, began := range m.service.Processes() {
-			m.options.Guard.Watch(process, began)
-		}
 	}
 }
 

@@ -10,6 +10,7 @@ import (
 
 	"go.etcd.io/etcd/clientv3"
 	"go.etcd.io/etcd/mvcc/mvccpb"
+	"go.uber.org/zap"
 	"google.golang.org/grpc"
 	"google.golang.org/grpc/backoff"
 
@@ -34,6 +35,7 @@ type Store struct {
 func Open(options Options) (*Store, error) {
 	client, err := clientv3.New(clientv3.Config{
 		Endpoints: options.Endpoints, TLS: options.TLS, Username: options.User, Password: options.Password,
+		LogConfig:   quiet(),
 		DialTimeout: 5 * time.Second, DialKeepAliveTime: 2 * time.Second, DialKeepAliveTimeout: time.Second,
 		// Else the client would wait for up to two minutes between its tries, and beats end though etcd is back.
 		DialOptions: []grpc.DialOption{grpc.WithConnectParams(grpc.ConnectParams{MinConnectTimeout: time.Second,
@@ -43,6 +45,13 @@ func Open(options Options) (*Store, error) {
 		return nil, err
 	}
 	return &Store{client, "/grain-directory/" + options.Directory + "/"}, nil
+}
+
+// quiet has the client log its errors alone: that a call failed is told by the call.
+func quiet() *zap.Config {
+	config := zap.NewProductionConfig()
+	config.Level = zap.NewAtomicLevelAt(zap.ErrorLevel)
+	return &config
 }
 
 // Read implements membership.Store.
