@@ -72,3 +72,40 @@ func Start(t testing.TB, program, endpoint string, words ...string) *os.Process 
 		}
 	}
 }
+
+// Postgres starts a PostgreSQL, and gives words by which it is reached. It never runs as root: there, as the user postgres.
+func Postgres(t testing.TB) string {
+	found, _ := filepath.Glob("/usr/lib/postgresql/*/bin")
+	if len(found) == 0 {
+		t.Skip("postgresql isn't installed")
+	}
+	bin := found[len(found)-1]
+	folder := t.TempDir()
+	port := Port(t)
+	as := func(program string, words ...string) (string, []string) { return filepath.Join(bin, program), words }
+	if os.Getuid() == 0 {
+		if err := exec.Command("chown", "-R", "postgres", folder).Run(); err != nil {
+			t.Skipf("there is no user postgres: %v", err)
+		}
+		for parent := folder; parent != "/tmp" && parent != "/"; parent = filepath.Dir(parent) {
+			os.Chmod(parent, 0o755)
+		}
+		as = func(program string, words ...string) (string, []string) {
+			return "setpriv", append([]string{"--reuid=postgres", "--regid=postgres", "--clear-groups", filepath.Join(bin, program)}, words...)
+		}
+	}
+	data := filepath.Join(folder, "data")
+	program, words := as("initdb", "-D", data, "-U", "agent", "-A", "trust", "--no-sync", "-E", "UTF8", "--locale=C")
+	if said, err := exec.Command(program, words...).CombinedOutput(); err != nil {
+		t.Fatalf("initdb: %v: %s", err, said)
+	}
+	program, words = as("postgres", "-D", data, "-p", strconv.Itoa(port), "-c", "listen_addresses=127.0.0.1", "-c", "unix_socket_directories="+folder, "-c", "fsync=off")
+	Start(t, program, fmt.Sprintf("127.0.0.1:%d", port), words...)
+	for until := time.Now().Add(20 * time.Second); exec.Command(filepath.Join(bin, "pg_isready"), "-q", "-h", "127.0.0.1", "-p", strconv.Itoa(port)).Run() != nil; {
+		if time.Now().After(until) {
+			t.Fatal("PostgreSQL isn't ready")
+		}
+		time.Sleep(50 * time.Millisecond)
+	}
+	return fmt.Sprintf("host=127.0.0.1 port=%d user=agent dbname=postgres sslmode=disable", port)
+}

@@ -15,6 +15,7 @@ import (
 	"agent/member"
 	"agent/membership"
 	"agent/membership/etcdstore"
+	"agent/membership/postgresstore"
 	"agent/operation"
 	"agent/transport"
 	"agent/transport/natscarrier"
@@ -54,7 +55,7 @@ func (a *agent) set(m *member.Member) {
 
 // run runs until the agent is told to leave, and answers the program's status.
 func (a *agent) run(ctx context.Context) int {
-	store, err := a.openStore()
+	store, err := a.openStore(ctx)
 	if err != nil {
 		log.Printf("error: the store: %v", err)
 		return cannot
@@ -202,7 +203,29 @@ func (a *agent) live(ctx context.Context, m *member.Member) (member.Outcome, boo
 	}
 }
 
-func (a *agent) openStore() (membership.Store, error) {
+// openStore opens the store: PostgreSQL where that is named, once it answers; else etcd.
+func (a *agent) openStore(ctx context.Context) (membership.Store, error) {
+	if a.config.Postgres == "" {
+		return a.openEtcd()
+	}
+	for told := false; ; told = true {
+		calling, done := context.WithTimeout(ctx, call)
+		store, err := postgresstore.Open(calling, a.config.Postgres, a.config.Cluster)
+		done()
+		if err == nil {
+			return store, nil
+		}
+		if !told {
+			log.Printf("warning: PostgreSQL can't be used, and is tried again: %v", err)
+			operation.Notify("STATUS=waits for the store")
+		}
+		if pause(ctx, retry); ctx.Err() != nil {
+			return nil, ctx.Err()
+		}
+	}
+}
+
+func (a *agent) openEtcd() (membership.Store, error) {
 	settings, err := a.config.EtcdTLS.TLS()
 	if err != nil {
 		return nil, err

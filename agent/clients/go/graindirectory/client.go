@@ -80,6 +80,15 @@ func (c *Client) Find(grain string) (string, error) {
 	return words[1], nil
 }
 
+// Status is what the agent's silo is and has: SILO version V seen V settled V members N held N.
+func (c *Client) Status() (string, error) {
+	words, err := c.ask("status")
+	if err != nil {
+		return "", err
+	}
+	return strings.Join(words[1:], " "), nil
+}
+
 // Close hangs up: all works have ended.
 func (c *Client) Close() error { return c.conn.Close() }
 
