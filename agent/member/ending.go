@@ -9,6 +9,7 @@ import (
 	"agent/directory"
 	"agent/fence"
 	"agent/peers"
+	"agent/planted"
 )
 
 // End ends the silo and all its activations, for a reason.
@@ -16,6 +17,9 @@ func (m *Member) End(reason string) Outcome {
 	m.fence.Give(reason) // from here on the silo is told nothing
 	reason = m.fence.Reason()
 	log.Printf("ends: %s", reason)
+	if planted.SlowEnd {
+		time.Sleep(m.options.Config.Settings.TTL)
+	}
 	m.listener.Close()
 	if m.service != nil {
 		m.service.Lost(reason)

