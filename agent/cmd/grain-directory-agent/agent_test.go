@@ -325,3 +325,54 @@ func TestStoreAway(t *testing.T) {
 	one.says("is ready", 2)
 	firm(t, one.dial(nil), "user/ann")
 }
+
+// While the broker is frozen nobody dies, and activations stay; when it goes on, so does all.
+func TestTransportAway(t *testing.T) {
+	if os.Getenv("SILO_PROGRAM") == "" {
+		t.Skip("SILO_PROGRAM names no silo's program")
+	}
+	port := servers.Port(t)
+	endpoint := fmt.Sprintf("127.0.0.1:%d", port)
+	broker := servers.Start(t, "nats-server", endpoint, "-a", "127.0.0.1", "-p", strconv.Itoa(port))
+	c := &cluster{T: t, folder: t.TempDir(), etcd: servers.Etcd(t), nats: "nats://" + endpoint, ports: map[int]int{}, https: map[int]int{}}
+	one, two := c.agent(1), c.agent(2)
+	one.says("is ready", 1)
+	two.says("is ready", 1)
+	a, b := one.dial(nil), two.dial(nil)
+	ann := firm(t, a, "user/ann")
+	broker.Signal(syscall.SIGSTOP)
+	time.Sleep(4 * time.Second)
+	if !ann.May() {
+		t.Error("an activation is lost with the broker")
+	}
+	one.says("NATS is lost", 1)
+	broker.Signal(syscall.SIGCONT)
+	until(t, "the other finds it", func() bool { at, err := b.Find("user/ann fresh"); return err == nil && at == ann.Activation })
+	for i := 0; i < 10; i++ {
+		firm(t, b, fmt.Sprintf("user/%d", i))
+	}
+	if status, _ := one.get("/metrics"); status != 200 || !ann.May() {
+		t.Error("it is lost")
+	}
+}
+
+// PostgreSQL in place of etcd.
+func TestPostgres(t *testing.T) {
+	if os.Getenv("SILO_PROGRAM") == "" {
+		t.Skip("SILO_PROGRAM names no silo's program")
+	}
+	c := &cluster{T: t, folder: t.TempDir(), nats: servers.NATS(t), ports: map[int]int{}, https: map[int]int{}}
+	postgres := "--postgres=" + servers.Postgres(t)
+	one, two := c.agent(1, postgres), c.agent(2, postgres)
+	one.says("is ready", 1)
+	two.says("is ready", 1)
+	b := two.dial(nil)
+	ann := firm(t, b, "user/ann")
+	two.command.Process.Kill()
+	<-b.Lost
+	ann.Deactivate()
+	if again := firm(t, one.dial(nil), "user/ann"); again.Token <= ann.Token {
+		t.Errorf("the token behind a death is %d, and was %d", again.Token, ann.Token)
+	}
+	c.agent(2, postgres).says("is ready", 1)
+}
