@@ -124,15 +124,15 @@ func (s *Service) Serve(listener *net.UnixListener) {
 		isIn := s.over == "" && len(s.apps) < mostApplications
 		if isIn {
 			s.apps[app] = true
+			if s.options.Connected != nil {
+				s.options.Connected(app.process, app.began)
+			}
 			app.tell("event valid %d", s.options.Until().Nanoseconds())
 		}
 		s.mu.Unlock()
 		if !isIn {
 			conn.Close()
 			continue
-		}
-		if s.options.Connected != nil && app.process > 1 {
-			s.options.Connected(app.process, app.began)
 		}
 		go func() {
 			app.out.Run(conn, nil)

@@ -50,7 +50,8 @@ type Options struct {
 	Status  func() string                         // what `status` answers, but for what is held
 	Took    func(what string, took time.Duration) // told how long each question took that was granted
 
-	Connected func(process int, began string) // told each process that connects, and when it began
+	Connected    func(process int, began string) // told each process that connects, and when it began
+	Disconnected func(process int)               // told each process that has hung up, with all its connections
 }
 
 // Service has the activations of one silo, and the connections that they belong to.
@@ -356,6 +357,7 @@ func (s *Service) hungUp(app *application) {
 	s.mu.Lock()
 	defer s.mu.Unlock()
 	delete(s.apps, app)
+	s.disconnected(app.process)
 	for _, g := range s.grains {
 		if g.owner == app {
 			g.owner = nil
@@ -363,6 +365,17 @@ func (s *Service) hungUp(app *application) {
 				s.close(ask{}, g.name, "")
 			}
 		}
+	}
+}
+
+func (s *Service) disconnected(process int) {
+	for app := range s.apps {
+		if app.process == process {
+			return
+		}
+	}
+	if s.options.Disconnected != nil {
+		s.options.Disconnected(process)
 	}
 }
 

@@ -59,10 +59,20 @@ func (g *Guard) Watch(process int, began string) {
 	g.mu.Lock()
 	isKnown := g.watched[process] == began
 	g.watched[process] = began
-	prune(g.watched)
 	g.mu.Unlock()
-	if !isKnown && began != "" {
+	if !isKnown && began != "" && process > 1 {
 		g.say("watch %d %s", process, began)
+	}
+}
+
+// Forget has a process not watched any more: it has ended its work.
+func (g *Guard) Forget(process int) {
+	g.mu.Lock()
+	_, isKnown := g.watched[process]
+	delete(g.watched, process)
+	g.mu.Unlock()
+	if isKnown {
+		g.say("forget %d", process)
 	}
 }
 
@@ -117,26 +127,16 @@ func Run(in io.Reader, now clock.Clock, kill func(process int, began string)) {
 	}
 }
 
-// prune forgets processes that have ended, where there are many.
-func prune(watched map[int]string) {
-	const many = 1024
-	if len(watched) < many {
-		return
-	}
-	for process, began := range watched {
-		if applications.Began(process) != began {
-			delete(watched, process)
-		}
-	}
-}
-
 func take(line string, watched map[int]string, until *clock.Time) {
 	words := strings.Fields(line)
 	switch {
 	case len(words) == 3 && words[0] == "watch":
 		if process, err := strconv.Atoi(words[1]); err == nil {
 			watched[process] = words[2]
-			prune(watched)
+		}
+	case len(words) == 2 && words[0] == "forget":
+		if process, err := strconv.Atoi(words[1]); err == nil {
+			delete(watched, process)
 		}
 	case len(words) == 2 && words[0] == "until":
 		if at, err := strconv.ParseInt(words[1], 10, 64); err == nil {

@@ -3,12 +3,10 @@ package guard
 import (
 	"fmt"
 	"io"
-	"os"
 	"sync/atomic"
 	"testing"
 	"time"
 
-	"agent/applications"
 	"agent/clock"
 )
 
@@ -24,6 +22,7 @@ func TestRun(t *testing.T) {
 		{"at the deadline", []string{"watch 7 100", "watch 7 101", "until 50", "until 90"}, false, 90, "map[7:101]"},
 		{"the agent is killed", []string{"watch 7 100", "until 90"}, true, 90, "map[7:100]"},
 		{"the agent is killed, and its deadline to come", []string{"watch 7 100", "until 90"}, true, 89, ""},
+		{"one has hung up", []string{"watch 7 100", "watch 8 100", "until 90", "forget 7", "forget 9"}, false, 90, "map[8:100]"},
 		{"done", []string{"watch 7 100", "until 50", "done"}, true, 40, ""},
 		{"nonsense", []string{"watch", "watch x 1", "until x", "", "until 90"}, false, 90, "map[]"},
 	} {
@@ -56,18 +55,5 @@ func TestRun(t *testing.T) {
 			atomic.StoreInt64(&at, 1000)
 			<-ended
 		}
-	}
-}
-
-// What has ended is forgotten once there is much of it.
-func TestPrune(t *testing.T) {
-	watched := map[int]string{}
-	var until clock.Time
-	for i := 1; i < 3000; i++ {
-		take(fmt.Sprintf("watch %d 1", 5000000+i), watched, &until)
-	}
-	take(fmt.Sprintf("watch %d %s", os.Getpid(), applications.Began(os.Getpid())), watched, &until)
-	if len(watched) > 1100 || watched[os.Getpid()] == "" {
-		t.Errorf("%d are watched", len(watched))
 	}
 }

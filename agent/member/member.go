@@ -44,6 +44,7 @@ type Options struct {
 // Guard ends what this agent can't end itself, where it is frozen.
 type Guard interface {
 	Watch(process int, began string)
+	Forget(process int)
 	Until(until clock.Time)
 	Done()
 }
@@ -122,13 +123,11 @@ func Join(ctx context.Context, options Options) (*Member, error) {
 func (m *Member) start(token string) error {
 	config := m.options.Config
 	m.service = applications.New(applications.Options{Silo: (*late)(m), May: m.fence.May, Until: m.fence.Until, Now: m.options.Now, Another: m.another,
-		Status: m.statusLine, Took: m.noteTook, Connected: m.watch})
+		Status: m.statusLine, Took: m.noteTook, Connected: m.watch, Disconnected: m.forget})
 	m.post = transport.New(m.me, m.fence.May, (*letters)(m))
 	m.fence.OnExtended(func(until clock.Time) {
 		m.service.Deadline(until)
-		if m.options.Guard != nil {
-			m.options.Guard.Until(until)
-		}
+		m.guardUntil(until)
 	})
 	m.run(func() {
 		m.fence.Keep(m.ctx, func(ctx context.Context) (bool, error) { return m.options.Sequence.Beat(ctx, m.me) })
@@ -146,9 +145,7 @@ func (m *Member) start(token string) error {
 	m.running = m.silo
 	m.mu.Unlock()
 	m.watch(m.silo.Process(), applications.Began(m.silo.Process()))
-	if m.options.Guard != nil {
-		m.options.Guard.Until(m.fence.Until())
-	}
+	m.guardUntil(m.fence.Until())
 	m.run(func() {
 		select {
 		case <-m.silo.Ended():
@@ -175,6 +172,19 @@ func (m *Member) run(what func()) {
 func (m *Member) watch(process int, began string) {
 	if m.options.Guard != nil {
 		m.options.Guard.Watch(process, began)
+	}
+}
+
+func (m *Member) forget(process int) {
+	if m.options.Guard != nil {
+		m.options.Guard.Forget(process)
+	}
+}
+
+// guardUntil tells the guard a later deadline: half of the margin behind that of applications, so that they may end by themselves.
+func (m *Member) guardUntil(until clock.Time) {
+	if m.options.Guard != nil {
+		m.options.Guard.Until(until.Add(fence.Margin(m.options.Config.Settings.TTL) / 2))
 	}
 }
 

@@ -21,6 +21,7 @@ import (
 	"sync"
 	"sync/atomic"
 	"syscall"
+	"time"
 
 	"agent/clock"
 	"agent/directory"
@@ -157,6 +158,33 @@ func Start(options Options, listener Listener) (*Silo, error) {
 	s.command = command
 	return s, nil
 }
+
+// Check says what is wrong with a program as a silo's, or nil: each join that comes to nothing uses up a generation.
+func Check(program string, silo directory.Silo, settings directory.Settings) error {
+	const patience = 20 * time.Second
+	s, err := Start(Options{Program: program, Silo: silo, Settings: settings}, deaf{})
+	if err != nil {
+		return err
+	}
+	defer s.Kill()
+	answered := make(chan struct{})
+	s.Ping(func() { close(answered) })
+	select {
+	case <-answered:
+		return nil
+	case <-s.Ended():
+	case <-time.After(patience):
+	}
+	return fmt.Errorf("%s isn't a silo's process: `%s silo %s` doesn't answer; --program is the path of grain-directory, built by ./build", program, program, silo)
+}
+
+// deaf hears nothing.
+type deaf struct{}
+
+func (deaf) Letter(directory.Silo, string, []byte) {}
+func (deaf) Quiet()                                {}
+func (deaf) Said(Said)                             {}
+func (deaf) Broken(string)                         {}
 
 // over speaks the lines of a process over its pipes.
 func over(options Options, listener Listener, in io.WriteCloser, out io.Reader) *Silo {

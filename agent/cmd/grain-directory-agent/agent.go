@@ -17,6 +17,7 @@ import (
 	"agent/membership/etcdstore"
 	"agent/membership/postgresstore"
 	"agent/operation"
+	"agent/silo"
 	"agent/transport"
 	"agent/transport/natscarrier"
 	"agent/transport/tcpcarrier"
@@ -55,6 +56,10 @@ func (a *agent) set(m *member.Member) {
 
 // run runs until the agent is told to leave, and answers the program's status.
 func (a *agent) run(ctx context.Context) int {
+	if err := silo.Check(a.config.Program, directory.At(a.config.Endpoint, 1), a.config.Settings); err != nil {
+		log.Printf("error: %v", err)
+		return cannot
+	}
 	store, err := a.openStore(ctx)
 	if err != nil {
 		log.Printf("error: the store: %v", err)

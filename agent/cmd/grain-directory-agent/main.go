@@ -42,6 +42,10 @@ func main() {
 
 	ctx, stop := signal.NotifyContext(context.Background(), syscall.SIGTERM, syscall.SIGINT)
 	signal.Ignore(syscall.SIGPIPE)
+	go func() {
+		<-ctx.Done()
+		stop() // a second signal ends it at once
+	}()
 	a := &agent{config: config, logger: logger}
 	status := a.run(ctx)
 	stop()
