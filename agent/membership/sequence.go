@@ -40,6 +40,7 @@ type Sequence struct {
 	fault    error
 	caughtUp bool
 	moved    chan struct{} // closed, and made anew, when something was read
+	reread   func()        // ends the watch that there is
 }
 
 // New follows a directory in a store, once Follow runs.
@@ -93,7 +94,28 @@ func (s *Sequence) readAndWatch(ctx context.Context) error {
 		return err
 	}
 	s.takeAll(entries)
-	return s.store.Watch(ctx, revision, s.take)
+	watching, stop := context.WithCancel(ctx)
+	defer stop()
+	s.mu.Lock()
+	s.reread = stop
+	s.mu.Unlock()
+	return s.store.Watch(watching, revision, s.take)
+}
+
+// Reread has all read again, where the watch tells nothing: as where a silo's own beats, which the store confirmed, don't come by it.
+func (s *Sequence) Reread() {
+	s.mu.Lock()
+	defer s.mu.Unlock()
+	if s.reread != nil {
+		s.reread()
+	}
+}
+
+// BeatSeen is when this agent last saw a silo's beat change, by its own clock.
+func (s *Sequence) BeatSeen(silo directory.Silo) clock.Time {
+	s.mu.Lock()
+	defer s.mu.Unlock()
+	return s.beats[silo].since
 }
 
 // takeAll takes all entries: what isn't among them is gone.

@@ -286,3 +286,38 @@ func TestAgree(t *testing.T) {
 		t.Error(err)
 	}
 }
+
+// A watch that tells nothing is ended, and all is read again.
+func TestReread(t *testing.T) {
+	store := &deaf{Store: memorystore.New()}
+	h := &hands{at: 1}
+	s := follow(t, store, h)
+	a := join(t, s, 1001)
+	other := join(t, follow(t, store.Store, h), 1002)
+	atomic.StoreInt32(&store.isDeaf, 1)
+	before := s.BeatSeen(a)
+	h.advance(time.Second)
+	if isThere, err := s.Beat(context.Background(), a); !isThere || err != nil {
+		t.Fatal(err)
+	}
+	time.Sleep(20 * time.Millisecond)
+	if s.BeatSeen(a) != before {
+		t.Fatal("the watch tells something")
+	}
+	s.Reread()
+	until(t, "all is read", func() bool { return s.BeatSeen(a) > before && s.Status(other) == directory.IsActive })
+}
+
+// deaf is a store whose watches tell nothing once it is deaf.
+type deaf struct {
+	*memorystore.Store
+	isDeaf int32
+}
+
+func (d *deaf) Watch(ctx context.Context, after Revision, tell func([]Event)) error {
+	return d.Store.Watch(ctx, after, func(events []Event) {
+		if atomic.LoadInt32(&d.isDeaf) == 0 {
+			tell(events)
+		}
+	})
+}

@@ -12,3 +12,6 @@ const (
 	NoTransaction = false
 	MixedParts    = false
 )
+
+// Rate is how fast this machine's clock runs.
+const Rate = 1.0

@@ -2,7 +2,10 @@
 
 package planted
 
-import "os"
+import (
+	"os"
+	"strconv"
+)
 
 var planted = os.Getenv("GRAIN_DIRECTORY_PLANTED")
 
@@ -13,3 +16,13 @@ var (
 	NoTransaction = planted == "no-transaction"
 	MixedParts    = planted == "mixed-parts"
 )
+
+// Rate is how fast this machine's clock runs, by GRAIN_DIRECTORY_CLOCK_RATE.
+var Rate = rate()
+
+func rate() float64 {
+	if rate, err := strconv.ParseFloat(os.Getenv("GRAIN_DIRECTORY_CLOCK_RATE"), 64); err == nil && rate > 0 {
+		return rate
+	}
+	return 1
+}

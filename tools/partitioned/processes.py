@@ -12,8 +12,9 @@ TTL = 3
 
 
 class Processes:
-    def __init__(self, network, folder, programs, count, transport, words, planted):
+    def __init__(self, network, folder, programs, count, transport, words, planted, rates=("1",)):
         self.network, self.folder, self.programs, self.words, self.transport = network, Path(folder), programs, words, transport
+        self.rates = rates
         self.agents = tuple(f"a{n}" for n in range(1, count + 1))
         self.running, self.starts, self.statuses = {}, {}, []
         self.environment = dict(os.environ, GOMAXPROCS="2", GRAIN_DIRECTORY_PLANTED=planted)
@@ -25,8 +26,9 @@ class Processes:
         if name in self.running:
             return
         command = {"e": self.etcd, "n": self.broker, "a": self.agent}[name[0]](name)
+        environment = dict(self.environment, GRAIN_DIRECTORY_CLOCK_RATE=self.rates[int(name[1:]) % len(self.rates)])
         with open(self.folder / f"{name}.log", "ab") as log:
-            self.running[name] = Popen([*self.network.inside(name), *command], stdout=log, stderr=STDOUT, env=self.environment, start_new_session=True)
+            self.running[name] = Popen([*self.network.inside(name), *command], stdout=log, stderr=STDOUT, env=environment, start_new_session=True)
         self.starts[name] = self.starts.get(name, 0) + 1
 
     def etcd(self, name):
