@@ -26,7 +26,7 @@ const Word = "guard"
 type Guard struct {
 	mu      sync.Mutex
 	in      io.WriteCloser
-	command *exec.Cmd
+	ended   chan struct{}
 	watched map[int]string
 }
 
@@ -42,8 +42,16 @@ func Start() (*Guard, error) {
 	if err := command.Start(); err != nil {
 		return nil, fmt.Errorf("the guard of the applications: %w", err)
 	}
-	return &Guard{in: in, command: command, watched: map[int]string{}}, nil
+	g := &Guard{in: in, ended: make(chan struct{}), watched: map[int]string{}}
+	go func() {
+		command.Wait()
+		close(g.ended)
+	}()
+	return g, nil
 }
+
+// Ended is closed when the guard has ended.
+func (g *Guard) Ended() <-chan struct{} { return g.ended }
 
 // say tells the guard a line. Its pipe has room for thousands, and it reads at once.
 func (g *Guard) say(format string, words ...interface{}) {
@@ -87,7 +95,7 @@ func (g *Guard) Done() {
 	if g.in != nil {
 		g.in.Close()
 		g.in = nil
-		g.command.Wait()
+		<-g.ended
 	}
 }
 

@@ -46,6 +46,7 @@ type Guard interface {
 	Watch(process int, began string)
 	Forget(process int)
 	Until(until clock.Time)
+	Ended() <-chan struct{}
 	Done()
 }
 
@@ -146,18 +147,27 @@ func (m *Member) start(token string) error {
 	m.mu.Unlock()
 	m.watch(m.silo.Process(), applications.Began(m.silo.Process()))
 	m.guardUntil(m.fence.Until())
-	m.run(func() {
-		select {
-		case <-m.silo.Ended():
-			m.fence.Give("the silo's process has ended")
-		case <-m.ctx.Done():
-		}
-	})
+	m.run(m.watchProcesses)
 	m.run(m.feed)
 	m.run(m.settle)
 	m.run(m.report)
 	m.run(m.bury)
 	return nil
+}
+
+// watchProcesses gives the silo up when its process ends, or its guard.
+func (m *Member) watchProcesses() {
+	var guard <-chan struct{}
+	if m.options.Guard != nil {
+		guard = m.options.Guard.Ended()
+	}
+	select {
+	case <-m.silo.Ended():
+		m.fence.Give("the silo's process has ended")
+	case <-guard:
+		m.fence.Give("the guard of the applications has ended")
+	case <-m.ctx.Done():
+	}
 }
 
 func (m *Member) run(what func()) {

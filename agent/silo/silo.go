@@ -225,7 +225,7 @@ func (s *Silo) Counts() Counts {
 // Kill ends the process by signal 9, and returns when it has surely ended.
 func (s *Silo) Kill() {
 	s.in.Close()
-	s.command.Process.Kill()
+	syscall.Kill(-s.command.Process.Pid, syscall.SIGKILL) // its group: a script in front of the program ends with it
 	<-s.ended
 	s.command.Wait()
 }

@@ -83,9 +83,12 @@ func (c *cluster) agent(number int, words ...string) *process {
 	c.Cleanup(func() {
 		p.command.Process.Kill()
 		p.command.Wait()
+		p.mu.Lock()
+		defer p.mu.Unlock()
+		if strings.Contains(strings.Join(p.log, "\n"), "DATA RACE") {
+			c.Error("the race detector found something")
+		}
 		if c.Failed() {
-			p.mu.Lock()
-			defer p.mu.Unlock()
 			c.Logf("agent %d:\n%s", number, strings.Join(p.log, "\n"))
 		}
 	})
