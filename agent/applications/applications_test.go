@@ -376,7 +376,7 @@ func TestWhoDoesntRead(t *testing.T) {
 	}
 	x.service.mu.Lock()
 	for app := range x.service.apps {
-		if app.out.Size() > mostNews+mostUnanswered*64 {
+		if app.out.Size() > mostOut/2+longestLine {
 			t.Errorf("%d bytes wait", app.out.Size())
 		}
 	}
@@ -410,6 +410,53 @@ func TestProcesses(t *testing.T) {
 	KillProcess(command.Process.Pid, when)
 	if err := command.Wait(); err == nil {
 		t.Error("it goes on")
+	}
+}
+
+// What an application has is told apart from what others have, and from what nobody has, through all of it.
+func TestWhose(t *testing.T) {
+	x := start(t)
+	a, b := x.dial(), x.dial()
+	for i := 0; i < 5; i++ {
+		x.firm(a, fmt.Sprintf("a/%d", i), "S!1", 1)
+		x.firm(b, fmt.Sprintf("b/%d", i), "S!1", 1)
+	}
+	b.says("1 deactivate b/0")
+	x.silo.answers(t, "close b/0", silo.Answer{Activation: "S!1"})
+	x.service.Said(silo.Said{What: silo.Ended, Grain: "b/0"})
+	b.hears("1 ended b/0")
+	a.conn.Close()
+	closed := map[string]bool{}
+	for i := 0; i < 5; i++ {
+		until := time.Now().Add(5 * time.Second)
+		for line := ""; line == ""; time.Sleep(time.Millisecond) {
+			x.silo.mu.Lock()
+			if len(x.silo.lines) > 0 {
+				line, x.silo.lines, x.silo.waits = x.silo.lines[0], x.silo.lines[1:], x.silo.waits[1:]
+				closed[line] = true
+			}
+			x.silo.mu.Unlock()
+			if time.Now().After(until) {
+				t.Fatalf("closed are %v", closed)
+			}
+		}
+	}
+	for i := 0; i < 5; i++ {
+		if !closed[fmt.Sprintf("close a/%d", i)] {
+			t.Errorf("closed are %v", closed)
+		}
+		x.service.Said(silo.Said{What: silo.Ended, Grain: fmt.Sprintf("a/%d", i)})
+	}
+	x.held(4)
+	x.service.mu.Lock()
+	defer x.service.mu.Unlock()
+	if len(x.service.whose) != 1 {
+		t.Errorf("%d have something", len(x.service.whose))
+	}
+	for _, grains := range x.service.whose {
+		if len(grains) != 4 {
+			t.Errorf("%d are held", len(grains))
+		}
 	}
 }
 

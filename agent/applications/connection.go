@@ -78,7 +78,7 @@ func (k ask) refuse(code string) {
 
 // say adds a line that has to come: answers, whose number is bounded, and what ends work.
 func (p *application) say(format string, words ...interface{}) {
-	if !p.out.Add([]byte(fmt.Sprintf(format, words...)), mostOut) {
+	if !p.out.Add([]byte(fmt.Sprintf(format, words...)), mostOut) && p.out.Size() > mostOut/2 { // else it is closed
 		log.Printf("warning: the application %d doesn't read, and a line to it is lost", p.process)
 	}
 }

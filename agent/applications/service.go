@@ -62,6 +62,7 @@ type Service struct {
 	over    string // why all is lost
 	leaving bool
 	grains  map[string]*grain
+	whose   map[*application]map[*grain]bool // what each application has; under nil, what nobody has
 	finds   map[string]*search
 	apps    map[*application]bool
 	counts  map[string]int64
@@ -95,7 +96,7 @@ type search struct {
 
 // New makes a service; connections come by Serve.
 func New(options Options) *Service {
-	return &Service{options: options, grains: map[string]*grain{}, finds: map[string]*search{}, apps: map[*application]bool{},
+	return &Service{options: options, grains: map[string]*grain{}, whose: map[*application]map[*grain]bool{}, finds: map[string]*search{}, apps: map[*application]bool{},
 		counts: map[string]int64{}}
 }
 
@@ -141,8 +142,9 @@ func (s *Service) activate(k ask, name string) {
 	case s.leaving:
 		k.refuse("leaving")
 	case g == nil:
-		g = &grain{name: name, phase: asking, since: s.options.Now(), owner: k.app, asked: []ask{k}}
+		g = &grain{name: name, phase: asking, since: s.options.Now(), asked: []ask{k}}
 		s.grains[name] = g
+		s.give(g, k.app)
 		if err := s.options.Silo.Wake(name, func(answer silo.Answer) { s.woken(g, answer) }); err != nil {
 			s.refused(g, "busy")
 		}
@@ -157,6 +159,28 @@ func (s *Service) activate(k ask, name string) {
 	}
 }
 
+// give makes an activation an application's, or nobody's.
+func (s *Service) give(g *grain, owner *application) {
+	s.take(g)
+	g.owner = owner
+	if s.whose[owner] == nil {
+		s.whose[owner] = map[*grain]bool{}
+	}
+	s.whose[owner][g] = true
+}
+
+func (s *Service) take(g *grain) {
+	if delete(s.whose[g.owner], g); len(s.whose[g.owner]) == 0 {
+		delete(s.whose, g.owner)
+	}
+}
+
+// drop forgets an activation that the silo holds no more.
+func (s *Service) drop(g *grain) {
+	s.take(g)
+	delete(s.grains, g.name)
+}
+
 // woken takes the answer to `wake`.
 func (s *Service) woken(g *grain, answer silo.Answer) {
 	s.mu.Lock()
@@ -169,7 +193,7 @@ func (s *Service) woken(g *grain, answer silo.Answer) {
 }
 
 func (s *Service) refused(g *grain, code string) {
-	delete(s.grains, g.name)
+	s.drop(g)
 	for _, k := range g.asked {
 		k.refuse(code)
 	}
@@ -277,7 +301,7 @@ func (s *Service) Said(said silo.Said) {
 		}
 	case silo.Taken:
 		if g != nil {
-			delete(s.grains, g.name)
+			s.drop(g)
 			for _, k := range g.asked {
 				k.answer("taken %s %s", said.Activation, g.name)
 			}
@@ -287,7 +311,9 @@ func (s *Service) Said(said silo.Said) {
 			s.ended(g)
 		}
 	case silo.Started: // by an offer
-		s.grains[said.Grain] = &grain{name: said.Grain, activation: said.Activation, phase: asking, since: s.options.Now()}
+		moved := &grain{name: said.Grain, activation: said.Activation, phase: asking, since: s.options.Now()}
+		s.grains[said.Grain] = moved
+		s.give(moved, nil)
 	case silo.Found:
 		s.found(said.Grain, "at %s %s", said.Activation, said.Grain)
 	case silo.Nothing:
@@ -304,7 +330,7 @@ func (s *Service) becameFirm(g *grain, said silo.Said) {
 		return // the silo may be dead by now: nobody is told
 	}
 	if len(g.asked) == 0 { // it moved here
-		g.owner = s.server(g.name)
+		s.give(g, s.server(g.name))
 		if g.owner != nil {
 			g.owner.say("event firm %s %s token %d", g.activation, g.name, g.token)
 		}
@@ -312,7 +338,7 @@ func (s *Service) becameFirm(g *grain, said silo.Said) {
 	for _, k := range g.asked {
 		switch {
 		case g.owner == nil && s.apps[k.app]:
-			g.owner = k.app
+			s.give(g, k.app)
 			fallthrough
 		case g.owner == k.app && s.apps[k.app]:
 			k.answer("firm %s %s token %d", g.activation, g.name, g.token)
@@ -322,7 +348,7 @@ func (s *Service) becameFirm(g *grain, said silo.Said) {
 	}
 	g.asked = nil
 	if g.owner == nil || !s.apps[g.owner] {
-		g.owner = nil
+		s.give(g, nil)
 		s.close(ask{}, g.name, "") // nobody is there for it
 	}
 }
@@ -340,7 +366,7 @@ func (s *Service) server(name string) *application {
 }
 
 func (s *Service) ended(g *grain) {
-	delete(s.grains, g.name)
+	s.drop(g)
 	s.took("deactivate", g.since)
 	for _, k := range g.ending {
 		k.answer("ended %s", g.name)
@@ -358,12 +384,10 @@ func (s *Service) hungUp(app *application) {
 	defer s.mu.Unlock()
 	delete(s.apps, app)
 	s.disconnected(app.process)
-	for _, g := range s.grains {
-		if g.owner == app {
-			g.owner = nil
-			if g.phase == firm && s.over == "" {
-				s.close(ask{}, g.name, "")
-			}
+	for g := range s.whose[app] {
+		s.give(g, nil)
+		if g.phase == firm && s.over == "" {
+			s.close(ask{}, g.name, "")
 		}
 	}
 }
@@ -383,8 +407,8 @@ func (s *Service) disconnected(process int) {
 func (s *Service) Sweep() {
 	s.mu.Lock()
 	defer s.mu.Unlock()
-	for _, g := range s.grains {
-		if g.phase == firm && g.owner == nil && s.over == "" && s.options.May() {
+	for g := range s.whose[nil] {
+		if g.phase == firm && s.over == "" && s.options.May() {
 			s.close(ask{}, g.name, "")
 		}
 	}

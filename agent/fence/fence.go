@@ -122,10 +122,10 @@ func (f *Fence) Reason() string {
 // Keep beats until ctx ends, and gives the silo up at its deadline, or once its beat is gone. beat says whether it was still there.
 func (f *Fence) Keep(ctx context.Context, beat func(context.Context) (bool, error)) {
 	go f.watch(ctx)
-	interval := f.ttl / 10
 	for ctx.Err() == nil {
+		wait := f.ttl / 10
 		sent := f.now()
-		calling, done := context.WithTimeout(ctx, f.ttl/4)
+		calling, done := context.WithTimeout(ctx, f.ttl/6) // so that others of the store's servers are tried before the deadline
 		isThere, err := beat(calling)
 		done()
 		switch {
@@ -133,6 +133,7 @@ func (f *Fence) Keep(ctx context.Context, beat func(context.Context) (bool, erro
 			return
 		case err != nil:
 			log.Printf("warning: the beat isn't confirmed, %v are left: %v", f.Until().Sub(f.now()).Round(time.Millisecond), err)
+			wait /= 10
 		case !isThere && planted.NoFence:
 		case !isThere:
 			f.Give("this silo's beat is gone from the store: it was declared dead, replaced or voted out")
@@ -141,7 +142,7 @@ func (f *Fence) Keep(ctx context.Context, beat func(context.Context) (bool, erro
 			f.Give("a beat was confirmed behind the deadline")
 			return
 		}
-		sleep(ctx, interval)
+		sleep(ctx, wait)
 	}
 }
 

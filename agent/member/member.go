@@ -163,7 +163,9 @@ func (m *Member) watchProcesses() {
 	}
 	select {
 	case <-m.silo.Ended():
-		m.fence.Give("the silo's process has ended")
+		if m.fence.May() { // else the deadline ended it, by the end of its input
+			m.fence.Give("the silo's process has ended")
+		}
 	case <-guard:
 		m.fence.Give("the guard of the applications has ended")
 	case <-m.ctx.Done():

@@ -79,6 +79,7 @@ func (s *Sequence) Join(ctx context.Context, options JoinOptions) (directory.Sil
 		case attempt.err != nil:
 			return "", attempt.err
 		case attempt.isMine && tried: // decided, though the store's answer was lost
+			s.refresh(ctx, attempt.change.Silo, &sent)
 			options.Sent(sent)
 			return attempt.change.Silo, nil
 		case attempt.waits != "" && options.Waits != nil:
@@ -102,6 +103,17 @@ func (s *Sequence) Join(ctx context.Context, options JoinOptions) (directory.Sil
 		s.wait(ctx, moved, s.timing.Retry)
 	}
 	return "", ctx.Err()
+}
+
+// refresh beats for a silo that joined some time ago, so that its deadline isn't that of its first try: by a beat that is confirmed the silo
+// wasn't dead when that came.
+func (s *Sequence) refresh(ctx context.Context, silo directory.Silo, sent *clock.Time) {
+	calling, done := s.call(ctx)
+	defer done()
+	now := s.now()
+	if isThere, err := s.Beat(calling, silo); err == nil && isThere {
+		*sent = now
+	}
 }
 
 // attempt is what a join would be now.

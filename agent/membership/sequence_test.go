@@ -200,30 +200,35 @@ func TestNextGeneration(t *testing.T) {
 	}
 }
 
-// A join whose answer was lost is known again, with the time at which it was first sent.
+// A join whose answer was lost is known again, with the time of a beat that was confirmed later; without one, with that at which it was first sent.
 func TestLostAnswer(t *testing.T) {
-	store := lossy{memorystore.New(), new(int32)}
-	h := &hands{at: 5}
-	s := follow(t, store, h)
-	var sent clock.Time
-	silo, err := s.Join(context.Background(), JoinOptions{Endpoint: "10.0.0.1:1001", Token: "t", Sent: func(at clock.Time) { sent = at; h.advance(time.Second) }})
-	if err != nil || silo != "10.0.0.1:1001@1" || sent != 5 || *store.lost == 0 {
-		t.Errorf("%q, %v, sent at %d", silo, err, sent)
-	}
-	if version := s.Version(); version != 1 {
-		t.Errorf("version %d", version)
+	for lost, expected := range map[int32]clock.Time{1: 15, 2: 5} {
+		h := &hands{at: 5}
+		store := lossy{memorystore.New(), h, lost, new(int32)}
+		s := follow(t, store, h)
+		var sent clock.Time
+		silo, err := s.Join(context.Background(), JoinOptions{Endpoint: "10.0.0.1:1001", Token: "t", Sent: func(at clock.Time) { sent = at }})
+		if err != nil || silo != "10.0.0.1:1001@1" || sent != expected {
+			t.Errorf("%q, %v, sent at %d", silo, err, sent)
+		}
+		if version := s.Version(); version != 1 {
+			t.Errorf("version %d", version)
+		}
 	}
 }
 
-// lossy carries the first transaction out, and loses its answer.
+// lossy carries the first transactions out, and loses their answers; each takes a while.
 type lossy struct {
 	*memorystore.Store
-	lost *int32
+	hands *hands
+	lost  int32
+	calls *int32
 }
 
 func (l lossy) Commit(ctx context.Context, transaction Transaction) (bool, error) {
 	made, err := l.Store.Commit(ctx, transaction)
-	if atomic.AddInt32(l.lost, 1) == 1 {
+	l.hands.advance(10)
+	if atomic.AddInt32(l.calls, 1) <= l.lost {
 		return false, errors.New("the answer is lost")
 	}
 	return made, err

@@ -9,6 +9,7 @@ import (
 	"os/exec"
 	"path/filepath"
 	"strconv"
+	"strings"
 	"syscall"
 	"testing"
 	"time"
@@ -31,6 +32,35 @@ func Etcd(t testing.TB) string {
 		"--advertise-client-urls", "http://"+client, "--listen-peer-urls", peer, "--initial-advertise-peer-urls", peer,
 		"--initial-cluster", "n1="+peer, "--log-level", "error")
 	return client
+}
+
+// EtcdCluster starts three etcd that are one cluster, and gives their endpoints and processes.
+func EtcdCluster(t testing.TB) (endpoints []string, processes []*os.Process) {
+	if _, err := exec.LookPath("etcd"); err != nil {
+		t.Skip("etcd isn't installed: tools/install-agent-packages")
+	}
+	folder := t.TempDir()
+	var peers, cluster []string
+	for i := 0; i < 3; i++ {
+		endpoints = append(endpoints, fmt.Sprintf("127.0.0.1:%d", Port(t)))
+		peers = append(peers, fmt.Sprintf("http://127.0.0.1:%d", Port(t)))
+		cluster = append(cluster, fmt.Sprintf("n%d=%s", i, peers[i]))
+	}
+	for i, endpoint := range endpoints {
+		command := exec.Command("etcd", "--name", fmt.Sprintf("n%d", i), "--data-dir", filepath.Join(folder, fmt.Sprint(i)), "--listen-client-urls", "http://"+endpoint,
+			"--advertise-client-urls", "http://"+endpoint, "--listen-peer-urls", peers[i], "--initial-advertise-peer-urls", peers[i],
+			"--initial-cluster", strings.Join(cluster, ","), "--log-level", "error")
+		command.SysProcAttr = &syscall.SysProcAttr{Setpgid: true}
+		if err := command.Start(); err != nil {
+			t.Fatal(err)
+		}
+		t.Cleanup(func() {
+			command.Process.Kill()
+			command.Wait()
+		})
+		processes = append(processes, command.Process)
+	}
+	return endpoints, processes
 }
 
 // NATS starts a NATS server, and gives its URL.

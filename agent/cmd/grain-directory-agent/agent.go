@@ -23,7 +23,7 @@ import (
 	"agent/transport/tcpcarrier"
 )
 
-// How long a call of the store may take, how long to wait before another try, and how long a generation has to last so that the next one needn't
+// How long a call of the store may take at most, how long to wait before another try, and how long a generation has to last so that the next one needn't
 // wait longer than the one before did.
 const (
 	call      = 3 * time.Second
@@ -83,9 +83,17 @@ func (a *agent) run(ctx context.Context) int {
 	go a.watchdog()
 	following, stop := context.WithCancel(context.Background())
 	defer stop()
-	sequence := membership.New(store, membership.Timing{TTL: a.config.Settings.TTL, LockDelay: a.config.LockDelay, Call: call, Retry: retry}, clock.Boot)
+	sequence := membership.New(store, membership.Timing{TTL: a.config.Settings.TTL, LockDelay: a.config.LockDelay, Call: a.call(), Retry: retry}, clock.Boot)
 	go sequence.Follow(following)
 	return a.generations(ctx, sequence)
+}
+
+// call is how long a call of the store may take: where one server of it stands still, others are tried before the deadline.
+func (a *agent) call() time.Duration {
+	if quarter := a.config.Settings.TTL / 4; quarter < call {
+		return quarter
+	}
+	return call
 }
 
 // agree tests the settings, as soon as the store answers.

@@ -5,7 +5,9 @@ import (
 	"context"
 	"crypto/tls"
 	"errors"
+	"math/rand"
 	"strings"
+	"sync/atomic"
 	"time"
 
 	"go.etcd.io/etcd/clientv3"
@@ -25,26 +27,51 @@ type Options struct {
 	Directory      string
 }
 
-// Store is a directory in etcd.
+// Store is a directory in etcd. It has a client for each server, and goes on to the next where a call failed: one client for all would stay with a
+// server that stands still until its connection is found dead, and beats would end meanwhile.
 type Store struct {
-	client *clientv3.Client
-	prefix string
+	clients []*clientv3.Client
+	current int32 // atomic
+	prefix  string
 }
 
-// Open makes a client. It doesn't wait for a connection: each call does, as long as its context lasts.
+// Open makes the clients. It doesn't wait for a connection: each call does, as long as its context lasts.
 func Open(options Options) (*Store, error) {
-	client, err := clientv3.New(clientv3.Config{
-		Endpoints: options.Endpoints, TLS: options.TLS, Username: options.User, Password: options.Password,
+	s := &Store{prefix: "/grain-directory/" + options.Directory + "/"}
+	for _, endpoint := range options.Endpoints {
+		client, err := open(options, endpoint)
+		if err != nil {
+			s.Close()
+			return nil, err
+		}
+		s.clients = append(s.clients, client)
+	}
+	if len(s.clients) == 0 {
+		return nil, errors.New("no endpoint of etcd is named")
+	}
+	s.current = int32(rand.New(rand.NewSource(time.Now().UnixNano())).Intn(len(s.clients))) // else all agents would use the first server
+	return s, nil
+}
+
+func open(options Options, endpoint string) (*clientv3.Client, error) {
+	return clientv3.New(clientv3.Config{
+		Endpoints: []string{endpoint}, TLS: options.TLS, Username: options.User, Password: options.Password,
 		LogConfig:   quiet(),
 		DialTimeout: 5 * time.Second, DialKeepAliveTime: 2 * time.Second, DialKeepAliveTimeout: time.Second,
 		// Else the client would wait for up to two minutes between its tries, and beats end though etcd is back.
 		DialOptions: []grpc.DialOption{grpc.WithConnectParams(grpc.ConnectParams{MinConnectTimeout: time.Second,
 			Backoff: backoff.Config{BaseDelay: 100 * time.Millisecond, Multiplier: 1.6, Jitter: 0.2, MaxDelay: 500 * time.Millisecond}})},
 	})
+}
+
+// on calls something with the client that is used now; where that fails, the next is used from then on.
+func (s *Store) on(call func(client *clientv3.Client) error) error {
+	current := atomic.LoadInt32(&s.current)
+	err := call(s.clients[current])
 	if err != nil {
-		return nil, err
+		atomic.CompareAndSwapInt32(&s.current, current, (current+1)%int32(len(s.clients)))
 	}
-	return &Store{client, "/grain-directory/" + options.Directory + "/"}, nil
+	return err
 }
 
 // quiet has the client log its errors alone: that a call failed is told by the call.
@@ -56,8 +83,11 @@ func quiet() *zap.Config {
 
 // Read implements membership.Store.
 func (s *Store) Read(ctx context.Context, prefix string) ([]membership.Entry, membership.Revision, error) {
-	answer, err := s.client.Get(ctx, s.prefix+prefix, clientv3.WithPrefix())
-	if err != nil {
+	var answer *clientv3.GetResponse
+	if err := s.on(func(client *clientv3.Client) (err error) {
+		answer, err = client.Get(ctx, s.prefix+prefix, clientv3.WithPrefix())
+		return err
+	}); err != nil {
 		return nil, 0, err
 	}
 	entries := make([]membership.Entry, 0, len(answer.Kvs))
@@ -73,9 +103,13 @@ func (s *Store) entry(kv *mvccpb.KeyValue) membership.Entry {
 
 // Watch implements membership.Store. It fails, rather than wait, where the server has lost its leader.
 func (s *Store) Watch(ctx context.Context, after membership.Revision, tell func([]membership.Event)) error {
+	return s.on(func(client *clientv3.Client) error { return s.watch(ctx, client, after, tell) })
+}
+
+func (s *Store) watch(ctx context.Context, client *clientv3.Client, after membership.Revision, tell func([]membership.Event)) error {
 	watching, stop := context.WithCancel(clientv3.WithRequireLeader(ctx))
 	defer stop()
-	for answer := range s.client.Watch(watching, s.prefix, clientv3.WithPrefix(), clientv3.WithRev(int64(after)+1)) {
+	for answer := range client.Watch(watching, s.prefix, clientv3.WithPrefix(), clientv3.WithRev(int64(after)+1)) {
 		if err := answer.Err(); err != nil {
 			return err
 		}
@@ -112,9 +146,21 @@ func (s *Store) Commit(ctx context.Context, transaction membership.Transaction) 
 	for _, put := range transaction.Put {
 		then = append(then, clientv3.OpPut(s.prefix+put.Key, put.Value))
 	}
-	answer, err := s.client.Txn(ctx).If(conditions...).Then(then...).Commit()
-	return err == nil && answer.Succeeded, err
+	var made bool
+	err := s.on(func(client *clientv3.Client) error {
+		answer, err := client.Txn(ctx).If(conditions...).Then(then...).Commit()
+		made = err == nil && answer.Succeeded
+		return err
+	})
+	return made, err
 }
 
 // Close implements membership.Store.
-func (s *Store) Close() error { return s.client.Close() }
+func (s *Store) Close() (err error) {
+	for _, client := range s.clients {
+		if fault := client.Close(); fault != nil {
+			err = fault
+		}
+	}
+	return err
+}
