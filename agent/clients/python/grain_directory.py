@@ -4,7 +4,6 @@
     with agent.activate("user/ann") as work:      # Taken says where it is instead
         work.check()                              # before each effect: Lost, unless work is allowed now
         store.write(..., token=work.token)        # a store that refuses a lower token than its highest is safe from frozen processes
-    print(agent.find("user/bob"))                 # the activation, or None
 
 Work ends with its `with`; only then the agent gives the grain to others. When the agent is fenced or leaves, `work.ends` is set; when it is fenced,
 `check` raises Lost, and the connection is hung up once all works have ended. The next call connects anew. One Agent serves many threads."""
@@ -12,19 +11,16 @@ Work ends with its `with`; only then the agent gives the grain to others. When t
 import socket
 import threading
 import time
+from contextlib import suppress
 from queue import SimpleQueue
 
 
 class Refused(Exception):
-    """The agent refuses, by a code and with words that say what to do."""
+    """The agent refuses, by a code and with words that say what to do; all is as it was."""
 
 
 class Taken(Exception):
-    """The grain is active elsewhere: .activation says where."""
-
-    def __init__(self, activation):
-        super().__init__(f"it is active as {activation}")
-        self.activation = activation
+    """The grain is active elsewhere, as the activation that is named."""
 
 
 class Lost(Exception):
@@ -43,7 +39,6 @@ class Work:
             raise Lost(self.grain)
 
     def deactivate(self):
-        """Its work has ended."""
         self._end(f"deactivate {self.grain}")
 
     def migrate(self, silo="any"):
@@ -53,7 +48,13 @@ class Work:
     def _end(self, question):
         if not self.is_over:
             self.is_over = True
-            self.connection.end(self, question)
+            try:
+                with suppress(Lost, OSError):
+                    self.connection.ask(question)
+            except Refused:
+                self.is_over = False
+                raise
+            self.connection.hang_up(self)
 
     def __enter__(self):
         return self
@@ -63,8 +64,6 @@ class Work:
 
 
 class Connection:
-    """One connection to the agent, from its beginning to its end."""
-
     def __init__(self, agent):
         self.agent, self.until, self.is_lost, self.is_ending, self.works = agent, 0, False, False, set()
         self.lock, self.tag, self.answers, self.socket = threading.Lock(), 0, {}, socket.socket(socket.AF_UNIX)
@@ -72,7 +71,6 @@ class Connection:
         threading.Thread(target=self.read, daemon=True).start()
 
     def ask(self, question):
-        """The words of the answer."""
         with self.lock:
             if self.is_lost:
                 raise Lost(question)
@@ -85,31 +83,21 @@ class Connection:
         return words
 
     def begin(self, words):
-        """The work of `firm ACTIVATION GRAIN token V`."""
-        work = Work(self, words[1], words[2], words[4])
+        work = Work(self, words[1], words[2], words[4])  # firm ACTIVATION GRAIN token V
         with self.lock:
             self.works.add(work)
             if self.is_ending:
                 work.ends.set()
         return work
 
-    def end(self, work, question):
-        try:
-            self.ask(question)
-        except (Lost, OSError):
-            pass
-        finally:
-            self.hang_up(work)
-
     def hang_up(self, ended=None):
-        """Once all is lost and all works have ended."""
         with self.lock:
             self.works.discard(ended)
             if self.is_lost and not self.works:
                 self.socket.close()
 
     def read(self):
-        try:
+        with suppress(OSError):
             for line in self.socket.makefile("r"):
                 tag, *words = line.split()
                 if tag != "event":
@@ -119,23 +107,19 @@ class Connection:
                 elif words[0] == "firm":
                     threading.Thread(target=self.agent.moved, args=(self.begin(words),), daemon=True).start()
                 elif words[0] == "leaving":
-                    self.end_works()
+                    self.end_works(False)
                 elif words[0] == "lost":
                     break
-        except OSError:
-            pass
-        with self.lock:
-            self.is_lost = True
-            for answer in self.answers.values():
-                answer.put(None)
-        self.end_works()
+        self.end_works(True)
         self.hang_up()
 
-    def end_works(self):
+    def end_works(self, is_lost):
         with self.lock:
-            self.is_ending = True
+            self.is_ending, self.is_lost = True, is_lost
             for work in self.works:
                 work.ends.set()
+            for answer in self.answers.values() if is_lost else ():
+                answer.put(None)
 
 
 class Agent:
@@ -144,28 +128,23 @@ class Agent:
     def __init__(self, path, moved=None, kinds=()):
         self.path, self.moved, self.kinds, self.lock, self.last = path, moved, kinds, threading.Lock(), None
 
-    def connection(self):
+    def ask(self, question):
         with self.lock:
             if self.last is None or self.last.is_lost:
                 self.last = Connection(self)
                 if self.moved:
                     self.last.ask(" ".join(["serve", *self.kinds]))
-            return self.last
+            connection = self.last
+        return connection, connection.ask(question)
 
     def activate(self, grain):
-        """The Work of a grain; raises Taken, Refused, Lost, or OSError where there is no agent."""
-        connection = self.connection()
-        words = connection.ask(f"activate {grain}")
+        """The Work of a grain; raises Taken, Refused, Lost, or OSError."""
+        connection, words = self.ask(f"activate {grain}")
         if words[0] == "taken":
             raise Taken(words[1])
         return connection.begin(words)
 
     def find(self, grain, fresh=False):
         """Where a grain is active, or None. It may be an old hint, unless it is asked for fresh."""
-        words = self.connection().ask(f"find {grain}{' fresh' if fresh else ''}")
+        _, words = self.ask(f"find {grain}{' fresh' if fresh else ''}")
         return words[1] if words[0] == "at" else None
-
-    def status(self):
-        """What the agent's silo is and has: silo, version, seen, settled, members, held."""
-        words = self.connection().ask("status")
-        return {"silo": words[1], **{name: int(number) for name, number in zip(words[2::2], words[3::2])}}

@@ -95,6 +95,19 @@ class Case(unittest.TestCase):
         self.assertRaises(Lost, work.check)
         self.assertTrue(self.firm(60, 3, False).ends.is_set())
 
+    def test_refused_end(self):
+        work = self.firm(60)
+        asked = self.asks(lambda: work.migrate("10.0.0.9:1@1"))
+        self.hears("2 migrate user/ann 10.0.0.9:1@1")
+        self.says("2 refused 807 the other silo isn't active")
+        self.assertIsInstance(self.ends(*asked), Refused)
+        work.check()  # it goes on
+        asked = self.asks(work.deactivate)
+        self.hears("3 deactivate user/ann")
+        self.says("3 ended user/ann")
+        self.assertIsNone(self.ends(*asked))
+        self.assertRaises(Lost, work.check)
+
     def test_answers(self):
         asked = self.asks(lambda: self.agent.find("user/ann"))
         self.accept()
@@ -110,13 +123,13 @@ class Case(unittest.TestCase):
     def test_moved(self):
         moved, came = [], threading.Event()
         self.agent = Agent(self.path, moved=lambda work: (moved.append(work), came.set()), kinds=("user", "cart"))
-        asked = self.asks(self.agent.status)
+        asked = self.asks(lambda: self.agent.ask("status")[1])
         self.accept()
         self.hears("1 serve user cart")
         self.says("1 ok", "event firm S!2 user/eve token 9")
         self.hears("2 status")
         self.says("2 status S version 3 seen 3 settled 3 members 2 held 1")
-        self.assertEqual(self.ends(*asked), {"silo": "S", "version": 3, "seen": 3, "settled": 3, "members": 2, "held": 1})
+        self.assertEqual(self.ends(*asked)[:4], ["status", "S", "version", "3"])
         self.assertTrue(came.wait(5))
         self.assertEqual((moved[0].grain, moved[0].token), ("user/eve", 9))
 

@@ -2,6 +2,7 @@ package main
 
 import (
 	"fmt"
+	"strings"
 	"time"
 
 	"agent/clients/go/graindirectory"
@@ -45,13 +46,13 @@ func statusOf(socket string) (s status, err error) {
 		return s, err
 	}
 	defer client.Close()
-	text, err := client.Status()
+	words, err := client.Ask("status")
 	if err != nil {
 		return s, err
 	}
 	var silo string
 	var seen uint64
-	_, err = fmt.Sscanf(text, "%s version %d seen %d settled %d members %d held %d", &silo, &s.version, &seen, &s.settled, &s.members, &s.held)
+	_, err = fmt.Sscanf(strings.Join(words[1:], " "), "%s version %d seen %d settled %d members %d held %d", &silo, &s.version, &seen, &s.settled, &s.members, &s.held)
 	return s, err
 }
 

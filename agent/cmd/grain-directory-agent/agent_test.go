@@ -190,7 +190,7 @@ func TestCluster(t *testing.T) {
 		t.Errorf("%+v", ann)
 	}
 	var taken graindirectory.Taken
-	if _, err := b.Activate("user/ann"); !errors.As(err, &taken) || taken.Activation != ann.Activation {
+	if _, err := b.Activate("user/ann"); !errors.As(err, &taken) || string(taken) != ann.Activation {
 		t.Error(err)
 	}
 	if at, err := three.dial(nil).Find("user/ann"); err != nil || at != ann.Activation {

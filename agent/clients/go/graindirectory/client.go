@@ -19,10 +19,10 @@ import (
 // ErrLost says that the agent was fenced, or is gone: all activations are lost.
 var ErrLost = errors.New("the agent is fenced, or gone")
 
-// Taken says where a grain is active instead.
-type Taken struct{ Activation string }
+// Taken is the activation that a grain has elsewhere.
+type Taken string
 
-func (t Taken) Error() string { return "it is active as " + t.Activation }
+func (t Taken) Error() string { return "it is active as " + string(t) }
 
 // Client is a connection to the agent. It may be used by several goroutines.
 type Client struct {
@@ -54,16 +54,16 @@ func Dial(path string, moved func(*Work)) (*Client, error) {
 	c := &Client{Lost: make(chan struct{}), ends: make(chan struct{}), conn: conn, moved: moved, waits: map[string]chan []string{}, works: map[*Work]bool{}}
 	go c.read()
 	if moved != nil {
-		_, err = c.ask("serve")
+		_, err = c.Ask("serve")
 	}
 	return c, err
 }
 
 // Activate makes this process the one that works a grain, or says Taken.
 func (c *Client) Activate(grain string) (*Work, error) {
-	words, err := c.ask("activate " + grain)
+	words, err := c.Ask("activate " + grain)
 	if err == nil && words[0] == "taken" {
-		err = Taken{words[1]}
+		err = Taken(words[1])
 	}
 	if err != nil {
 		return nil, err
@@ -73,20 +73,31 @@ func (c *Client) Activate(grain string) (*Work, error) {
 
 // Find says where a grain is active, "" for nowhere. It may be an old hint; "user/ann fresh" asks the directory itself.
 func (c *Client) Find(grain string) (string, error) {
-	words, err := c.ask("find " + grain)
+	words, err := c.Ask("find " + grain)
 	if err != nil || words[0] != "at" {
 		return "", err
 	}
 	return words[1], nil
 }
 
-// Status is what the agent's silo is and has: SILO version V seen V settled V members N held N.
-func (c *Client) Status() (string, error) {
-	words, err := c.ask("status")
-	if err != nil {
-		return "", err
+// Ask asks the agent something, and gives the words of its answer.
+func (c *Client) Ask(question string) (words []string, err error) {
+	answer := make(chan []string, 1)
+	c.mu.Lock()
+	if c.waits != nil {
+		c.tag++
+		c.waits[strconv.Itoa(c.tag)] = answer
+		fmt.Fprintf(c.conn, "%d %s\n", c.tag, question)
+	} else {
+		answer <- nil
 	}
-	return strings.Join(words[1:], " "), nil
+	c.mu.Unlock()
+	if words = <-answer; words == nil {
+		return nil, ErrLost
+	} else if words[0] == "refused" {
+		return nil, errors.New(strings.Join(words, " "))
+	}
+	return words, nil
 }
 
 // Close hangs up: all works have ended.
@@ -107,17 +118,22 @@ func (w *Work) Deactivate() error { return w.end("deactivate " + w.Grain) }
 // Migrate says that the work has ended here; it goes on at another silo, where an application serves. `any` chooses one.
 func (w *Work) Migrate(silo string) error { return w.end("migrate " + w.Grain + " " + silo) }
 
+// end ends a work. Where the agent refuses, all is as it was.
 func (w *Work) end(question string) error {
-	_, err := w.client.ask(question)
-	w.client.hangUp(w)
+	w.client.set(w, false)
+	_, err := w.client.Ask(question)
+	w.client.set(w, err != nil && err != ErrLost)
 	return err
 }
 
-// hangUp hangs up once all is lost and all works have ended.
-func (c *Client) hangUp(ended *Work) {
+// set says whether a work goes on. Once all is lost and no work goes on, it hangs up.
+func (c *Client) set(w *Work, goesOn bool) {
 	c.mu.Lock()
 	defer c.mu.Unlock()
-	if delete(c.works, ended); c.waits == nil && len(c.works) == 0 {
+	if c.works[w] = goesOn; !goesOn {
+		delete(c.works, w)
+	}
+	if c.waits == nil && len(c.works) == 0 {
 		c.conn.Close()
 	}
 }
@@ -125,30 +141,8 @@ func (c *Client) hangUp(ended *Work) {
 func (c *Client) begin(words []string) *Work { // firm ACTIVATION GRAIN token V
 	token, _ := strconv.ParseUint(words[4], 10, 64)
 	w := &Work{Activation: words[1], Grain: words[2], Token: token, Ends: c.ends, client: c}
-	c.mu.Lock()
-	defer c.mu.Unlock()
-	c.works[w] = true
+	c.set(w, true)
 	return w
-}
-
-func (c *Client) ask(question string) ([]string, error) {
-	answer := make(chan []string, 1)
-	c.mu.Lock()
-	if c.waits != nil {
-		c.tag++
-		c.waits[strconv.Itoa(c.tag)] = answer
-		fmt.Fprintf(c.conn, "%d %s\n", c.tag, question)
-	} else {
-		answer <- nil
-	}
-	c.mu.Unlock()
-	words := <-answer
-	if words == nil {
-		return nil, ErrLost
-	} else if words[0] == "refused" {
-		return nil, errors.New(strings.Join(words, " "))
-	}
-	return words, nil
 }
 
 func (c *Client) read() {
@@ -161,7 +155,7 @@ func (c *Client) read() {
 	c.waits = nil
 	c.mu.Unlock()
 	c.take([]string{"event", "leaving"})
-	c.hangUp(nil)
+	c.set(nil, false)
 	close(c.Lost)
 }
 

@@ -149,6 +149,24 @@ func TestLeaving(t *testing.T) {
 	<-later.Ends
 }
 
+// Where an end is refused, the work goes on.
+func TestRefusedEnd(t *testing.T) {
+	a, client := connect(t, nil)
+	work := a.firm(client, 1, time.Minute)
+	for tag, answer := range []string{"refused 807 the other silo isn't active", "ended user/ann"} {
+		ended := make(chan error, 1)
+		go func() { ended <- work.Migrate("any") }()
+		a.hears(fmt.Sprintf("%d migrate user/ann any", tag+2))
+		if work.May() {
+			t.Error("it goes on while its end is asked for")
+		}
+		a.says("%d %s", tag+2, answer)
+		if err := <-ended; (err != nil) != (tag == 0) || work.May() != (tag == 0) {
+			t.Errorf("%s: %v", answer, err)
+		}
+	}
+}
+
 func TestAnswers(t *testing.T) {
 	moved := make(chan *Work, 1)
 	a, client := connect(t, func(work *Work) { moved <- work })
@@ -163,7 +181,7 @@ func TestAnswers(t *testing.T) {
 	}()
 	a.hears("2 activate user/ann")
 	a.says("2 taken T!1 user/ann")
-	if err := <-errs; err != (Taken{"T!1"}) {
+	if err := <-errs; err != Taken("T!1") {
 		t.Error(err)
 	}
 	go func() {
