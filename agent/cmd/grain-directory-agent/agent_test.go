@@ -63,7 +63,7 @@ func (c *cluster) agent(number int, words ...string) *process {
 	}
 	p := &process{T: c.T, socket: filepath.Join(c.folder, fmt.Sprintf("s%d", number)), http: fmt.Sprintf("127.0.0.1:%d", c.https[number])}
 	p.command = exec.Command(os.Args[0], append([]string{fmt.Sprintf("--endpoint=127.0.0.1:%d", c.ports[number]), "--socket=" + p.socket, "--etcd=" + c.etcd,
-		"--nats=" + c.nats, "--program=" + os.Getenv("SILO_PROGRAM"), "--ttl=1s", "--lock-delay=200ms", "--points=4", "--http=" + p.http}, words...)...)
+		"--nats=" + c.nats, "--program=" + os.Getenv("SILO_PROGRAM"), "--ttl=2s", "--lock-delay=200ms", "--points=4", "--http=" + p.http}, words...)...)
 	p.command.Env = append(os.Environ(), "AS_AGENT=1")
 	p.command.SysProcAttr = &syscall.SysProcAttr{Setpgid: true}
 	out, err := p.command.StderrPipe()
