@@ -30,6 +30,7 @@ type Patience struct {
 	mu    sync.Mutex
 	moved uint64
 	since clock.Time // of the last progress, or of the last nudge
+	nudge clock.Time // the last nudge
 	pause time.Duration
 	trip  time.Duration // smoothed
 	waits bool
@@ -38,19 +39,22 @@ type Patience struct {
 // New has patience with a silo that waits for nothing yet.
 func New(now clock.Clock) *Patience { return &Patience{now: now, since: now(), pause: Shortest} }
 
-// Took notes how long something took that came, from its asking: a round trip, or more.
+// Took notes how long something took that came, from its asking: a round trip. What was nudged meanwhile waited for something else, such as a
+// death, and says nothing of that.
 func (p *Patience) Took(took time.Duration) {
 	p.mu.Lock()
 	defer p.mu.Unlock()
-	p.trip += (took - p.trip) / 8
+	if p.nudge == 0 || p.now().Add(-took) > p.nudge {
+		p.trip += (took - p.trip) / 8
+	}
 }
 
 func (p *Patience) shortest() time.Duration {
 	switch shortest := trips * p.trip; {
 	case shortest < Shortest:
 		return Shortest
-	case shortest > Longest/4:
-		return Longest / 4
+	case shortest > Longest/8:
+		return Longest / 8
 	default:
 		return shortest
 	}
@@ -72,7 +76,7 @@ func (p *Patience) Nudge(status silo.Status, pending int) bool {
 	if now.Sub(p.since) < p.pause || pending > busy {
 		return false
 	}
-	p.since = now
+	p.since, p.nudge = now, now
 	if p.pause *= 2; p.pause > Longest {
 		p.pause = Longest
 	}

@@ -74,6 +74,23 @@ func TestRoundTrips(t *testing.T) {
 	}
 }
 
+// What took long since it was nudged, as while a silo's death was waited for, isn't taken for a round trip.
+func TestWaitingIsNoRoundTrip(t *testing.T) {
+	var at clock.Time
+	p := New(func() clock.Time { return at })
+	nudged(p, &at, func(int64) silo.Status { return silo.Status{Asking: 9} }, 5500)
+	for i := 0; i < 100; i++ {
+		p.Took(5400 * time.Millisecond)
+	}
+	p.Nudge(silo.Status{Asking: 9, Moved: 1}, 0)
+	begin := at
+	for ; !p.Nudge(silo.Status{Asking: 9, Moved: 1}, 0); at += clock.Time(time.Millisecond) {
+	}
+	if wait := at.Sub(begin); wait != Shortest {
+		t.Errorf("it is nudged after %v", wait)
+	}
+}
+
 func TestPausesEnd(t *testing.T) {
 	var at clock.Time
 	p := New(func() clock.Time { return at })
