@@ -61,12 +61,17 @@ func (a *agent) run(ctx context.Context) int {
 		return cannot
 	}
 	store, err := a.openStore(ctx)
+	if ctx.Err() != nil {
+		return left
+	}
 	if err != nil {
 		log.Printf("error: the store: %v", err)
 		return cannot
 	}
 	defer store.Close()
-	if err := a.agree(ctx, store); err != nil {
+	if err := a.agree(ctx, store); ctx.Err() != nil {
+		return left
+	} else if err != nil {
 		log.Printf("error: %v", err)
 		var difference directory.Difference
 		if errors.As(err, &difference) {

@@ -260,6 +260,20 @@ func TestAnotherSetting(t *testing.T) {
 	other.says("the setting points is 5 here, and 4 in the directory", 1)
 }
 
+// An agent that waits for its store ends at SIGTERM.
+func TestNoStore(t *testing.T) {
+	if os.Getenv("SILO_PROGRAM") == "" {
+		t.Skip("SILO_PROGRAM names no silo's program")
+	}
+	c := &cluster{T: t, folder: t.TempDir(), etcd: "127.0.0.1:1", nats: "nats://127.0.0.1:1", ports: map[int]int{}, https: map[int]int{}}
+	one := c.agent(1)
+	one.says("the store can't be reached", 1)
+	one.command.Process.Signal(syscall.SIGTERM)
+	if err := one.command.Wait(); err != nil {
+		t.Error(err)
+	}
+}
+
 // An agent that is frozen ends its silo when it goes on, and joins anew; meanwhile its grains go elsewhere, and with a guard its silo's process and
 // applications are ended at the deadline.
 func TestFrozen(t *testing.T) {
