@@ -103,8 +103,14 @@ func Start(t testing.TB, program, endpoint string, words ...string) *os.Process 
 	}
 }
 
-// Postgres starts a PostgreSQL, and gives words by which it is reached. It never runs as root: there, as the user postgres.
+// Postgres starts a PostgreSQL, and gives words by which it is reached.
 func Postgres(t testing.TB) string {
+	source, _ := PostgresProcess(t)
+	return source
+}
+
+// PostgresProcess starts a PostgreSQL, and gives its process, too, and with it all of its group. It never runs as root: there, as the user postgres.
+func PostgresProcess(t testing.TB) (string, *os.Process) {
 	found, _ := filepath.Glob("/usr/lib/postgresql/*/bin")
 	if len(found) == 0 {
 		t.Skip("postgresql isn't installed")
@@ -130,12 +136,12 @@ func Postgres(t testing.TB) string {
 		t.Fatalf("initdb: %v: %s", err, said)
 	}
 	program, words = as("postgres", "-D", data, "-p", strconv.Itoa(port), "-c", "listen_addresses=127.0.0.1", "-c", "unix_socket_directories="+folder, "-c", "fsync=off")
-	Start(t, program, fmt.Sprintf("127.0.0.1:%d", port), words...)
+	process := Start(t, program, fmt.Sprintf("127.0.0.1:%d", port), words...)
 	for until := time.Now().Add(20 * time.Second); exec.Command(filepath.Join(bin, "pg_isready"), "-q", "-h", "127.0.0.1", "-p", strconv.Itoa(port)).Run() != nil; {
 		if time.Now().After(until) {
 			t.Fatal("PostgreSQL isn't ready")
 		}
 		time.Sleep(50 * time.Millisecond)
 	}
-	return fmt.Sprintf("host=127.0.0.1 port=%d user=agent dbname=postgres sslmode=disable", port)
+	return fmt.Sprintf("host=127.0.0.1 port=%d user=agent dbname=postgres sslmode=disable", port), process
 }

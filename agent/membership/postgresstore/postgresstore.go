@@ -11,7 +11,7 @@ import (
 	"strings"
 	"time"
 
-	_ "github.com/lib/pq" // the driver
+	"github.com/lib/pq"
 
 	"agent/membership"
 )
@@ -36,15 +36,17 @@ type Store struct {
 
 // Open opens a directory; source is a URL, or words, as libpq takes them. It makes the tables where they are missing and it may.
 func Open(ctx context.Context, source, directory string) (*Store, error) {
-	db, err := sql.Open("postgres", source)
+	connector, err := pq.NewConnector(source)
 	if err != nil {
 		return nil, err
 	}
+	connector.Dialer(dialer{})
+	db := sql.OpenDB(connector)
 	db.SetMaxOpenConns(8)
 	hash := fnv.New64a()
 	hash.Write([]byte("grain_directory " + directory))
 	s := &Store{db, directory, int64(hash.Sum64())}
-	if err := s.makeTables(ctx); err != nil {
+	if _, err := bounded(ctx, func() (bool, error) { return true, s.makeTables(ctx) }); err != nil {
 		db.Close()
 		return nil, err
 	}
@@ -79,8 +81,22 @@ func (s *Store) in(ctx context.Context, do func(*sql.Tx) error) error {
 	return tx.Commit()
 }
 
+// state is what a Read gives.
+type state struct {
+	entries []membership.Entry
+	at      membership.Revision
+}
+
 // Read implements membership.Store.
-func (s *Store) Read(ctx context.Context, prefix string) (entries []membership.Entry, at membership.Revision, err error) {
+func (s *Store) Read(ctx context.Context, prefix string) ([]membership.Entry, membership.Revision, error) {
+	read, err := bounded(ctx, func() (state, error) {
+		entries, at, err := s.read(ctx, prefix)
+		return state{entries, at}, err
+	})
+	return read.entries, read.at, err
+}
+
+func (s *Store) read(ctx context.Context, prefix string) (entries []membership.Entry, at membership.Revision, err error) {
 	tx, err := s.db.BeginTx(ctx, &sql.TxOptions{Isolation: sql.LevelRepeatableRead, ReadOnly: true})
 	if err != nil {
 		return nil, 0, err
@@ -111,7 +127,9 @@ func (s *Store) Watch(ctx context.Context, after membership.Revision, tell func(
 	ticks := time.NewTicker(poll)
 	defer ticks.Stop()
 	for {
-		events, err := s.since(ctx, after)
+		calling, done := context.WithTimeout(ctx, silence) // a server that stands still ends the watch
+		events, err := bounded(calling, func() ([]membership.Event, error) { return s.since(calling, after) })
+		done()
 		if err != nil {
 			return err
 		}
@@ -130,9 +148,7 @@ func (s *Store) Watch(ctx context.Context, after membership.Revision, tell func(
 
 // since gives the events behind a revision, those of the last revision among them whole.
 func (s *Store) since(ctx context.Context, after membership.Revision) (events []membership.Event, err error) {
-	calling, done := context.WithTimeout(ctx, 5*time.Second) // a server that stands still ends the watch
-	defer done()
-	rows, err := s.db.QueryContext(calling, `SELECT key, value, revision FROM grain_directory WHERE directory = $1 AND revision > $2
+	rows, err := s.db.QueryContext(ctx, `SELECT key, value, revision FROM grain_directory WHERE directory = $1 AND revision > $2
 		ORDER BY revision FETCH FIRST $3 ROWS WITH TIES`, s.directory, int64(after), most)
 	if err != nil {
 		return nil, err
@@ -154,6 +170,10 @@ var errUnmet = errors.New("a condition doesn't hold")
 
 // Commit implements membership.Store.
 func (s *Store) Commit(ctx context.Context, transaction membership.Transaction) (bool, error) {
+	return bounded(ctx, func() (bool, error) { return s.commit(ctx, transaction) })
+}
+
+func (s *Store) commit(ctx context.Context, transaction membership.Transaction) (bool, error) {
 	err := s.in(ctx, func(tx *sql.Tx) error {
 		for _, condition := range transaction.If {
 			if err := s.test(ctx, tx, condition); err != nil {
