@@ -17,6 +17,7 @@ import (
 
 	"agent/applications"
 	"agent/clock"
+	"agent/queue"
 )
 
 // Word is the word of the command line by which the program is a guard.
@@ -24,11 +25,17 @@ const Word = "guard"
 
 // Guard is a guard, as its agent has it.
 type Guard struct {
+	process *os.Process
+	out     *queue.Lines
+	ended   chan struct{} // its process has ended
+	failed  chan struct{} // or it doesn't read
+	once    sync.Once
 	mu      sync.Mutex
-	in      io.WriteCloser
-	ended   chan struct{}
 	watched map[int]string
 }
+
+// mostLines is how many bytes may wait for the guard, which reads at once.
+const mostLines = 64 << 10
 
 // Start starts a guard, of the program that runs.
 func Start() (*Guard, error) {
@@ -42,23 +49,28 @@ func Start() (*Guard, error) {
 	if err := command.Start(); err != nil {
 		return nil, fmt.Errorf("the guard of the applications: %w", err)
 	}
-	g := &Guard{in: in, ended: make(chan struct{}), watched: map[int]string{}}
+	g := &Guard{process: command.Process, out: queue.New(mostLines), ended: make(chan struct{}), failed: make(chan struct{}), watched: map[int]string{}}
+	go func() {
+		g.out.Run(in, nil)
+		in.Close()
+	}()
 	go func() {
 		command.Wait()
 		close(g.ended)
+		g.fail()
 	}()
 	return g, nil
 }
 
-// Ended is closed when the guard has ended.
-func (g *Guard) Ended() <-chan struct{} { return g.ended }
+// Failed is closed when the guard has ended, or doesn't read.
+func (g *Guard) Failed() <-chan struct{} { return g.failed }
 
-// say tells the guard a line. Its pipe has room for thousands, and it reads at once.
+func (g *Guard) fail() { g.once.Do(func() { close(g.failed) }) }
+
+// say tells the guard a line, and doesn't wait for it.
 func (g *Guard) say(format string, words ...interface{}) {
-	g.mu.Lock()
-	defer g.mu.Unlock()
-	if g.in != nil {
-		fmt.Fprintf(g.in, format+"\n", words...)
+	if !g.out.Add([]byte(fmt.Sprintf(format, words...)), mostLines) {
+		g.fail()
 	}
 }
 
@@ -87,14 +99,14 @@ func (g *Guard) Forget(process int) {
 // Until tells a later deadline.
 func (g *Guard) Until(until clock.Time) { g.say("until %d", until.Nanoseconds()) }
 
-// Done ends the guard: what it watched has ended.
+// Done ends the guard: what it watched has ended. One that doesn't end is killed.
 func (g *Guard) Done() {
 	g.say("done")
-	g.mu.Lock()
-	defer g.mu.Unlock()
-	if g.in != nil {
-		g.in.Close()
-		g.in = nil
+	g.out.Close()
+	select {
+	case <-g.ended:
+	case <-time.After(time.Second):
+		g.process.Kill()
 		<-g.ended
 	}
 }

@@ -16,7 +16,6 @@ import (
 func (m *Member) End(reason string) Outcome {
 	m.fence.Give(reason) // from here on the silo is told nothing
 	reason = m.fence.Reason()
-	log.Printf("ends: %s", reason)
 	if planted.SlowEnd {
 		time.Sleep(m.options.Config.Settings.TTL)
 	}
@@ -27,6 +26,7 @@ func (m *Member) End(reason string) Outcome {
 	if m.silo != nil {
 		m.silo.Kill()
 	}
+	log.Printf("ends: %s", reason) // not before: a log that is stuck must not hold the end up
 	outcome := Outcome{Silo: m.me, Reason: reason, Ended: m.awaitApplications()}
 	log.Printf("the silo's process has ended; all applications have hung up: %v", outcome.Ended)
 	if outcome.Ended {

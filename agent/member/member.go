@@ -46,7 +46,7 @@ type Guard interface {
 	Watch(process int, began string)
 	Forget(process int)
 	Until(until clock.Time)
-	Ended() <-chan struct{}
+	Failed() <-chan struct{}
 	Done()
 }
 
@@ -159,7 +159,7 @@ func (m *Member) start(token string) error {
 func (m *Member) watchProcesses() {
 	var guard <-chan struct{}
 	if m.options.Guard != nil {
-		guard = m.options.Guard.Ended()
+		guard = m.options.Guard.Failed()
 	}
 	select {
 	case <-m.silo.Ended():
@@ -167,7 +167,7 @@ func (m *Member) watchProcesses() {
 			m.fence.Give("the silo's process has ended")
 		}
 	case <-guard:
-		m.fence.Give("the guard of the applications has ended")
+		m.fence.Give("the guard of the applications has ended, or stands still")
 	case <-m.ctx.Done():
 	}
 }
