@@ -26,15 +26,15 @@ func (t Taken) Error() string { return "it is active as " + string(t) }
 
 // Client is a connection to the agent. It may be used by several goroutines.
 type Client struct {
-	Lost  chan struct{} // closed when all is lost
-	ends  chan struct{} // closed when all works are to end
-	conn  net.Conn
-	moved func(*Work)
-	mu    sync.Mutex
-	tag   int
-	waits map[string]chan []string // nil once all is lost
-	until int64
-	works map[*Work]bool
+	Lost       chan struct{} // closed when all is lost
+	ends       chan struct{} // closed when all works are to end
+	once       sync.Once     // of ends
+	conn       net.Conn
+	moved      func(*Work)
+	mu         sync.Mutex
+	tag, until int64
+	waits      map[string]chan []string // nil once all is lost
+	works      map[*Work]bool
 }
 
 // Work is an activation of this process.
@@ -62,11 +62,10 @@ func Dial(path string, moved func(*Work)) (*Client, error) {
 // Activate makes this process the one that works a grain, or says Taken.
 func (c *Client) Activate(grain string) (*Work, error) {
 	words, err := c.Ask("activate " + grain)
-	if err == nil && words[0] == "taken" {
-		err = Taken(words[1])
-	}
 	if err != nil {
 		return nil, err
+	} else if words[0] == "taken" {
+		return nil, Taken(words[1])
 	}
 	return c.begin(words), nil
 }
@@ -86,7 +85,7 @@ func (c *Client) Ask(question string) (words []string, err error) {
 	c.mu.Lock()
 	if c.waits != nil {
 		c.tag++
-		c.waits[strconv.Itoa(c.tag)] = answer
+		c.waits[strconv.FormatInt(c.tag, 10)] = answer
 		fmt.Fprintf(c.conn, "%d %s\n", c.tag, question)
 	} else {
 		answer <- nil
@@ -154,7 +153,7 @@ func (c *Client) read() {
 	}
 	c.waits = nil
 	c.mu.Unlock()
-	c.take([]string{"event", "leaving"})
+	c.once.Do(func() { close(c.ends) })
 	c.set(nil, false)
 	close(c.Lost)
 }
@@ -172,11 +171,7 @@ func (c *Client) take(words []string) bool {
 	case words[1] == "firm":
 		go func() { c.moved(c.begin(words[1:])) }()
 	case words[1] == "leaving":
-		select {
-		case <-c.ends:
-		default:
-			close(c.ends)
-		}
+		c.once.Do(func() { close(c.ends) })
 	}
 	return words[0] != "event" || words[1] != "lost"
 }
