@@ -1,0 +1,487 @@
+package applications
+
+import (
+	"bufio"
+	"fmt"
+	"net"
+	"os"
+	"os/exec"
+	"path/filepath"
+	"strings"
+	"sync"
+	"sync/atomic"
+	"testing"
+	"time"
+
+	"agent/clock"
+	"agent/directory"
+	"agent/silo"
+)
+
+// fake is a silo of which a test says the answers.
+type fake struct {
+	mu    sync.Mutex
+	lines []string
+	waits []func(silo.Answer)
+	busy  bool
+}
+
+func (f *fake) add(line string, answer func(silo.Answer)) error {
+	f.mu.Lock()
+	defer f.mu.Unlock()
+	if f.busy {
+		return silo.ErrBusy
+	}
+	f.lines = append(f.lines, line)
+	f.waits = append(f.waits, answer)
+	return nil
+}
+func (f *fake) Wake(grain string, answer func(silo.Answer)) error {
+	return f.add("wake "+grain, answer)
+}
+func (f *fake) Close(grain string, answer func(silo.Answer)) error {
+	return f.add("close "+grain, answer)
+}
+func (f *fake) Offer(grain string, to directory.Silo, answer func(silo.Answer)) error {
+	return f.add("offer "+grain+" "+string(to), answer)
+}
+func (f *fake) Find(grain string, answer func(silo.Answer)) error {
+	return f.add("find "+grain, answer)
+}
+func (f *fake) Forget(grain string) error { return f.add("forget "+grain, func(silo.Answer) {}) }
+
+// answers waits for a line to the silo, and answers it.
+func (f *fake) answers(t *testing.T, line string, answer silo.Answer) {
+	t.Helper()
+	for end := time.Now().Add(5 * time.Second); ; time.Sleep(time.Millisecond) {
+		f.mu.Lock()
+		if len(f.lines) > 0 {
+			if f.lines[0] != line {
+				t.Fatalf("the silo is told %q, not %q", f.lines[0], line)
+			}
+			wait := f.waits[0]
+			f.lines, f.waits = f.lines[1:], f.waits[1:]
+			f.mu.Unlock()
+			wait(answer)
+			return
+		}
+		f.mu.Unlock()
+		if time.Now().After(end) {
+			t.Fatalf("the silo isn't told %q", line)
+		}
+	}
+}
+
+func (f *fake) isTold(t *testing.T, nothing string) {
+	t.Helper()
+	time.Sleep(20 * time.Millisecond)
+	f.mu.Lock()
+	defer f.mu.Unlock()
+	if len(f.lines) > 0 {
+		t.Fatalf("the silo is told %q, not %s", f.lines, nothing)
+	}
+}
+
+type test struct {
+	*testing.T
+	silo    *fake
+	service *Service
+	path    string
+	may     int32
+	took    sync.Map
+}
+
+func start(t *testing.T) *test {
+	x := &test{T: t, silo: &fake{}, path: filepath.Join(t.TempDir(), "s"), may: 1}
+	x.service = New(Options{Silo: x.silo, May: func() bool { return atomic.LoadInt32(&x.may) == 1 }, Until: func() clock.Time { return 42 }, Now: clock.Boot,
+		Another: func(grain string) directory.Silo {
+			if grain == "user/alone" {
+				return ""
+			}
+			return "10.0.0.2:1000@1"
+		}, Status: func() string { return "S version 1" }, Took: func(what string, _ time.Duration) { x.took.Store(what, true) }})
+	listener, err := Listen(x.path, 0o600)
+	if err != nil {
+		t.Fatal(err)
+	}
+	t.Cleanup(func() { listener.Close() })
+	go x.service.Serve(listener)
+	return x
+}
+
+// line is a connection of an application.
+type line struct {
+	*testing.T
+	conn *net.UnixConn
+	in   *bufio.Reader
+}
+
+func (x *test) dial() *line {
+	x.Helper()
+	conn, err := net.DialUnix("unix", nil, &net.UnixAddr{Name: x.path, Net: "unix"})
+	if err != nil {
+		x.Fatal(err)
+	}
+	x.Cleanup(func() { conn.Close() })
+	l := &line{x.T, conn, bufio.NewReader(conn)}
+	l.hears("event valid 42")
+	return l
+}
+
+func (l *line) says(text string) { fmt.Fprint(l.conn, text+"\n") }
+
+func (l *line) hears(text string) {
+	l.Helper()
+	l.conn.SetReadDeadline(time.Now().Add(5 * time.Second))
+	got, err := l.in.ReadString('\n')
+	if err != nil || !strings.HasPrefix(got, text) || !strings.Contains(text, " refused ") && got != text+"\n" {
+		l.Fatalf("heard %q, not %q: %v", got, text, err)
+	}
+}
+
+func (x *test) firm(l *line, grain, activation string, token uint64) {
+	x.Helper()
+	l.says("t activate " + grain)
+	x.silo.answers(x.T, "wake "+grain, silo.Answer{Activation: activation})
+	x.service.Said(silo.Said{What: silo.Firm, Activation: activation, Grain: grain, Token: token})
+	l.hears(fmt.Sprintf("t firm %s %s token %d", activation, grain, token))
+}
+
+func (x *test) held(count int) {
+	x.Helper()
+	for end := time.Now().Add(5 * time.Second); x.service.Held() != count; time.Sleep(time.Millisecond) {
+		if time.Now().After(end) {
+			x.Fatalf("%d are held, not %d", x.service.Held(), count)
+		}
+	}
+}
+
+func TestOneLife(t *testing.T) {
+	x := start(t)
+	a, b := x.dial(), x.dial()
+	x.firm(a, "user/ann", "S!1", 7)
+	a.says("2 activate user/ann")
+	a.hears("2 firm S!1 user/ann token 7")
+	b.says("3 activate user/ann")
+	b.hears("3 taken S!1 user/ann")
+	b.says("4 deactivate user/ann")
+	b.hears("4 refused 803 ")
+	b.says("4 migrate user/ann any")
+	b.hears("4 refused 803 ")
+	a.says("5 deactivate user/ann")
+	x.silo.answers(t, "close user/ann", silo.Answer{Activation: "S!1"})
+	a.says("6 activate user/ann") // while it ends: again behind its end
+	a.says("7 deactivate user/ann")
+	a.says("8 status")
+	a.hears("8 status S version 1 held 1")
+	x.service.Said(silo.Said{What: silo.Ended, Activation: "S!1", Grain: "user/ann"})
+	a.hears("5 ended user/ann")
+	a.hears("7 ended user/ann")
+	x.silo.answers(t, "wake user/ann", silo.Answer{Activation: "S!2"})
+	x.service.Said(silo.Said{What: silo.Taken, Activation: "T!9", Grain: "user/ann"})
+	a.hears("6 taken T!9 user/ann")
+	x.held(0)
+	a.says("9 deactivate user/ann")
+	a.hears("9 refused 802 ")
+	for _, what := range []string{"activate", "deactivate"} {
+		if _, isThere := x.took.Load(what); !isThere {
+			t.Errorf("nothing is told of how long %s took", what)
+		}
+	}
+}
+
+// Two ask at once: the first has it, the other hears where it is.
+func TestTwoAsk(t *testing.T) {
+	x := start(t)
+	a, b := x.dial(), x.dial()
+	a.says("1 activate user/ann")
+	x.silo.answers(t, "wake user/ann", silo.Answer{Activation: "S!1"})
+	b.says("2 activate user/ann")
+	b.says("3 deactivate user/ann")
+	b.hears("3 refused 803 ")
+	x.service.Said(silo.Said{What: silo.Firm, Activation: "S!1", Grain: "user/ann", Token: 1})
+	a.hears("1 firm S!1 user/ann token 1")
+	b.hears("2 taken S!1 user/ann")
+}
+
+// An activation ends with its connection, whether it is firm or asking; who asked beside it has it instead.
+func TestHangingUp(t *testing.T) {
+	x := start(t)
+	a, b := x.dial(), x.dial()
+	x.firm(a, "user/ann", "S!1", 1)
+	a.says("2 activate user/bob")
+	x.silo.answers(t, "wake user/bob", silo.Answer{Activation: "S!2"})
+	a.says("3 activate user/eve")
+	x.silo.answers(t, "wake user/eve", silo.Answer{Activation: "S!3"})
+	b.says("4 activate user/eve")
+	b.says("5 find x/y")
+	x.silo.answers(t, "find x/y", silo.Answer{})
+	a.conn.Close()
+	x.silo.answers(t, "close user/ann", silo.Answer{Activation: "S!1"})
+	x.service.Said(silo.Said{What: silo.Firm, Activation: "S!2", Grain: "user/bob", Token: 1})
+	x.silo.answers(t, "close user/bob", silo.Answer{Activation: "S!2"})
+	x.service.Said(silo.Said{What: silo.Firm, Activation: "S!3", Grain: "user/eve", Token: 2})
+	b.hears("4 firm S!3 user/eve token 2")
+	x.service.Said(silo.Said{What: silo.Ended, Grain: "user/ann"})
+	x.service.Said(silo.Said{What: silo.Ended, Grain: "user/bob"})
+	x.held(1)
+}
+
+func TestRefusals(t *testing.T) {
+	x := start(t)
+	a := x.dial()
+	for _, one := range []struct{ line, code string }{
+		{"1", "what"}, {"1 wake user/ann", "what"}, {"1 activate", "what"}, {"1 activate a b", "what"}, {"1 find a old", "what"}, {"1 migrate user/ann", "what"},
+		{"1 activate us\x01er/ann", "113"}, {"1 activate user/\u00e4nn", "113"}, {"1 migrate user/ann nowhere", "807"}, {"1 migrate user/alone any", "807"},
+		{"1 activate " + strings.Repeat("x", 20000), "long"},
+	} {
+		a.says(one.line)
+		a.hears("1 refused " + one.code + " ")
+	}
+	a.says("")
+	for _, code := range []string{"111", "804", "806", "999"} {
+		a.says("2 activate user")
+		x.silo.answers(t, "wake user", silo.Answer{Refused: code})
+		a.hears("2 refused " + code + " ")
+	}
+	x.firm(a, "user/ann", "S!1", 1)
+	a.says("3 migrate user/ann 10.0.0.9:1@1")
+	x.silo.answers(t, "offer user/ann 10.0.0.9:1@1", silo.Answer{Refused: "807"})
+	a.hears("3 refused 807 ")
+	a.says("4 activate user/ann") // its work goes on
+	a.hears("4 firm S!1 user/ann token 1")
+	x.silo.busy = true
+	for _, line := range []string{"activate user/bob", "deactivate user/ann", "find user/bob", "find user/bob fresh"} {
+		a.says("5 " + line)
+		a.hears("5 refused busy ")
+	}
+	x.held(1)
+	a.conn.Close() // its closing is refused, and swept later
+	for end := time.Now().Add(5 * time.Second); x.service.Figures().Applications > 0 && time.Now().Before(end); {
+		time.Sleep(time.Millisecond)
+	}
+	x.silo.busy = false
+	x.service.Sweep()
+	x.silo.answers(t, "close user/ann", silo.Answer{Activation: "S!1"})
+}
+
+// What moves here goes to a connection that serves its kind; where none does, it is closed.
+func TestMoves(t *testing.T) {
+	x := start(t)
+	a, b := x.dial(), x.dial()
+	moved := func(grain string) {
+		x.service.Said(silo.Said{What: silo.Started, Activation: "S!5", Grain: grain})
+		x.service.Said(silo.Said{What: silo.Firm, Activation: "S!5", Grain: grain, Token: 3})
+	}
+	moved("user/ann")
+	x.silo.answers(t, "close user/ann", silo.Answer{Activation: "S!5"})
+	b.says("1 serve room user")
+	b.hears("1 ok")
+	moved("user/bob")
+	b.hears("event firm S!5 user/bob token 3")
+	moved("cart/bob")
+	x.silo.answers(t, "close cart/bob", silo.Answer{Activation: "S!5"})
+	a.says("2 serve")
+	a.hears("2 ok")
+	moved("cart/eve")
+	a.hears("event firm S!5 cart/eve token 3")
+	b.says("2 migrate user/bob any")
+	x.silo.answers(t, "offer user/bob 10.0.0.2:1000@1", silo.Answer{Activation: "S!5"})
+	x.service.Said(silo.Said{What: silo.Ended, Grain: "user/bob"})
+	b.hears("2 ended user/bob")
+}
+
+func TestFinds(t *testing.T) {
+	x := start(t)
+	a, b := x.dial(), x.dial()
+	a.says("1 find user/ann")
+	x.silo.answers(t, "find user/ann", silo.Answer{Activation: "T!1", Cached: true})
+	a.hears("1 at T!1 user/ann hint")
+	a.says("2 find user/ann fresh")
+	x.silo.answers(t, "forget user/ann", silo.Answer{})
+	x.silo.answers(t, "find user/ann", silo.Answer{})
+	b.says("3 find user/ann")
+	b.says("4 status")
+	b.hears("4 status S version 1 held 0")
+	x.service.Said(silo.Said{What: silo.Found, Activation: "U!1", Grain: "user/ann"})
+	a.hears("2 at U!1 user/ann")
+	b.hears("3 at U!1 user/ann")
+	a.says("5 find user/bob")
+	x.silo.answers(t, "find user/bob", silo.Answer{})
+	x.service.Said(silo.Said{What: silo.Nothing, Grain: "user/bob"})
+	a.hears("5 nowhere user/bob")
+	a.says("6 find user/bob")
+	x.silo.answers(t, "find user/bob", silo.Answer{Refused: "806"})
+	a.hears("6 refused 806 ")
+}
+
+func TestEvents(t *testing.T) {
+	x := start(t)
+	a := x.dial()
+	x.service.Deadline(99)
+	a.hears("event valid 99")
+	x.service.Changed(directory.Change{Version: 3, Kind: directory.Dead, Silo: "T"})
+	a.hears("event member dead T version 3")
+	x.service.Settled(3)
+	a.hears("event settled 3")
+	x.service.Leave()
+	a.hears("event leaving")
+	a.says("1 activate user/ann")
+	a.hears("1 refused leaving ")
+}
+
+// All are told that all is lost, and nobody gets anything behind it; who hangs up has ended.
+func TestLost(t *testing.T) {
+	x := start(t)
+	a, b := x.dial(), x.dial()
+	x.firm(a, "user/ann", "S!1", 1)
+	a.says("1 activate user/bob")
+	x.silo.answers(t, "wake user/bob", silo.Answer{Activation: "S!2"})
+	atomic.StoreInt32(&x.may, 0)
+	x.service.Said(silo.Said{What: silo.Firm, Activation: "S!2", Grain: "user/bob", Token: 1}) // behind the deadline: nobody is told
+	a.says("2 activate user/eve")
+	a.hears("2 refused lost ")
+	x.service.Lost("cut off")
+	x.service.Lost("twice")
+	for _, l := range []*line{a, b} {
+		l.hears("event lost cut off")
+		if _, err := l.in.ReadString('\n'); err == nil {
+			t.Error("more is said")
+		}
+	}
+	if x.service.AwaitHangUp(clock.Boot().Add(30 * time.Millisecond)) {
+		t.Error("they hung up?")
+	}
+	a.conn.Close()
+	b.conn.Close()
+	if !x.service.AwaitHangUp(clock.Boot().Add(5 * time.Second)) {
+		t.Error("they haven't hung up")
+	}
+	x.silo.isTold(t, "nothing")
+}
+
+// An application that reads nothing costs a bounded amount of memory, and others go on.
+func TestWhoDoesntRead(t *testing.T) {
+	x := start(t)
+	a, b := x.dial(), x.dial()
+	go func() {
+		for i := 0; i < 200000; i++ {
+			if _, err := fmt.Fprintf(a.conn, "%d status\n", i); err != nil {
+				return
+			}
+		}
+	}()
+	for i := 0; i < 20000; i++ {
+		x.service.Changed(directory.Change{Version: uint64(i), Kind: directory.Dead, Silo: "10.0.0.1:1000@1"})
+	}
+	x.service.mu.Lock()
+	for app := range x.service.apps {
+		if app.out.Size() > mostOut/2+longestLine {
+			t.Errorf("%d bytes wait", app.out.Size())
+		}
+	}
+	x.service.mu.Unlock()
+	b.says("1 status")
+	for got := ""; !strings.HasPrefix(got, "1 status"); {
+		b.conn.SetReadDeadline(time.Now().Add(5 * time.Second))
+		var err error
+		if got, err = b.in.ReadString('\n'); err != nil {
+			t.Fatal(err)
+		}
+	}
+}
+
+func TestProcesses(t *testing.T) {
+	x := start(t)
+	x.dial()
+	if processes := x.service.Processes(); processes[os.Getpid()] != Began(os.Getpid()) || Began(os.Getpid()) == "" {
+		t.Errorf("%v", processes)
+	}
+	command := exec.Command("sleep", "60")
+	if err := command.Start(); err != nil {
+		t.Fatal(err)
+	}
+	when := Began(command.Process.Pid)
+	KillProcess(command.Process.Pid, "1") // another process of that number
+	KillProcess(command.Process.Pid, "")
+	if Began(command.Process.Pid) != when {
+		t.Fatal("the wrong process is killed")
+	}
+	KillProcess(command.Process.Pid, when)
+	if err := command.Wait(); err == nil {
+		t.Error("it goes on")
+	}
+}
+
+// What an application has is told apart from what others have, and from what nobody has, through all of it.
+func TestWhose(t *testing.T) {
+	x := start(t)
+	a, b := x.dial(), x.dial()
+	for i := 0; i < 5; i++ {
+		x.firm(a, fmt.Sprintf("a/%d", i), "S!1", 1)
+		x.firm(b, fmt.Sprintf("b/%d", i), "S!1", 1)
+	}
+	b.says("1 deactivate b/0")
+	x.silo.answers(t, "close b/0", silo.Answer{Activation: "S!1"})
+	x.service.Said(silo.Said{What: silo.Ended, Grain: "b/0"})
+	b.hears("1 ended b/0")
+	a.conn.Close()
+	closed := map[string]bool{}
+	for i := 0; i < 5; i++ {
+		until := time.Now().Add(5 * time.Second)
+		for line := ""; line == ""; time.Sleep(time.Millisecond) {
+			x.silo.mu.Lock()
+			if len(x.silo.lines) > 0 {
+				line, x.silo.lines, x.silo.waits = x.silo.lines[0], x.silo.lines[1:], x.silo.waits[1:]
+				closed[line] = true
+			}
+			x.silo.mu.Unlock()
+			if time.Now().After(until) {
+				t.Fatalf("closed are %v", closed)
+			}
+		}
+	}
+	for i := 0; i < 5; i++ {
+		if !closed[fmt.Sprintf("close a/%d", i)] {
+			t.Errorf("closed are %v", closed)
+		}
+		x.service.Said(silo.Said{What: silo.Ended, Grain: fmt.Sprintf("a/%d", i)})
+	}
+	x.held(4)
+	x.service.mu.Lock()
+	defer x.service.mu.Unlock()
+	if len(x.service.whose) != 1 {
+		t.Errorf("%d have something", len(x.service.whose))
+	}
+	for _, grains := range x.service.whose {
+		if len(grains) != 4 {
+			t.Errorf("%d are held", len(grains))
+		}
+	}
+}
+
+func TestListen(t *testing.T) {
+	path := filepath.Join(t.TempDir(), "s")
+	first, err := Listen(path, 0o660)
+	if err != nil {
+		t.Fatal(err)
+	}
+	if info, err := os.Stat(path); err != nil || info.Mode().Perm() != 0o660 {
+		t.Error(info.Mode(), err)
+	}
+	if _, err := Listen(path, 0o660); err == nil || !strings.Contains(err.Error(), "another agent listens") {
+		t.Error(err)
+	}
+	first.SetUnlinkOnClose(false)
+	first.Close()
+	if again, err := Listen(path, 0o660); err != nil {
+		t.Error(err)
+	} else {
+		again.Close()
+	}
+	file := filepath.Join(t.TempDir(), "f")
+	os.WriteFile(file, nil, 0o600)
+	if _, err := Listen(file, 0o660); err == nil || !strings.Contains(err.Error(), "no socket") {
+		t.Error(err)
+	}
+}

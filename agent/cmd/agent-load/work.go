@@ -1,0 +1,214 @@
+package main
+
+import (
+	"encoding/json"
+	"errors"
+	"fmt"
+	"math/rand"
+	"os"
+	"sort"
+	"sync"
+	"time"
+
+	"agent/clients/go/graindirectory"
+)
+
+// life is one work of a grain, from its firm to the last moment in which it worked.
+type life struct {
+	Grain, Activation string
+	Token             uint64
+	From, To          int64
+	Lost              bool // its agent was fenced or gone: the silo died while this was firm
+}
+
+// store is what works write to: it tests tokens, and refuses one that is lower than the highest it was given for the grain.
+type store struct {
+	mu              sync.Mutex
+	highest         map[string]uint64
+	writes, refused int
+}
+
+func (s *store) write(grain string, token uint64) bool {
+	s.mu.Lock()
+	defer s.mu.Unlock()
+	s.writes++
+	if token < s.highest[grain] {
+		s.refused++
+		return false
+	}
+	s.highest[grain] = token
+	return true
+}
+
+// record has the lives of all workers.
+type record struct {
+	mu      sync.Mutex
+	lives   []life
+	answers map[string]int
+}
+
+func (r *record) answer(what string) {
+	r.mu.Lock()
+	defer r.mu.Unlock()
+	r.answers[what]++
+}
+
+func (r *record) lived(l life) {
+	r.mu.Lock()
+	defer r.mu.Unlock()
+	r.lives = append(r.lives, l)
+}
+
+func work(o options) error {
+	r := &record{answers: map[string]int{}}
+	s := &store{highest: map[string]uint64{}}
+	if text, err := os.ReadFile(o.tokens); err == nil {
+		if err := json.Unmarshal(text, &s.highest); err != nil {
+			return err
+		}
+	}
+	before := map[string]uint64{}
+	for grain, token := range s.highest {
+		before[grain] = token
+	}
+	var wait sync.WaitGroup
+	until := time.Now().Add(time.Duration(o.seconds * float64(time.Second)))
+	for n := 0; n < o.clients; n++ {
+		wait.Add(1)
+		go func(n int) {
+			defer wait.Done()
+			random := rand.New(rand.NewSource(time.Now().UnixNano() + int64(n)))
+			for time.Now().Before(until) {
+				if client, err := dial(o.at[n%len(o.at)], until); err == nil {
+					lives(o, client, random, until, s, r)
+					client.Close()
+				}
+			}
+		}(n)
+	}
+	wait.Wait()
+	fault := judge(r, before)
+	fmt.Printf("work: %d lives of %d grains, longest time in which none began %v, %d writes, %d of them refused, answers %v\n", len(r.lives), len(s.highest),
+		longestPause(r.lives).Round(time.Millisecond), s.writes, s.refused, r.answers)
+	if o.tokens != "" {
+		text, _ := json.Marshal(s.highest)
+		if err := os.WriteFile(o.tokens, text, 0o644); err != nil {
+			return err
+		}
+	}
+	return fault
+}
+
+// lives works grains over one connection, until it is lost.
+func lives(o options, client *graindirectory.Client, random *rand.Rand, until time.Time, s *store, r *record) {
+	for time.Now().Before(until) {
+		grain := fmt.Sprintf("%s/%d", o.prefix, random.Intn(o.grains))
+		work, isOver := activate(client, grain, until, r)
+		if isOver {
+			return
+		}
+		if work == nil {
+			time.Sleep(time.Duration(random.Intn(20)) * time.Millisecond)
+			continue
+		}
+		r.lived(live(o, client, work, time.Duration(random.Int63n(int64(o.longest))), s))
+		ended := make(chan error, 1)
+		go func() { ended <- work.Deactivate() }()
+		select {
+		case <-ended:
+		case <-client.Lost:
+			return
+		}
+	}
+}
+
+// activate asks for a grain; isOver says that the connection is lost, or the time is over.
+func activate(client *graindirectory.Client, grain string, until time.Time, r *record) (got *graindirectory.Work, isOver bool) {
+	type answer struct {
+		work *graindirectory.Work
+		err  error
+	}
+	answers := make(chan answer, 1)
+	go func() {
+		work, err := client.Activate(grain)
+		answers <- answer{work, err}
+	}()
+	select {
+	case a := <-answers:
+		var taken graindirectory.Taken
+		switch {
+		case a.err == nil:
+			r.answer("firm")
+		case errors.As(a.err, &taken):
+			r.answer("taken")
+		case errors.Is(a.err, graindirectory.ErrLost):
+			r.answer("lost")
+			return nil, true
+		default:
+			r.answer(a.err.Error()[:12])
+		}
+		return a.work, false
+	case <-time.After(time.Until(until)):
+		r.answer("unanswered")
+		return nil, true
+	}
+}
+
+// live works a grain for a while, or until it is to end.
+func live(o options, client *graindirectory.Client, work *graindirectory.Work, long time.Duration, s *store) life {
+	l := life{Grain: work.Grain, Activation: work.Activation, Token: work.Token, From: now()}
+	l.To = l.From
+	for end := l.From + int64(long); now() < end; time.Sleep(500 * time.Microsecond) {
+		select {
+		case <-work.Ends:
+			select {
+			case <-client.Lost:
+				l.Lost = true
+			default:
+			}
+			return l
+		default:
+		}
+		if !o.heedless && !work.May() {
+			l.Lost = true
+			return l
+		}
+		l.To = now()
+		s.write(work.Grain, work.Token)
+	}
+	return l
+}
+
+// judge tells two works of one grain that overlapped, and tokens that fell, or didn't rise across a death.
+func judge(r *record, before map[string]uint64) error {
+	sort.Slice(r.lives, func(i, j int) bool { return r.lives[i].From < r.lives[j].From })
+	last := map[string]life{}
+	overlapping, fallen := 0, 0
+	for _, l := range r.lives {
+		previous, isThere := last[l.Grain]
+		if isThere && l.From < previous.To {
+			overlapping++
+			fmt.Printf("TWO AT ONCE, for %v: %+v and %+v\n", time.Duration(previous.To-l.From), previous, l)
+		}
+		if isThere && (l.Token < previous.Token || previous.Lost && l.Token == previous.Token) || !isThere && l.Token < before[l.Grain] {
+			fallen++
+			fmt.Printf("A TOKEN FELL, or didn't rise across a death: %+v and %+v\n", previous, l)
+		}
+		if !isThere || l.To > previous.To {
+			last[l.Grain] = l
+		}
+	}
+	if overlapping+fallen > 0 {
+		return fmt.Errorf("%d works overlapped, %d tokens fell", overlapping, fallen)
+	}
+	return nil
+}
+
+func longestPause(lives []life) (longest time.Duration) {
+	for i := 1; i < len(lives); i++ {
+		if pause := time.Duration(lives[i].From - lives[i-1].From); pause > longest {
+			longest = pause
+		}
+	}
+	return longest
+}

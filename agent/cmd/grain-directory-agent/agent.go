@@ -1,0 +1,321 @@
+package main
+
+import (
+	"context"
+	"errors"
+	"log"
+	"os"
+	"strings"
+	"sync"
+	"time"
+
+	"agent/clock"
+	"agent/directory"
+	"agent/guard"
+	"agent/member"
+	"agent/membership"
+	"agent/membership/etcdstore"
+	"agent/membership/postgresstore"
+	"agent/operation"
+	"agent/silo"
+	"agent/transport"
+	"agent/transport/natscarrier"
+	"agent/transport/tcpcarrier"
+)
+
+// How long a call of the store may take at most, how long to wait before another try, and how long a generation has to last so that the next one needn't
+// wait longer than the one before did.
+const (
+	call      = 3 * time.Second
+	retry     = 200 * time.Millisecond
+	lasting   = time.Minute
+	mostPause = 30 * time.Second
+)
+
+// agent runs one generation of its silo after the other.
+type agent struct {
+	config operation.Config
+	logger *operation.Logger
+
+	mu      sync.Mutex
+	current *member.Member
+}
+
+// now is the member that there is, or nil.
+func (a *agent) now() *member.Member {
+	a.mu.Lock()
+	defer a.mu.Unlock()
+	return a.current
+}
+
+func (a *agent) set(m *member.Member) {
+	a.mu.Lock()
+	defer a.mu.Unlock()
+	a.current = m
+}
+
+// run runs until the agent is told to leave, and answers the program's status.
+func (a *agent) run(ctx context.Context) int {
+	if err := silo.Check(a.config.Program, directory.At(a.config.Endpoint, 1), a.config.Settings); err != nil {
+		log.Printf("error: %v", err)
+		return cannot
+	}
+	store, err := a.openStore(ctx)
+	if ctx.Err() != nil {
+		return left
+	}
+	if err != nil {
+		log.Printf("error: the store: %v", err)
+		return cannot
+	}
+	defer store.Close()
+	if err := a.agree(ctx, store); ctx.Err() != nil {
+		return left
+	} else if err != nil {
+		log.Printf("error: %v", err)
+		var difference directory.Difference
+		if errors.As(err, &difference) {
+			return mistaken
+		}
+		return cannot
+	}
+	if a.config.HTTP != "" {
+		if err := a.serveHTTP(); err != nil {
+			log.Printf("error: --http: %v", err)
+			return cannot
+		}
+	}
+	go a.watchdog()
+	following, stop := context.WithCancel(context.Background())
+	defer stop()
+	sequence := membership.New(store, membership.Timing{TTL: a.config.Settings.TTL, LockDelay: a.config.LockDelay, Call: a.call(), Retry: retry}, clock.Boot)
+	go sequence.Follow(following)
+	return a.generations(ctx, sequence)
+}
+
+// call is how long a call of the store may take: where one server of it stands still, others are tried before the deadline.
+func (a *agent) call() time.Duration {
+	if quarter := a.config.Settings.TTL / 4; quarter < call {
+		return quarter
+	}
+	return call
+}
+
+// agree tests the settings, as soon as the store answers.
+func (a *agent) agree(ctx context.Context, store membership.Store) error {
+	for told := false; ; told = true {
+		calling, done := context.WithTimeout(ctx, call)
+		err := membership.Agree(calling, store, a.config.Settings)
+		done()
+		var difference directory.Difference
+		if err == nil || errors.As(err, &difference) {
+			return err
+		}
+		if ctx.Err() != nil {
+			return ctx.Err()
+		}
+		if !told {
+			log.Printf("warning: the store can't be reached, and is tried again: %v", err)
+			operation.Notify("STATUS=waits for the store")
+		}
+		pause(ctx, retry)
+	}
+}
+
+// generations runs generations of the silo until it leaves.
+func (a *agent) generations(ctx context.Context, sequence *membership.Sequence) int {
+	var last member.Outcome
+	var wait time.Duration
+	supervised := a.endedBySupervisor()
+	for ctx.Err() == nil {
+		began := clock.Boot()
+		m, err := a.join(ctx, sequence, func(old directory.Silo) bool { return last.Ended && old == last.Silo || supervised(old) })
+		if err != nil {
+			if ctx.Err() != nil {
+				return left
+			}
+			log.Printf("error: it doesn't join: %v", err)
+			if sequence.Fault() != nil || !a.config.Rejoin {
+				return cannot
+			}
+		} else {
+			var isOver bool
+			if last, isOver = a.live(ctx, m); isOver {
+				operation.Notify("STATUS=has left")
+				return left
+			}
+			if sequence.Fault() != nil {
+				return cannot
+			}
+			if !a.config.Rejoin {
+				return fenced
+			}
+		}
+		if wait = 2*wait + time.Second; wait > mostPause {
+			wait = mostPause
+		}
+		if clock.Boot().Sub(began) > lasting || err == nil && last.Ended && wait <= time.Second {
+			wait = 0
+		}
+		if wait > 0 {
+			log.Printf("joins again in %v", wait)
+		}
+		pause(ctx, wait)
+	}
+	return left
+}
+
+// endedBySupervisor says of one older generation, the first there is, that it has surely ended, where the supervisor's word is given for that.
+func (a *agent) endedBySupervisor() func(directory.Silo) bool {
+	var first directory.Silo
+	return func(old directory.Silo) bool {
+		if first == "" {
+			first = old
+		}
+		return a.config.AfterEnd && old == first
+	}
+}
+
+// join makes the next generation.
+func (a *agent) join(ctx context.Context, sequence *membership.Sequence, ended func(directory.Silo) bool) (*member.Member, error) {
+	line, err := a.openLine(ctx)
+	if err != nil {
+		return nil, err
+	}
+	options := member.Options{Config: a.config, Sequence: sequence, Line: line, Ended: ended, Now: clock.Boot, Ready: func(silo directory.Silo) {
+		log.Printf("is ready")
+		operation.Notify("READY=1\nSTATUS=" + string(silo))
+	}}
+	if a.config.KillApplications {
+		started, err := guard.Start()
+		if err != nil {
+			line.Close()
+			return nil, err
+		}
+		options.Guard = started
+	}
+	m, err := member.Join(ctx, options)
+	if err != nil {
+		if options.Guard != nil {
+			options.Guard.Done()
+		}
+		return nil, err
+	}
+	a.logger.Named(string(m.Silo()))
+	log.Print("joined")
+	return m, nil
+}
+
+// live lets a generation live until it is fenced, or until the agent is told to leave; whether it left.
+func (a *agent) live(ctx context.Context, m *member.Member) (member.Outcome, bool) {
+	a.set(m)
+	defer a.set(nil)
+	select {
+	case <-m.Given():
+		return m.End(""), ctx.Err() != nil
+	case <-ctx.Done():
+		operation.Notify("STOPPING=1")
+		outcome := m.Leave(context.Background())
+		log.Printf("has left in order: %v", outcome.Left)
+		return outcome, true
+	}
+}
+
+// openStore opens the store: PostgreSQL where that is named, once it answers; else etcd.
+func (a *agent) openStore(ctx context.Context) (membership.Store, error) {
+	if a.config.Postgres == "" {
+		return a.openEtcd()
+	}
+	for told := false; ; told = true {
+		calling, done := context.WithTimeout(ctx, call)
+		store, err := postgresstore.Open(calling, a.config.Postgres, a.config.Cluster)
+		done()
+		if err == nil {
+			return store, nil
+		}
+		if !told {
+			log.Printf("warning: PostgreSQL can't be used, and is tried again: %v", err)
+			operation.Notify("STATUS=waits for the store")
+		}
+		if pause(ctx, retry); ctx.Err() != nil {
+			return nil, ctx.Err()
+		}
+	}
+}
+
+func (a *agent) openEtcd() (membership.Store, error) {
+	settings, err := a.config.EtcdTLS.TLS()
+	if err != nil {
+		return nil, err
+	}
+	password := ""
+	if a.config.EtcdPassword != "" {
+		text, err := os.ReadFile(a.config.EtcdPassword)
+		if err != nil {
+			return nil, err
+		}
+		password = strings.TrimSpace(string(text))
+	}
+	return etcdstore.Open(etcdstore.Options{Endpoints: strings.Split(a.config.Etcd, ","), TLS: settings, User: a.config.EtcdUser, Password: password,
+		Directory: a.config.Cluster})
+}
+
+// openLine connects the transport, as soon as that can be: who reaches nobody doesn't join.
+func (a *agent) openLine(ctx context.Context) (transport.Line, error) {
+	for told := false; ; told = true {
+		line, err := a.tryLine()
+		if err == nil {
+			return line, nil
+		}
+		if !told {
+			log.Printf("warning: %v; tried again", err)
+			operation.Notify("STATUS=waits for the transport")
+		}
+		if pause(ctx, retry); ctx.Err() != nil {
+			return nil, ctx.Err()
+		}
+	}
+}
+
+func (a *agent) tryLine() (transport.Line, error) {
+	if a.config.Settings.Transport == "tcp" {
+		settings, err := a.config.TCPTLS.TLS()
+		if err != nil {
+			return nil, err
+		}
+		return tcpcarrier.Open(a.config.Endpoint, settings)
+	}
+	settings, err := a.config.NatsTLS.TLS()
+	if err != nil {
+		return nil, err
+	}
+	return natscarrier.Open(natscarrier.Options{Servers: a.config.Nats, TLS: settings, Credentials: a.config.NatsCredentials, Directory: a.config.Cluster,
+		Changed: func(bool) {
+			if m := a.now(); m != nil {
+				m.TransportChanged()
+			}
+		}})
+}
+
+// watchdog tells the supervisor that the agent goes on. One that is frozen doesn't, and then the supervisor kills all of its unit.
+func (a *agent) watchdog() {
+	interval := operation.WatchdogInterval()
+	if interval == 0 {
+		return
+	}
+	for ; ; time.Sleep(interval) {
+		if m := a.now(); m != nil {
+			m.Health() // takes the locks, so that an agent that hangs says nothing
+		}
+		operation.Notify("WATCHDOG=1")
+	}
+}
+
+func pause(ctx context.Context, wait time.Duration) {
+	timer := time.NewTimer(wait)
+	defer timer.Stop()
+	select {
+	case <-ctx.Done():
+	case <-timer.C:
+	}
+}

@@ -1,0 +1,83 @@
+package directory
+
+import (
+	"errors"
+	"testing"
+	"time"
+)
+
+func TestReadSilo(t *testing.T) {
+	for text, isSilo := range map[string]bool{
+		"10.0.0.1:1000@1": true, "255.255.255.255:65535@2147483647": true,
+		"10.0.0.1:1000": false, "10.0.0.1:1000@0": false, "10.0.0.1:1000@01": false, "10.0.0.1:1000@2147483648": false, "10.0.0.1:0@1": false,
+		"10.0.0.1:01000@1": false, "host:1000@1": false, "[::1]:1000@1": false, "[::ffff:10.0.0.1]:1000@1": false, "10.0.0.1@1": false, "": false,
+	} {
+		if _, err := ReadSilo(text); (err == nil) != isSilo {
+			t.Errorf("ReadSilo(%q): %v", text, err)
+		}
+	}
+}
+
+func TestViews(t *testing.T) {
+	a1, a2, b1 := Silo("10.0.0.1:1000@1"), Silo("10.0.0.1:1000@2"), Silo("10.0.0.2:1000@1")
+	views := NewViews()
+	for _, step := range []struct {
+		change Change
+		died   Silo
+		isIn   bool
+	}{
+		{Change{1, Joined, a1, "x"}, "", true},
+		{Change{2, Joined, a1, ""}, "", false},
+		{Change{3, Joined, b1, ""}, "", false},
+		{Change{2, Leaving, b1, ""}, "", false},
+		{Change{2, Dead, b1, ""}, "", false},
+		{Change{2, Joined, b1, ""}, "", true},
+		{Change{3, Leaving, b1, ""}, "", true},
+		{Change{4, Leaving, b1, ""}, "", false},
+		{Change{4, Joined, a2, ""}, a1, true},
+		{Change{5, Dead, a1, ""}, "", false},
+		{Change{5, Dead, b1, ""}, b1, true},
+		{Change{6, Joined, a1, ""}, "", false},
+		{Change{6, "moved", a2, ""}, "", false},
+	} {
+		died, err := views.Take(step.change)
+		if died != step.died || (err == nil) != step.isIn {
+			t.Errorf("%v: died %q, %v", step.change, died, err)
+		}
+	}
+	if views.Version() != 5 || views.Status(a1) != IsDead || views.Status(a2) != IsActive || views.Status(b1) != IsDead || views.Token(a1) != "x" {
+		t.Errorf("%+v", views)
+	}
+	if members := views.Members(); len(members) != 1 || members[0] != a2 || views.Newest("10.0.0.1:1000") != 2 || views.Occupant("10.0.0.2:1000") != "" {
+		t.Errorf("members %v", members)
+	}
+}
+
+func TestSettings(t *testing.T) {
+	settings := DefaultSettings()
+	if settings.Text() != "hashing=sha256 points=30 cache=1024 transport=nats ttl=15s" {
+		t.Error(settings.Text())
+	}
+	if err := settings.Compare(settings.Text()); err != nil {
+		t.Error(err)
+	}
+	other := settings
+	other.Transport, other.TTL = "tcp", 5*time.Second
+	var difference Difference
+	if err := other.Compare(settings.Text()); !errors.As(err, &difference) || difference.Name != "transport" || difference.Theirs != "nats" {
+		t.Error(err)
+	}
+	for _, change := range []func(*Settings){
+		func(s *Settings) { s.Hashing = "md5" }, func(s *Settings) { s.Points = 0 }, func(s *Settings) { s.Points = 129 },
+		func(s *Settings) { s.Cache = 65537 }, func(s *Settings) { s.Transport = "mqtt" }, func(s *Settings) { s.TTL = time.Millisecond },
+	} {
+		wrong := settings
+		change(&wrong)
+		if wrong.Check() == nil {
+			t.Errorf("%+v is taken", wrong)
+		}
+	}
+	if err := settings.Check(); err != nil {
+		t.Error(err)
+	}
+}

@@ -1,0 +1,490 @@
+// Package member is one generation of a silo, from its join to its end: it ties the silo's process to the membership, the fence, the transport and
+// the applications.
+//
+// Its order: the join is decided, with a random token; then the silo's process is started, told all changes, and sees each view from its join on.
+// Once its ranges are settled it is ready. At the end the fence is given up first, so that the silo is told nothing more; then applications are
+// told, the process is killed, and applications hang up. Where all of them have, it declares itself dead, and nobody waits for its beat.
+package member
+
+import (
+	"context"
+	"crypto/rand"
+	"encoding/hex"
+	"fmt"
+	"log"
+	"net"
+	"sort"
+	"sync"
+	"time"
+
+	"agent/applications"
+	"agent/clock"
+	"agent/directory"
+	"agent/fence"
+	"agent/membership"
+	"agent/metrics"
+	"agent/operation"
+	"agent/peers"
+	"agent/settling"
+	"agent/silo"
+	"agent/transport"
+)
+
+// Options are what a generation is made of.
+type Options struct {
+	Config   operation.Config
+	Sequence *membership.Sequence
+	Line     transport.Line                // for letters; the member closes it
+	Ended    func(old directory.Silo) bool // whether an older generation has surely ended
+	Guard    Guard
+	Now      clock.Clock
+	Ready    func(directory.Silo) // told when the silo's ranges were settled for the first time
+}
+
+// Guard ends what this agent can't end itself, where it is frozen.
+type Guard interface {
+	Watch(process int, began string)
+	Forget(process int)
+	Until(until clock.Time)
+	Failed() <-chan struct{}
+	Done()
+}
+
+// Member is one generation of a silo.
+type Member struct {
+	options  Options
+	me       directory.Silo
+	joined   uint64
+	fence    *fence.Fence
+	silo     *silo.Silo
+	post     *transport.Post
+	silence  *peers.Silence
+	patience *settling.Patience
+	service  *applications.Service
+	listener *net.UnixListener
+	ctx      context.Context // ends with this generation
+	stop     context.CancelFunc
+	work     sync.WaitGroup
+
+	took map[string]*metrics.Histogram
+
+	mu      sync.Mutex
+	running *silo.Silo
+	told    uint64
+	settled uint64
+	status  silo.Status
+	skipped int64
+}
+
+// Outcome is how a generation ended.
+type Outcome struct {
+	Silo   directory.Silo
+	Reason string
+	Ended  bool // the silo's process has ended, and all applications have hung up
+	Left   bool // it left in order
+}
+
+// Join joins a directory as the endpoint's next generation, and starts the silo. A fault leaves nothing behind.
+func Join(ctx context.Context, options Options) (*Member, error) {
+	token := make([]byte, 8)
+	if _, err := rand.Read(token); err != nil {
+		return nil, err
+	}
+	m := &Member{options: options, silence: peers.New(options.Now), patience: settling.New(options.Now),
+		took: map[string]*metrics.Histogram{"activate": {}, "deactivate": {}, "find": {}}}
+	m.ctx, m.stop = context.WithCancel(context.Background())
+	var err error
+	if m.listener, err = applications.Listen(options.Config.Socket, options.Config.SocketMode); err != nil {
+		options.Line.Close()
+		return nil, err
+	}
+	waits := directory.Silo("")
+	config := options.Config
+	m.me, err = options.Sequence.Join(ctx, membership.JoinOptions{Endpoint: config.Endpoint, Token: hex.EncodeToString(token), Ended: options.Ended,
+		Sent: func(sent clock.Time) { m.fence = fence.New(config.Settings.TTL, sent, options.Now) },
+		Waits: func(old directory.Silo, left time.Duration) {
+			if waits != old {
+				log.Printf("waits up to %v for the end of %s, which had this endpoint", left.Round(time.Millisecond), old)
+				waits = old
+			}
+		}})
+	if err != nil {
+		m.listener.Close()
+		options.Line.Close()
+		return nil, err
+	}
+	if err := m.start(hex.EncodeToString(token)); err != nil {
+		m.End(err.Error())
+		return nil, err
+	}
+	return m, nil
+}
+
+// start starts what works for the silo. It has joined.
+func (m *Member) start(token string) error {
+	config := m.options.Config
+	m.service = applications.New(applications.Options{Silo: (*late)(m), May: m.fence.May, Until: m.fence.Until, Now: m.options.Now, Another: m.another,
+		Status: m.statusLine, Took: m.noteTook, Connected: m.watch, Disconnected: m.forget})
+	m.post = transport.New(m.me, m.fence.May, (*letters)(m))
+	m.fence.OnExtended(func(until clock.Time) {
+		m.service.Deadline(until)
+		m.guardUntil(until)
+	})
+	m.run(func() {
+		m.fence.Keep(m.ctx, func(ctx context.Context) (bool, error) { return m.options.Sequence.Beat(ctx, m.me) })
+	})
+	carrier, err := m.options.Line.Carry(m.me, m.post.Take)
+	if err != nil {
+		return err
+	}
+	m.post.Carry(carrier)
+	if m.silo, err = silo.Start(silo.Options{Program: config.Program, Silo: m.me, Settings: config.Settings, Token: token, May: m.fence.May},
+		(*lines)(m)); err != nil {
+		return err
+	}
+	m.mu.Lock()
+	m.running = m.silo
+	m.mu.Unlock()
+	m.watch(m.silo.Process(), applications.Began(m.silo.Process()))
+	m.guardUntil(m.fence.Until())
+	m.run(m.watchProcesses)
+	m.run(m.feed)
+	m.run(m.settle)
+	m.run(m.report)
+	m.run(m.bury)
+	return nil
+}
+
+// watchProcesses gives the silo up when its process ends, or its guard.
+func (m *Member) watchProcesses() {
+	var guard <-chan struct{}
+	if m.options.Guard != nil {
+		guard = m.options.Guard.Failed()
+	}
+	select {
+	case <-m.silo.Ended():
+		if m.fence.May() { // else the deadline ended it, by the end of its input
+			m.fence.Give("the silo's process has ended")
+		}
+	case <-guard:
+		m.fence.Give("the guard of the applications has ended, or stands still")
+	case <-m.ctx.Done():
+	}
+}
+
+func (m *Member) run(what func()) {
+	m.work.Add(1)
+	go func() {
+		defer m.work.Done()
+		what()
+	}()
+}
+
+// watch has the guard, if there is one, watch a process that works for activations.
+func (m *Member) watch(process int, began string) {
+	if m.options.Guard != nil {
+		m.options.Guard.Watch(process, began)
+	}
+}
+
+func (m *Member) forget(process int) {
+	if m.options.Guard != nil {
+		m.options.Guard.Forget(process)
+	}
+}
+
+// guardUntil tells the guard a later deadline: half of the margin behind that of applications, so that they may end by themselves.
+func (m *Member) guardUntil(until clock.Time) {
+	if m.options.Guard != nil {
+		m.options.Guard.Until(until.Add(fence.Margin(m.options.Config.Settings.TTL) / 2))
+	}
+}
+
+// process is the silo's process, nil before it is there.
+func (m *Member) process() *silo.Silo {
+	m.mu.Lock()
+	defer m.mu.Unlock()
+	return m.running
+}
+
+// Silo is this generation.
+func (m *Member) Silo() directory.Silo { return m.me }
+
+// Given is closed once the silo was given up: End it.
+func (m *Member) Given() <-chan struct{} { return m.fence.Given() }
+
+// feed tells the silo all changes in order, and has it see each view from its join on: who skips one can hand nothing over.
+func (m *Member) feed() {
+	for m.ctx.Err() == nil {
+		moved := m.options.Sequence.Moved()
+		if err := m.options.Sequence.Fault(); err != nil {
+			m.fence.Give(err.Error())
+			return
+		}
+		m.mu.Lock()
+		told := m.told
+		m.mu.Unlock()
+		for _, change := range m.options.Sequence.Changes(told) {
+			if !m.tell(change) {
+				return
+			}
+		}
+		select {
+		case <-moved:
+		case <-m.ctx.Done():
+		}
+	}
+}
+
+// tell tells the silo a change; whether it goes on.
+func (m *Member) tell(change directory.Change) bool {
+	endpoint, generation := change.Silo.Split()
+	mine, my := m.me.Split()
+	if change.Kind == directory.Dead && change.Silo == m.me || change.Kind == directory.Joined && endpoint == mine && generation > my {
+		m.fence.Give("this silo was declared dead, or replaced")
+		return false
+	}
+	err := m.silo.Tell(change, func(err error) {
+		if err != nil {
+			m.fence.Give(err.Error())
+		}
+	})
+	m.mu.Lock()
+	m.told = change.Version
+	if change.Kind == directory.Joined && change.Silo == m.me {
+		m.joined = change.Version
+	}
+	joined := m.joined
+	m.mu.Unlock()
+	if err == nil && joined > 0 {
+		err = m.silo.See(change.Version, func(skipped bool, err error) {
+			if err != nil {
+				m.fence.Give(err.Error())
+			} else if change.Version == joined {
+				go m.service.Serve(m.listener) // before, the silo would refuse all that they ask
+			} else if skipped {
+				m.mu.Lock()
+				m.skipped++
+				m.mu.Unlock()
+			}
+		})
+		m.service.Changed(change)
+	}
+	if err != nil {
+		m.fence.Give("the silo can't be told a change: " + err.Error())
+		return false
+	}
+	return true
+}
+
+// settle looks at the silo's status, nudges it when it is to be, and gives it up when it says nothing.
+func (m *Member) settle() {
+	statuses := make(chan silo.Status, 1)
+	swept := m.options.Now()
+	for m.ctx.Err() == nil {
+		if m.silo.Status(func(status silo.Status) { statuses <- status }) != nil {
+			m.fence.Give("the silo's process is too slow")
+			return
+		}
+		status, isThere := m.await(statuses)
+		if !isThere {
+			return
+		}
+		m.look(status)
+		if now := m.options.Now(); now.Sub(swept) > time.Second {
+			swept = now
+			m.service.Sweep()
+		}
+		sleep(m.ctx, settling.Look(status))
+	}
+}
+
+// await waits for the silo's status, and gives it up where its process writes nothing for too long. Any line counts: one with much to do may be
+// long in coming to the question.
+func (m *Member) await(statuses chan silo.Status) (silo.Status, bool) {
+	asked, most := m.options.Now(), m.options.Config.SiloTimeout
+	ticks := time.NewTicker(most / 20)
+	defer ticks.Stop()
+	for {
+		select {
+		case status := <-statuses:
+			return status, true
+		case <-m.ctx.Done():
+			return silo.Status{}, false
+		case <-ticks.C:
+			since := m.silo.Wrote()
+			if asked > since {
+				since = asked
+			}
+			if m.options.Now().Sub(since) > most {
+				m.fence.Give(fmt.Sprintf("the silo's process wrote nothing for %v", most))
+				return silo.Status{}, false
+			}
+		}
+	}
+}
+
+// look takes the silo's status.
+func (m *Member) look(status silo.Status) {
+	m.mu.Lock()
+	m.status = status
+	isSettled := status.Unsettled == 0 && status.Seen > 0 && status.Seen == m.told && status.Seen > m.settled
+	isFirst := isSettled && m.settled == 0
+	if isSettled {
+		m.settled = status.Seen
+	}
+	m.mu.Unlock()
+	if isSettled {
+		log.Printf("settled version %d", status.Seen)
+		m.service.Settled(status.Seen)
+	}
+	if isFirst && m.options.Ready != nil {
+		m.options.Ready(m.me)
+	}
+	if m.fence.May() && m.patience.Nudge(status, m.silo.Pending()) {
+		m.silo.Nudge(func() {})
+	}
+}
+
+// bury declares those dead whose beats stand still. Everybody may; one of them comes first.
+func (m *Member) bury() {
+	for ; m.ctx.Err() == nil; sleep(m.ctx, 20*time.Millisecond) {
+		if !m.fence.May() {
+			continue
+		}
+		dead, err := m.options.Sequence.Bury(m.ctx, m.me)
+		if err != nil && m.ctx.Err() == nil {
+			log.Printf("warning: a death isn't confirmed: %v", err)
+			sleep(m.ctx, 200*time.Millisecond)
+		} else if dead != "" {
+			log.Printf("declared %s dead", dead)
+		}
+	}
+}
+
+// report tells the others what this silo has seen and settled, and whom it doesn't hear, and votes.
+func (m *Member) report() {
+	said := ""
+	connected, reread := m.options.Now(), m.options.Now()
+	for ; m.ctx.Err() == nil; sleep(m.ctx, 50*time.Millisecond) {
+		reread = m.testWatch(reread)
+		members, reports := m.members()
+		report := peers.Report{Up: m.post.Up()}
+		m.mu.Lock()
+		report.Seen, report.Settled = m.status.Seen, m.settled
+		m.mu.Unlock()
+		if report.Up {
+			report.Suspects = m.silence.Suspects(m.options.Config.SilentAfter, members)
+		}
+		if text := report.Text(); text != said && m.options.Sequence.Report(m.ctx, m.me, text) == nil {
+			said = text
+		}
+		if now := m.options.Now(); report.Up || !m.isUpElsewhere(reports) {
+			connected = now
+		} else if now.Sub(connected) > m.options.Config.TransportTimeout {
+			m.fence.Give("the transport can't be reached from here, but from elsewhere")
+			return
+		}
+		m.vote(members, reports)
+	}
+}
+
+// testWatch has everything read again where this silo's own beats don't come by the watch, and answers when it last did.
+func (m *Member) testWatch(last clock.Time) clock.Time {
+	patience, now := m.options.Config.Settings.TTL/2, m.options.Now()
+	confirmed := m.fence.Until().Add(-(m.options.Config.Settings.TTL - fence.Margin(m.options.Config.Settings.TTL))) // when the last was sent
+	if seen := m.options.Sequence.BeatSeen(m.me); confirmed.Sub(seen) > patience && now.Sub(last) > patience {
+		log.Printf("warning: the watch of the store tells nothing: all is read again")
+		m.options.Sequence.Reread()
+		return now
+	}
+	return last
+}
+
+// members are those that have a beat, and what they report.
+func (m *Member) members() (members []directory.Silo, reports map[directory.Silo]peers.Report) {
+	reports = map[directory.Silo]peers.Report{}
+	m.options.Sequence.Look(func(views *directory.Views, statuses map[directory.Silo]string) {
+		members = views.Members()
+		for _, silo := range members {
+			if text, isThere := statuses[silo]; isThere {
+				reports[silo] = peers.ReadReport(text)
+			}
+		}
+	})
+	return members, reports
+}
+
+func (m *Member) isUpElsewhere(reports map[directory.Silo]peers.Report) bool {
+	for silo, report := range reports {
+		if silo != m.me && report.Up {
+			return true
+		}
+	}
+	return false
+}
+
+// vote ends the beat of a member that most don't hear.
+func (m *Member) vote(members []directory.Silo, reports map[directory.Silo]peers.Report) {
+	suspicions := map[directory.Silo][]directory.Silo{}
+	for silo, report := range reports {
+		if m.options.Sequence.HasBeat(silo) {
+			suspicions[silo] = report.Suspects
+		}
+	}
+	out := peers.VotedOut(members, suspicions)
+	if out == "" || !m.fence.May() || !m.options.Sequence.HasBeat(out) {
+		return
+	}
+	if err := m.options.Sequence.VoteOut(m.ctx, out); err != nil {
+		log.Printf("warning: %s isn't voted out: %v", out, err)
+	} else {
+		log.Printf("warning: %s answers most members no more, and is voted out", out)
+	}
+}
+
+// another is an active silo other than this, by the grain's name.
+func (m *Member) another(grain string) directory.Silo {
+	members, _ := m.members()
+	var best directory.Silo
+	var most uint32
+	sort.Slice(members, func(i, j int) bool { return members[i] < members[j] })
+	for _, other := range members {
+		if other == m.me || m.options.Sequence.Status(other) != directory.IsActive {
+			continue
+		}
+		if hash := fnv(string(other) + grain); best == "" || hash > most {
+			best, most = other, hash
+		}
+	}
+	return best
+}
+
+func fnv(text string) uint32 {
+	hash := uint32(2166136261)
+	for _, c := range []byte(text) {
+		hash = (hash ^ uint32(c)) * 16777619
+	}
+	return hash
+}
+
+func (m *Member) statusLine() string {
+	members, _ := m.members()
+	m.mu.Lock()
+	defer m.mu.Unlock()
+	return fmt.Sprintf("%s version %d seen %d settled %d members %d", m.me, m.told, m.status.Seen, m.settled, len(members))
+}
+
+func (m *Member) noteTook(what string, took time.Duration) {
+	m.took[what].Took(took)
+	m.patience.Took(took)
+}
+
+func sleep(ctx context.Context, wait time.Duration) {
+	timer := time.NewTimer(wait)
+	defer timer.Stop()
+	select {
+	case <-ctx.Done():
+	case <-timer.C:
+	}
+}

@@ -1,0 +1,287 @@
+package membership
+
+import (
+	"context"
+	"fmt"
+	"log"
+	"strings"
+	"sync"
+	"time"
+
+	"agent/clock"
+	"agent/directory"
+)
+
+// Timing is how long things of membership take.
+type Timing struct {
+	TTL       time.Duration // a beat that stands still for so long may end its silo
+	LockDelay time.Duration // what others wait for more
+	Call      time.Duration // what a call of the store may take
+	Retry     time.Duration // between two tries
+}
+
+// beat is the state of a silo's beat, and since when this agent has seen it so, by its own clock.
+type beat struct {
+	revision Revision // Absent: it is gone
+	since    clock.Time
+}
+
+// Sequence follows the changes of a directory, and proposes changes.
+type Sequence struct {
+	store  Store
+	timing Timing
+	now    clock.Clock
+
+	mu       sync.Mutex
+	views    *directory.Views
+	changes  []directory.Change
+	beats    map[directory.Silo]beat
+	statuses map[directory.Silo]string
+	fault    error
+	caughtUp bool
+	moved    chan struct{} // closed, and made anew, when something was read
+	reread   func()        // ends the watch that there is
+}
+
+// New follows a directory in a store, once Follow runs.
+func New(store Store, timing Timing, now clock.Clock) *Sequence {
+	return &Sequence{store: store, timing: timing, now: now, views: directory.NewViews(), beats: map[directory.Silo]beat{},
+		statuses: map[directory.Silo]string{}, moved: make(chan struct{})}
+}
+
+const settingsKey = "settings"
+
+func changeKey(version uint64) string      { return fmt.Sprintf("change/%010d", version) }
+func beatKey(silo directory.Silo) string   { return "beat/" + string(silo) }
+func statusKey(silo directory.Silo) string { return "status/" + string(silo) }
+func (s *Sequence) call(ctx context.Context) (context.Context, context.CancelFunc) {
+	return context.WithTimeout(ctx, s.timing.Call)
+}
+
+// Agree writes the settings if the directory has none, and compares them with those that it has: nil, a directory.Difference, or the store's
+// fault.
+func Agree(ctx context.Context, store Store, settings directory.Settings) error {
+	if _, err := store.Commit(ctx, Transaction{If: []Condition{{settingsKey, Absent}}, Put: []Entry{{Key: settingsKey, Value: settings.Text()}}}); err != nil {
+		return err
+	}
+	entries, _, err := store.Read(ctx, settingsKey)
+	if err != nil {
+		return err
+	}
+	if len(entries) == 0 {
+		return fmt.Errorf("the store has no settings, though they were written")
+	}
+	return settings.Compare(entries[0].Value)
+}
+
+// Follow reads all there is, and then all news, until ctx ends. Where the watch is lost, be it by a compaction, all is read again.
+func (s *Sequence) Follow(ctx context.Context) {
+	for ctx.Err() == nil {
+		err := s.readAndWatch(ctx)
+		if ctx.Err() != nil {
+			return
+		}
+		log.Printf("warning: the store is lost, and tried again: %v", err)
+		pause(ctx, s.timing.Retry)
+	}
+}
+
+func (s *Sequence) readAndWatch(ctx context.Context) error {
+	calling, done := s.call(ctx)
+	entries, revision, err := s.store.Read(calling, "")
+	done()
+	if err != nil {
+		return err
+	}
+	s.takeAll(entries)
+	watching, stop := context.WithCancel(ctx)
+	defer stop()
+	s.mu.Lock()
+	s.reread = stop
+	s.mu.Unlock()
+	return s.store.Watch(watching, revision, s.take)
+}
+
+// Reread has all read again, where the watch tells nothing: as where a silo's own beats, which the store confirmed, don't come by it.
+func (s *Sequence) Reread() {
+	s.mu.Lock()
+	defer s.mu.Unlock()
+	if s.reread != nil {
+		s.reread()
+	}
+}
+
+// BeatSeen is when this agent last saw a silo's beat change, by its own clock.
+func (s *Sequence) BeatSeen(silo directory.Silo) clock.Time {
+	s.mu.Lock()
+	defer s.mu.Unlock()
+	return s.beats[silo].since
+}
+
+// takeAll takes all entries: what isn't among them is gone.
+func (s *Sequence) takeAll(entries []Entry) {
+	s.mu.Lock()
+	defer s.mu.Unlock()
+	there := map[string]bool{}
+	for _, entry := range entries {
+		there[entry.Key] = true
+		s.takeOne(Event{Entry: entry})
+	}
+	for silo := range s.statuses {
+		if !there[statusKey(silo)] {
+			delete(s.statuses, silo)
+		}
+	}
+	for _, silo := range s.views.Members() {
+		if !there[beatKey(silo)] {
+			s.saw(silo, Absent)
+		}
+	}
+	s.caughtUp = true
+	s.announce()
+}
+
+func (s *Sequence) take(events []Event) {
+	s.mu.Lock()
+	defer s.mu.Unlock()
+	for _, event := range events {
+		s.takeOne(event)
+	}
+	s.announce()
+}
+
+func (s *Sequence) announce() {
+	close(s.moved)
+	s.moved = make(chan struct{})
+}
+
+// takeOne takes one entry or event. Beats sort before changes, and statuses behind them, so a beat may come before its silo's join.
+func (s *Sequence) takeOne(event Event) {
+	part, name, _ := strings.Cut(event.Key, "/")
+	silo := directory.Silo(name)
+	switch part {
+	case "change":
+		if err := s.takeChange(event); err != nil && s.fault == nil {
+			s.fault = err
+		}
+	case "beat":
+		revision := event.Revision
+		if event.Gone {
+			revision = Absent
+		}
+		s.saw(silo, revision)
+	case "status":
+		if event.Gone {
+			delete(s.statuses, silo)
+		} else {
+			s.statuses[silo] = event.Value
+		}
+	}
+}
+
+func (s *Sequence) saw(silo directory.Silo, revision Revision) {
+	if s.views.Status(silo) == directory.IsDead {
+		delete(s.beats, silo)
+	} else if old, isKnown := s.beats[silo]; !isKnown || old.revision != revision {
+		s.beats[silo] = beat{revision, s.now()}
+	}
+}
+
+// takeChange takes a change if it is the next; one that is known has to be the same.
+func (s *Sequence) takeChange(event Event) error {
+	change, err := readChange(event)
+	if err != nil {
+		return err
+	}
+	if change.Version <= s.views.Version() {
+		if s.changes[change.Version-1] != change {
+			return fmt.Errorf("change %d was %v, and is now %v: somebody rewrote the store; stop all agents of this directory, and begin another",
+				change.Version, s.changes[change.Version-1], change)
+		}
+		return nil
+	}
+	died, err := s.views.Take(change)
+	if err != nil {
+		return fmt.Errorf("the store has a change that silos refuse: %v", err)
+	}
+	s.changes = append(s.changes, change)
+	if died != "" {
+		delete(s.beats, died)
+		delete(s.statuses, died)
+	}
+	return nil
+}
+
+func changeText(c directory.Change) string {
+	text := string(c.Kind) + " " + string(c.Silo)
+	if c.Token != "" {
+		text += " " + c.Token
+	}
+	return text
+}
+
+func readChange(event Event) (change directory.Change, err error) {
+	words := strings.Fields(event.Value)
+	if event.Gone || len(words) < 2 || len(words) > 3 {
+		return change, fmt.Errorf("%s is gone from the store, or can't be read: %q", event.Key, event.Value)
+	}
+	if _, err := fmt.Sscanf(event.Key, "change/%d", &change.Version); err != nil || change.Version == 0 || changeKey(change.Version) != event.Key {
+		return change, fmt.Errorf("%q is no key of a change", event.Key)
+	}
+	change.Kind, change.Silo = directory.Kind(words[0]), directory.Silo(words[1])
+	if len(words) == 3 {
+		change.Token = words[2]
+	}
+	return change, nil
+}
+
+// Fault is why the directory can't go on, or nil: its sequence of changes was hurt.
+func (s *Sequence) Fault() error {
+	s.mu.Lock()
+	defer s.mu.Unlock()
+	return s.fault
+}
+
+// Moved is closed when something more was read.
+func (s *Sequence) Moved() <-chan struct{} {
+	s.mu.Lock()
+	defer s.mu.Unlock()
+	return s.moved
+}
+
+// Changes are those behind a version.
+func (s *Sequence) Changes(after uint64) []directory.Change {
+	s.mu.Lock()
+	defer s.mu.Unlock()
+	return s.changes[after:len(s.changes):len(s.changes)]
+}
+
+// Look calls something with the views, which it may only read, and the statuses. It may not call the sequence.
+func (s *Sequence) Look(look func(views *directory.Views, statuses map[directory.Silo]string)) {
+	s.mu.Lock()
+	defer s.mu.Unlock()
+	look(s.views, s.statuses)
+}
+
+// Version is the last version that was made.
+func (s *Sequence) Version() uint64 {
+	s.mu.Lock()
+	defer s.mu.Unlock()
+	return s.views.Version()
+}
+
+// Status is a silo's standing.
+func (s *Sequence) Status(silo directory.Silo) directory.Status {
+	s.mu.Lock()
+	defer s.mu.Unlock()
+	return s.views.Status(silo)
+}
+
+func pause(ctx context.Context, wait time.Duration) {
+	timer := time.NewTimer(wait)
+	defer timer.Stop()
+	select {
+	case <-ctx.Done():
+	case <-timer.C:
+	}
+}

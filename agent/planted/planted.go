@@ -1,0 +1,17 @@
+//go:build !trial
+
+// Package planted has faults that tools/partitions plants, to see that it finds them. In the program that agent/build makes there are none; they
+// come with the build tag `trial`, by the variable GRAIN_DIRECTORY_PLANTED.
+package planted
+
+// The faults: deadlines never pass; an end takes longer than the margin; a change of membership is written without its conditions; parts of two
+// letters are put together.
+const (
+	NoFence       = false
+	SlowEnd       = false
+	NoTransaction = false
+	MixedParts    = false
+)
+
+// Rate is how fast this machine's clock runs.
+const Rate = 1.0

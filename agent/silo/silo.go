@@ -1,0 +1,467 @@
+// Package silo runs a silo's process and speaks its lines (docs/RULES.md, "Lines of a silo's process"). Nothing else in the agent writes or
+// reads such a line, so what the process learns to say later is taken up here:
+//
+//	status           Status is counted here from the lines that pass, and confirmed once a view by `show`
+//	nudge GRAIN      Nudge renews all requests; so whoever nudges waits for longer each time (package settling)
+//	firm .. at V     Said.Token is the version that the silo had seen when it wrote `firm`; see Said
+//	--join TOKEN     Options.Token isn't told to the process
+//	place, cancel    applications choose by a hash of the agent's own, and an asking that nobody wants is closed once it is firm
+package silo
+
+import (
+	"bufio"
+	"bytes"
+	"errors"
+	"fmt"
+	"io"
+	"log"
+	"os/exec"
+	"strconv"
+	"strings"
+	"sync"
+	"sync/atomic"
+	"syscall"
+	"time"
+
+	"agent/clock"
+	"agent/directory"
+	"agent/queue"
+)
+
+// Bounds of what waits for the process to read it. Letters have less room than commands, so a silo that is slow loses letters, which are sent
+// again, and takes the commands that end activations.
+const (
+	mostPending = 64 << 20
+	mostLetters = 48 << 20
+)
+
+// longestLine is what a silo writes at most in one line: it reads no longer ones.
+const longestLine = 16<<20 + 1
+
+// ErrBusy says that too many lines wait for the silo's process.
+var ErrBusy = errors.New("too many lines wait for the silo's process")
+
+// Options are what a process is started with.
+type Options struct {
+	Program  string             // the path of grain-directory, or of what does the same
+	Silo     directory.Silo     //
+	Settings directory.Settings //
+	Token    string             // what its join was decided with; today's process isn't told
+	May      func() bool        // whether the silo may be told anything now; asked before each write
+}
+
+// Listener hears what a silo says by itself. Its methods are called by one goroutine, in the order of the silo's lines, and may not wait.
+type Listener interface {
+	// Letter is one to another silo; the line is the listener's until it returns.
+	Letter(to directory.Silo, kind string, line []byte)
+	// Quiet says that no more lines are there just now.
+	Quiet()
+	// Said is what came of a letter.
+	Said(Said)
+	// Broken says that the process wrote something that no rule has; it can't be relied on.
+	Broken(reason string)
+}
+
+// What is what came of a letter, for the application.
+type What int
+
+// What came of letters. Noted is all that concerns no application.
+const (
+	Noted What = iota
+	Firm
+	Taken
+	Ended
+	Started
+	Found
+	Nothing
+)
+
+// Said is what came of a letter.
+//
+// Token belongs to Firm. It never falls for a grain, and rises across a death: hashes are served at rising versions only, so what became firm
+// later did so at a version no lower; and behind a death, at a higher one. It is the version that the silo had seen when it wrote the line, as
+// the agent, which told it each `see`, reads from the answers in their order.
+type Said struct {
+	What              What
+	Grain, Activation string
+	Token             uint64
+	Kind, Effect      string // of Noted: the letter's kind, and `installed`, `noted`, ..
+}
+
+// Answer is what a silo said to a command of an application.
+type Answer struct {
+	Activation string // of what was started, is closing, was offered or is cached
+	Cached     bool   // of a find: this is a hint
+	Refused    string // the number of a refusal or a fault, or `busy`
+}
+
+// Status is what a silo has, and what it waits for.
+type Status struct {
+	Seen, Known              uint64
+	Held                     int
+	Asking, Closing, Finding int
+	Unsettled                int
+	Moved                    uint64 // rises whenever something came that was waited for
+}
+
+// Outstanding says whether the silo waits for anything.
+func (s Status) Outstanding() bool { return s.Asking+s.Closing+s.Finding+s.Unsettled > 0 }
+
+// Counts are what a silo has said and read so far.
+type Counts struct{ LettersIn, LettersOut, LettersLost, Nudges, Faults int64 }
+
+// Silo is a silo's process.
+type Silo struct {
+	options  Options
+	command  *exec.Cmd
+	listener Listener
+	in       *queue.Lines
+	ended    chan struct{}
+	wrote    int64 // atomic: when it wrote its last line, by clock.Boot
+	counts   Counts
+
+	mu      sync.Mutex
+	waiting []waiting
+	head    int
+	tracked tracked
+}
+
+// waiting is a line that was given to the process and isn't answered yet. Each is answered by one line; only `show` has many, up to a pong.
+type waiting struct {
+	answer func(line string) // nil: a letter
+	rows   bool
+	settle string // of a page or a report: its range
+}
+
+// Start starts a silo's process.
+func Start(options Options, listener Listener) (*Silo, error) {
+	settings := options.Settings
+	command := exec.Command(options.Program, "silo", string(options.Silo), "--hashing", settings.Hashing,
+		"--points", strconv.Itoa(settings.Points), "--cache", strconv.Itoa(settings.Cache))
+	// A group of its own: a ^C at a terminal is for the agent, which leaves in order. When the agent ends, the silo's input does, and so the
+	// silo. (Pdeathsig would be wrong: it comes when the thread ends that started the process, and Go ends threads.)
+	command.SysProcAttr = &syscall.SysProcAttr{Setpgid: true}
+	in, err := command.StdinPipe()
+	if err != nil {
+		return nil, err
+	}
+	out, err := command.StdoutPipe()
+	if err != nil {
+		return nil, err
+	}
+	complaints := &complaints{}
+	command.Stderr = complaints
+	if err := command.Start(); err != nil {
+		return nil, fmt.Errorf("the silo's process doesn't start: %w: is --program the path of grain-directory, built by ./build?", err)
+	}
+	s := over(options, listener, in, out)
+	s.command = command
+	return s, nil
+}
+
+// Check says what is wrong with a program as a silo's, or nil: each join that comes to nothing uses up a generation.
+func Check(program string, silo directory.Silo, settings directory.Settings) error {
+	const patience = 20 * time.Second
+	s, err := Start(Options{Program: program, Silo: silo, Settings: settings}, deaf{})
+	if err != nil {
+		return err
+	}
+	defer s.Kill()
+	answered := make(chan struct{})
+	s.Ping(func() { close(answered) })
+	select {
+	case <-answered:
+		return nil
+	case <-s.Ended():
+	case <-time.After(patience):
+	}
+	return fmt.Errorf("%s isn't a silo's process: `%s silo %s` doesn't answer; --program is the path of grain-directory, built by ./build", program, program, silo)
+}
+
+// deaf hears nothing.
+type deaf struct{}
+
+func (deaf) Letter(directory.Silo, string, []byte) {}
+func (deaf) Quiet()                                {}
+func (deaf) Said(Said)                             {}
+func (deaf) Broken(string)                         {}
+
+// over speaks the lines of a process over its pipes.
+func over(options Options, listener Listener, in io.WriteCloser, out io.Reader) *Silo {
+	if options.May == nil {
+		options.May = func() bool { return true }
+	}
+	s := &Silo{options: options, listener: listener, in: queue.New(mostPending), ended: make(chan struct{}), wrote: int64(clock.Boot()),
+		tracked: newTracked()}
+	go func() {
+		s.in.Run(in, options.May)
+		in.Close()
+	}()
+	go s.read(out)
+	return s
+}
+
+// Address is the silo's text.
+func (s *Silo) Address() directory.Silo { return s.options.Silo }
+
+// Ended is closed when the process has written its last line.
+func (s *Silo) Ended() <-chan struct{} { return s.ended }
+
+// Process is the number of the process.
+func (s *Silo) Process() int { return s.command.Process.Pid }
+
+// Wrote is when the process wrote its last line.
+func (s *Silo) Wrote() clock.Time { return clock.Time(atomic.LoadInt64(&s.wrote)) }
+
+// Pending is how many bytes wait for the process to read them.
+func (s *Silo) Pending() int { return s.in.Size() }
+
+// Counts are what was counted so far.
+func (s *Silo) Counts() Counts {
+	return Counts{atomic.LoadInt64(&s.counts.LettersIn), atomic.LoadInt64(&s.counts.LettersOut), atomic.LoadInt64(&s.counts.LettersLost),
+		atomic.LoadInt64(&s.counts.Nudges), atomic.LoadInt64(&s.counts.Faults)}
+}
+
+// Kill ends the process by signal 9, and returns when it has surely ended.
+func (s *Silo) Kill() {
+	s.in.Close()
+	syscall.Kill(-s.command.Process.Pid, syscall.SIGKILL) // its group: a script in front of the program ends with it
+	<-s.ended
+	s.command.Wait()
+}
+
+// send gives the process a line.
+func (s *Silo) send(line string, answer func(string)) error { return s.give(line, answer, false) }
+
+func (s *Silo) give(line string, answer func(string), rows bool) error {
+	s.mu.Lock()
+	defer s.mu.Unlock()
+	if !s.in.Add([]byte(line), mostPending) {
+		return ErrBusy
+	}
+	s.waiting = append(s.waiting, waiting{answer: answer, rows: rows})
+	return nil
+}
+
+// Receive gives the silo a letter that came, without its line feed. One that isn't to this silo isn't given, since it would have no answer;
+// nor is one for which there is no room: it is lost, as letters may be.
+func (s *Silo) Receive(line []byte) {
+	head, ok := readHead(line)
+	if !ok || head.to != string(s.options.Silo) || bytes.IndexByte(line, '\n') >= 0 {
+		atomic.AddInt64(&s.counts.Faults, 1)
+		return
+	}
+	s.receive(head, line)
+}
+
+func (s *Silo) receive(head head, line []byte) {
+	w := waiting{}
+	if head.kind == "page" || head.kind == "report" {
+		w.settle = head.first
+	}
+	s.mu.Lock()
+	defer s.mu.Unlock()
+	if !s.in.Add(line, mostLetters) {
+		atomic.AddInt64(&s.counts.LettersLost, 1)
+		return
+	}
+	atomic.AddInt64(&s.counts.LettersIn, 1)
+	s.waiting = append(s.waiting, w)
+}
+
+// head is the beginning of a letter's line: letter FROM TO VERSION KIND and the word behind it.
+type head struct{ from, to, kind, first string }
+
+func readHead(line []byte) (head, bool) {
+	var words [6][]byte
+	rest := line
+	count := 0
+	for count < len(words) && len(rest) > 0 {
+		end := bytes.IndexByte(rest, ' ')
+		if end < 0 {
+			end = len(rest)
+		}
+		if end > 0 {
+			words[count] = rest[:end]
+			count++
+		}
+		if end == len(rest) {
+			break
+		}
+		rest = rest[end+1:]
+	}
+	if count < 5 || string(words[0]) != "letter" {
+		return head{}, false
+	}
+	return head{string(words[1]), string(words[2]), string(words[4]), string(words[5])}, true
+}
+
+// complaints are what the process says beside its lines.
+type complaints struct{}
+
+func (*complaints) Write(text []byte) (int, error) {
+	log.Printf("the silo's process says: %s", strings.TrimSpace(string(text)))
+	return len(text), nil
+}
+
+// read takes the lines that the process writes, to its end.
+func (s *Silo) read(out io.Reader) {
+	defer close(s.ended)
+	reader := bufio.NewReaderSize(out, 1<<20)
+	for {
+		line, err := readLine(reader)
+		if err != nil {
+			return // what has no line feed may have been cut: it isn't taken
+		}
+		atomic.StoreInt64(&s.wrote, int64(clock.Boot()))
+		if head, isLetter := readHead(line); isLetter {
+			s.wroteLetter(head, line)
+		} else if !s.answered(line) {
+			s.listener.Broken("the silo's process wrote a line that nothing asked for: " + short(string(line)))
+			return
+		}
+		if reader.Buffered() == 0 {
+			s.listener.Quiet()
+		}
+	}
+}
+
+// readLine reads a line without its line feed; it stays until the next is read.
+func readLine(reader *bufio.Reader) ([]byte, error) {
+	line, err := reader.ReadSlice('\n')
+	if err == bufio.ErrBufferFull { // a long report
+		long := append([]byte(nil), line...)
+		for err == bufio.ErrBufferFull && len(long) <= longestLine {
+			line, err = reader.ReadSlice('\n')
+			long = append(long, line...)
+		}
+		line = long
+	}
+	if err != nil {
+		return nil, err
+	}
+	return line[:len(line)-1], nil
+}
+
+func (s *Silo) wroteLetter(head head, line []byte) {
+	atomic.AddInt64(&s.counts.LettersOut, 1)
+	if head.kind == "ask" || head.kind == "query" {
+		s.mu.Lock()
+		s.tracked.unsettled[head.first] = true
+		s.mu.Unlock()
+	}
+	if head.to == string(s.options.Silo) {
+		s.receive(head, line) // it comes back as any other
+		return
+	}
+	s.listener.Letter(directory.Silo(head.to), head.kind, line)
+}
+
+// answered gives a line to whoever waits for it; whether anybody does.
+func (s *Silo) answered(line []byte) bool {
+	s.mu.Lock()
+	if s.head < len(s.waiting) && s.waiting[s.head].rows {
+		if !bytes.HasPrefix(line, []byte("pong ")) {
+			answer := s.waiting[s.head].answer
+			s.mu.Unlock()
+			answer(string(line))
+			return true
+		}
+		s.head++ // the pong is the next one's
+	}
+	if s.head == len(s.waiting) {
+		s.mu.Unlock()
+		return false
+	}
+	w := s.waiting[s.head]
+	s.waiting[s.head] = waiting{}
+	s.head++
+	if s.head > 4096 && 2*s.head > len(s.waiting) {
+		s.waiting = append([]waiting(nil), s.waiting[s.head:]...)
+		s.head = 0
+	}
+	text := string(line)
+	words := strings.Fields(text)
+	if len(words) == 0 {
+		s.mu.Unlock()
+		return false
+	}
+	s.tracked.note(words, w.settle)
+	seen := s.tracked.seen
+	s.mu.Unlock()
+	if w.answer != nil {
+		w.answer(text)
+	} else {
+		s.said(words, seen)
+	}
+	return true
+}
+
+// said tells what came of a letter.
+func (s *Silo) said(words []string, seen uint64) {
+	said, ok := readSaid(words, seen)
+	if !ok {
+		s.listener.Broken("the silo's process answered a letter by: " + short(strings.Join(words, " ")))
+		return
+	}
+	if words[0] == "fault" || words[0] == "refused" {
+		atomic.AddInt64(&s.counts.Faults, 1)
+	}
+	s.listener.Said(said)
+}
+
+// readSaid reads the line that a letter was answered with.
+func readSaid(words []string, seen uint64) (Said, bool) {
+	has := func(least int) bool { return len(words) >= least }
+	switch words[0] {
+	case "firm": // firm ACT GRAIN [at VERSION]
+		if !has(3) {
+			return Said{}, false
+		}
+		token := seen
+		if len(words) == 5 && words[3] == "at" {
+			if version, err := strconv.ParseUint(words[4], 10, 64); err == nil {
+				token = version
+			}
+		}
+		return Said{What: Firm, Activation: words[1], Grain: words[2], Token: token}, true
+	case "taken": // taken GRAIN by ACT
+		return lone(Said{What: Taken}, words, 1, 3)
+	case "ended", "moved": // ended ACT GRAIN ..
+		return lone(Said{What: Ended}, words, 2, 1)
+	case "started":
+		return lone(Said{What: Started}, words, 2, 1)
+	case "found":
+		return lone(Said{What: Found}, words, 2, 1)
+	case "nothing":
+		return lone(Said{What: Nothing}, words, 1, 0)
+	case "delivered": // delivered KIND EFFECT ..
+		if !has(3) {
+			return Said{}, false
+		}
+		return Said{Kind: words[1], Effect: words[2]}, true
+	case "fault", "refused":
+		return Said{Kind: words[0], Effect: strings.Join(words[1:], " ")}, true
+	}
+	return Said{}, false
+}
+
+// lone reads a grain, and an activation if its place isn't 0.
+func lone(said Said, words []string, grain, activation int) (Said, bool) {
+	if len(words) <= grain || len(words) <= activation {
+		return Said{}, false
+	}
+	said.Grain = words[grain]
+	if activation > 0 {
+		said.Activation = words[activation]
+	}
+	return said, true
+}
+
+func short(text string) string {
+	const most = 120
+	if len(text) > most {
+		return text[:most] + ".."
+	}
+	return text
+}

@@ -1,0 +1,225 @@
+// Package transport carries letters between silos over a carrier, which may lose any of them. Many letters go in one message; one that no message
+// has room for goes in parts, and a part that is lost loses it. Every queue has a bound, and what is past it is lost: letters may be, and what is
+// outstanding is sent again.
+//
+//	message = "L" LINE "\n" LINE ..
+//	        | "P" SENDER " " NUMBER " " INDEX " " COUNT " " SIZE "\n" BYTES
+package transport
+
+import (
+	"bytes"
+	"sync"
+	"sync/atomic"
+
+	"agent/directory"
+)
+
+// Bounds of what waits to be carried.
+const (
+	mostMessages = 4096
+	mostBytes    = 64 << 20
+)
+
+// longestMessage is what a message has at most, whatever the carrier takes: letters of one silo go between those of others.
+const longestMessage = 256 << 10
+
+// Carrier brings messages to silos. What it can't do now it drops.
+type Carrier interface {
+	// Publish sends a message, which is the carrier's from then on.
+	Publish(to directory.Silo, message []byte) error
+	// Most is how many bytes a message may have.
+	Most() int
+	// Up says whether the carrier is connected.
+	Up() bool
+	// Close ends it.
+	Close()
+}
+
+// Line is what a carrier is made of once the silo's generation is known: so that an agent that reaches nobody doesn't join.
+type Line interface {
+	Carry(me directory.Silo, take Receiver) (Carrier, error)
+	Close()
+}
+
+// Receiver takes what carriers bring. It may be called by several goroutines, and doesn't wait.
+type Receiver func(message []byte)
+
+// Listener hears of letters.
+type Listener interface {
+	// Receive takes a letter to this silo; the line is the listener's until it returns.
+	Receive(line []byte)
+	// Asked says that a letter was handed over.
+	Asked(to directory.Silo, kind string)
+	// Heard says that some letter came from a silo.
+	Heard(from directory.Silo)
+}
+
+// Counts are what was carried so far.
+type Counts struct{ Sent, Received, BytesSent, BytesReceived, MessagesLost, Cut, PartsLost int64 }
+
+// Post carries the letters of one silo.
+type Post struct {
+	me       directory.Silo
+	may      func() bool
+	listener Listener
+	carrier  Carrier
+	counts   Counts
+
+	batches map[directory.Silo][]byte // of the goroutine that calls Letter and Flush
+	number  uint64                    // of the last letter that was cut
+
+	outbox chan message
+	bytes  int64 // atomic: of the outbox
+	ended  chan struct{}
+	once   sync.Once
+
+	mu    sync.Mutex
+	parts parts
+}
+
+type message struct {
+	to   directory.Silo
+	data []byte
+}
+
+// New makes the post of a silo; may says whether it may send anything now. It receives before it has a carrier, and sends behind Carry.
+func New(me directory.Silo, may func() bool, listener Listener) *Post {
+	return &Post{me: me, may: may, listener: listener, batches: map[directory.Silo][]byte{}, outbox: make(chan message, mostMessages),
+		ended: make(chan struct{}), parts: newParts()}
+}
+
+// Carry sends what is handed over by a carrier, until Close.
+func (p *Post) Carry(carrier Carrier) {
+	p.carrier = carrier
+	go func() {
+		for {
+			select {
+			case <-p.ended:
+				return
+			case m := <-p.outbox:
+				atomic.AddInt64(&p.bytes, -int64(len(m.data)))
+				size := int64(len(m.data))
+				if !p.may() || carrier.Publish(m.to, m.data) != nil {
+					atomic.AddInt64(&p.counts.MessagesLost, 1)
+				} else {
+					atomic.AddInt64(&p.counts.BytesSent, size)
+				}
+			}
+		}
+	}()
+}
+
+// Close ends the carrying, and the carrier.
+func (p *Post) Close() {
+	p.once.Do(func() {
+		close(p.ended)
+		if p.carrier != nil {
+			p.carrier.Close()
+		}
+	})
+}
+
+// Up says whether the carrier is connected.
+func (p *Post) Up() bool { return p.carrier != nil && p.carrier.Up() }
+
+// Counts are what was carried so far.
+func (p *Post) Counts() Counts {
+	load := func(count *int64) int64 { return atomic.LoadInt64(count) }
+	c := &p.counts
+	return Counts{load(&c.Sent), load(&c.Received), load(&c.BytesSent), load(&c.BytesReceived), load(&c.MessagesLost), load(&c.Cut), load(&c.PartsLost)}
+}
+
+func (p *Post) most() int {
+	if most := p.carrier.Most(); most < longestMessage {
+		return most
+	}
+	return longestMessage
+}
+
+// Letter hands a letter over. It and Flush are called by one goroutine.
+func (p *Post) Letter(to directory.Silo, kind string, line []byte) {
+	atomic.AddInt64(&p.counts.Sent, 1)
+	p.listener.Asked(to, kind)
+	most := p.most()
+	if len(line)+1 > most {
+		p.number++
+		atomic.AddInt64(&p.counts.Cut, 1)
+		for _, part := range cut(p.me, p.number, line, most) {
+			p.publish(to, part)
+		}
+		return
+	}
+	batch := p.batches[to]
+	if len(batch)+1+len(line) > most {
+		p.publish(to, batch)
+		batch = nil
+	}
+	if len(batch) == 0 {
+		batch = append(batch, 'L')
+	} else {
+		batch = append(batch, '\n')
+	}
+	p.batches[to] = append(batch, line...)
+}
+
+// Flush sends the letters that were handed over.
+func (p *Post) Flush() {
+	for to, batch := range p.batches {
+		p.publish(to, batch)
+		delete(p.batches, to)
+	}
+}
+
+// publish puts a message out; where too much waits, it is lost. Who calls it reads what the silo says, and mustn't wait for a carrier.
+func (p *Post) publish(to directory.Silo, data []byte) {
+	if len(data) == 0 {
+		return
+	}
+	if atomic.AddInt64(&p.bytes, int64(len(data))) <= mostBytes {
+		select {
+		case p.outbox <- message{to, data}:
+			return
+		default:
+		}
+	}
+	atomic.AddInt64(&p.bytes, -int64(len(data)))
+	atomic.AddInt64(&p.counts.MessagesLost, 1)
+}
+
+// Take is the post's Receiver. Letters to this silo go on, and nothing else: a stranger's command would be obeyed.
+func (p *Post) Take(data []byte) {
+	atomic.AddInt64(&p.counts.BytesReceived, int64(len(data)))
+	switch {
+	case len(data) == 0:
+	case data[0] == 'L':
+		for rest := data[1:]; len(rest) > 0; {
+			line := rest
+			if end := bytes.IndexByte(rest, '\n'); end >= 0 {
+				line, rest = rest[:end], rest[end+1:]
+			} else {
+				rest = nil
+			}
+			p.deliver(line)
+		}
+	case data[0] == 'P':
+		p.mu.Lock()
+		line, lost := p.parts.take(data[1:])
+		p.mu.Unlock()
+		if lost {
+			atomic.AddInt64(&p.counts.PartsLost, 1)
+		}
+		if line != nil {
+			p.deliver(line)
+		}
+	}
+}
+
+func (p *Post) deliver(line []byte) {
+	words := bytes.SplitN(line, []byte(" "), 4)
+	if len(words) < 4 || string(words[0]) != "letter" || string(words[2]) != string(p.me) || bytes.IndexByte(line, '\n') >= 0 {
+		return
+	}
+	atomic.AddInt64(&p.counts.Received, 1)
+	p.listener.Heard(directory.Silo(words[1]))
+	p.listener.Receive(line)
+}
