@@ -2,7 +2,6 @@
 #![tactic(auto)]
 
 mod error;
-mod origin;
 mod publisher;
 mod reader;
 mod route;
