@@ -1,6 +1,6 @@
 -- What a line of a silo's process asks for, or the number of its first fault. It is a function of the line alone: what a letter to
 -- another silo says is read as well.
-use Rattle.std.specs.Prelude.{ℕ, ◌==◌, nat_lt, Bool, List, [], ◌∷◌, length, take, drop, codes, bytes_eq, if◌then◌else◌, Option, Some, None, Result, Ok, Err}
+use Rattle.std.specs.Prelude.{ℕ, nat_lt, Bool, List, [], ◌∷◌, length, take, drop, codes, bytes_eq, if◌then◌else◌, Option, Some, None, Result, Ok, Err}
 use Rattle.std.specs.List.{list_all}
 use Rattle.std.specs.Map.{lookup}
 use Rattle.texts.specs.Words.{words_in}
@@ -109,16 +109,20 @@ a_grain_and_a_silo (grain ∷ silo ∷ []) = do
   Ok (Offer grain silo)
 a_grain_and_a_silo words = Err 922
 
--- a grain and a policy: 926 also where it is `least_held`, since a silo by itself knows of no other how many it has
-abbrev pub known_alone : Policy → Result Policy ℕ
-known_alone LeastHeld = Err 926
-known_alone policy = Ok policy
+-- a policy that a silo can follow by itself: 926 where it is `least_held`, since a silo knows of no other how many it has
+abbrev pub if_by_itself : Policy → Result Policy ℕ
+if_by_itself LeastHeld = Err 926
+if_by_itself policy = Ok policy
 
+-- the name of such a policy: 926
+abbrev pub own_policy_word : List ℕ → Result Policy ℕ
+own_policy_word word = policy_word word >>= if_by_itself
+
+-- a grain and a policy
 abbrev pub a_grain_and_a_policy : Grammar
 a_grain_and_a_policy (grain ∷ policy ∷ []) = do
   grain ← grain_word grain
-  policy ← policy_word policy
-  policy ← known_alone policy
+  policy ← own_policy_word policy
   Ok (Place grain policy)
 a_grain_and_a_policy words = Err 922
 

@@ -15,7 +15,7 @@ ghost use Rattle.directory_rules.specs.Settings.{Settings};
 ghost use Rattle.silo_rules.specs.SiloValue.{SiloValue, told_of_its_join};
 ghost use Rattle.silo_rules.specs.Whole.{IsWhole};
 ghost use Rattle.process_rules.specs.Answer.{answered, answered_as};
-ghost use Rattle.process_rules.specs.OutputLaws.{Begins, Carries};
+ghost use Rattle.process_rules.specs.OutputLaws.{Begins, CarriesItsJoin};
 ghost use Rattle.process_rules.specs.Output.{after_line, answered_to, fault_line, said, written, written_on};
 
 /// A letter that a line can tell is read of its words, no words but a letter's own are read as that letter, and no letter is read but
@@ -75,8 +75,8 @@ pub fn silos_stay_whole()
     ensures { (token : Option (List ℕ)) (read : Result (Option Asked) ℕ) (s : SiloValue) → IsWhole s → IsWhole (answered_to token read s).silo }
 {}
 
-/// A process that was started with a token joins by a line that carries it, and by no other.
+/// A process that was started with a token is told of its silo's join by a line that carries it, and by no other.
 pub fn joins_by_its_token()
-    ensures { (token : List ℕ) (asked : Asked) (s : SiloValue) → told_of_its_join s ≡ false → told_of_its_join (answered_as (Some token) asked s).silo ≡ true
-        → Carries token asked }
+    ensures { (token : List ℕ) (asked : Asked) (s : SiloValue) → IsWhole s → told_of_its_join s ≡ false → told_of_its_join (answered_as (Some token) asked s).silo ≡ true
+        → CarriesItsJoin s.node.host.silo token asked }
 {}
