@@ -112,7 +112,8 @@ fn chosen(words: &[String]) -> Option<Process> {
     let number = |word: Option<&str>, absent: u64| word.map_or(Some(absent), |word| word.parse().ok());
     let points = number(points, 30).filter(|points| (1..=128).contains(points))?;
     let cache = number(cache, 1024).filter(|cache| (1..=65_536).contains(cache))?;
-    let is_known = first == "silo" && ["sha256", "stated"].contains(&hashing);
+    let is_token = |token: &str| (1..=64).contains(&token.len()) && token.bytes().all(|byte| byte.is_ascii_graphic());
+    let is_known = first == "silo" && ["sha256", "stated"].contains(&hashing) && token.is_none_or(is_token);
     let settings = Settings { is_stated: hashing == "stated", points, cache: cache as usize };
     let address = Address::read(address?.as_bytes()).ok().filter(|_| is_known)?;
     Some(Process::new(address, token.map(|token| token.as_bytes().to_vec()), settings))
