@@ -19,5 +19,6 @@ mod FirmSteps
 mod FirmLines
 mod Firm
 mod Started
+mod JoinedBy
 mod FirmStays
 mod Worked
