@@ -9,8 +9,6 @@ use Rattle.std.proofs.lemmas.List.Elements.{All-nil, All-cons, All-contains}
 use Rattle.texts.specs.Words.{sentence}
 use Rattle.silo_address.specs.Silo.{Silo, IsSilo, silo_cmp, silo_eq}
 use Rattle.silo_address.specs.Grain.{Grain}
-use Rattle.membership_view.specs.declared.status.Status.{Status}
-use Rattle.membership_view.specs.declared.status.Status.TheVariants as status
 use Rattle.silo_address.specs.declared.Entry.{Entry}
 use Rattle.directory_rules.specs.declared.effect.Effect.{Effect}
 use Rattle.directory_rules.specs.declared.effect.Effect.TheVariants as effect
@@ -41,6 +39,7 @@ use Rattle.deployment_headline.specs.Steps as deployment
 use Rattle.deployment_headline.proofs.Lists.{over, lookup-over}
 use Rattle.deployment_headline.proofs.Runs.{made_so, processes_are_own}
 use Rattle.deployment_headline.proofs.Worlds.{its_node}
+use Rattle.process_rules.proofs.StaysWhole.{silo_kept}
 use Rattle.process_rules.specs.LetterText.{letter_line}
 use Rattle.process_rules.specs.ReadLine.{Asked, Joined, Leaving, Dead, See, Wake, Close, Offer, Find, Forget, Nudge, Receive, Ping, Owner, Place, Show, Dump}
 use Rattle.process_rules.specs.Answer.{Answered, printing, unless_dead, heard, told_so, stepped, seen_so, done_so, received_so, is_anothers_join, answered, answered_as}
@@ -261,18 +260,12 @@ module _ (s : SiloValue) (once : HoldsOnce s.node.host) (own : IsSilo s.node.hos
   hears : (version : ℕ) (change : Change) → TellsFirm s read (told_so version change s)
   hears version change = by (told s.node.settings s.membership version change)
     where
-      same_node : (o : Option Status) (it : Answered) → (unless_dead o it).silo.node ≡ it.silo.node
-      same_node None it = refl
-      same_node (Some status.Active) it = refl
-      same_node (Some status.Leaving) it = refl
-      same_node (Some status.Dead) it = refl
-
       by : (o : Result Heard ℕ) → TellsFirm s read (heard o version change s)
       by (Err number) = quiet (printing (refusal_line number ∷ []) s) refl (alone (refusal_line number) (refusal_other number))
       by (Ok its) =
           let next : SiloValue = record s { membership = its.membership } in
           let it = printing (sentence (news_words version change its.news) ∷ []) next in
-          quiet (unless_dead (own_status next) it) (same_node (own_status next) it) (news_other version change its.news (own_status next) next)
+          quiet (unless_dead (own_status next) it) (sym (ap (λ (t : SiloValue). t.node) (silo_kept (own_status next) it))) (news_other version change its.news (own_status next) next)
 
 -- ---- whatever a line says
 module _ (s : SiloValue) (once : HoldsOnce s.node.host) (own : IsSilo s.node.host.silo) where

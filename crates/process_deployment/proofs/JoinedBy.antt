@@ -5,8 +5,6 @@ use Rattle.std.specs.Io.BufRead.{strip_last}
 use Rattle.std.proofs.lemmas.List.Elements.{All-nil, All-append, All-weaker, Contains-append_left, Contains-push}
 use Rattle.texts.specs.Words.{sentence, carriage_return}
 use Rattle.silo_address.specs.Silo.{Silo, silo_eq}
-use Rattle.membership_view.specs.declared.status.Status.{Status}
-use Rattle.membership_view.specs.declared.status.Status.TheVariants as status
 use Rattle.directory_rules.specs.declared.effect.Effect.{Effect}
 use Rattle.directory_rules.specs.declared.effect.Effect.TheVariants.{Ignored}
 use Rattle.directory_rules.specs.declared.outcome.Happening.TheVariants.{Saw, Did}
@@ -17,7 +15,7 @@ use Rattle.directory_rules.specs.Settings.{Settings, AreSettings}
 use Rattle.directory_rules.specs.Step.{Stepped, silently}
 use Rattle.script_rules.specs.Lines.{happening_words, refusal_line}
 use Rattle.silo_rules.specs.Membership.{Change, Join, Leave, Die, Membership, changed}
-use Rattle.silo_rules.specs.SiloValue.{SiloValue, told_of_its_join}
+use Rattle.silo_rules.specs.SiloValue.{SiloValue, own_status, told_of_its_join}
 use Rattle.silo_rules.specs.Steps.{barred, unless_barred, is_seeable, sight_of, seen, does, sees}
 use Rattle.silo_rules.specs.Told.{Heard, told}
 use Rattle.silo_rules.specs.Whole.{IsWhole}
@@ -25,10 +23,10 @@ use Rattle.silo_rules.proofs.Own.{StaysOwn, stays_own}
 use Rattle.silo_rules.proofs.Whole.{first_whole}
 use Rattle.process_rules.specs.ReadLine.{Asked, Joined, Leaving, Dead, See, Wake, Close, Offer, Find, Forget, Nudge, Receive, Ping, Owner, Place, Show, Dump, read_silo_line}
 use Rattle.process_rules.specs.Happened.{news_words, received_words}
-use Rattle.process_rules.specs.Answer.{Answered, printing, unless_dead, heard, told_so, stepped, seen_so, done_so, received_so, is_anothers_join, answered, answered_as}
+use Rattle.process_rules.specs.Answer.{Answered, printing, heard, told_so, stepped, seen_so, done_so, received_so, is_anothers_join, answered, answered_as}
 use Rattle.process_rules.specs.Output.{answered_to, said}
 use Rattle.process_rules.specs.OutputLaws.{CarriesItsJoin}
-use Rattle.process_rules.proofs.StaysWhole.{line_whole}
+use Rattle.process_rules.proofs.StaysWhole.{silo_kept, line_whole}
 use Rattle.process_rules.proofs.Joins.{joins_by_its_token}
 use Rattle.process_deployment.specs.Cluster.{Tokens, Process, started, answer_to, having_read, reads, Cluster, first_cluster, everyone}
 use Rattle.process_deployment.specs.Steps.{Step, Decide, Read, dying, without, decided, after, after_all}
@@ -81,15 +79,9 @@ module _ (s : SiloValue) where
   told_own : (version : ℕ) (change : Change) → Own (told_so version change s)
   told_own version change = by (told s.node.settings s.membership version change)
     where
-      same_node : (o : Option Status) (it : Answered) → (unless_dead o it).silo.node ≡ it.silo.node
-      same_node None it = refl
-      same_node (Some status.Active) it = refl
-      same_node (Some status.Leaving) it = refl
-      same_node (Some status.Dead) it = refl
-
       by : (o : Result Heard ℕ) → Own (heard o version change s)
       by (Err number) = still (heard (Err number) version change s) refl
-      by (Ok its) = still (heard (Ok its) version change s) (same_node _ (printing (sentence (news_words version change its.news) ∷ []) (record s { membership = its.membership })))
+      by (Ok its) = let next : SiloValue = record s { membership = its.membership } in still (heard (Ok its) version change s) (sym (ap (λ (t : SiloValue). t.node) (silo_kept (own_status next) (printing (sentence (news_words version change its.news) ∷ []) next))))
 
   asked_own : (asked : Asked) → Own (answered asked s)
   unfolding answered
@@ -131,7 +123,7 @@ first_keeps : (settings : Settings) (tokens : Tokens) (silo : Silo) → AreSetti
 first_keeps settings tokens silo are = record { whole = first_whole settings silo are; address = refl; settings = refl; joined = λ token is told_so. absurd (cc told_so) }
 
 -- by the line that it reads now
-by_line : (token : List ℕ) (read : Result (Option Asked) ℕ) (s : SiloValue) → IsWhole s → told_of_its_join s ≡ false → told_of_its_join (answered_to (Some token) read s).silo ≡ true
+pub by_line : (token : List ℕ) (read : Result (Option Asked) ℕ) (s : SiloValue) → IsWhole s → told_of_its_join s ≡ false → told_of_its_join (answered_to (Some token) read s).silo ≡ true
     → (asked : Asked) × (read ≡ Ok (Some asked)) × CarriesItsJoin s.node.host.silo token asked
 by_line token (Ok None) s whole before after = absurd (cc (before, after))
 by_line token (Ok (Some asked)) s whole before after = (asked, refl, joins_by_its_token token asked s whole before after)

@@ -20,5 +20,6 @@ mod FirmLines
 mod Firm
 mod Started
 mod JoinedBy
+mod Unjoined
 mod FirmStays
 mod Worked

@@ -10,7 +10,6 @@ use Rattle.silo_address.specs.Silo.{Silo, IsSilo, silo_cmp, silo_eq}
 use Rattle.silo_address.proofs.Order.{silo_cmp_total}
 use Rattle.silo_address.proofs.Same.{Decides-silo}
 use Rattle.membership_view.specs.declared.status.Status.{Status}
-use Rattle.membership_view.specs.declared.status.Status.TheVariants as status
 use Rattle.hash_ring.specs.declared.hashing.Hashing.{Hashing}
 use Rattle.directory_rules.specs.declared.effect.Effect.{Effect}
 use Rattle.directory_rules.specs.declared.effect.Effect.TheVariants.{Ignored}
@@ -34,6 +33,7 @@ use Rattle.deployment_headline.proofs.Sound.{Sound, its_process}
 use Rattle.process_rules.specs.ReadLine.{Asked, Joined, Leaving, Dead, See, Wake, Close, Offer, Find, Forget, Nudge, Receive, Ping, Owner, Place, Show, Dump, read_silo_line}
 use Rattle.process_rules.specs.InRange.{IsInRange}
 use Rattle.process_rules.proofs.LinesInRange.{line_in_range}
+use Rattle.process_rules.proofs.StaysWhole.{silo_kept}
 use Rattle.process_rules.specs.Happened.{news_words, received_words}
 use Rattle.process_rules.specs.Answer.{Answered, printing, unless_dead, after_news, heard, told_so, stepped, seen_so, done_so, received_so, is_anothers_join, answered, answered_as}
 use Rattle.process_rules.specs.Show.{show_lines, dump_line, grain_owner_line, grain_place_line}
@@ -54,12 +54,6 @@ pub record Moved (d : Deployment) (silo : Silo) (it : Answered) : Type 0 where
   pub letters : List Letter
   pub is : deployment.after_all d steps ≡ record d { processes = insert_entry silo_cmp d.processes silo it.silo; written = d.written ++ letters }
   pub says : (hashing : Hashing) → All (ReadsAsItself hashing) letters → All (SaysOnly hashing letters) it.lines
-
-silo_kept : (own : Option Status) (it : Answered) → it.silo ≡ (unless_dead own it).silo
-silo_kept None it = refl
-silo_kept (Some status.Active) it = refl
-silo_kept (Some status.Leaving) it = refl
-silo_kept (Some status.Dead) it = refl
 
 -- what is told again leaves what was known
 known_same : (settings : Settings) (m : Membership) (version : ℕ) (change : Change) (its : Heard) → nat_le version m.views.version ≡ true → told settings m version change ≡ Ok its → its.membership ≡ m

@@ -20,6 +20,7 @@ use Rattle.process_rules.specs.Output.{said}
 use Rattle.process_deployment.specs.Allowed.{IsLine, MayAsk, MayAskDead, IfAsks, May, MayAll}
 use Rattle.process_deployment.specs.Cluster.{Tokens, Process, started, answer_to, having_read, reads, Cluster, first_cluster, process_at}
 use Rattle.process_deployment.specs.Started.{Starting, StartingStep, Start, ReadEarly, Go, its_process, still_waiting, joining, after_starting, after_all_starting, MayAskEarly, MayStart, MayAllStart, first_starting, IsRunFrom, StartsAreRuns}
+use Rattle.process_deployment.specs.Unjoined.{reads_all}
 use Rattle.process_deployment.specs.Steps.{Step, Decide, Read, dying, without, with_process, with_dying, decided, read_by, reading, after, after_all}
 use Rattle.process_deployment.proofs.Everyone.{its_own, put_keeps}
 
@@ -135,10 +136,6 @@ more_asks changes more p (Ok None) early = tt
 more_asks changes more p (Err fault) early = tt
 
 -- ---- lines one after the other
-abbrev reads_all : List (List ℕ) → Process → Process
-reads_all [] p = p
-reads_all (line ∷ lines) p = reads_all lines (reads line p)
-
 abbrev MayRead : List Change → List (List ℕ) → Process → Type 0
 MayRead changes [] p = ⊤
 MayRead changes (line ∷ lines) p = IsLine line × IfAsks (said line p.silo) (MayAskEarly changes p) × MayRead changes lines (reads line p)

@@ -3,6 +3,7 @@
 ghost use Rattle.process_deployment.specs.Firm.{FirmStays, LinesTellFirm};
 ghost use Rattle.process_deployment.specs.Started.{StartsAreRuns};
 ghost use Rattle.process_deployment.specs.Theorems.{ClustersAreDeployments, LinesArePlain, LinesKeepOneFirm, LinesKeepTheHeadline, LivingGoOn, ProcessesJoinByTheirTokens, ProcessesWriteTheirOutput};
+ghost use Rattle.process_deployment.specs.Unjoined.{UnjoinedDoNothing};
 ghost use Rattle.process_deployment.specs.Worked.{WorkedCluster};
 
 /// Some steps of a deployment make the processes' silos, and write each letter that their lines say.
@@ -44,6 +45,11 @@ pub fn living_go_on()
 /// No process joins by another's join: one that was started with a token was told of its silo's join by a line that carries this token.
 pub fn processes_join_by_their_tokens()
     ensures { ProcessesJoinByTheirTokens }
+{}
+
+/// Until then it takes no step, and none of its lines says a letter, whatever lines come to it.
+pub fn unjoined_do_nothing()
+    ensures { UnjoinedDoNothing }
 {}
 
 /// Each process has written exactly the output of all that it read.
