@@ -23,3 +23,4 @@ mod JoinedBy
 mod Unjoined
 mod FirmStays
 mod Worked
+mod TokensOfLines

@@ -4,6 +4,7 @@ ghost use Rattle.process_deployment.specs.Firm.{FirmStays, LinesTellFirm};
 ghost use Rattle.process_deployment.specs.Started.{StartsAreRuns};
 ghost use Rattle.process_deployment.specs.Theorems.{ClustersAreDeployments, LinesArePlain, LinesKeepOneFirm, LinesKeepTheHeadline, LivingGoOn, ProcessesJoinByTheirTokens, ProcessesWriteTheirOutput};
 ghost use Rattle.process_deployment.specs.Unjoined.{UnjoinedDoNothing};
+ghost use Rattle.process_deployment.specs.Tokens.{TokensOfLinesFence};
 ghost use Rattle.process_deployment.specs.Worked.{WorkedCluster};
 
 /// Some steps of a deployment make the processes' silos, and write each letter that their lines say.
@@ -35,6 +36,11 @@ pub fn lines_tell_firm()
 /// What is firm stays firm at every step of a cluster, but where its application asks for its end, or its silo dies.
 pub fn firm_stays()
     ensures { FirmStays }
+{}
+
+/// The version that a silo has seen when its process tells `firm` is a fencing token, as it is of a deployment.
+pub fn tokens_of_lines_fence()
+    ensures { TokensOfLinesFence }
 {}
 
 /// A process ends only where its silo is Dead by the changes decided.
