@@ -7,3 +7,5 @@ pub mod Worked
 pub mod Wrong
 pub mod Firm
 pub mod Started
+pub mod Unjoined
+pub mod Tokens
