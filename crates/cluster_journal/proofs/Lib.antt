@@ -1,2 +1,3 @@
 pub mod Marked
 pub mod Journal
+pub mod Beginnings

@@ -1,3 +1,3 @@
-pub mod Moments
 pub mod Delivered
 pub mod Causes
+pub mod Endings
