@@ -5,11 +5,10 @@ ghost use Rattle.cluster_board.specs.Due.{IsDismissed};
 ghost use Rattle.cluster_journal.specs.Journal.{IsJournaled};
 
 use crate::{Charter, Dismissal, Hand, Mark, Marks, Tokens};
-use cluster_journal::Entry;
+use cluster_journal::{Entry, Front, Keeper};
 use directory_core::World;
 use directory_node::SharedNode;
 use directory_rules::Settings;
-use growing_log::{Front, Keeper};
 use silo_address::SiloAddress;
 use std::alloc::Global;
 use std::collections::BTreeMap;

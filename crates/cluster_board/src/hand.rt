@@ -1,9 +1,8 @@
 ghost use Rattle.std.specs.Prelude.{◌≡◌, IfOk};
 
 use crate::{Blocks, Names};
-use cluster_journal::Entry;
+use cluster_journal::{Entry, Front, LogName, NewLog};
 use directory_node::SharedNode;
-use growing_log::{Front, LogName, NewLog};
 use silo_address::SiloAddress;
 use std::alloc::{AllocError, Global};
 use std::marker::{Brand, Model};

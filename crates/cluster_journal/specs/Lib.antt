@@ -5,3 +5,4 @@ pub mod Journal
 pub mod Agreement
 pub mod Posted
 pub mod Comparison
+pub mod Log

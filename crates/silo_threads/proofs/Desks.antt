@@ -7,7 +7,7 @@ use Rattle.silo_workers.proofs.Names.{silo_crosses}
 use Rattle.silo_workers.proofs.Sites.{shared_site_sends}
 use Rattle.std.specs.declared.sync.ledger.Ledger as ledger
 use Rattle.cluster_board.specs.declared.mark.Names as names
-use Rattle.growing_log.specs.declared.log.LogName as log
+use Rattle.cluster_journal.specs.declared.log.LogName as log
 use Rattle.cluster_board.specs.declared.hand.Charter as charter
 use Rattle.silo_threads.specs.contracts.start.Desk as desk
 

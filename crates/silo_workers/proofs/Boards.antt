@@ -8,7 +8,7 @@ use denote.Param.Send.{IsSend, AllSend, struct_send, enum_send, recorded_send, v
 use Rattle.core.proofs.ledger.Sent.{book_send, share_send}
 use Rattle.std.proofs.Crossing as crossing
 use Rattle.std.proofs.MapsCrossing as maps
-use Rattle.growing_log.proofs.Send as logging
+use Rattle.cluster_journal.proofs.LogSend as logging
 use Rattle.cluster_board.proofs.Send as marking
 use Rattle.silo_workers.proofs.Parts.{number64, truth}
 use Rattle.silo_workers.proofs.Holders.{heap_field_crosses}
@@ -19,7 +19,7 @@ use Rattle.silo_workers.proofs.Events.{entry_crosses}
 use Rattle.silo_workers.proofs.Worlds.{world_crosses}
 use Rattle.std.specs.declared.sync.ledger.Ledger as ledger
 use Rattle.cluster_board.specs.declared.mark.Names as names
-use Rattle.growing_log.specs.declared.log.LogName as log
+use Rattle.cluster_journal.specs.declared.log.LogName as log
 use Rattle.cluster_board.specs.declared.hand.Charter as charter
 use Rattle.std.specs.contracts.option.Option as Option
 use Rattle.std.specs.contracts.alloc.Global as Heap

@@ -12,7 +12,7 @@ use Rattle.silo_workers.proofs.Boards.{board_sends, hand_field_sends}
 use Rattle.silo_workers.proofs.Names.{silo_crosses}
 use Rattle.std.specs.declared.sync.ledger.Ledger as ledger
 use Rattle.cluster_board.specs.declared.mark.Names as names
-use Rattle.growing_log.specs.declared.log.LogName as log
+use Rattle.cluster_journal.specs.declared.log.LogName as log
 use Rattle.cluster_board.specs.declared.hand.Charter as charter
 use Rattle.cluster_board.specs.contracts.hand.Dismissal as dismissal
 use Rattle.cluster_board.specs.contracts.hand.Dismissal.TheInside as dismissal_inside

@@ -15,7 +15,7 @@ pub struct OneLog;
 
 impl<E> TableRule<E, Known<E>, ()> for OneLog {
     ghost use Rattle.std.specs.Prelude.{[]};
-    ghost use Rattle.growing_log.specs.Log.{AreKept, keepers};
+    ghost use Rattle.cluster_journal.specs.Log.{AreKept, keepers};
 
     ghost holds = { λ _. AreKept };
 
@@ -26,7 +26,7 @@ impl<E> TableRule<E, Known<E>, ()> for OneLog {
 pub struct Add;
 
 impl<E> Play<E, Known<E>> for Add {
-    ghost use Rattle.growing_log.specs.Log.{Adds};
+    ghost use Rattle.cluster_journal.specs.Log.{Adds};
 
     ghost then = { Adds };
 }
@@ -35,7 +35,7 @@ impl<E> Play<E, Known<E>> for Add {
 pub struct Compare;
 
 impl<E> Play<E, Known<E>> for Compare {
-    ghost use Rattle.growing_log.specs.Log.{Compares};
+    ghost use Rattle.cluster_journal.specs.Log.{Compares};
 
     ghost then = { Compares };
 }
@@ -44,7 +44,7 @@ impl<E> Play<E, Known<E>> for Compare {
 pub struct Share;
 
 impl<E> Split<Known<E>> for Share {
-    ghost use Rattle.growing_log.specs.Log.{fronts};
+    ghost use Rattle.cluster_journal.specs.Log.{fronts};
 
     ghost left = { λ known. known };
 
@@ -53,7 +53,7 @@ impl<E> Split<Known<E>> for Share {
 
 impl<E> Join<Known<E>> for Share {
     ghost use Rattle.std.specs.Prelude.{[]};
-    ghost use Rattle.growing_log.specs.Log.{fronts, informed};
+    ghost use Rattle.cluster_journal.specs.Log.{fronts, informed};
 
     ghost both = { informed };
 

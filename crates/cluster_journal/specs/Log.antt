@@ -5,7 +5,7 @@ use mathlib.Core.List.{IsPrefix}
 use lib.ListN.{get_elem?}
 use Rattle.atomic_table.specs.Table.{State, Me, Step}
 use Rattle.atomic_table.specs.Seated.{TableId}
-use Rattle.growing_log.specs.declared.rule.Known.{Known}
+use Rattle.cluster_journal.specs.declared.log_rule.Known.{Known}
 
 -- the name of no log
 abbrev pub no_log : TableId

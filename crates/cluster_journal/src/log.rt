@@ -1,7 +1,7 @@
 ghost use Rattle.std.specs.Prelude.{◌≡◌, [], ◌∷◌, ◌++◌};
 ghost use mathlib.Core.List.{IsPrefix};
 
-use crate::rule::{Add, Compare, Known, OneLog, Share};
+use crate::log_rule::{Add, Compare, Known, OneLog, Share};
 use atomic_table::{Seat, Table};
 use std::alloc::{AllocError, Global};
 use std::marker::{Brand, Model, PhantomData};
@@ -15,7 +15,7 @@ pub trait LogName {
 }
 
 impl LogName for Brand {
-    ghost use Rattle.growing_log.specs.Log.{no_log};
+    ghost use Rattle.cluster_journal.specs.Log.{no_log};
 
     ghost log = { no_log };
 }
@@ -30,7 +30,7 @@ pub struct NewLog<E: Drop> {
 impl<E: Drop> Model for NewLog<E> {
     ghost use Rattle.std.specs.Prelude.{◌≡◌, []};
     ghost use Rattle.atomic_table.specs.Seated.{TableId};
-    ghost use Rattle.growing_log.specs.Log.{keepers};
+    ghost use Rattle.cluster_journal.specs.Log.{keepers};
 
     ghost Value = { TableId };
 
@@ -70,7 +70,7 @@ pub struct Keeper<E: Drop, J: LogName> {
 
 impl<E: Drop, J: LogName> Model for Keeper<E, J> {
     ghost use Rattle.std.specs.Prelude.{◌≡◌, List, []};
-    ghost use Rattle.growing_log.specs.Log.{keepers};
+    ghost use Rattle.cluster_journal.specs.Log.{keepers};
 
     ghost Value = { List E };
 

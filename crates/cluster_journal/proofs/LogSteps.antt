@@ -1,21 +1,15 @@
 -- Each step of the keeper keeps the rule.
 use Rattle.std.proofs.Common.{◌≡◌, ◌≢◌, ℕ, zero, suc, List, [], ◌∷◌, ◌++◌, set, true≢false, refl, sym, ap, ◌∙◌, subst, ⊎_elim, append_assoc}
-use Rattle.std.proofs.lemmas.List.{append-nil}
 use mathlib.Core.Option.{none, some, some-ne-none, some-injective}
 use mathlib.Core.List.{IsPrefix}
 use lib.ListN.{get_elem?}
 use Rattle.atomic_table.specs.Table.{Me, Allows, Splits, Joins, keeps, step}
 use Rattle.atomic_table.proofs.Lists.{at_set, at_snoc, set_again}
-use Rattle.growing_log.specs.declared.rule.Known.{Known}
-use Rattle.growing_log.specs.Log.{keepers, fronts, informed, Fits, AreOfOneLog, AreKept, Adds, Compares}
+use Rattle.cluster_journal.specs.declared.log_rule.Known.{Known}
+use Rattle.cluster_journal.proofs.Beginnings.{prefix_self, prefix_none}
+use Rattle.cluster_journal.specs.Log.{keepers, fronts, informed, Fits, AreOfOneLog, AreKept, Adds, Compares}
 
 -- ---- Beginnings.
-
-prefix_self : {E : Type 0} → (xs : List E) → IsPrefix xs xs
-prefix_self xs = ([], append-nil xs)
-
-prefix_none : {E : Type 0} → (xs : List E) → IsPrefix [] xs
-prefix_none xs = (xs, refl)
 
 prefix_more : {E : Type 0} → (xs ys zs : List E) → IsPrefix xs ys → IsPrefix xs (ys ++ zs)
 prefix_more xs ys zs p = (p.0 ++ zs, sym (append_assoc xs p.0 zs) ∙ ap (λ l. l ++ zs) p.1)

@@ -13,11 +13,11 @@ use Rattle.atomic_table.proofs.Sent.{seat_keyless, owns_keyless}
 use Rattle.std.proofs.Crossing as crossing
 use Rattle.std.specs.contracts.alloc.Global as Heap
 use Rattle.std.specs.contracts.prelude.GlobalAllocator.TheImpl.{ghosts}
-use Rattle.growing_log.specs.declared.log.LogName as name
-use Rattle.growing_log.specs.contracts.rule.Known as known
-use Rattle.growing_log.specs.contracts.log.Front as front
-use Rattle.growing_log.specs.contracts.log.Keeper as keeper
-use Rattle.growing_log.specs.contracts.log.Keeper.TheInside as inside
+use Rattle.cluster_journal.specs.declared.log.LogName as name
+use Rattle.cluster_journal.specs.contracts.log_rule.Known as known
+use Rattle.cluster_journal.specs.contracts.log.Front as front
+use Rattle.cluster_journal.specs.contracts.log.Keeper as keeper
+use Rattle.cluster_journal.specs.contracts.log.Keeper.TheInside as inside
 
 lease_sends : (T : RattleType) → IsSend (lease.the_row T Heap.the_row ghosts)
 lease_sends T = right_send T Heap.the_row ghosts crossing.frees

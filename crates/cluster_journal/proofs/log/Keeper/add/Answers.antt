@@ -1,7 +1,7 @@
 use Rattle.std.proofs.Common.{◌==◌, arith}
 use prog.Atomic.{either}
-use Rattle.growing_log.proofs.Steps.{adds}
-use Rattle.growing_log.proofs.log.Keeper.add.Goals as goal
+use Rattle.cluster_journal.proofs.LogSteps.{adds}
+use Rattle.cluster_journal.proofs.log.Keeper.add.Goals as goal
 
 pub compare_exchange_with-requires : goal.compare_exchange_with-requires
 compare_exchange_with-requires g c =

@@ -1,6 +1,6 @@
 use Rattle.std.proofs.Common.{arith}
-use Rattle.growing_log.proofs.Steps.{splits}
-use Rattle.growing_log.proofs.log.Keeper.front.Goals as goal
+use Rattle.cluster_journal.proofs.LogSteps.{splits}
+use Rattle.cluster_journal.proofs.log.Keeper.front.Goals as goal
 
 pub split_seat-requires : goal.split_seat-requires
 split_seat-requires g c =

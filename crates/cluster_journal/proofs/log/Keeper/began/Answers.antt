@@ -1,7 +1,7 @@
 use Rattle.std.proofs.Common.{◌∙◌, arith, sym, ap}
-use Rattle.growing_log.specs.Log.{informed}
-use Rattle.growing_log.proofs.Steps.{joins, compares}
-use Rattle.growing_log.proofs.log.Keeper.began.Goals as goal
+use Rattle.cluster_journal.specs.Log.{informed}
+use Rattle.cluster_journal.proofs.LogSteps.{joins, compares}
+use Rattle.cluster_journal.proofs.log.Keeper.began.Goals as goal
 
 pub join_seat-requires : goal.join_seat-requires
 join_seat-requires g c =
