@@ -1,5 +1,6 @@
 -- Events that commands post.
-use Rattle.std.proofs.Common.{◌≡◌, ◌∙◌, ◌+◌, ◌<◌, ◌≤◌, ℕ, suc, Bool, true, false, List, [], ◌∷◌, ◌++◌, Err, add-one, ap, arith, drop, drop-cons, get_or, length, map, refl, sym, subst, append-nil}
+use Rattle.std.proofs.Common.{◌≡◌, ◌∙◌, ◌+◌, ◌<◌, ◌≤◌, ℕ, suc, Bool, true, false, List, [], ◌∷◌, ◌++◌, Result, Ok, Err, add-one, ap, arith, drop, drop-cons, get_or, length, map, refl, sym, subst, append-nil}
+use Rattle.std.specs.Prelude.{OnOk}
 use Rattle.std.proofs.lemmas.List.{drop_all}
 use mathlib.Core.List.{IsPrefix}
 use Rattle.directory_rules.specs.Event as rule
@@ -159,6 +160,11 @@ module _ (settings : Settings) where
   all_performed all left seen now before receipts is so_far =
       then_last Carried all seen before left now now receipts receipts [] (prefix_self now) (sym (append-nil receipts)) so_far
       (λ journal begins. subst (λ (l : List script.Command). Carried journal (length now) (length now) l []) (sym is) no_command)
+
+-- what comes of what is so where all is well
+pub where_well : {T E P Q : Type 0} (result : Result T E) → (P → Q) → OnOk result P → OnOk result Q
+where_well (Ok value) goes p = goes p
+where_well (Err error) goes p = tt
 
 -- ---- What is left of those that are gone through.
 pub one_left : {A B : Type 0} (f : A → B) (xs : List A) (index : ℕ) (x : A) → index < length xs → x ≡ get_or xs index x → map f (drop index xs) ≡ f x ∷ map f (drop (index + 1) xs)

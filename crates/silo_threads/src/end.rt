@@ -8,7 +8,7 @@ use crate::start::{Worker, stop};
 use crate::{Cluster, EndFault, Ended, Unended};
 use cluster_board::{Charter, Hand};
 use cluster_journal::Receipt;
-use silo_workers::{Ending, Gate, Site, Tally, Worked};
+use silo_workers::{Ending, Gate, Site, Worked};
 use std::alloc::AllocError;
 use std::sync::{Arc, Wait};
 use std::thread::Threads;
@@ -95,8 +95,9 @@ fn take_in<L: Charter, G: Gate + Drop, R: Threads + Wait>(
     let mut workers = workers;
     let mut lost = false;
     while let Some(worker) = workers.pop() {
-        let Worked { tally, ending } = worked_by(rt, worker);
-        if take_one(rt, site, all, tally, ending).is_err() {
+        let worked = worked_by(rt, worker);
+        let (hand, receipts, ending) = worked.whole();
+        if take_one(rt, site, all, hand, receipts, ending).is_err() {
             lost = true;
         }
     }
@@ -108,29 +109,26 @@ fn take_one<L: Charter, G: Gate + Drop, R: Wait>(
     rt: &R,
     site: &Site<L, G>,
     all: &mut Taken<L>,
-    tally: Tally<L>,
+    hand: Hand<L>,
+    receipts: Vec<Receipt>,
     ending: Ending,
 ) -> Result<(), AllocError>
-    ensures parts { all.new.hand.share.parts ≡ all.old.hand.share.parts + 1 }
-    ensures amount { all.new.hand.share.amount ≡ all.old.hand.share.amount + vec_len tally.receipts }
+    ensures parts { all.new.hand.share.parts ≡ all.old.hand.share.parts + hand.share.parts }
+    ensures amount { all.new.hand.share.amount ≡ all.old.hand.share.amount + hand.share.amount }
     ensures mine { IsPrefix all.old.hand.seen all.new.hand.seen }
-    ensures its { IsPrefix tally.hand.seen all.new.hand.seen }
-    ensures receipts { OnOk result (all.new.receipts.items ≡ all.old.receipts.items ++ tally.receipts.items) }
+    ensures its { IsPrefix hand.seen all.new.hand.seen }
+    ensures receipts { OnOk result (all.new.receipts.items ≡ all.old.receipts.items ++ receipts.items) }
     ensures endings { OnOk result (all.new.endings.items ≡ all.old.endings.items ++ ending ∷ []) }
 {
-    let Tally {
-        silo: _,
-        hand,
-        receipts: mut more,
-    } = tally;
+    let mut receipts = receipts;
     site.board.lock(rt).merge(&mut all.hand, hand);
     all.endings.push(ending)?;
-    all.receipts.append(&mut more)
+    all.receipts.append(&mut receipts)
 }
 
 // What a silo's worker did, once its thread has ended.
 fn worked_by<L: Charter, R: Threads>(rt: &R, worker: Worker<L>) -> Worked<L>
-    ensures { result.tally.silo ≡ worker }
+    ensures { result ≡ worker }
 {
     let Worker { silo: _, thread } = worker;
     match thread {

@@ -27,7 +27,7 @@ impl<L: Charter> Model for Worker<L> {
 
     ghost view = { λ w. w.silo };
 
-    ghost invariant = { λ w. MatchResult w.thread (λ running. running.promise.0 ≡ w.silo) (λ worked. worked.tally.silo ≡ w.silo) };
+    ghost invariant = { λ w. MatchResult w.thread (λ running. running.promise.0 ≡ w.silo) (λ worked. worked ≡ w.silo) };
 }
 
 /// What a worker's thread promises: what it did is that silo's.
@@ -37,7 +37,7 @@ pub(crate) struct DeliversTo(SiloAddress);
 impl<L: Charter> Promise<Worked<L>> for DeliversTo {
     ghost use Rattle.std.specs.Prelude.{◌≡◌};
 
-    ghost kept_by = { λ promise worked. worked.tally.silo ≡ promise.0 };
+    ghost kept_by = { λ promise worked. worked ≡ promise.0 };
 }
 
 /// What a worker takes with it.
@@ -109,7 +109,7 @@ fn employ<L: Charter, G: Gate + Drop, R: Wait + Drop>(
     desk: Desk<L, G>,
     tally: Tally<L>,
 ) -> Worked<L>
-    ensures { result.tally.silo ≡ tally.silo }
+    ensures { result ≡ tally.silo }
 {
     work(&rt, desk.alloc, &desk.site, tally)
 }

@@ -42,7 +42,7 @@ use Rattle.cluster_board.specs.contracts.work.Prepared as prepared
 use Rattle.cluster_board.specs.contracts.work.Prepared.TheInside as prepared_inside
 
 -- a struct with a model
-sent : (T : S.Declared) (D : Type 0) (code : Coded D) (view : T.D → D) (holds : T.D → Type 0) → AllSend (S.fields T) → IsSend (View (S.row T) D code view holds)
+pub sent : (T : S.Declared) (D : Type 0) (code : Coded D) (view : T.D → D) (holds : T.D → Type 0) → AllSend (S.fields T) → IsSend (View (S.row T) D code view holds)
 sent T D code view holds s = view_send (S.row T) D code view holds (recorded_send _ T.D T.to T.to_one (struct_send (S.shape T) s))
 
 module _ (T : RattleType) (g : names.Ghosts T.Denot) (s : IsSend T) where

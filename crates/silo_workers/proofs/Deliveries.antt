@@ -1,5 +1,5 @@
 -- Deliveries of a worker, and how it ends, where more is known of the journal.
-use Rattle.std.proofs.Common.{◌≡◌, ◌∙◌, ◌+◌, ◌++◌, [], ◌∷◌, ℕ, List, All, ap, get_or, length, sym, subst}
+use Rattle.std.proofs.Common.{◌≡◌, ◌∙◌, ◌+◌, ◌++◌, [], ◌∷◌, ℕ, List, All, ap, get_or, length, length-append, sym, subst}
 use Rattle.std.specs.Prelude.{Some, Ok, Err}
 use Rattle.std.proofs.lemmas.List.Elements.{All-push}
 use Rattle.std.proofs.lemmas.Option.{same_Some}
@@ -21,6 +21,7 @@ use Rattle.cluster_journal.specs.declared.entry.Receipt.{Receipt}
 use Rattle.cluster_journal.proofs.Beginnings.{prefix_none, prefix_self, prefix_then}
 use Rattle.silo_workers.specs.Causes.{cause_of}
 use Rattle.silo_workers.specs.Delivered.{AreDeliveriesTo, IsDeliveryTo}
+use Rattle.silo_workers.specs.SoFar.{IsTally}
 use Rattle.silo_workers.specs.Endings.{Ends, GivesUp, WasRefused}
 use Rattle.silo_workers.specs.declared.cause.Cause.{Cause}
 use Rattle.silo_workers.specs.declared.cause.Cause.TheVariants as causes
@@ -90,6 +91,26 @@ committed settings silo known journal now world after work receipt receipts are 
       told = record { journal = journal; behind = prefix_none journal; stands = ends; its = event; number = number; told = told_so };
       mailed = subst (λ (w : World). letter_of w work.number ≡ Some work.letter) (sym world_is) mailed;
       its = its;
+    })
+
+-- the tally where nothing was committed, but more was seen
+pub nothing_more : (settings : Settings) (silo : Silo) (seen now : List EntryValue) (parts same amount still : ℕ) (receipts : List Receipt)
+    → IsTally settings silo seen parts amount receipts → IsPrefix seen now → same ≡ parts → still ≡ amount → IsTally settings silo now same still receipts
+nothing_more settings silo seen now parts same amount still receipts is goes_on same_is still_is = record {
+  part = same_is ∙ is.part;
+  counted = still_is ∙ is.counted;
+  delivered = deliveries_on settings silo seen now receipts goes_on is.delivered;
+}
+
+-- and where something was
+pub one_more : (settings : Settings) (silo : Silo) (seen now : List EntryValue) (parts same amount more : ℕ) (receipts all : List Receipt) (receipt : Receipt)
+    → IsTally settings silo seen parts amount receipts → same ≡ parts → more ≡ amount + 1 → AreDeliveriesTo settings silo now (receipts ++ receipt ∷ []) → all ≡ receipts ++ receipt ∷ []
+    → IsTally settings silo now same more all
+one_more settings silo seen now parts same amount more receipts all receipt is same_is more_is delivered all_is =
+    subst (IsTally settings silo now same more) (sym all_is) (record {
+      part = same_is ∙ is.part;
+      counted = more_is ∙ ap (λ n. n + 1) is.counted ∙ sym (length-append receipts (receipt ∷ []));
+      delivered = delivered;
     })
 
 -- ---- A refusal.

@@ -1,14 +1,13 @@
 -- What workers share, and what they hand back, may go to another thread.
 use denote.RattleType.{RattleType}
-use denote.Struct.Declared as S
-use denote.Param.Send.{IsSend, IsSync, struct_send, recorded_send}
+use denote.Param.Send.{IsSend, IsSync}
 use Rattle.core.proofs.atomic.Sent.{Atomic-send, Atomic-sync}
 use Rattle.core.proofs.sync.Sent.{Mutex-send, Mutex-sync}
 use Rattle.std.proofs.Crossing as crossing
-use Rattle.silo_workers.proofs.Parts.{Crosses, fields, structure, modelled, variants, choice}
+use Rattle.silo_workers.proofs.Parts.{Crosses, fields, structure, modelled, variants}
 use Rattle.silo_workers.proofs.Holders.{counted}
 use Rattle.silo_workers.proofs.Events.{receipt_crosses}
-use Rattle.silo_workers.proofs.Boards.{board_sends, hand_field_sends}
+use Rattle.silo_workers.proofs.Boards.{board_sends, hand_field_sends, sent}
 use Rattle.silo_workers.proofs.Names.{silo_crosses}
 use Rattle.std.specs.declared.sync.ledger.Ledger as ledger
 use Rattle.cluster_board.specs.declared.mark.Names as names
@@ -28,7 +27,9 @@ use Rattle.silo_workers.specs.contracts.cause.Cause as cause
 use Rattle.silo_workers.specs.contracts.cause.Ending as ending
 use Rattle.silo_workers.specs.contracts.site.Site as site
 use Rattle.silo_workers.specs.contracts.tally.Tally as tally
+use Rattle.silo_workers.specs.contracts.tally.Tally.TheInside as tally_inside
 use Rattle.silo_workers.specs.contracts.tally.Worked as worked
+use Rattle.silo_workers.specs.contracts.tally.Worked.TheInside as worked_inside
 
 word_crosses : Crosses word.the_row
 word_crosses = record { moved = Atomic-send; shared = Atomic-sync }
@@ -40,28 +41,22 @@ locked : (R : RattleType) → IsSend R → Crosses (mutex.the_row R)
 locked R s = record { moved = Mutex-send R s; shared = Mutex-sync R s }
 
 -- ---- sites and tallies
-cause_crosses : Crosses cause.the_row
-cause_crosses = choice cause.the_type (variants cause.the_type (tt, (tt, (tt, tt))))
+cause_crosses : Crosses (cause.the_field).row
+cause_crosses = variants cause.the_type (tt, (tt, (tt, tt)))
 
 dismissal_crosses : Crosses dismissal.the_row
 dismissal_crosses = modelled dismissal_inside.the_type _ _ _ _ (silo_crosses, tt)
 
-ending_crosses : Crosses ending.the_row
-ending_crosses = choice ending.the_type (variants ending.the_type ((dismissal_crosses, tt), ((cause_crosses, tt), tt)))
+ending_crosses : Crosses (ending.the_field).row
+ending_crosses = variants ending.the_type ((dismissal_crosses, tt), ((cause_crosses, tt), tt))
 
 module _ (T : RattleType) (c : charter.Ghosts T.Denot) (l : ledger.Ghosts T.Denot) (g : names.Ghosts T.Denot) (n : log.Ghosts T.Denot) (s : IsSend T) where
-  tally_field_sends : IsSend (tally.the_field T c l g n).row
-  tally_field_sends =
-      struct_send (S.shape (tally.the_type T c l g n)) (silo_crosses.moved, (hand_field_sends T c l g n s, (crossing.Vec-send receipt.the_row receipt_crosses.moved, tt)))
-
   pub tally_sends : IsSend (tally.the_row T c l g n)
-  tally_sends = let t = tally.the_type T c l g n in recorded_send (tally.the_field T c l g n).row t.D t.to t.to_one tally_field_sends
-
-  worked_field_sends : IsSend (worked.the_field T c l g n).row
-  worked_field_sends = struct_send (S.shape (worked.the_type T c l g n)) (tally_field_sends, (ending_crosses.moved, tt))
+  tally_sends =
+      sent (tally_inside.the_type T c l g n) _ _ _ _ (silo_crosses.moved, (hand_field_sends T c l g n s, (crossing.Vec-send receipt.the_row receipt_crosses.moved, tt)))
 
   pub worked_sends : IsSend (worked.the_row T c l g n)
-  worked_sends = let w = worked.the_type T c l g n in recorded_send (worked.the_field T c l g n).row w.D w.to w.to_one worked_field_sends
+  worked_sends = sent (worked_inside.the_type T c l g n) _ _ _ _ (tally_sends, (ending_crosses.moved, tt))
 
   module _ (G : RattleType) where
     site_crosses : Crosses G → Crosses (site.the_row T G c l g n)

@@ -1,4 +1,4 @@
-ghost use Rattle.std.specs.Prelude.{◌≡◌, ◌∷◌, [], ◌++◌, ◌<◌, All, IfErr, OnErr, OnOk, vec_capacity, vec_len};
+ghost use Rattle.std.specs.Prelude.{◌≡◌, ◌<◌, IfErr, OnOk, vec_len};
 ghost use Rattle.cluster_board.specs.Commits.{Declines};
 ghost use Rattle.cluster_journal.specs.Journal.{world_of};
 ghost use Rattle.silo_workers.specs.Delivered.{AreDeliveriesTo};
@@ -9,25 +9,26 @@ use cluster_board::{Board, Charter, Hand, Prepared, Uncommitted};
 use cluster_journal::Receipt;
 use silo_address::SiloAddress;
 use std::alloc::{AllocError, Global};
+use std::marker::Model;
 
-/// What the worker of a silo did: its part of the ledger's share, and the receipts of what it committed, as many as the part counts.
-/// Each of them is of a delivery to the silo, and stands in what the worker saw of the journal.
+/// What the worker of a silo did so far: its part of the ledger's share, and the receipts of what it committed, as many as the part
+/// counts. Each of them is of a delivery to the silo, and stands in what the worker saw of the journal.
 #[derive(Drop)]
 pub struct Tally<L: Charter> {
-    pub silo: SiloAddress,
-    pub hand: Hand<L>,
-    pub receipts: Vec<Receipt>,
-    pub ghost part: { hand.share.parts ≡ 1 },
-    pub ghost counted: { hand.share.amount ≡ vec_len receipts },
-    pub ghost delivered: { AreDeliveriesTo L.settings silo hand.seen receipts.items },
+    silo: SiloAddress,
+    hand: Hand<L>,
+    receipts: Vec<Receipt>,
 }
 
-/// What a worker did up to its end, and how it ended.
-#[derive(Drop)]
-pub struct Worked<L: Charter> {
-    pub tally: Tally<L>,
-    pub ending: Ending,
-    pub ghost ended: { Ends L.settings tally.silo tally.hand.seen ending },
+impl<L: Charter> Model for Tally<L> {
+    ghost use Rattle.std.specs.Prelude.{vec_capacity, vec_len};
+    ghost use Rattle.silo_workers.specs.SoFar.{IsTally, TallyValue};
+
+    ghost Value = { TallyValue };
+
+    ghost view = { λ t. record { silo = t.silo; seen = t.hand.seen; many = vec_len t.receipts; room = vec_capacity t.receipts } };
+
+    ghost invariant = { λ t. IsTally L.settings t.silo t.hand.seen t.hand.share.parts t.hand.share.amount t.receipts.items };
 }
 
 impl<L: Charter> Tally<L> {
@@ -36,7 +37,8 @@ impl<L: Charter> Tally<L> {
         requires part { hand.share.parts ≡ 1 }
         requires none { hand.share.amount ≡ 0 }
         ensures silo { result.silo ≡ silo }
-        ensures none { result.receipts.items ≡ [] }
+        ensures seen { result.seen ≡ hand.seen }
+        ensures none { result.many ≡ 0 }
     {
         Tally {
             silo,
@@ -45,9 +47,16 @@ impl<L: Charter> Tally<L> {
         }
     }
 
+    // Whose worker it is.
+    pub(crate) fn silo(&self) -> SiloAddress
+        ensures { result ≡ self.now.silo }
+    {
+        self.silo
+    }
+
     // Room for one more receipt. Fails only when memory runs out.
     pub(crate) fn make_room(&mut self) -> Result<(), AllocError>
-        ensures room { OnOk result (vec_len self.new.receipts < vec_capacity self.new.receipts) }
+        ensures room { OnOk result (self.new.many < self.new.room) }
         ensures silo { self.new.silo ≡ self.old.silo }
     {
         self.receipts.reserve(1)?;
@@ -60,15 +69,71 @@ impl<L: Charter> Tally<L> {
         board: &mut Board<L>,
         prepared: Prepared<L>,
     ) -> Result<(), Uncommitted<L>>
-        requires room { vec_len self.old.receipts < vec_capacity self.old.receipts }
+        requires room { self.old.many < self.old.room }
         requires its { prepared.letter.to ≡ self.old.silo }
         ensures silo { self.new.silo ≡ self.old.silo }
-        ensures declined { IfErr result (λ uncommitted. Declines (world_of L.settings self.new.hand.seen) prepared uncommitted.refusal) }
+        ensures declined { IfErr result (λ uncommitted. Declines (world_of L.settings self.new.seen) prepared uncommitted.refusal) }
     {
         board.journaled();
         let receipt = board.commit(&mut self.hand, prepared)?;
         board.journaled();
         self.receipts.push_reserved(receipt);
         Ok(())
+    }
+
+    // What the worker did.
+    fn whole(self) -> (Hand<L>, Vec<Receipt>)
+        ensures part { result.0.share.parts ≡ 1 }
+        ensures counted { result.0.share.amount ≡ vec_len result.1 }
+        ensures seen { result.0.seen ≡ self.seen }
+        ensures delivered { AreDeliveriesTo L.settings self.silo self.seen result.1.items }
+    {
+        let Tally {
+            silo: _,
+            hand,
+            receipts,
+        } = self;
+        (hand, receipts)
+    }
+}
+
+/// What a worker did up to its end, and how it ended: clauses see it as its silo.
+#[derive(Drop)]
+pub struct Worked<L: Charter> {
+    tally: Tally<L>,
+    ending: Ending,
+}
+
+impl<L: Charter> Model for Worked<L> {
+    ghost use Rattle.silo_address.specs.Silo.{Silo};
+    ghost use Rattle.silo_workers.specs.Endings.{Ends};
+
+    ghost Value = { Silo };
+
+    ghost view = { λ w. w.tally.silo };
+
+    ghost invariant = { λ w. Ends L.settings w.tally.silo w.tally.seen w.ending };
+}
+
+impl<L: Charter> Worked<L> {
+    // The worker ended so.
+    pub(crate) fn new(tally: Tally<L>, ending: Ending) -> Worked<L>
+        requires { Ends L.settings tally.silo tally.seen ending }
+        ensures { result ≡ tally.silo }
+    {
+        Worked { tally, ending }
+    }
+
+    /// The worker's hand, with its part of the share and what it saw of the journal; the receipts of what it committed, as many as the
+    /// part counts, each of a delivery to its silo; and how it ended.
+    pub fn whole(self) -> (Hand<L>, Vec<Receipt>, Ending)
+        ensures part { result.0.share.parts ≡ 1 }
+        ensures counted { result.0.share.amount ≡ vec_len result.1 }
+        ensures delivered { AreDeliveriesTo L.settings self result.0.seen result.1.items }
+        ensures ended { Ends L.settings self result.0.seen result.2 }
+    {
+        let Worked { tally, ending } = self;
+        let (hand, receipts) = tally.whole();
+        (hand, receipts, ending)
     }
 }

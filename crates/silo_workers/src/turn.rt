@@ -1,5 +1,5 @@
 //! A worker's turn: a letter to its silo is lent, prepared and committed.
-ghost use Rattle.std.specs.Prelude.{◌≡◌, ◌<◌, IfErr, IfOk, MatchResult, vec_capacity, vec_len};
+ghost use Rattle.std.specs.Prelude.{◌≡◌, ◌<◌, IfErr, IfOk, MatchResult};
 ghost use Rattle.silo_workers.specs.Causes.{cause_of};
 ghost use Rattle.silo_workers.specs.Endings.{Ends, EndsAnywhere};
 
@@ -18,13 +18,14 @@ pub(crate) fn turn<L: Charter, G: Gate + Drop, R: Wait>(
     tally: &mut Tally<L>,
 ) -> Result<(), Ending>
     ensures silo { tally.new.silo ≡ tally.old.silo }
-    ensures ended { IfErr result (Ends L.settings tally.new.silo tally.new.hand.seen) }
+    ensures ended { IfErr result (Ends L.settings tally.new.silo tally.new.seen) }
 {
     let Ok(()) = tally.make_room() else {
         return Err(Ending::GaveUp(Cause::OutOfMemory));
     };
-    let job = next_job(rt, site, &tally.silo)?;
-    site.gate.between(&tally.silo, job.number());
+    let silo = tally.silo();
+    let job = next_job(rt, site, &silo)?;
+    site.gate.between(&silo, job.number());
     let Ok(prepared) = prepare(alloc, job) else {
         return Err(Ending::GaveUp(Cause::OutOfMemory));
     };
@@ -75,10 +76,10 @@ fn commit<L: Charter, G: Gate + Drop, R: Wait>(
     tally: &mut Tally<L>,
     prepared: Prepared<L>,
 ) -> Result<(), Ending>
-    requires room { vec_len tally.old.receipts < vec_capacity tally.old.receipts }
+    requires room { tally.old.many < tally.old.room }
     requires its { prepared.letter.to ≡ tally.old.silo }
     ensures silo { tally.new.silo ≡ tally.old.silo }
-    ensures ended { IfErr result (Ends L.settings tally.new.silo tally.new.hand.seen) }
+    ensures ended { IfErr result (Ends L.settings tally.new.silo tally.new.seen) }
 {
     let mut board = site.board.lock(rt);
     let committed = tally.commit(&mut board, prepared);

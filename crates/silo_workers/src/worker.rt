@@ -16,13 +16,13 @@ pub fn work<L: Charter, G: Gate + Drop, R: Wait>(
     site: &Site<L, G>,
     tally: Tally<L>,
 ) -> Worked<L>
-    ensures { result.tally.silo ≡ tally.silo }
+    ensures { result ≡ tally.silo }
 {
     let mut tally = tally;
     for _ in rt.forever() {
         if let Err(ending) = turn(rt, alloc, site, &mut tally) {
             leave(rt, site, &ending);
-            return Worked { tally, ending };
+            return Worked::new(tally, ending);
         }
     }
     unreachable!()
