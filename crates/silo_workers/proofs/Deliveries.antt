@@ -1,7 +1,7 @@
 -- Deliveries of a worker, and how it ends, where more is known of the journal.
 use Rattle.std.proofs.Common.{◌≡◌, ◌∙◌, ◌+◌, ◌++◌, [], ◌∷◌, ℕ, List, All, ap, get_or, length, length-append, sym, subst}
 use Rattle.std.specs.Prelude.{Some, Ok, Err}
-use Rattle.std.proofs.lemmas.List.Elements.{All-push}
+use Rattle.std.proofs.lemmas.List.Elements.{All-nil, All-push}
 use Rattle.std.proofs.lemmas.Option.{same_Some}
 use mathlib.Core.List.{IsPrefix}
 use Rattle.silo_address.specs.Silo.{Silo}
@@ -92,6 +92,16 @@ committed settings silo known journal now world after work receipt receipts are 
       mailed = subst (λ (w : World). letter_of w work.number ≡ Some work.letter) (sym world_is) mailed;
       its = its;
     })
+
+-- a tally before the first commit
+pub none_yet : (settings : Settings) (silo : Silo) (seen : List EntryValue) (parts amount : ℕ) (receipts : List Receipt) → parts ≡ 1 → amount ≡ 0 → receipts ≡ [] → IsTally settings silo seen parts amount receipts
+none_yet settings silo seen parts amount receipts part nothing none =
+    subst (IsTally settings silo seen parts amount) (sym none) (record { part = part; counted = nothing; delivered = All-nil (IsDeliveryTo settings silo seen) })
+
+-- the same with room for more
+pub roomier : (settings : Settings) (silo : Silo) (seen : List EntryValue) (parts amount : ℕ) (receipts same : List Receipt) → IsTally settings silo seen parts amount receipts → same ≡ receipts
+    → IsTally settings silo seen parts amount same
+roomier settings silo seen parts amount receipts same is same_is = subst (IsTally settings silo seen parts amount) (sym same_is) is
 
 -- the tally where nothing was committed, but more was seen
 pub nothing_more : (settings : Settings) (silo : Silo) (seen now : List EntryValue) (parts same amount still : ℕ) (receipts : List Receipt)

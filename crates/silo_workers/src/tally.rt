@@ -86,7 +86,7 @@ impl<L: Charter> Tally<L> {
         ensures part { result.0.share.parts ≡ 1 }
         ensures counted { result.0.share.amount ≡ vec_len result.1 }
         ensures seen { result.0.seen ≡ self.seen }
-        ensures delivered { AreDeliveriesTo L.settings self.silo self.seen result.1.items }
+        ensures delivered { AreDeliveriesTo L.settings self.silo result.0.seen result.1.items }
     {
         let Tally {
             silo: _,
