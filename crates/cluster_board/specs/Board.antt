@@ -1,13 +1,11 @@
 -- A board, as clauses see it.
 use Rattle.std.specs.Prelude.{Bool, List}
-use Rattle.directory_rules.specs.Settings.{Settings}
 use Rattle.directory_rules.specs.World.{World}
 use Rattle.cluster_journal.specs.Entry.{EntryValue}
 
--- the world, with what it was set up with, its journal, and two flags that no event reads: that silos are to stop, and that one
+-- the world, its journal, and two flags that no event reads: that silos are to stop, and that one
 -- of them gave up
 pub record BoardValue : Type 0 where
-  pub settings : Settings
   pub world : World
   pub journal : List EntryValue
   pub stops : Bool

@@ -1,10 +1,11 @@
 -- What a silo has to do.
-use Rattle.std.specs.Prelude.{◌≡◌, ◌⊎◌, Some, None}
+use Rattle.std.specs.Prelude.{◌≡◌, ◌⊎◌, Some, None, true}
 use Rattle.silo_address.specs.Silo.{Silo}
 use Rattle.directory_rules.specs.World.{World}
 use Rattle.directory_rules.specs.Happens.{node_of}
 use Rattle.letter_mail.specs.Mail.{least_fresh_to}
 use Rattle.directory_core.specs.WorldMail.{mail_of}
+use Rattle.cluster_board.specs.Board.{BoardValue}
 use Rattle.cluster_board.specs.Work.{IsCurrent, Work}
 
 -- the silo has no node, or there is no fresh letter to it
@@ -16,3 +17,7 @@ pub record IsWorkOf (world : World) (silo : Silo) (work : Work) : Type 0 where
   pub current : IsCurrent world work
   pub its : work.letter.to ≡ silo
   pub least : least_fresh_to silo (mail_of world) ≡ Some work.number
+
+-- nothing more is to be done for the silo: all silos are to stop, one gave up, or it has no node
+abbrev pub IsDismissed : BoardValue → Silo → Type 0
+IsDismissed board silo = (board.stops ≡ true) ⊎ (board.gave_up ≡ true) ⊎ (node_of board.world silo ≡ None)

@@ -1,9 +1,11 @@
-ghost use Rattle.std.specs.Prelude.{◌≡◌, [], true, false, length};
+ghost use Rattle.std.specs.Prelude.{◌≡◌, ◌+◌, [], MatchOption, true, false, length};
+ghost use mathlib.Core.List.{IsPrefix};
 ghost use Rattle.directory_rules.specs.World.{first_world};
+ghost use Rattle.cluster_board.specs.Due.{IsDismissed};
 ghost use Rattle.cluster_journal.specs.Journal.{IsJournaled};
 
-use crate::{Blocks, Mark, Marks, Names};
-use cluster_journal::Entry;
+use crate::{Charter, Dismissal, Hand, Mark, Marks, Tokens};
+use cluster_journal::{Entry, Front, Keeper};
 use directory_core::World;
 use directory_node::SharedNode;
 use directory_rules::Settings;
@@ -11,18 +13,19 @@ use silo_address::SiloAddress;
 use std::alloc::Global;
 use std::collections::BTreeMap;
 use std::marker::Model;
-use std::sync::ledger::{Blank, Book, Ledger, Share};
+use std::sync::ledger::{Book, Share};
 
 /// A cluster and its journal, as they stand under one lock: the world is what the run of the journal's events leaves, and these
 /// tell just what the journal says. Whoever posts or commits has a share of the board's ledger, whose total is the journal's
-/// length. No event reads the two flags (`docs/RULES.md#the-board`).
+/// length, and a beginning of the journal. No event reads the two flags (`docs/RULES.md#the-board`).
 #[derive(Drop)]
-pub struct Board<L: Ledger + Names> {
+pub struct Board<L: Charter> {
     pub(crate) alloc: Global,
-    pub(crate) settings: Settings,
     pub(crate) world: World,
     pub(crate) journal: Vec<Entry>,
     pub(crate) book: Book<L>,
+    // The log of the journal, of which others have beginnings.
+    pub(crate) keeper: Keeper<Entry, L>,
     // Where marks of nodes are made; none where there was no memory for it.
     pub(crate) marks: Option<Marks<SharedNode, L>>,
     // Of the silos whose nodes are as they were marked, the marks.
@@ -31,47 +34,48 @@ pub struct Board<L: Ledger + Names> {
     gave_up: bool,
 }
 
-impl<L: Ledger + Names> Model for Board<L> {
+impl<L: Charter> Model for Board<L> {
     ghost use Rattle.cluster_board.specs.Board.{BoardValue};
     ghost use Rattle.cluster_board.specs.Whole.{IsBoard};
 
     ghost Value = { BoardValue };
 
-    ghost view = { λ b. record { settings = b.settings; world = b.world; journal = b.journal.items; stops = b.stops; gave_up = b.gave_up } };
+    ghost view = { λ b. record { world = b.world; journal = b.journal.items; stops = b.stops; gave_up = b.gave_up } };
 
-    ghost invariant = { λ b. IsBoard b.settings b.world b.journal.items b.book.total b.marked.entries };
+    ghost invariant = { λ b. IsBoard L.settings b.world b.journal.items b.keeper b.book.total b.marked.entries };
 }
 
-impl<L: Ledger + Names> Board<L> {
-    /// A board before the first event, and the share that has every part of its ledger. The caller says by the type which ledger
-    /// it opens, and which blocks the marks of nodes are of.
+impl<L: Charter> Board<L> {
+    /// A board before the first event, and the hand that has every part of its ledger. The caller says by the type which settings
+    /// these are, which ledger it opens, which blocks the marks of nodes are of, and which log the journal's is.
     #[tactic(auto, using(cluster_journal::proofs::Journal::begins))]
-    pub fn new(
-        alloc: Global,
-        settings: Settings,
-        blank: Blank,
-        blocks: Blocks<SharedNode>,
-    ) -> (Board<L>, Share<L>)
-        requires name { blank.name ≡ L.name }
-        requires parts { blank.parts ≡ L.parts }
-        requires names { blocks ≡ L.names }
-        ensures board { result.0 ≡ record { settings = settings; world = first_world settings; journal = []; stops = false; gave_up = false } }
-        ensures all { result.1.parts ≡ L.parts }
-        ensures none { result.1.amount ≡ 0 }
+    pub fn new(alloc: Global, settings: Settings, tokens: Tokens) -> (Board<L>, Hand<L>)
+        requires settings { settings ≡ L.settings }
+        requires ledger { tokens.ledger.name ≡ L.name }
+        requires parts { tokens.ledger.parts ≡ L.parts }
+        requires marks { tokens.marks ≡ L.names }
+        requires log { tokens.log ≡ L.log }
+        ensures board { result.0 ≡ record { world = first_world settings; journal = []; stops = false; gave_up = false } }
+        ensures all { result.1.share.parts ≡ L.parts }
+        ensures none { result.1.share.amount ≡ 0 }
+        ensures seen { result.1.seen ≡ [] }
     {
-        let (book, share) = blank.open::<L>();
+        let Tokens { ledger, marks, log } = tokens;
+        let (book, share) = ledger.open::<L>();
+        let mut keeper = log.keeper::<L>();
+        let seen = keeper.front();
         let board = Board {
             alloc,
-            settings,
             world: World::new(alloc, settings),
             journal: Vec::new(alloc),
             book,
-            marks: Marks::new(alloc, blocks),
+            keeper,
+            marks: Marks::new(alloc, marks),
             marked: BTreeMap::new(alloc),
             stops: false,
             gave_up: false,
         };
-        (board, share)
+        (board, Hand { share, seen })
     }
 
     /// The world.
@@ -116,9 +120,60 @@ impl<L: Ledger + Names> Board<L> {
         self.gave_up = true;
     }
 
+    /// Dismisses the silo, if nothing more is to be done for it: all silos are to stop, one gave up, or it has no node.
+    pub fn dismissal(&self, silo: &SiloAddress) -> Option<Dismissal>
+        ensures { MatchOption result (¬ (IsDismissed self.now silo.now)) (λ dismissal. IsDismissed self.now silo.now × (dismissal ≡ silo.now)) }
+    {
+        if self.stops || self.gave_up || self.world.node(silo).is_none() {
+            Some(Dismissal { silo: *silo })
+        } else {
+            None
+        }
+    }
+
+    /// The journal as it is, to be kept outside the lock: a beginning of what it will be.
+    pub fn front(&mut self) -> Front<Entry, L>
+        ensures front { result ≡ self.old.journal }
+        ensures unchanged { self.new ≡ self.old }
+    {
+        self.keeper.front()
+    }
+
+    /// The front, which was seen of the journal, is the journal as it is from now on.
+    pub fn renew(&mut self, seen: &mut Front<Entry, L>)
+        ensures begins { IsPrefix seen.old self.old.journal }
+        ensures front { seen.new ≡ self.old.journal }
+        ensures unchanged { self.new ≡ self.old }
+    {
+        self.keeper.renew(seen);
+    }
+
+    /// What another hand has of the ledger and saw of the journal is put to this one.
+    pub fn merge(&mut self, hand: &mut Hand<L>, other: Hand<L>)
+        ensures parts { hand.new.share.parts ≡ hand.old.share.parts + other.share.parts }
+        ensures amount { hand.new.share.amount ≡ hand.old.share.amount + other.share.amount }
+        ensures mine { IsPrefix hand.old.seen hand.new.seen }
+        ensures its { IsPrefix other.seen hand.new.seen }
+        ensures journal { hand.new.seen ≡ self.old.journal }
+        ensures unchanged { self.new ≡ self.old }
+    {
+        let Hand { share, seen } = other;
+        self.keeper.began(seen);
+        self.keeper.renew(&mut hand.seen);
+        hand.share.merge(share);
+    }
+
+    /// A law: what was seen of the journal is a beginning of it.
+    pub fn began(&mut self, seen: Front<Entry, L>)
+        ensures begins { IsPrefix seen self.old.journal }
+        ensures unchanged { self.new ≡ self.old }
+    {
+        self.keeper.began(seen);
+    }
+
     /// A law: the run of the journal's events tells just the journal's outcomes, and leaves the world.
     pub fn journaled(&self)
-        ensures { IsJournaled self.now.settings self.now.journal self.now.world }
+        ensures { IsJournaled L.settings self.now.journal self.now.world }
     {
         let _stops = self.stops;
     }

@@ -1,4 +1,5 @@
 ghost use Rattle.std.specs.Prelude.{◌≡◌, ◌⊎◌, ◌↔◌, ◌∷◌, [], ◌++◌, ◌+◌, ◌<◌, IfErr, IfOk, IfSome, IsTrue, MatchOption, None, OnErr, OnOk, Ok, Some, length};
+ghost use mathlib.Core.List.{IsPrefix};
 ghost use Rattle.directory_rules.specs.Event.{Deliver};
 ghost use Rattle.directory_rules.specs.Happens.{happens, node_of};
 ghost use Rattle.directory_rules.specs.Mail.{letter_of};
@@ -9,14 +10,13 @@ ghost use Rattle.cluster_board.specs.Work.{IsCurrent};
 
 use crate::marks::forget;
 use crate::post::{drafts, entered};
-use crate::{Board, CommitRefusal, Job, Mark, Names, Prepared};
+use crate::{Board, Charter, CommitRefusal, Hand, Job, Mark, Names, Prepared};
 use cluster_journal::Receipt;
 use directory_core::World;
 use directory_letters::Letter;
 use directory_node::{Plan, SharedNode};
 use directory_rules::{Event, Outcome};
 use silo_address::SiloAddress;
-use std::sync::ledger::{Ledger, Share};
 
 /// Prepared work that a board didn't take: why, and what is left of it.
 pub struct Uncommitted<N: Names> {
@@ -27,36 +27,39 @@ pub struct Uncommitted<N: Names> {
     pub node: Option<SharedNode>,
 }
 
-impl<L: Ledger + Names> Board<L> {
+impl<L: Charter> Board<L> {
     /// The letter of prepared work comes to its receiver, whose step was prepared: this is `World::apply` of the delivery, and its
     /// entry is the journal's last one, which the receipt names. Refused by 951 where the silo has no node equal to the lent one
     /// or the mail no equal letter under that number, then by 908, then by 909: of that work the lent node comes back alone. Out of
     /// memory comes last, and then the job comes back if its node can be lent again. A refusal changes nothing. The caller has a
-    /// part of the share (`docs/RULES.md#the-board`).
+    /// part of the share, and has seen the journal as it is from then on, refused or not (`docs/RULES.md#the-board`).
     pub fn commit(
         &mut self,
-        share: &mut Share<L>,
+        hand: &mut Hand<L>,
         prepared: Prepared<L>,
     ) -> Result<Receipt, Uncommitted<L>>
-        requires { 0 < share.old.parts }
+        requires { 0 < hand.old.share.parts }
         ensures current { OnOk result (IsCurrent self.old.world prepared) }
         ensures told { IfOk result (λ receipt. happens self.old.world (Deliver prepared.number) ≡ Ok (accepted_as self.new.world receipt.entry.outcome)) }
         ensures event { IfOk result (λ receipt. receipt.entry.event ≡ Deliver prepared.number) }
         ensures journaled { IfOk result (λ receipt. self.new ≡ record self.old { world = self.new.world; journal = self.old.journal ++ receipt.entry ∷ [] }) }
         ensures number { IfOk result (λ receipt. receipt.number ≡ length self.old.journal + 1) }
-        ensures counted { OnOk result (share.new.amount ≡ share.old.amount + 1) }
-        ensures parts { share.new.parts ≡ share.old.parts }
+        ensures counted { OnOk result (hand.new.share.amount ≡ hand.old.share.amount + 1) }
+        ensures parts { hand.new.share.parts ≡ hand.old.share.parts }
         ensures declined { IfErr result (λ uncommitted. Declines self.old.world prepared uncommitted.refusal) }
         ensures back { IfErr result (λ uncommitted. IfSome uncommitted.job (λ job. (job ≡ prepared) × (uncommitted.refusal ≡ CommitRefusal.OutOfMemory))) }
         ensures spent { IfErr result (λ uncommitted. (uncommitted.refusal ≡ CommitRefusal.OutOfMemory) ⊎ (uncommitted.node ≡ Some prepared.node)) }
         ensures unchanged { OnErr result (self.new ≡ self.old) }
-        ensures not_counted { OnErr result (share.new.amount ≡ share.old.amount) }
+        ensures not_counted { OnErr result (hand.new.share.amount ≡ hand.old.share.amount) }
+        ensures behind { IsPrefix hand.old.seen self.old.journal }
+        ensures seen { hand.new.seen ≡ self.new.journal }
     {
         let Prepared { job, plan } = prepared;
+        self.renew(&mut hand.seen);
         if let Some(refusal) = self.refusal_of(&job, &plan) {
             return Err(spent(refusal, job));
         }
-        self.carry_out(share, job, plan)
+        self.carry_out(hand, job, plan)
     }
 
     // Why prepared work is refused by a number, if it is.
@@ -97,23 +100,25 @@ impl<L: Ledger + Names> Board<L> {
     // Work is carried out that is refused only where memory runs out.
     fn carry_out(
         &mut self,
-        share: &mut Share<L>,
+        hand: &mut Hand<L>,
         job: Job<L>,
         plan: Plan,
     ) -> Result<Receipt, Uncommitted<L>>
-        requires part { 0 < share.old.parts }
+        requires part { 0 < hand.old.share.parts }
         requires planned { IsPlanOf job plan }
         requires taken { IsTaken self.old.world job }
+        requires seen { hand.old.seen ≡ self.old.journal }
         ensures told { IfOk result (λ receipt. happens self.old.world (Deliver job.number) ≡ Ok (accepted_as self.new.world receipt.entry.outcome)) }
         ensures event { IfOk result (λ receipt. receipt.entry.event ≡ Deliver job.number) }
         ensures journaled { IfOk result (λ receipt. self.new ≡ record self.old { world = self.new.world; journal = self.old.journal ++ receipt.entry ∷ [] }) }
         ensures number { IfOk result (λ receipt. receipt.number ≡ length self.old.journal + 1) }
-        ensures counted { OnOk result (share.new.amount ≡ share.old.amount + 1) }
-        ensures parts { share.new.parts ≡ share.old.parts }
+        ensures counted { OnOk result (hand.new.share.amount ≡ hand.old.share.amount + 1) }
+        ensures parts { hand.new.share.parts ≡ hand.old.share.parts }
         ensures declined { IfErr result (λ uncommitted. uncommitted.refusal ≡ CommitRefusal.OutOfMemory) }
         ensures back { IfErr result (λ uncommitted. IfSome uncommitted.job (λ back. back ≡ job)) }
         ensures unchanged { OnErr result (self.new ≡ self.old) }
-        ensures not_counted { OnErr result (share.new.amount ≡ share.old.amount) }
+        ensures not_counted { OnErr result (hand.new.share.amount ≡ hand.old.share.amount) }
+        ensures seen { hand.new.seen ≡ self.new.journal }
     {
         let number = job.number;
         let Ok((kept, told)) = drafts(self.alloc, &Event::Deliver { number }) else {
@@ -125,8 +130,11 @@ impl<L: Ledger + Names> Board<L> {
         forget(&mut self.marked, &job.letter.to());
         match deliver(&mut self.world, job, plan) {
             Ok(outcome) => {
-                self.book.add(share, 1);
-                Ok(entered(&mut self.journal, kept, told, &outcome))
+                self.book.add(&mut hand.share, 1);
+                let receipt = entered(&mut self.journal, kept, told, &outcome);
+                self.keeper.add(&receipt.entry);
+                hand.seen = self.keeper.front();
+                Ok(receipt)
             }
             Err(job) => Err(out_of_memory(job)),
         }

@@ -3,15 +3,14 @@ ghost use Rattle.directory_rules.specs.Mail.{letter_of};
 ghost use Rattle.cluster_board.specs.Due.{HasNoWork, IsWorkOf};
 
 use crate::marks::mark_of;
-use crate::{Board, Job, Names};
+use crate::{Board, Charter, Job};
 use directory_core::World;
 use directory_letters::Letter;
 use letter_mail::MailedLetter;
 use silo_address::SiloAddress;
 use std::alloc::AllocError;
-use std::sync::ledger::Ledger;
 
-impl<L: Ledger + Names> Board<L> {
+impl<L: Charter> Board<L> {
     /// The silo's node, shared, with the least fresh letter to it and that letter's number; `None` where the silo has no node, or
     /// there is no fresh letter to it. The cluster stays as it is, and so does the letter: it may be lent more than once. Fails
     /// only when memory runs out, and only where there is work (`docs/RULES.md#the-board`).

@@ -5,6 +5,7 @@
 
 mod board;
 mod commit;
+mod hand;
 mod lend;
 mod mark;
 mod mark_maker;
@@ -16,6 +17,7 @@ mod work;
 
 pub use board::Board;
 pub use commit::Uncommitted;
+pub use hand::{Charter, Dismissal, Hand, Tokens};
 pub use mark::{Mark, Names};
 pub use mark_maker::Marks;
 pub use refusal::CommitRefusal;

@@ -1,4 +1,5 @@
 ghost use Rattle.std.specs.Prelude.{◌≡◌, ◌∷◌, [], ◌++◌, ◌+◌, ◌<◌, IfErr, IfOk, OnErr, OnOk, length, vec_capacity, vec_len};
+ghost use mathlib.Core.List.{IsPrefix};
 ghost use Rattle.directory_rules.specs.EventModel.{event_of};
 ghost use Rattle.directory_rules.specs.Happens.{happens};
 ghost use Rattle.directory_rules.specs.World.{accepted_as};
@@ -6,29 +7,31 @@ ghost use Rattle.directory_node.specs.Follows.{Follows};
 ghost use Rattle.directory_core.specs.Numbers.{IsNumberedUnlessMemory, event_refusal_number};
 
 use crate::marks::forget_by;
-use crate::{Board, Names};
+use crate::{Board, Charter, Hand};
 use cluster_journal::{Draft, Entry, Receipt};
 use directory_core::EventRefusal;
 use directory_rules::{Event, Outcome};
 use std::alloc::{AllocError, Global};
-use std::sync::ledger::{Ledger, Share};
 
-impl<L: Ledger + Names> Board<L> {
+impl<L: Charter> Board<L> {
     /// An event happens, as `World::apply` says, and its entry is the journal's last one, which the receipt names. Out of memory
     /// for the journal and for copies of the event may come before any other refusal. A refusal changes nothing. The caller has
-    /// a part of the share (`docs/RULES.md#the-board`).
-    pub fn post(&mut self, share: &mut Share<L>, event: &Event) -> Result<Receipt, EventRefusal>
-        requires { 0 < share.old.parts }
+    /// a part of the share, and has seen the journal as it is from then on, refused or not (`docs/RULES.md#the-board`).
+    pub fn post(&mut self, hand: &mut Hand<L>, event: &Event) -> Result<Receipt, EventRefusal>
+        requires { 0 < hand.old.share.parts }
         ensures told { Follows (λ receipt. accepted_as self.new.world receipt.entry.outcome) event_refusal_number (λ _. Unit {0}) (happens self.old.world (event_of event.now)) result }
         ensures numbered { IfErr result IsNumberedUnlessMemory }
         ensures event { IfOk result (λ receipt. receipt.entry.event ≡ event_of event.now) }
         ensures journaled { IfOk result (λ receipt. self.new ≡ record self.old { world = self.new.world; journal = self.old.journal ++ receipt.entry ∷ [] }) }
         ensures number { IfOk result (λ receipt. receipt.number ≡ length self.old.journal + 1) }
-        ensures counted { OnOk result (share.new.amount ≡ share.old.amount + 1) }
-        ensures parts { share.new.parts ≡ share.old.parts }
+        ensures counted { OnOk result (hand.new.share.amount ≡ hand.old.share.amount + 1) }
+        ensures parts { hand.new.share.parts ≡ hand.old.share.parts }
         ensures unchanged { OnErr result (self.new ≡ self.old) }
-        ensures not_counted { OnErr result (share.new.amount ≡ share.old.amount) }
+        ensures not_counted { OnErr result (hand.new.share.amount ≡ hand.old.share.amount) }
+        ensures behind { IsPrefix hand.old.seen self.old.journal }
+        ensures seen { hand.new.seen ≡ self.new.journal }
     {
+        self.keeper.renew(&mut hand.seen);
         let Ok((kept, told)) = drafts(self.alloc, event) else {
             return Err(EventRefusal::OutOfMemory);
         };
@@ -37,8 +40,11 @@ impl<L: Ledger + Names> Board<L> {
         }
         forget_by(&mut self.marked, &self.world, event);
         let outcome = self.world.apply(event)?;
-        self.book.add(share, 1);
-        Ok(entered(&mut self.journal, kept, told, &outcome))
+        self.book.add(&mut hand.share, 1);
+        let receipt = entered(&mut self.journal, kept, told, &outcome);
+        self.keeper.add(&receipt.entry);
+        hand.seen = self.keeper.front();
+        Ok(receipt)
     }
 }
 

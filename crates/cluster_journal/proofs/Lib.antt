@@ -1,2 +1,5 @@
 pub mod Marked
 pub mod Journal
+pub mod Beginnings
+pub mod LogSteps
+pub mod LogSend

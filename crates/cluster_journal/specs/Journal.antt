@@ -19,6 +19,10 @@ told_of journal = map (λ (entry : EntryValue). Ok entry.outcome) journal
 abbrev pub IsJournaled : Settings → List EntryValue → World → Type 0
 IsJournaled settings journal world = run_from_start settings (events_of journal) ≡ record { told = told_of journal; world = world }
 
+-- the world that the events leave
+abbrev pub world_of : Settings → List EntryValue → World
+world_of settings journal = (run_from_start settings (events_of journal)).world
+
 -- the entry of that number, if there is one; they are numbered from 1
 abbrev pub entry_at : List EntryValue → (number : ℕ) → Option EntryValue
 entry_at journal number = if number == 0 then None else slice_get journal (number - 1)

@@ -6,6 +6,7 @@ use Rattle.texts.specs.Words.{line_feed, pieces_at}
 use Rattle.script_rules.specs.Script as rule
 use Rattle.script_lines.specs.CommandModel.{command_of}
 use Rattle.script_lines.specs.declared.command.Command.{Command}
+use Rattle.directory_rules.specs.Settings.{Settings}
 use Rattle.cluster_journal.specs.Entry.{EntryValue}
 use Rattle.line_loop.specs.Endings.{Ends}
 use Rattle.line_loop.specs.Lines.{PlaysOn, PlaysTo, no_line, then_line}
@@ -89,8 +90,8 @@ lines_end first last (Some script) rest begun written end ends =
     writes_script plays (λ s. faults_alone) (λ a b number line feed text fault made. made.0) (λ s number. nothing_is_wrong number) first last script rest begun written end ends
 
 -- those of a player that kept none before are the script's
-pub carried_whole : (journal : List EntryValue) (script : List ℕ) (before after : Script) (end : Ended LineFault) → before.commands.items ≡ [] → KeepsLines script (kept_by before) (kept_by after) end
-    → CarriesOut journal (kept_by after) → HasCarriedOut journal script end
-carried_whole journal script before after ended.AtEnd none keeps carried =
-    subst (CarriesOut journal) (keeps ∙ ap (λ (l : List Command). map command_of l ++ commands_of (rule.lines_of script)) none) carried
-carried_whole journal script before after other none keeps carried = tt
+pub carried_whole : (settings : Settings) (journal : List EntryValue) (script : List ℕ) (before after : Script) (end : Ended LineFault) → before.commands.items ≡ [] → KeepsLines script (kept_by before) (kept_by after) end
+    → CarriesOut settings journal (kept_by after) → HasCarriedOut settings journal script end
+carried_whole settings journal script before after ended.AtEnd none keeps carried =
+    subst (CarriesOut settings journal) (keeps ∙ ap (λ (l : List Command). map command_of l ++ commands_of (rule.lines_of script)) none) carried
+carried_whole settings journal script before after other none keeps carried = tt

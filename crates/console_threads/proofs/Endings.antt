@@ -66,51 +66,51 @@ written_never_lacks writes contents text end old new result written = λ lacks. 
 
 -- ---- By what was written.
 
-module _ {W : Type 0} (writes : W → List ℕ → Option ℕ → W → Type 0) (contents : W → Option (List ℕ)) (journal : List EntryValue) (world : World) where
+module _ {W : Type 0} (writes : W → List ℕ → Option ℕ → W → Type 0) (contents : W → Option (List ℕ)) (settings : Settings) (journal : List EntryValue) (world : World) where
   -- the line of a fault
   fault_ends : (text : List ℕ) (fault : LineFault) (old new : W) (well : Bool) → Sends text (contents old) (contents new) well
-      → EndsBy journal world text (ended.Stopped fault) (contents old) (contents new) (sent_ending (ended.Stopped fault) well)
-  fault_ends text fault old new true sent = λ settings script rest journaled carried lines.
+      → EndsBy settings journal world text (ended.Stopped fault) (contents old) (contents new) (sent_ending (ended.Stopped fault) well)
+  fault_ends text fault old new true sent = λ script rest journaled carried lines.
       let output : faults_alone 1 (lines_of script) ≡ record { text = lines.text; status = 2 } = lines.concludes.0 in
       let same : text ≡ (faults_alone 1 (lines_of script)).text = lines.writes ∙ sym (ap (λ (o : Output). o.text) output) in
       (alone script rest text _ lines, subst (Appends (contents old) (contents new)) same sent)
-  fault_ends text fault old new false sent = λ settings script rest journaled carried lines.
+  fault_ends text fault old new false sent = λ script rest journaled carried lines.
       let output : faults_alone 1 (lines_of script) ≡ record { text = lines.text; status = 2 } = lines.concludes.0 in
       let same : faults_alone 1 (lines_of script) ≡ record { text = text; status = 2 } = output ∙ ap (λ (t : List ℕ). let o : Output = record { text = t; status = 2 } in o) (sym lines.writes) in
       let begins : BeginsWith lines.text (faults_alone 1 (lines_of script)).text = subst (BeginsWith lines.text) (sym (ap (λ (o : Output). o.text) output)) (whole lines.text) in
       (broken script rest lines.text _ begins (alone script rest text _ lines) refl, inr (text, inl same, sent))
 
   -- what the cluster came to
-  world_ends : (printed text : List ℕ) (old new : W) (well : Bool) → Tells journal world text → Sends text (contents old) (contents new) well
-      → EndsBy journal world printed ended.AtEnd (contents old) (contents new) (sent_ending ended.AtEnd well)
-  world_ends printed text old new true tells sent = λ settings script rest journaled carried lines.
-      (alone script rest printed _ lines, (text, tells settings script journaled carried, sent))
-  world_ends printed text old new false tells sent = λ settings script rest journaled carried lines.
+  world_ends : (printed text : List ℕ) (old new : W) (well : Bool) → Tells settings journal world text → Sends text (contents old) (contents new) well
+      → EndsBy settings journal world printed ended.AtEnd (contents old) (contents new) (sent_ending ended.AtEnd well)
+  world_ends printed text old new true tells sent = λ script rest journaled carried lines.
+      (alone script rest printed _ lines, (text, tells script journaled carried, sent))
+  world_ends printed text old new false tells sent = λ script rest journaled carried lines.
       let output : faults_alone 1 (lines_of script) ≡ record { text = lines.text; status = 0 } = lines.concludes in
       let begins : BeginsWith lines.text (faults_alone 1 (lines_of script)).text = subst (BeginsWith lines.text) (sym (ap (λ (o : Output). o.text) output)) (whole lines.text) in
       let none : faults_alone 1 (lines_of script) ≡ no_output = silent 1 (lines_of script) lines.text output in
-      (broken script rest lines.text _ begins (alone script rest printed _ lines) refl, inr (text, inr (none, tells settings script journaled carried), sent))
+      (broken script rest lines.text _ begins (alone script rest printed _ lines) refl, inr (text, inr (none, tells script journaled carried), sent))
 
   pub fault_written : (text : List ℕ) (fault : LineFault) (end : Ended LineFault) (old new : W) (result : ThreadsEnded) → end ≡ ended.Stopped fault
-      → IsWritten writes contents text end old new result → EndsBy journal world text end (contents old) (contents new) result
+      → IsWritten writes contents text end old new result → EndsBy settings journal world text end (contents old) (contents new) result
   fault_written text fault end old new result is written =
-      subst (λ (r : ThreadsEnded). EndsBy journal world text end (contents old) (contents new) r) (sym written.1)
-      (subst (λ (e : Ended LineFault). EndsBy journal world text e (contents old) (contents new) (sent_ending e written.0)) (sym is)
+      subst (λ (r : ThreadsEnded). EndsBy settings journal world text end (contents old) (contents new) r) (sym written.1)
+      (subst (λ (e : Ended LineFault). EndsBy settings journal world text e (contents old) (contents new) (sent_ending e written.0)) (sym is)
       (fault_ends text fault old new written.0 written.2))
 
-  pub world_written : (printed text : List ℕ) (old new : W) (result : ThreadsEnded) → Tells journal world text
-      → IsWritten writes contents text ended.AtEnd old new result → EndsBy journal world printed ended.AtEnd (contents old) (contents new) result
+  pub world_written : (printed text : List ℕ) (old new : W) (result : ThreadsEnded) → Tells settings journal world text
+      → IsWritten writes contents text ended.AtEnd old new result → EndsBy settings journal world printed ended.AtEnd (contents old) (contents new) result
   world_written printed text old new result tells written =
-      subst (λ (r : ThreadsEnded). EndsBy journal world printed ended.AtEnd (contents old) (contents new) r) (sym written.1)
+      subst (λ (r : ThreadsEnded). EndsBy settings journal world printed ended.AtEnd (contents old) (contents new) r) (sym written.1)
       (world_ends printed text old new written.0 tells written.2)
 
 -- ---- A script that was read.
 
 -- so it ends, if it is known, whose lines were played, and whose kept commands were carried out
 pub script_ends : (known : Option (List ℕ)) (settings : Settings) (journal : List EntryValue) (world : World) (text : List ℕ) (end : Ended LineFault) (before after : Script)
-    → (rest begun written : Option (List ℕ)) (result : ThreadsEnded) → before.commands.items ≡ [] → IsJournaled settings journal world → CarriesOut journal (kept_by after)
+    → (rest begun written : Option (List ℕ)) (result : ThreadsEnded) → before.commands.items ≡ [] → IsJournaled settings journal world → CarriesOut settings journal (kept_by after)
     → IfSome known (λ script. LinesEnd script rest text end) → IfSome known (λ script. KeepsLines script (kept_by before) (kept_by after) end)
-    → EndsBy journal world text end begun written result → IfSome known (λ script. Ends settings script rest begun written result)
+    → EndsBy settings journal world text end begun written result → IfSome known (λ script. Ends settings script rest begun written result)
 script_ends None settings journal world text end before after rest begun written result none journaled carried lines leaves ends = tt
 script_ends (Some script) settings journal world text end before after rest begun written result none journaled carried lines leaves ends =
-    ends settings script rest journaled (carried_whole journal script before after end none leaves carried) lines
+    ends script rest journaled (carried_whole settings journal script before after end none leaves carried) lines

@@ -7,4 +7,3 @@ mod Entered
 mod Closed
 mod Lost
 mod Endings
-mod World

@@ -36,20 +36,20 @@ unclosed_by refusal.OutOfMemory = threads.Lacking
 abbrev pub LinesEnd : (script : List ℕ) → (rest : Option (List ℕ)) → (text : List ℕ) → Ended LineFault → Type 0
 LinesEnd script rest text end = WritesScript (faults_alone 1) script rest (Some []) (Some text) end
 
--- the text tells the world, under whatever settings its journal made it, of whatever script it carries out
-abbrev pub Tells : List EntryValue → World → (text : List ℕ) → Type 0
-Tells journal world text =
-    (settings : Settings) (script : List ℕ) → IsJournaled settings journal world → CarriesOut journal (commands_of (lines_of script)) → TellsWorld settings script text
+-- the text tells the world that its journal made under these settings, of whatever script it carries out
+abbrev pub Tells : Settings → List EntryValue → World → (text : List ℕ) → Type 0
+Tells settings journal world text =
+    (script : List ℕ) → IsJournaled settings journal world → CarriesOut settings journal (commands_of (lines_of script)) → TellsWorld settings script text
 
 -- where all lines of a script were played, its commands were carried out
-abbrev pub HasCarriedOut : List EntryValue → (script : List ℕ) → Ended LineFault → Type 0
-HasCarriedOut journal script ended.AtEnd = CarriesOut journal (commands_of (lines_of script))
-HasCarriedOut journal script other = ⊤
+abbrev pub HasCarriedOut : Settings → List EntryValue → (script : List ℕ) → Ended LineFault → Type 0
+HasCarriedOut settings journal script ended.AtEnd = CarriesOut settings journal (commands_of (lines_of script))
+HasCarriedOut settings journal script other = ⊤
 
 -- so a script ends, whatever it was, whose lines end so and print that text, and whose cluster carried it out and came to that world
-abbrev pub EndsBy : List EntryValue → World → (text : List ℕ) → Ended LineFault → (begun written : Option (List ℕ)) → ThreadsEnded → Type 0
-EndsBy journal world text end begun written result =
-    (settings : Settings) (script : List ℕ) (rest : Option (List ℕ)) → IsJournaled settings journal world → HasCarriedOut journal script end
+abbrev pub EndsBy : Settings → List EntryValue → World → (text : List ℕ) → Ended LineFault → (begun written : Option (List ℕ)) → ThreadsEnded → Type 0
+EndsBy settings journal world text end begun written result =
+    (script : List ℕ) (rest : Option (List ℕ)) → IsJournaled settings journal world → HasCarriedOut settings journal script end
     → LinesEnd script rest text end → Ends settings script rest begun written result
 
 -- the ending once its text was sent, by whether all of it was taken

@@ -1,15 +1,14 @@
 //! Commands carried out by a cluster that runs.
 
 ghost use Rattle.std.specs.Prelude.{◌≡◌, ◌+◌, [], IfOk, OnOk, false, length, map};
-ghost use Rattle.console_threads.specs.Driven.{IsFollowed, IsPerformed, IsPosted, Puts};
+ghost use Rattle.console_threads.specs.Driven.{IsFollowed, IsPosted, Puts};
 ghost use Rattle.directory_rules.specs.EventModel.{event_of};
 ghost use Rattle.script_lines.specs.CommandModel.{command_of};
 ghost use Rattle.script_rules.specs.Script as rule;
-ghost use Rattle.silo_threads.specs.Replies.{IsReceiptOf};
 ghost use Rattle.silo_threads.specs.declared.cluster.TheConstants.{PARTS};
-ghost use Rattle.threaded_play.specs.CarriedOut.{AreCarriedOut};
+ghost use Rattle.threaded_play.specs.CarriedOut.{AreCarriedOut, ArePosted, IsCarriedOut};
 
-use cluster_board::Names;
+use cluster_board::{Charter, Hand};
 use cluster_journal::Receipt;
 use directory_rules::Event;
 use script_lines::Command;
@@ -17,42 +16,44 @@ use silo_threads::Cluster;
 use silo_workers::Gate;
 use std::alloc::{AllocError, Global};
 use std::sync::Wait;
-use std::sync::ledger::{Ledger, Share};
 use std::thread::Threads;
 
-/// A cluster that commands are given to, and what is kept of that: the share that workers don't have, and the receipts.
-pub(crate) struct Driver<L: Ledger + Names, G: Gate + Drop> {
+/// A cluster that commands are given to, and what is kept of that: the hand, with the share that workers don't have and what was
+/// seen of the journal, and the receipts.
+pub(crate) struct Driver<L: Charter, G: Gate + Drop> {
     pub(crate) cluster: Cluster<L, G>,
-    pub(crate) share: Share<L>,
+    pub(crate) hand: Hand<L>,
     pub(crate) receipts: Vec<Receipt>,
     // Whether memory, a thread or a publication couldn't be had; nothing is posted from then on.
     pub(crate) lacks: bool,
-    pub(crate) ghost whole: { share.parts + length cluster.workers ≡ PARTS },
+    pub(crate) ghost whole: { hand.share.parts + length cluster.workers ≡ PARTS },
 }
 
-impl<L: Ledger + Names, G: Gate + Drop> Driver<L, G> {
+impl<L: Charter, G: Gate + Drop> Driver<L, G> {
     /// Before the first command.
-    pub(crate) fn new(alloc: Global, cluster: Cluster<L, G>, share: Share<L>) -> Driver<L, G>
-        requires { share.parts + length cluster.workers ≡ PARTS }
-        ensures { result.receipts.items ≡ [] }
+    pub(crate) fn new(alloc: Global, cluster: Cluster<L, G>, hand: Hand<L>) -> Driver<L, G>
+        requires { hand.share.parts + length cluster.workers ≡ PARTS }
+        ensures none { result.receipts.items ≡ [] }
+        ensures seen { result.hand.seen ≡ hand.seen }
     {
         Driver {
             cluster,
-            share,
+            hand,
             receipts: Vec::new(alloc),
             lacks: false,
         }
     }
 }
 
-impl<L: Ledger + Names + Send + 'static, G: Gate + Drop + Send + Sync + 'static> Driver<L, G> {
+impl<L: Charter + Send + 'static, G: Gate + Drop + Send + Sync + 'static> Driver<L, G> {
     /// Carries out commands, one after the other. Nothing more happens once something lacks.
     pub(crate) fn drive<H: Threads + Wait + Copy + Drop + Send + 'static>(
         &mut self,
         rt: &H,
         commands: &[Command],
     )
-        ensures { self.new.lacks ≡ false → Puts (AreCarriedOut IsReceiptOf (map command_of commands.now)) self.old.receipts.items self.new.receipts.items }
+        ensures { self.new.lacks ≡ false → Puts (λ journal before after. AreCarriedOut L.settings journal before after (map command_of commands.now))
+            self.old.hand.seen self.new.hand.seen self.old.receipts.items self.new.receipts.items }
     {
         for command in commands {
             self.carry_out(rt, command);
@@ -68,7 +69,8 @@ impl<L: Ledger + Names + Send + 'static, G: Gate + Drop + Send + Sync + 'static>
         rt: &H,
         command: &Command,
     )
-        ensures { self.new.lacks ≡ false → Puts (IsPerformed (command_of command.now)) self.old.receipts.items self.new.receipts.items }
+        ensures { self.new.lacks ≡ false → Puts (λ journal before after. IsCarriedOut L.settings journal before after (command_of command.now))
+            self.old.hand.seen self.new.hand.seen self.old.receipts.items self.new.receipts.items }
     {
         if self.perform(rt, command).is_err() {
             self.lacks = true;
@@ -82,7 +84,8 @@ impl<L: Ledger + Names + Send + 'static, G: Gate + Drop + Send + Sync + 'static>
         rt: &H,
         command: &Command,
     ) -> Result<(), AllocError>
-        ensures { OnOk result (self.new.lacks ≡ false → Puts (IsPerformed (command_of command.now)) self.old.receipts.items self.new.receipts.items) }
+        ensures { OnOk result (self.new.lacks ≡ false → Puts (λ journal before after. IsCarriedOut L.settings journal before after (command_of command.now))
+            self.old.hand.seen self.new.hand.seen self.old.receipts.items self.new.receipts.items) }
     {
         match command {
             Command::Happen(event) => self.happen(rt, event),
@@ -101,7 +104,8 @@ impl<L: Ledger + Names + Send + 'static, G: Gate + Drop + Send + Sync + 'static>
         rt: &H,
         event: &Event,
     ) -> Result<(), AllocError>
-        ensures { OnOk result (self.new.lacks ≡ false → Puts (IsPerformed (rule.Happen (event_of event.now))) self.old.receipts.items self.new.receipts.items) }
+        ensures { OnOk result (self.new.lacks ≡ false → Puts (λ journal before after. IsCarriedOut L.settings journal before after (rule.Happen (event_of event.now)))
+            self.old.hand.seen self.new.hand.seen self.old.receipts.items self.new.receipts.items) }
     {
         match event {
             Event::Deliver { .. } | Event::Lose { .. } => Ok(()),
@@ -117,11 +121,24 @@ impl<L: Ledger + Names + Send + 'static, G: Gate + Drop + Send + Sync + 'static>
         &mut self,
         rt: &H,
     ) -> Result<(), AllocError>
-        ensures { OnOk result (self.new.lacks ≡ false → Puts (IsPerformed rule.Sync) self.old.receipts.items self.new.receipts.items) }
+        ensures { OnOk result (self.new.lacks ≡ false → Puts (λ journal before after. IsCarriedOut L.settings journal before after rule.Sync)
+            self.old.hand.seen self.new.hand.seen self.old.receipts.items self.new.receipts.items) }
     {
-        let sights = self.cluster.sights(rt)?;
-        for sight in &sights {
-            if !self.post(rt, sight)? {
+        let sights = self.cluster.sights(rt, &mut self.hand)?;
+        self.post_all(rt, &sights)
+    }
+
+    // Posts events, one after the other, up to a refusal.
+    fn post_all<H: Threads + Wait + Copy + Drop + Send + 'static>(
+        &mut self,
+        rt: &H,
+        events: &[Event],
+    ) -> Result<(), AllocError>
+        ensures { OnOk result (self.new.lacks ≡ false → Puts (λ journal before after. ArePosted L.settings journal before after (map event_of events.now))
+            self.old.hand.seen self.new.hand.seen self.old.receipts.items self.new.receipts.items) }
+    {
+        for event in events {
+            if !self.post(rt, event)? {
                 return Ok(());
             }
         }
@@ -135,15 +152,15 @@ impl<L: Ledger + Names + Send + 'static, G: Gate + Drop + Send + Sync + 'static>
         rt: &H,
         event: &Event,
     ) -> Result<bool, AllocError>
-        ensures posted { IfOk result (λ accepted. self.new.lacks ≡ false → IsPosted (event_of event.now) accepted self.old.receipts.items self.new.receipts.items) }
-        ensures followed { IfOk result (λ accepted. self.new.lacks ≡ false → IsFollowed (event_of event.now) accepted self.old.cluster self.new.cluster) }
+        ensures posted { IfOk result (λ accepted. self.new.lacks ≡ false → IsPosted L.settings (event_of event.now) accepted self.old.hand.seen self.new.hand.seen self.old.receipts.items self.new.receipts.items) }
+        ensures followed { IfOk result (λ accepted. self.new.lacks ≡ false → IsFollowed L.settings (event_of event.now) accepted self.old.hand.seen self.new.hand.seen self.old.cluster self.new.cluster) }
         ensures lacking { self.new.lacks ≡ false → self.old.lacks ≡ false }
     {
         if self.lacks {
             return Ok(false);
         }
         self.receipts.reserve(1)?;
-        match self.cluster.run(rt, &mut self.share, event) {
+        match self.cluster.run(rt, &mut self.hand, event) {
             Ok(ran) => {
                 self.lacks = ran.lack.is_some();
                 self.receipts.push_reserved(ran.receipt);

@@ -5,7 +5,6 @@ mod close;
 mod driver;
 mod held;
 mod lines;
-mod order;
 mod play;
 mod print;
 mod script;

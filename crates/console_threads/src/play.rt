@@ -9,8 +9,7 @@ use crate::driver::Driver;
 use crate::lines::play_lines;
 use crate::print::print;
 use crate::script::Script;
-use cluster_board::{Blocks, Board, Names};
-use directory_node::SharedNode;
+use cluster_board::{Board, Charter, Tokens};
 use directory_rules::Settings;
 use line_loop::{Sink, Source};
 use script_lines::Command;
@@ -18,7 +17,6 @@ use silo_threads::{Cluster, PARTS};
 use silo_workers::OpenGate;
 use std::alloc::Global;
 use std::sync::Wait;
-use std::sync::ledger::{Blank, Ledger};
 use std::thread::Threads;
 use threaded_play::ThreadsEnded;
 
@@ -30,7 +28,7 @@ pub const MARK_BLOCKS: usize = 1024;
 /// fault; or how many events there were, the verdict on the cluster and the whole directory. Nothing is where something lacks or
 /// receipts differ. Why workers gave up goes to the errors (`docs/RULES.md#threads`).
 pub fn play_on_threads<
-    L: Ledger + Names + Send + 'static,
+    L: Charter + Send + 'static,
     H: Threads + Wait + Copy + Drop + Send + 'static,
     R: Source,
     W: Sink,
@@ -39,15 +37,17 @@ pub fn play_on_threads<
     rt: &H,
     alloc: Global,
     settings: Settings,
-    tokens: (Blank, Blocks<SharedNode>),
+    tokens: Tokens,
     reader: &mut R,
     writer: &mut W,
     errors: &mut E,
 ) -> ThreadsEnded
-    requires name { tokens.0.name ≡ L.name }
-    requires parts { tokens.0.parts ≡ L.parts }
+    requires settings { settings ≡ L.settings }
+    requires ledger { tokens.ledger.name ≡ L.name }
+    requires parts { tokens.ledger.parts ≡ L.parts }
     requires whole { L.parts ≡ PARTS }
-    requires names { tokens.1 ≡ L.names }
+    requires marks { tokens.marks ≡ L.names }
+    requires log { tokens.log ≡ L.log }
     ensures ends { IfSome (R.remaining reader.old) (λ script.
         Ends settings script (R.remaining reader.new) (W.contents writer.old) (W.contents writer.new) result) }
     ensures calls { MakesCalls R.reads W.writes (reader.old, writer.old) (reader.new, writer.new) result }
@@ -68,32 +68,30 @@ pub fn play_on_threads<
 }
 
 // Has the commands carried out by a new cluster, and closes it.
-fn run<
-    L: Ledger + Names + Send + 'static,
-    H: Threads + Wait + Copy + Drop + Send + 'static,
-    E: Sink,
->(
+fn run<L: Charter + Send + 'static, H: Threads + Wait + Copy + Drop + Send + 'static, E: Sink>(
     rt: &H,
     alloc: Global,
     settings: Settings,
-    tokens: (Blank, Blocks<SharedNode>),
+    tokens: Tokens,
     commands: &[Command],
     errors: &mut E,
 ) -> Result<Board<L>, ThreadsEnded>
-    requires name { tokens.0.name ≡ L.name }
-    requires parts { tokens.0.parts ≡ L.parts }
+    requires settings { settings ≡ L.settings }
+    requires ledger { tokens.ledger.name ≡ L.name }
+    requires parts { tokens.ledger.parts ≡ L.parts }
     requires whole { L.parts ≡ PARTS }
-    requires names { tokens.1 ≡ L.names }
+    requires marks { tokens.marks ≡ L.names }
+    requires log { tokens.log ≡ L.log }
     ensures journaled { IfOk result (λ board. IsJournaled settings board.journal board.world) }
-    ensures carried { IfOk result (λ board. CarriesOut board.journal (map command_of commands.now)) }
+    ensures carried { IfOk result (λ board. CarriesOut settings board.journal (map command_of commands.now)) }
     ensures unclosed { IfErr result IsUnclosed }
     ensures told { MatchResult result (λ _. errors.new ≡ errors.old) (λ ended. TellsCauses E.writes E.contents ended errors.old errors.new) }
 {
     match Cluster::<L, OpenGate>::new(rt, alloc, settings, tokens, OpenGate, 1) {
-        Ok((cluster, share)) => {
-            let mut driver = Driver::new(alloc, cluster, share);
+        Ok((cluster, hand)) => {
+            let mut driver = Driver::new(alloc, cluster, hand);
             driver.drive(rt, commands);
-            driver.close(rt, alloc, settings, errors)
+            driver.close(rt, alloc, errors)
         }
         Err(_) => Err(ThreadsEnded::Lacking),
     }

@@ -4,21 +4,20 @@ ghost use Rattle.std.specs.Prelude.{◌≡◌, IfOk};
 ghost use Rattle.console_threads.specs.Endings.{EndsBy, IsWritten, LacksOnlyAfter, Tells, WritesOnce};
 
 use crate::lines::Lines;
-use cluster_board::{Board, Names};
+use cluster_board::{Board, Charter};
 use console_command::{show, tell_verdict};
 use line_loop::{Ended, LineFault, Sink, send};
 use std::alloc::{AllocError, Global};
-use std::sync::ledger::Ledger;
 use threaded_play::ThreadsEnded;
 
 /// Prints what there is to print: the line of the fault, or without one what the cluster came to.
-pub(crate) fn print<L: Ledger + Names, W: Sink>(
+pub(crate) fn print<L: Charter, W: Sink>(
     alloc: Global,
     lines: &Lines,
     board: &Board<L>,
     writer: &mut W,
 ) -> ThreadsEnded
-    ensures ends { EndsBy board.now.journal board.now.world lines.now.text.items lines.now.ended (W.contents writer.old) (W.contents writer.new) result }
+    ensures ends { EndsBy L.settings board.now.journal board.now.world lines.now.text.items lines.now.ended (W.contents writer.old) (W.contents writer.new) result }
     ensures once { WritesOnce W.writes writer.old writer.new lines.now.ended result }
     ensures lacking { LacksOnlyAfter lines.now.ended result }
 {
@@ -32,13 +31,13 @@ pub(crate) fn print<L: Ledger + Names, W: Sink>(
 }
 
 // Prints what the cluster came to, behind lines that printed nothing.
-fn print_world<L: Ledger + Names, W: Sink>(
+fn print_world<L: Charter, W: Sink>(
     alloc: Global,
     printed: &[u8],
     board: &Board<L>,
     writer: &mut W,
 ) -> ThreadsEnded
-    ensures ends { EndsBy board.now.journal board.now.world printed.now Ended.AtEnd (W.contents writer.old) (W.contents writer.new) result }
+    ensures ends { EndsBy L.settings board.now.journal board.now.world printed.now Ended.AtEnd (W.contents writer.old) (W.contents writer.new) result }
     ensures once { WritesOnce W.writes writer.old writer.new Ended.AtEnd result }
 {
     match world_text(alloc, board) {
@@ -59,8 +58,8 @@ fn write<W: Sink>(ended: Ended<LineFault>, text: &[u8], writer: &mut W) -> Threa
 }
 
 // How many events there were, the verdict, and the whole directory.
-fn world_text<L: Ledger + Names>(alloc: Global, board: &Board<L>) -> Result<Vec<u8>, AllocError>
-    ensures { IfOk result (λ text. Tells board.now.journal board.now.world text.items) }
+fn world_text<L: Charter>(alloc: Global, board: &Board<L>) -> Result<Vec<u8>, AllocError>
+    ensures { IfOk result (λ text. Tells L.settings board.now.journal board.now.world text.items) }
 {
     let count = board.journal().len();
     let mut text = Vec::new(alloc);

@@ -4,7 +4,7 @@ ghost use Rattle.threaded_play.specs.Endings as threads;
 ghost use Rattle.console_command.specs.Program.{DoesInTurn};
 ghost use Rattle.directory_console.specs.Carrying.{IsCarriedOut, IsDone, MakesCalls, Tells};
 
-use cluster_board::Slots;
+use cluster_board::Tokens;
 use console_command::{Exit, Run, end_threads, run_words};
 use console_threads::{MARK_BLOCKS, play_on_threads};
 use directory_rules::Settings;
@@ -15,7 +15,6 @@ use std::convert::AsStr;
 use std::marker::Brand;
 use std::process::ExitCode;
 use std::sync::Wait;
-use std::sync::ledger::Blank;
 use std::thread::Threads;
 use threaded_play::ThreadsEnded;
 
@@ -74,13 +73,10 @@ fn run_on_threads<H: Threads + Wait + Copy + Drop + Send + 'static, R: Source, W
     ensures calls { threads.MakesCalls R.reads W.writes (source.old, output.old) (source.new, output.new) result }
     ensures told { (errors.new ≡ errors.old) ⊎ threads.TellsCauses E.writes E.contents result errors.old errors.new }
 {
-    match Slots::new(alloc, MARK_BLOCKS) {
-        Ok(blocks) => {
-            let tokens = (Blank::new(PARTS), blocks);
-            play_on_threads::<Brand, _, _, _, _>(
-                rt, alloc, settings, tokens, source, output, errors,
-            )
-        }
+    match Tokens::new(alloc, PARTS, MARK_BLOCKS) {
+        Ok(tokens) => play_on_threads::<Brand, _, _, _, _>(
+            rt, alloc, settings, tokens, source, output, errors,
+        ),
         Err(_) => ThreadsEnded::Lacking,
     }
 }

@@ -1,11 +1,23 @@
 -- A publication of what an event left.
-use Rattle.std.proofs.Common.{◌≤◌, ℕ, IfSome, ap, arith, inl, inr, subst}
+use Rattle.std.proofs.Common.{◌≡◌, ◌∙◌, ◌≤◌, ◌++◌, [], ◌∷◌, ℕ, IfErr, IfOk, IfSome, List, Option, Result, Ok, Err, ap, arith, inl, inr, length, subst, sym}
 use Rattle.membership_view.specs.View.{ViewValue}
 use Rattle.hash_ring.specs.Places.{PlacesValue}
+use Rattle.directory_rules.specs.Settings.{Settings}
 use Rattle.directory_rules.specs.World.{World, current_view}
+use Rattle.cluster_journal.specs.Entry.{EntryValue}
+use Rattle.cluster_journal.specs.Journal.{world_of}
+use Rattle.cluster_journal.specs.Posted.{IsReceiptOf}
 use Rattle.cluster_journal.specs.declared.entry.Receipt.{Receipt}
+use Rattle.cluster_journal.proofs.Beginnings.{is_whole}
+use Rattle.directory_rules.specs.Event.{Event}
 use Rattle.published_rings.specs.Ends.{PublisherValue}
-use Rattle.silo_threads.specs.Followed.{HasLeft, HasPublished, IsLeftBy, Shows, version_made}
+use Rattle.std.specs.Prelude.{OnErr, OnOk}
+use Rattle.std.specs.Result.{result_err}
+use Rattle.silo_address.specs.Silo.{Silo}
+use Rattle.silo_threads.specs.Cluster.{ClusterValue}
+use Rattle.silo_threads.specs.Followed.{HasChanged, HasJoined, HasPublished, IsLeftIn, Shows, ShowsNewest, version_made, with_worker}
+use Rattle.silo_threads.specs.declared.fault.Lack.{Lack}
+use Rattle.silo_threads.specs.declared.fault.Lack.TheVariants.{Publication, Thread}
 use Rattle.silo_threads.proofs.VersionsMade.{up_to, version_left}
 
 -- the newest ring is of the view's version or of a later one
@@ -13,19 +25,44 @@ shown_up_to : (view : ViewValue) (places : PlacesValue) (before after : Publishe
 shown_up_to view places before after (inl shown) = let its = ap (λ (p : PublisherValue). p.last.version) shown.1 in omega arith
 shown_up_to view places before after (inr shown) = let its = ap (λ (p : PublisherValue). p.last.version) shown.1 in let within = shown.0 in omega arith
 
--- what the receipt tells is the version of the world that its event left
-left_up_to : (receipt : Receipt) (world : World) (bound : ℕ) → HasLeft receipt world → world.views.version ≤ bound → IfSome (version_made receipt.entry.outcome.happening) (λ version. version ≤ bound)
-left_up_to receipt world bound has within =
-    up_to (version_made receipt.entry.outcome.happening) has.told.after.views.version bound
-    (version_left has.moment.world receipt.entry.event has.told.after receipt.entry.outcome has.told.told)
-    (subst (λ (w : World). w.views.version ≤ bound) has.left within)
+module _ (settings : Settings) (known now : List EntryValue) (event : Event) (receipt : Receipt) (its : IsReceiptOf settings known now event receipt) (last : receipt.number ≡ length now) where
+  -- what the receipt tells is the version of the world that its event left
+  left_up_to : (bound : ℕ) → (world_of settings now).views.version ≤ bound → IfSome (version_made receipt.entry.outcome.happening) (λ version. version ≤ bound)
+  left_up_to bound within =
+      let all = its.journal ++ receipt.entry ∷ [] in
+      let same = is_whole its.journal now receipt.entry receipt.number its.stands its.number last in
+      up_to (version_made receipt.entry.outcome.happening) (world_of settings all).views.version bound
+      (version_left (world_of settings its.journal) event (world_of settings all) receipt.entry.outcome its.told)
+      (subst (λ (l : List EntryValue). (world_of settings l).views.version ≤ bound) same within)
 
-pub published_as_left : (receipt : Receipt) (view : ViewValue) (places : PlacesValue) (before after : PublisherValue) → IsLeftBy receipt view places → Shows view places before after → HasPublished receipt before after
-published_as_left receipt view places before after is shown =
-    let its = subst (λ (v : ViewValue). Shows v is.world.places before after) is.current (subst (λ (p : PlacesValue). Shows view p before after) is.placed shown) in
-    record {
-      world = is.world;
-      left = is.left;
-      shown = its;
-      up_to_date = left_up_to receipt is.world after.last.version is.left (shown_up_to (current_view is.world) is.world.places before after its);
-    }
+  pub published_as_left : {E : Type 0} (newest : Result (ViewValue × PlacesValue) E) (before after : PublisherValue) → IfOk newest (IsLeftIn (world_of settings now)) → ShowsNewest newest before after
+      → HasPublished (world_of settings now) receipt before after
+  published_as_left (Ok newest) before after left shows =
+      let world = world_of settings now in
+      let shown : Shows (current_view world) world.places before after =
+      subst (λ (v : ViewValue). Shows v world.places before after) left.0 (subst (λ (p : PlacesValue). Shows newest.0 p before after) left.1 shows) in
+      record { shown = shown; up_to_date = left_up_to after.last.version (shown_up_to (current_view world) world.places before after shown) }
+  published_as_left (Err failure) before after left shows = absurd shows
+
+  module _ {E : Type 0} (newest : Result (ViewValue × PlacesValue) E) (left : IfOk newest (IsLeftIn (world_of settings now))) (before after : ClusterValue) where
+    -- a change of members is followed by its publication, but for what lacks
+    pub changed : (result : Result (Unit {0}) Lack) (lack : Option Lack) → lack ≡ result_err result → after.workers ≡ before.workers → OnOk result (ShowsNewest newest before.published after.published)
+        → OnErr result (after ≡ before) → IfErr result (λ l. l ≡ Publication) → HasChanged (world_of settings now) receipt before after lack
+    changed (Ok tt) lack is workers shown same lacks =
+        subst (HasChanged (world_of settings now) receipt before after) (sym is) (workers, published_as_left newest before.published after.published left shown)
+    changed (Err Thread) lack is workers shown same lacks = absurd (cc)
+    changed (Err Publication) lack is workers shown same lacks = subst (HasChanged (world_of settings now) receipt before after) (sym is) same
+
+  module _ {E : Type 0} (newest : Result (ViewValue × PlacesValue) E) (left : IfOk newest (IsLeftIn (world_of settings now))) (silo : Silo) (before started after : ClusterValue) where
+    -- a join by a worker too, which was started before
+    pub joined : (result : Result (Unit {0}) Lack) (lack : Option Lack) → lack ≡ result_err result → started ≡ record before { workers = with_worker before.workers silo } → after.workers ≡ started.workers
+        → OnOk result (ShowsNewest newest started.published after.published) → OnErr result (after ≡ started) → IfErr result (λ l. l ≡ Publication)
+        → HasJoined (world_of settings now) silo receipt before after lack
+    joined (Ok tt) lack is start workers shown same lacks =
+        subst (HasJoined (world_of settings now) silo receipt before after) (sym is) (
+          workers ∙ ap (λ (c : ClusterValue). c.workers) start,
+          subst (λ (p : PublisherValue). HasPublished (world_of settings now) receipt p after.published) (ap (λ (c : ClusterValue). c.published) start)
+              (published_as_left newest started.published after.published left shown),
+        )
+    joined (Err Thread) lack is start workers shown same lacks = absurd (cc)
+    joined (Err Publication) lack is start workers shown same lacks = subst (HasJoined (world_of settings now) silo receipt before after) (sym is) (same ∙ start)

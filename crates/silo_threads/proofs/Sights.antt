@@ -12,8 +12,6 @@ use Rattle.directory_rules.specs.declared.Event.{Event}
 use Rattle.directory_rules.specs.Node.{Node}
 use Rattle.directory_rules.specs.World.{World}
 use Rattle.script_rules.specs.Output.{sync_events, unseen_versions}
-use Rattle.silo_workers.specs.Moments.{Moment}
-use Rattle.silo_threads.specs.Unseen.{WereUnseen}
 
 -- those of a silo that are left
 pub sights_left : (silo : Silo) (seen current : ℕ) → seen < current
@@ -52,7 +50,3 @@ pub one_more_listed : (events more : List Event) (event : Event) (rest : List ru
 one_more_listed events more event rest is =
     ap (λ (all : List Event). map event_of all ++ rest) is
     ∙ (ap (λ (all : List rule.Event). all ++ rest) (map-append event_of events (event ∷ [])) ∙ append_assoc (map event_of events) (event_of event ∷ []) rest)
-
--- those of a moment's world were lacking then
-pub were_unseen : (moment : Moment) (world : World) (sights : List rule.Event) → world ≡ moment.world → sights ≡ sync_events world → WereUnseen sights
-were_unseen moment world sights same are = record { moment = moment; its = are ∙ ap sync_events same }

@@ -1,5 +1,5 @@
 -- What follows an event that was accepted: at a join a worker, at each change of membership a publication.
-use Rattle.std.specs.Prelude.{◌≡◌, ℕ, ◌++◌, ◌<◌, ◌≤◌, ◌⊎◌, IfSome, List, [], ◌∷◌, Option, Some, None, length}
+use Rattle.std.specs.Prelude.{◌≡◌, ℕ, ◌++◌, ◌<◌, ◌≤◌, ◌⊎◌, IfSome, List, [], ◌∷◌, Option, Some, None, Result, Ok, Err, length}
 use Rattle.silo_address.specs.Silo.{Silo}
 use Rattle.membership_view.specs.View.{ViewValue}
 use Rattle.hash_ring.specs.Places.{PlacesValue}
@@ -11,7 +11,6 @@ use Rattle.directory_rules.specs.World.{World, current_view}
 use Rattle.cluster_journal.specs.declared.entry.Receipt.{Receipt}
 use Rattle.published_rings.specs.Ends.{PublisherValue, after_publishing}
 use Rattle.silo_threads.specs.Cluster.{ClusterValue}
-use Rattle.silo_workers.specs.Moments.{IsReceiptAt, Moment}
 use Rattle.silo_threads.specs.declared.cluster.TheConstants.{MOST_WORKERS}
 use Rattle.silo_threads.specs.declared.fault.Lack.{Lack}
 use Rattle.silo_threads.specs.declared.fault.Lack.TheVariants.{Thread, Publication}
@@ -26,18 +25,14 @@ abbrev pub Shows : ViewValue → PlacesValue → PublisherValue → PublisherVal
 Shows view places before after =
     ((before.last.version < view.version) × (after ≡ after_publishing before (ring_of view places))) ⊎ ((view.version ≤ before.last.version) × (after ≡ before))
 
--- the event left that world, at a moment at which it told what the receipt says
-pub record HasLeft (receipt : Receipt) (world : World) : Type 0 where
-  pub moment : Moment
-  pub told : IsReceiptAt moment receipt.entry.event receipt
-  pub left : world ≡ told.after
+-- so it is with the view and the places, which there may be none of
+abbrev pub ShowsNewest : {E : Type 0} → Result (ViewValue × PlacesValue) E → PublisherValue → PublisherValue → Type 0
+ShowsNewest (Ok newest) before after = Shows newest.0 newest.1 before after
+ShowsNewest (Err failure) before after = ⊥
 
--- the view and the places are those of a world that the event left
-pub record IsLeftBy (receipt : Receipt) (view : ViewValue) (places : PlacesValue) : Type 0 where
-  pub world : World
-  pub left : HasLeft receipt world
-  pub current : view ≡ current_view world
-  pub placed : places ≡ world.places
+-- the view and the places are those of the world
+abbrev pub IsLeftIn : World → ViewValue × PlacesValue → Type 0
+IsLeftIn world newest = (newest.0 ≡ current_view world) × (newest.1 ≡ world.places)
 
 -- the version of the view that an event made; none where it made none
 abbrev pub version_made : Happening → Option ℕ
@@ -50,10 +45,8 @@ version_made other = None
 abbrev pub IsUpTo : Receipt → PublisherValue → Type 0
 IsUpTo receipt publisher = IfSome (version_made receipt.entry.outcome.happening) (λ version. version ≤ publisher.last.version)
 
--- so it is with the current view of a world that the event left, and so the newest ring is up to the receipt
-pub record HasPublished (receipt : Receipt) (before after : PublisherValue) : Type 0 where
-  pub world : World
-  pub left : HasLeft receipt world
+-- the ring of the current view of the world that the event left is published, and so the newest ring is up to the receipt
+pub record HasPublished (world : World) (receipt : Receipt) (before after : PublisherValue) : Type 0 where
   pub shown : Shows (current_view world) world.places before after
   pub up_to_date : IsUpTo receipt after
 
@@ -66,32 +59,32 @@ abbrev pub LacksThread : Silo → List Silo → List Silo → Type 0
 LacksThread silo before after = (after ≡ with_worker before silo) ⊎ ((MOST_WORKERS ≤ length before) × (after ≡ before))
 
 -- after a join the silo has a worker, and there is a publication, but for what lacks; without a thread nothing is published
-abbrev pub HasJoined : Silo → Receipt → ClusterValue → ClusterValue → Option Lack → Type 0
-HasJoined silo receipt before after None = (after.workers ≡ with_worker before.workers silo) × HasPublished receipt before.published after.published
-HasJoined silo receipt before after (Some Publication) = after ≡ record before { workers = with_worker before.workers silo }
-HasJoined silo receipt before after (Some Thread) = LacksThread silo before.workers after.workers × (after.published ≡ before.published)
+abbrev pub HasJoined : World → Silo → Receipt → ClusterValue → ClusterValue → Option Lack → Type 0
+HasJoined world silo receipt before after None = (after.workers ≡ with_worker before.workers silo) × HasPublished world receipt before.published after.published
+HasJoined world silo receipt before after (Some Publication) = after ≡ record before { workers = with_worker before.workers silo }
+HasJoined world silo receipt before after (Some Thread) = LacksThread silo before.workers after.workers × (after.published ≡ before.published)
 
 -- after a leave or a death there is a publication, unless it lacks; no worker more or less
-abbrev pub HasChanged : Receipt → ClusterValue → ClusterValue → Option Lack → Type 0
-HasChanged receipt before after None = (after.workers ≡ before.workers) × HasPublished receipt before.published after.published
-HasChanged receipt before after (Some Publication) = after ≡ before
-HasChanged receipt before after (Some Thread) = ⊥
+abbrev pub HasChanged : World → Receipt → ClusterValue → ClusterValue → Option Lack → Type 0
+HasChanged world receipt before after None = (after.workers ≡ before.workers) × HasPublished world receipt before.published after.published
+HasChanged world receipt before after (Some Publication) = after ≡ before
+HasChanged world receipt before after (Some Thread) = ⊥
 
 -- after any other event nothing
 abbrev pub HasStayed : ClusterValue → ClusterValue → Option Lack → Type 0
 HasStayed before after lack = (after ≡ before) × (lack ≡ None)
 
--- what follows the event that the receipt is of
-abbrev pub HasFollowed : Event → Receipt → ClusterValue → ClusterValue → Option Lack → Type 0
-HasFollowed (Join silo places) receipt before after lack = HasJoined silo receipt before after lack
-HasFollowed (Leave silo) receipt before after lack = HasChanged receipt before after lack
-HasFollowed (Kill silo) receipt before after lack = HasChanged receipt before after lack
-HasFollowed (See silo version) receipt before after lack = HasStayed before after lack
-HasFollowed (Wake silo grain) receipt before after lack = HasStayed before after lack
-HasFollowed (Close silo grain) receipt before after lack = HasStayed before after lack
-HasFollowed (Find silo grain) receipt before after lack = HasStayed before after lack
-HasFollowed (Forget silo grain) receipt before after lack = HasStayed before after lack
-HasFollowed (Deliver number) receipt before after lack = HasStayed before after lack
-HasFollowed (Lose number) receipt before after lack = HasStayed before after lack
-HasFollowed (Nudge silo) receipt before after lack = HasStayed before after lack
-HasFollowed (Offer silo grain to) receipt before after lack = HasStayed before after lack
+-- what follows the event that the receipt is of, and that left this world
+abbrev pub HasFollowed : World → Event → Receipt → ClusterValue → ClusterValue → Option Lack → Type 0
+HasFollowed world (Join silo places) receipt before after lack = HasJoined world silo receipt before after lack
+HasFollowed world (Leave silo) receipt before after lack = HasChanged world receipt before after lack
+HasFollowed world (Kill silo) receipt before after lack = HasChanged world receipt before after lack
+HasFollowed world (See silo version) receipt before after lack = HasStayed before after lack
+HasFollowed world (Wake silo grain) receipt before after lack = HasStayed before after lack
+HasFollowed world (Close silo grain) receipt before after lack = HasStayed before after lack
+HasFollowed world (Find silo grain) receipt before after lack = HasStayed before after lack
+HasFollowed world (Forget silo grain) receipt before after lack = HasStayed before after lack
+HasFollowed world (Deliver number) receipt before after lack = HasStayed before after lack
+HasFollowed world (Lose number) receipt before after lack = HasStayed before after lack
+HasFollowed world (Nudge silo) receipt before after lack = HasStayed before after lack
+HasFollowed world (Offer silo grain to) receipt before after lack = HasStayed before after lack

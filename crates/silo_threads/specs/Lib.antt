@@ -2,4 +2,3 @@ pub mod Cluster
 pub mod Replies
 pub mod Followed
 pub mod Tallied
-pub mod Unseen

@@ -1,28 +1,18 @@
--- What whoever posts an event to a running cluster is told.
-use Rattle.std.specs.Prelude.{◌≡◌, ℕ, Option, Some, None, Err}
+-- What whoever posts an event to a running cluster is told where it is refused.
+use Rattle.std.specs.Prelude.{◌≡◌, ℕ, List, Option, Some, None, Err, ⊤}
 use Rattle.directory_rules.specs.Event.{Event}
-use Rattle.directory_rules.specs.Happens.{happens}
 use Rattle.directory_core.specs.Numbers.{IsNumberedUnlessMemory, event_refusal_number}
 use Rattle.directory_core.specs.declared.refusal.EventRefusal.{EventRefusal}
-use Rattle.cluster_journal.specs.declared.entry.Receipt.{Receipt}
-use Rattle.silo_workers.specs.Moments.{IsReceiptAt, Moment}
+use Rattle.directory_rules.specs.Settings.{Settings}
+use Rattle.cluster_journal.specs.Entry.{EntryValue}
+use Rattle.cluster_journal.specs.Posted.{IsRefused}
 
--- there was a moment at which the event told what the receipt says
-pub record IsReceiptOf (event : Event) (receipt : Receipt) : Type 0 where
-  pub moment : Moment
-  pub told : IsReceiptAt moment event receipt
-
--- there was one at which the rule refused the event by that number
-pub record WasRefused (event : Event) (number : ℕ) : Type 0 where
-  pub moment : Moment
-  pub refused : happens moment.world event ≡ Err number
-
--- a refusal without a number needs no such moment
-abbrev pub WasRefusedBy : Event → Option ℕ → Type 0
-WasRefusedBy event (Some number) = WasRefused event number
-WasRefusedBy event None = Unit {0}
+-- the rule refused the event by that number, if there is one, by the world of all that is known now
+abbrev pub IsRefusedBy : Settings → (before now : List EntryValue) → Event → Option ℕ → Type 0
+IsRefusedBy settings before now event (Some number) = IsRefused settings before now event number
+IsRefusedBy settings before now event None = ⊤
 
 -- the rule refused the event by the refusal's number; out of memory alone has none
-pub record IsRefusalOf (event : Event) (refusal : EventRefusal) : Type 0 where
-  pub by_number : WasRefusedBy event (event_refusal_number refusal)
+pub record IsRefusalOf (settings : Settings) (before now : List EntryValue) (event : Event) (refusal : EventRefusal) : Type 0 where
+  pub by_number : IsRefusedBy settings before now event (event_refusal_number refusal)
   pub numbered : IsNumberedUnlessMemory refusal

@@ -5,15 +5,12 @@ ghost use Rattle.silo_threads.specs.Cluster.{first_cluster};
 
 use crate::publication::newest;
 use crate::start::Worker;
-use cluster_board::{Blocks, Board, Names};
-use crossbeam_channel::{Receiver, Sender, bounded};
-use directory_node::SharedNode;
+use cluster_board::{Board, Charter, Hand, Tokens};
 use directory_rules::Settings;
 use published_rings::{Publisher, RouteError, RouteReader};
-use silo_workers::{Cause, Gate, Site};
+use silo_workers::{Gate, Site};
 use std::alloc::Global;
 use std::marker::Model;
-use std::sync::ledger::{Blank, Ledger, Share};
 use std::sync::{Arc, Wait};
 
 /// The greatest number of workers that a cluster may ever have: as many as silos may ever join.
@@ -24,16 +21,14 @@ pub const PARTS: u64 = 1024;
 
 /// A cluster with a thread for each silo that joined. It isn't `Drop`: end it by `end`, which joins the threads
 /// (`docs/RULES.md#running-silos`).
-pub struct Cluster<L: Ledger + Names, G: Gate + Drop> {
+pub struct Cluster<L: Charter, G: Gate + Drop> {
     pub(crate) alloc: Global,
     pub(crate) site: Arc<Site<L, G>>,
     pub(crate) workers: Vec<Worker<L>>,
-    pub(crate) causes: Sender<Cause>,
-    pub(crate) given_up: Receiver<Cause>,
     pub(crate) publisher: Publisher,
 }
 
-impl<L: Ledger + Names, G: Gate + Drop> Model for Cluster<L, G> {
+impl<L: Charter, G: Gate + Drop> Model for Cluster<L, G> {
     ghost use Rattle.std.specs.Prelude.{◌≤◌, vec_len};
     ghost use Rattle.silo_threads.specs.Cluster.{ClusterValue};
     ghost use Rattle.silo_threads.specs.declared.cluster.TheConstants.{MOST_WORKERS};
@@ -45,31 +40,33 @@ impl<L: Ledger + Names, G: Gate + Drop> Model for Cluster<L, G> {
     ghost invariant = { λ c. vec_len c.workers ≤ MOST_WORKERS };
 }
 
-impl<L: Ledger + Names, G: Gate + Drop> Cluster<L, G> {
-    /// A cluster before the first event, and the share that has every part of its ledger. It has 1 to 64 readers of its rings to hand
+impl<L: Charter, G: Gate + Drop> Cluster<L, G> {
+    /// A cluster before the first event, and the hand that has every part of its ledger. It has 1 to 64 readers of its rings to hand
     /// out; workers pass the gate between lending and preparing. Refused by 952 where fewer readers could be had, or when memory runs
-    /// out. The caller says by the type which ledger it opens, and which blocks the marks of nodes are of; a cluster needs a ledger
-    /// of `PARTS` parts (`docs/RULES.md#running-silos`).
+    /// out. The caller says by the type which settings these are, which ledger it opens, which blocks the marks of nodes are of, and
+    /// which log its journal's is; a cluster needs a ledger of `PARTS` parts (`docs/RULES.md#running-silos`).
     pub fn new<R: Wait>(
         rt: &R,
         alloc: Global,
         settings: Settings,
-        tokens: (Blank, Blocks<SharedNode>),
+        tokens: Tokens,
         gate: G,
         readers: usize,
-    ) -> Result<(Cluster<L, G>, Share<L>), RouteError>
-        requires name { tokens.0.name ≡ L.name }
-        requires parts { tokens.0.parts ≡ L.parts }
-        requires names { tokens.1 ≡ L.names }
+    ) -> Result<(Cluster<L, G>, Hand<L>), RouteError>
+        requires settings { settings ≡ L.settings }
+        requires ledger { tokens.ledger.name ≡ L.name }
+        requires parts { tokens.ledger.parts ≡ L.parts }
+        requires marks { tokens.marks ≡ L.names }
+        requires log { tokens.log ≡ L.log }
         requires some { 0 < readers }
         requires most { readers ≤ 64 }
         ensures made { IfOk result (λ made. made.0 ≡ first_cluster settings made.0.published.of readers) }
-        ensures all { IfOk result (λ made. made.1.parts ≡ L.parts) }
-        ensures none { IfOk result (λ made. made.1.amount ≡ 0) }
+        ensures all { IfOk result (λ made. made.1.share.parts ≡ L.parts) }
+        ensures none { IfOk result (λ made. made.1.share.amount ≡ 0) }
+        ensures seen { IfOk result (λ made. made.1.seen ≡ []) }
         ensures only { IfErr result (λ refusal. (refusal ≡ RouteError.NoReader) ⊎ (refusal ≡ RouteError.OutOfMemory)) }
     {
-        let (board, share) = Board::new(alloc, settings, tokens.0, tokens.1);
-        let (causes, given_up) = bounded(alloc, MOST_WORKERS)?;
+        let (board, hand) = Board::new(alloc, settings, tokens);
         let (view, places) = newest(alloc, &board)?;
         let Ok(site) = Arc::new(alloc, Site::new(board, gate)) else {
             return Err(RouteError::OutOfMemory);
@@ -79,11 +76,9 @@ impl<L: Ledger + Names, G: Gate + Drop> Cluster<L, G> {
             alloc,
             site,
             workers: Vec::new(alloc),
-            causes,
-            given_up,
             publisher,
         };
-        Ok((cluster, share))
+        Ok((cluster, hand))
     }
 
     /// Hands out a reader of the rings that wasn't handed out yet. Refused by 952 where none is left.
@@ -108,7 +103,7 @@ impl<L: Ledger + Names, G: Gate + Drop> Cluster<L, G> {
 }
 
 // Whether no live silo has a letter that was never delivered, or none is delivered any more.
-fn is_settled<L: Ledger + Names>(board: &Board<L>) -> bool
+fn is_settled<L: Charter>(board: &Board<L>) -> bool
     ensures { IsTrue result ↔ ((board.now.stops ≡ true) ⊎ (board.now.gave_up ≡ true) ⊎ (least_deliverable board.now.world ≡ None)) }
 {
     board.stops() || board.gave_up() || board.world().least_deliverable().is_none()

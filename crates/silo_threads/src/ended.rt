@@ -1,62 +1,70 @@
-ghost use Rattle.std.specs.Prelude.{◌≡◌, IfErr, IfOk, OnOk, length};
+ghost use Rattle.std.specs.Prelude.{◌≡◌, ◌↔◌, IfErr, IfOk, IsTrue, OnOk, length};
+ghost use Rattle.std.specs.List.{Any};
+ghost use mathlib.Core.List.{IsPrefix};
 ghost use Rattle.directory_rules.specs.Headline.{Headline};
 ghost use Rattle.cluster_journal.specs.Agreement.{Agree};
 ghost use Rattle.cluster_journal.specs.Journal.{IsJournaled};
 ghost use Rattle.cluster_journal.specs.Comparison.{Declines};
+ghost use Rattle.silo_workers.specs.Causes.{HasGivenUp};
 
-use cluster_board::{Board, Names};
+use crate::EndFault;
+use cluster_board::{Board, Charter, Hand};
 use cluster_journal::{CloseRefusal, Receipt, compare};
-use crossbeam_channel::Receiver;
-use silo_workers::Cause;
+use silo_workers::Ending;
 use std::alloc::Global;
-use std::sync::Wait;
-use std::sync::ledger::{Ledger, Share};
 
-/// A cluster that has ended: its board, the share, the receipts of all who posted and committed, and why workers gave up.
+/// A cluster that has ended: its board, the whole share with what was seen of the journal, the receipts of all who posted and
+/// committed, and how each worker ended.
 #[derive(Drop)]
-pub struct Ended<L: Ledger + Names> {
+pub struct Ended<L: Charter> {
     pub alloc: Global,
     pub board: Board<L>,
-    pub share: Share<L>,
+    pub hand: Hand<L>,
     pub receipts: Vec<Receipt>,
-    pub causes: Receiver<Cause>,
+    pub endings: Vec<Ending>,
 }
 
-impl<L: Ledger + Names> Ended<L> {
+/// A cluster whose threads were all joined, and which can't be closed: why, and the whole share.
+#[derive(Drop)]
+pub struct Unended<L: Charter> {
+    pub fault: EndFault,
+    pub hand: Hand<L>,
+}
+
+impl<L: Charter> Ended<L> {
     /// Whether a worker gave up.
     pub fn gave_up(&self) -> bool
-        ensures { result ≡ self.now.board.gave_up }
+        ensures { IsTrue result ↔ Any HasGivenUp self.now.endings.items }
     {
-        self.board.gave_up()
-    }
-
-    /// Why the next one of the workers that gave up did so; `None` where there are no more.
-    pub fn next_cause<R: Wait>(&self, rt: &R) -> Option<Cause> {
-        self.causes.try_recv(rt).ok()
+        self.endings.iter().any(|ending| ending.cause().is_some())
     }
 
     /// The board, whose receipts are all there: each one's event and outcome are the journal's at its number, no two have one
     /// number, and there are as many as events; else it is refused by 953. The world is what the run of the journal's events
-    /// leaves, so the headline holds of it. The caller has the whole share, which counts the journal's events
+    /// leaves, so the headline holds of it; and what was seen of the journal begins it. The caller has the whole share, which counts
+    /// the journal's events
     /// (`docs/RULES.md#running-silos`).
     pub fn close(self) -> Result<Board<L>, CloseRefusal>
-        requires { self.share.parts ≡ L.parts }
+        requires { self.hand.share.parts ≡ L.parts }
         ensures board { IfOk result (λ board. board ≡ self.board) }
         ensures agree { OnOk result (Agree self.board.journal self.receipts.items) }
         ensures declined { IfErr result (λ refusal. Declines self.board.journal self.receipts.items refusal) }
-        ensures counted { self.share.amount ≡ length self.board.journal }
-        ensures journaled { IfOk result (λ board. IsJournaled board.settings board.journal board.world) }
+        ensures counted { self.hand.share.amount ≡ length self.board.journal }
+        ensures seen { IsPrefix self.hand.seen self.board.journal }
+        ensures journaled { IfOk result (λ board. IsJournaled L.settings board.journal board.world) }
         ensures headline { IfOk result (λ board. Headline board.world) }
     {
         let Ended {
             alloc,
             board,
-            share,
+            hand,
             receipts,
-            causes: _,
+            endings: _,
         } = self;
-        let (mut board, mut share) = (board, share);
+        let Hand { mut share, seen } = hand;
+        let mut board = board;
         board.counted(&mut share);
+        board.began(seen);
         compare(alloc, board.journal(), &receipts)?;
         board.journaled();
         board.world().headline();

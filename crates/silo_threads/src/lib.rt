@@ -13,12 +13,11 @@ mod start;
 mod sync;
 
 pub use cluster::{Cluster, MOST_WORKERS, PARTS};
-pub use cluster_board::{Blocks, Board, Names};
+pub use cluster_board::{Board, Charter, Dismissal, Hand, Tokens};
 pub use cluster_journal::{CloseRefusal, Entry, Receipt};
 pub use directory_core::{Event, EventRefusal, Outcome, Settings, World};
-pub use directory_node::SharedNode;
-pub use ended::Ended;
+pub use ended::{Ended, Unended};
 pub use fault::{EndFault, Lack};
 pub use published_rings::{Publisher, Route, RouteError, RouteReader, Told};
 pub use run::Ran;
-pub use silo_workers::{Cause, Gate, OpenGate};
+pub use silo_workers::{Cause, Ending, Gate, OpenGate};

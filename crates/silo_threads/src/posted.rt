@@ -1,12 +1,15 @@
 //! A change of members is posted, and what it left is looked at under the same lock.
-ghost use Rattle.std.specs.Prelude.{◌≡◌, ◌+◌, ◌<◌, IfErr, IfOk, OnErr, OnOk};
+ghost use Rattle.std.specs.Prelude.{◌≡◌, ◌+◌, ◌<◌, IfErr, IfOk, OnErr, OnOk, length};
+ghost use mathlib.Core.List.{IsPrefix};
 ghost use Rattle.directory_rules.specs.EventModel.{event_of};
-ghost use Rattle.silo_threads.specs.Followed.{IsLeftBy};
-ghost use Rattle.silo_threads.specs.Replies.{IsReceiptOf, IsRefusalOf};
+ghost use Rattle.cluster_journal.specs.Journal.{world_of};
+ghost use Rattle.cluster_journal.specs.Posted.{IsReceiptOf};
+ghost use Rattle.silo_threads.specs.Followed.{IsLeftIn};
+ghost use Rattle.silo_threads.specs.Replies.{IsRefusalOf};
 
 use crate::publication::newest;
 use crate::run::post_to;
-use cluster_board::{Board, Names};
+use cluster_board::{Board, Charter, Hand};
 use cluster_journal::Receipt;
 use directory_core::EventRefusal;
 use directory_rules::Event;
@@ -15,7 +18,6 @@ use membership_view::View;
 use silo_workers::{Gate, Site};
 use std::alloc::{AllocError, Global};
 use std::sync::Wait;
-use std::sync::ledger::{Ledger, Share};
 
 /// An event that was accepted: its receipt, and the view and the places that it left, unless memory ran out when they were copied.
 #[derive(Drop)]
@@ -25,44 +27,48 @@ pub(crate) struct Posted {
 }
 
 /// Posts the event, looks at what it left, and tells all workers that the board has changed.
-pub(crate) fn post_change<L: Ledger + Names, G: Gate + Drop, R: Wait>(
+pub(crate) fn post_change<L: Charter, G: Gate + Drop, R: Wait>(
     rt: &R,
     alloc: Global,
     site: &Site<L, G>,
-    share: &mut Share<L>,
+    hand: &mut Hand<L>,
     event: &Event,
 ) -> Result<Posted, EventRefusal>
-    requires { 0 < share.old.parts }
-    ensures receipt { IfOk result (λ posted. IsReceiptOf (event_of event.now) posted.receipt) }
-    ensures left { IfOk result (λ posted. IfOk posted.newest (λ newest. IsLeftBy posted.receipt newest.0 newest.1)) }
-    ensures refused { IfErr result (IsRefusalOf (event_of event.now)) }
-    ensures parts { share.new.parts ≡ share.old.parts }
-    ensures counted { OnOk result (share.new.amount ≡ share.old.amount + 1) }
-    ensures not_counted { OnErr result (share.new.amount ≡ share.old.amount) }
+    requires { 0 < hand.old.share.parts }
+    ensures receipt { IfOk result (λ posted. IsReceiptOf L.settings hand.old.seen hand.new.seen (event_of event.now) posted.receipt) }
+    ensures last { IfOk result (λ posted. posted.receipt.number ≡ length hand.new.seen) }
+    ensures seen { IsPrefix hand.old.seen hand.new.seen }
+    ensures left { IfOk result (λ posted. IfOk posted.newest (IsLeftIn (world_of L.settings hand.new.seen))) }
+    ensures refused { IfErr result (IsRefusalOf L.settings hand.old.seen hand.new.seen (event_of event.now)) }
+    ensures parts { hand.new.share.parts ≡ hand.old.share.parts }
+    ensures counted { OnOk result (hand.new.share.amount ≡ hand.old.share.amount + 1) }
+    ensures not_counted { OnErr result (hand.new.share.amount ≡ hand.old.share.amount) }
 {
     let mut board = site.board.lock(rt);
-    let posted = post_and_look(alloc, &mut board, share, event)?;
+    let posted = post_and_look(alloc, &mut board, hand, event)?;
     drop(board);
     site.bell.notify_all();
     Ok(posted)
 }
 
 // Posts the event to the board, and looks at what it left.
-fn post_and_look<L: Ledger + Names>(
+fn post_and_look<L: Charter>(
     alloc: Global,
     board: &mut Board<L>,
-    share: &mut Share<L>,
+    hand: &mut Hand<L>,
     event: &Event,
 ) -> Result<Posted, EventRefusal>
-    requires { 0 < share.old.parts }
-    ensures receipt { IfOk result (λ posted. IsReceiptOf (event_of event.now) posted.receipt) }
-    ensures left { IfOk result (λ posted. IfOk posted.newest (λ newest. IsLeftBy posted.receipt newest.0 newest.1)) }
-    ensures refused { IfErr result (IsRefusalOf (event_of event.now)) }
-    ensures parts { share.new.parts ≡ share.old.parts }
-    ensures counted { OnOk result (share.new.amount ≡ share.old.amount + 1) }
-    ensures not_counted { OnErr result (share.new.amount ≡ share.old.amount) }
+    requires { 0 < hand.old.share.parts }
+    ensures receipt { IfOk result (λ posted. IsReceiptOf L.settings hand.old.seen hand.new.seen (event_of event.now) posted.receipt) }
+    ensures last { IfOk result (λ posted. posted.receipt.number ≡ length hand.new.seen) }
+    ensures seen { IsPrefix hand.old.seen hand.new.seen }
+    ensures left { IfOk result (λ posted. IfOk posted.newest (IsLeftIn (world_of L.settings hand.new.seen))) }
+    ensures refused { IfErr result (IsRefusalOf L.settings hand.old.seen hand.new.seen (event_of event.now)) }
+    ensures parts { hand.new.share.parts ≡ hand.old.share.parts }
+    ensures counted { OnOk result (hand.new.share.amount ≡ hand.old.share.amount + 1) }
+    ensures not_counted { OnErr result (hand.new.share.amount ≡ hand.old.share.amount) }
 {
-    let receipt = post_to(board, share, event)?;
+    let receipt = post_to(board, hand, event)?;
     let newest = newest(alloc, board);
     Ok(Posted { receipt, newest })
 }

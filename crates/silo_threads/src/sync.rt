@@ -2,13 +2,14 @@
 
 ghost use Rattle.std.specs.Prelude.{◌≡◌, ◌+◌, ◌-◌, ◌++◌, IfOk, OnOk, map};
 ghost use Rattle.std.specs.List.{range_with_len};
+ghost use mathlib.Core.List.{IsPrefix};
+ghost use Rattle.cluster_journal.specs.Journal.{world_of};
 ghost use Rattle.directory_rules.specs.Event.{See};
 ghost use Rattle.directory_rules.specs.EventModel.{event_of};
 ghost use Rattle.script_rules.specs.Output.{sync_events, unseen_versions};
-ghost use Rattle.silo_threads.specs.Unseen.{WereUnseen};
 
 use crate::Cluster;
-use cluster_board::{Board, Names};
+use cluster_board::{Board, Charter, Hand};
 use directory_core::World;
 use directory_node::SharedNode;
 use directory_rules::Event;
@@ -16,23 +17,32 @@ use silo_address::SiloAddress;
 use silo_workers::Gate;
 use std::alloc::{AllocError, Global};
 use std::sync::Wait;
-use std::sync::ledger::Ledger;
 
-impl<L: Ledger + Names, G: Gate + Drop> Cluster<L, G> {
+impl<L: Charter, G: Gate + Drop> Cluster<L, G> {
     /// The sights that would bring each silo that isn't Dead, by address, from the version that it has seen up to the current one.
-    /// Nothing happens yet. Fails only when memory runs out.
-    pub fn sights<R: Wait>(&self, rt: &R) -> Result<Vec<Event>, AllocError>
-        ensures { IfOk result (λ events. WereUnseen (map event_of events.items)) }
+    /// These are the sights by the world that the journal so far leaves, which the hand has seen then. Nothing happens yet. Fails
+    /// only when memory runs out.
+    pub fn sights<R: Wait>(&self, rt: &R, hand: &mut Hand<L>) -> Result<Vec<Event>, AllocError>
+        ensures sights { IfOk result (λ events. map event_of events.items ≡ sync_events (world_of L.settings hand.new.seen)) }
+        ensures seen { IsPrefix hand.old.seen hand.new.seen }
+        ensures share { hand.new.share ≡ hand.old.share }
     {
-        let board = self.site.board.lock(rt);
-        sights_now(self.alloc, &board)
+        let mut board = self.site.board.lock(rt);
+        sights_now(self.alloc, &mut board, hand)
     }
 }
 
 // The sights that silos lack by a board.
-fn sights_now<L: Ledger + Names>(alloc: Global, board: &Board<L>) -> Result<Vec<Event>, AllocError>
-    ensures { IfOk result (λ events. WereUnseen (map event_of events.items)) }
+fn sights_now<L: Charter>(
+    alloc: Global,
+    board: &mut Board<L>,
+    hand: &mut Hand<L>,
+) -> Result<Vec<Event>, AllocError>
+    ensures sights { IfOk result (λ events. map event_of events.items ≡ sync_events (world_of L.settings hand.new.seen)) }
+    ensures seen { IsPrefix hand.old.seen hand.new.seen }
+    ensures share { hand.new.share ≡ hand.old.share }
 {
+    board.renew(&mut hand.seen);
     board.journaled();
     sights(alloc, board.world())
 }

@@ -1,3 +1,4 @@
-pub mod Moments
 pub mod Delivered
+pub mod SoFar
 pub mod Causes
+pub mod Endings

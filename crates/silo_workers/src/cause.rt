@@ -1,7 +1,7 @@
 ghost use Rattle.std.specs.Prelude.{◌≡◌};
-ghost use Rattle.silo_workers.specs.Causes.{cause_of};
+ghost use Rattle.silo_workers.specs.Causes.{cause_in, cause_of};
 
-use cluster_board::CommitRefusal;
+use cluster_board::{CommitRefusal, Dismissal};
 use thiserror::Error;
 
 /// Why a worker gave up (`docs/RULES.md#running-silos`).
@@ -28,6 +28,27 @@ impl Cause {
             CommitRefusal::JournalFull => Some(Cause::JournalFull),
             CommitRefusal::MailFull => Some(Cause::MailFull),
             CommitRefusal::OutOfMemory => Some(Cause::OutOfMemory),
+        }
+    }
+}
+
+/// How a worker ended (`docs/RULES.md#running-silos`).
+#[derive(Drop)]
+pub enum Ending {
+    /// Its board dismissed it: nothing more was to be done for its silo.
+    Dismissed(Dismissal),
+    /// It gave up.
+    GaveUp(Cause),
+}
+
+impl Ending {
+    /// Why it gave up, if it did.
+    pub fn cause(&self) -> Option<Cause>
+        ensures { result ≡ cause_in self.now }
+    {
+        match self {
+            Ending::Dismissed(_) => None,
+            Ending::GaveUp(cause) => Some(*cause),
         }
     }
 }

@@ -1,14 +1,12 @@
-use crate::{Cause, Gate, Site, Tally};
-use cluster_board::{Board, Job, Names, Prepared};
+use crate::{Gate, Site, Tally, Worked};
+use cluster_board::{Board, Charter, Job, Names, Prepared};
 use cluster_journal::Receipt;
-use crossbeam_channel::Sender;
 use std::sync::Arc;
-use std::sync::ledger::Ledger;
 
 fn sends<T: Send>() {}
 
 /// A law: a board may go to another thread.
-pub fn boards_cross<L: Ledger + Names + Send>() {
+pub fn boards_cross<L: Charter + Send>() {
     sends::<Board<L>>()
 }
 
@@ -18,14 +16,14 @@ pub fn work_crosses<N: Names + Send>() {
     sends::<Prepared<N>>()
 }
 
-/// A law: so may receipts, and what a worker did.
-pub fn tallies_cross<L: Ledger>() {
+/// A law: so may receipts, what a worker did, and how it ended.
+pub fn tallies_cross<L: Charter + Send>() {
     sends::<Receipt>();
-    sends::<Tally<L>>()
+    sends::<Tally<L>>();
+    sends::<Worked<L>>()
 }
 
-/// A law: so may what workers share, and that by which they tell why they gave up.
-pub fn sites_cross<L: Ledger + Names + Send, G: Gate + Drop + Send + Sync>() {
-    sends::<Arc<Site<L, G>>>();
-    sends::<Sender<Cause>>()
+/// A law: so may what workers share.
+pub fn sites_cross<L: Charter + Send, G: Gate + Drop + Send + Sync>() {
+    sends::<Arc<Site<L, G>>>()
 }

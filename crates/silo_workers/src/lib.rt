@@ -12,8 +12,8 @@ mod tally;
 mod turn;
 mod worker;
 
-pub use cause::Cause;
+pub use cause::{Cause, Ending};
 pub use gate::{Gate, OpenGate};
 pub use site::Site;
-pub use tally::Tally;
+pub use tally::{Tally, Worked};
 pub use worker::work;

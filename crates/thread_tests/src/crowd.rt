@@ -2,12 +2,11 @@
 ghost use Rattle.std.specs.Prelude.{◌≡◌, ◌<◌, ◌≤◌};
 ghost use Rattle.silo_threads.specs.declared.cluster.TheConstants.{PARTS};
 
-use crate::driver::{Driver, grain, join, silo};
+use crate::driver::{Driver, grain, join, settings, silo};
 use crate::readers::Watchers;
 use crate::replay::tells;
-use cluster_board::{Blocks, Names};
-use directory_node::SharedNode;
-use directory_rules::Event;
+use cluster_board::{Charter, Tokens};
+use directory_rules::{Event, Settings};
 use silo_address::{GrainId, SiloAddress};
 use silo_threads::PARTS;
 use silo_workers::OpenGate;
@@ -16,7 +15,6 @@ use std::env;
 use std::marker::Brand;
 use std::process::Abort;
 use std::sync::Wait;
-use std::sync::ledger::{Blank, Ledger};
 use std::thread::Threads;
 
 /// How much is posted.
@@ -80,7 +78,7 @@ impl Dice {
 }
 
 // Who posts: the cluster, how often the silo of each of four places has been started, and what comes next.
-struct Crowd<L: Ledger + Names> {
+struct Crowd<L: Charter> {
     alloc: Global,
     driver: Driver<L, OpenGate>,
     starts: [u32; 4],
@@ -88,7 +86,7 @@ struct Crowd<L: Ledger + Names> {
     size: Size,
 }
 
-impl<L: Ledger + Names + Send + 'static> Crowd<L> {
+impl<L: Charter + Send + 'static> Crowd<L> {
     // The silo that was started last at a place.
     fn silo(&self, rt: &impl Abort, place: usize) -> SiloAddress
         requires { place < 4 }
@@ -182,18 +180,20 @@ impl<L: Ledger + Names + Send + 'static> Crowd<L> {
 // Four silos join, and so many events are posted while workers deliver and readers route. Then all is delivered, and the journal tells
 // what happened.
 fn four_silos<
-    L: Ledger + Names + Send + 'static,
+    L: Charter + Send + 'static,
     R: Threads + Wait + Abort + Copy + Drop + Send + 'static,
->(rt: &R, alloc: Global, tokens: (Blank, Blocks<SharedNode>), size: Size) -> bool
-    requires name { tokens.0.name ≡ L.name }
-    requires parts { tokens.0.parts ≡ L.parts }
-    requires enough { tokens.0.parts ≡ PARTS }
-    requires names { tokens.1 ≡ L.names }
+>(rt: &R, alloc: Global, settings: Settings, tokens: Tokens, size: Size) -> bool
+    requires settings { settings ≡ L.settings }
+    requires ledger { tokens.ledger.name ≡ L.name }
+    requires parts { tokens.ledger.parts ≡ L.parts }
+    requires enough { tokens.ledger.parts ≡ PARTS }
+    requires marks { tokens.marks ≡ L.names }
+    requires log { tokens.log ≡ L.log }
 {
     let mut watchers = Watchers::new(rt, alloc);
     let mut crowd: Crowd<L> = Crowd {
         alloc,
-        driver: Driver::new(rt, alloc, tokens, OpenGate, size.readers()),
+        driver: Driver::new(rt, alloc, settings, tokens, OpenGate, size.readers()),
         starts: [0; 4],
         dice: Dice { state: 1 },
         size,
@@ -210,8 +210,8 @@ fn holds<R: Threads + Wait + Abort + Copy + Drop + Send + 'static>(
     alloc: Global,
     size: Size,
 ) -> bool {
-    let blocks = Blocks::new(alloc, 1_024).expect(rt, "memory");
-    four_silos::<Brand, R>(rt, alloc, (Blank::new(PARTS), blocks), size)
+    let tokens = Tokens::new(alloc, PARTS, 1_024).expect(rt, "memory");
+    four_silos::<Brand, R>(rt, alloc, settings(rt), tokens, size)
 }
 
 #[test]

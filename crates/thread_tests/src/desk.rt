@@ -4,40 +4,37 @@
 ghost use Rattle.std.specs.Prelude.{◌≡◌, ◌<◌};
 
 use crate::steps::{A, FIRST, Step, event_of, silo};
-use cluster_board::{Blocks, Board, CommitRefusal, Job, Names, Prepared, Uncommitted};
+use cluster_board::{
+    Board, Charter, CommitRefusal, Hand, Job, Names, Prepared, Tokens, Uncommitted,
+};
 use cluster_journal::Receipt;
-use directory_node::SharedNode;
 use directory_rules::Settings;
 use std::alloc::Global;
 use std::process::Abort;
-use std::sync::ledger::{Blank, Ledger, Share};
 
 #[derive(Drop)]
-pub(crate) struct Desk<L: Ledger + Names> {
+pub(crate) struct Desk<L: Charter> {
     pub(crate) board: Board<L>,
-    share: Share<L>,
+    hand: Hand<L>,
     alloc: Global,
     // Whether a call was refused memory.
     refused: bool,
-    ghost part: { 0 < share.parts },
+    ghost part: { 0 < hand.share.parts },
 }
 
-impl<L: Ledger + Names> Desk<L> {
-    pub(crate) fn new(
-        alloc: Global,
-        settings: Settings,
-        blank: Blank,
-        blocks: Blocks<SharedNode>,
-    ) -> Desk<L>
-        requires name { blank.name ≡ L.name }
-        requires parts { blank.parts ≡ L.parts }
+impl<L: Charter> Desk<L> {
+    pub(crate) fn new(alloc: Global, settings: Settings, tokens: Tokens) -> Desk<L>
+        requires settings { settings ≡ L.settings }
+        requires ledger { tokens.ledger.name ≡ L.name }
+        requires parts { tokens.ledger.parts ≡ L.parts }
         requires some { 0 < L.parts }
-        requires names { blocks ≡ L.names }
+        requires marks { tokens.marks ≡ L.names }
+        requires log { tokens.log ≡ L.log }
     {
-        let (board, share) = Board::new(alloc, settings, blank, blocks);
+        let (board, hand) = Board::new(alloc, settings, tokens);
         Desk {
             board,
-            share,
+            hand,
             alloc,
             refused: false,
         }
@@ -52,12 +49,12 @@ impl<L: Ledger + Names> Desk<L> {
     /// The receipt of an event, which is accepted.
     pub(crate) fn post(&mut self, rt: &impl Abort, step: &Step) -> Receipt {
         let event = event_of(rt, self.alloc, step);
-        match self.board.post(&mut self.share, &event) {
+        match self.board.post(&mut self.hand, &event) {
             Ok(receipt) => receipt,
             Err(_) => {
                 self.refuse(rt);
                 self.board
-                    .post(&mut self.share, &event)
+                    .post(&mut self.hand, &event)
                     .expect(rt, "a receipt")
             }
         }
@@ -108,7 +105,7 @@ impl<L: Ledger + Names> Desk<L> {
         rt: &impl Abort,
         work: Prepared<L>,
     ) -> Result<Receipt, CommitRefusal> {
-        let uncommitted = match self.board.commit(&mut self.share, work) {
+        let uncommitted = match self.board.commit(&mut self.hand, work) {
             Ok(receipt) => return Ok(receipt),
             Err(uncommitted) => uncommitted,
         };
@@ -123,7 +120,7 @@ impl<L: Ledger + Names> Desk<L> {
     }
 
     fn commit_again(&mut self, work: Prepared<L>) -> Result<Receipt, CommitRefusal> {
-        match self.board.commit(&mut self.share, work) {
+        match self.board.commit(&mut self.hand, work) {
             Ok(receipt) => Ok(receipt),
             Err(uncommitted) => Err(refusal_of(uncommitted)),
         }

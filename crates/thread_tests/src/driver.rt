@@ -2,9 +2,8 @@
 ghost use Rattle.std.specs.Prelude.{◌≡◌, ◌+◌, ◌<◌, ◌≤◌, length};
 ghost use Rattle.silo_threads.specs.declared.cluster.TheConstants.{PARTS};
 
-use cluster_board::{Blocks, Board, Names};
+use cluster_board::{Board, Charter, Hand, Tokens};
 use cluster_journal::Receipt;
-use directory_node::SharedNode;
 use directory_rules::{Event, Settings};
 use hash_ring::Hashing;
 use silo_address::{GrainId, SiloAddress};
@@ -13,38 +12,39 @@ use silo_workers::Gate;
 use std::alloc::Global;
 use std::process::Abort;
 use std::sync::Wait;
-use std::sync::ledger::{Blank, Ledger, Share};
 use std::thread::Threads;
 
-pub(crate) struct Driver<L: Ledger + Names, G: Gate + Drop> {
+pub(crate) struct Driver<L: Charter, G: Gate + Drop> {
     pub(crate) cluster: Cluster<L, G>,
-    share: Share<L>,
+    hand: Hand<L>,
     receipts: Vec<Receipt>,
-    ghost whole: { share.parts + length cluster.workers ≡ PARTS },
+    ghost whole: { hand.share.parts + length cluster.workers ≡ PARTS },
 }
 
-impl<L: Ledger + Names, G: Gate + Drop> Driver<L, G> {
+impl<L: Charter, G: Gate + Drop> Driver<L, G> {
     // A cluster before the first event.
     pub(crate) fn new<R: Wait + Abort>(
         rt: &R,
         alloc: Global,
-        tokens: (Blank, Blocks<SharedNode>),
+        settings: Settings,
+        tokens: Tokens,
         gate: G,
         readers: usize,
     ) -> Driver<L, G>
-        requires name { tokens.0.name ≡ L.name }
-        requires parts { tokens.0.parts ≡ L.parts }
-        requires enough { tokens.0.parts ≡ PARTS }
-        requires names { tokens.1 ≡ L.names }
+        requires settings { settings ≡ L.settings }
+        requires ledger { tokens.ledger.name ≡ L.name }
+        requires parts { tokens.ledger.parts ≡ L.parts }
+        requires enough { tokens.ledger.parts ≡ PARTS }
+        requires marks { tokens.marks ≡ L.names }
+        requires log { tokens.log ≡ L.log }
         requires some { 0 < readers }
         requires most { readers ≤ 64 }
     {
-        let settings = Settings::of_directory(Hashing::Stated, 1, 64).expect(rt, "settings");
         let made = Cluster::new(rt, alloc, settings, tokens, gate, readers);
-        let (cluster, share) = made.expect(rt, "a cluster");
+        let (cluster, hand) = made.expect(rt, "a cluster");
         Driver {
             cluster,
-            share,
+            hand,
             receipts: Vec::new(alloc),
         }
     }
@@ -55,23 +55,25 @@ impl<L: Ledger + Names, G: Gate + Drop> Driver<L, G> {
     {
         let Driver {
             cluster,
-            share,
+            hand,
             receipts,
         } = self;
-        let ended = cluster.end(rt, share, receipts).expect(rt, "an end");
-        assert!(rt; !ended.gave_up() && ended.next_cause(rt).is_none());
+        let Ok(ended) = cluster.end(rt, hand, receipts) else {
+            panic!(rt; "an end");
+        };
+        assert!(rt; !ended.gave_up());
         ended.close().expect(rt, "receipts that agree")
     }
 }
 
-impl<L: Ledger + Names + Send + 'static, G: Gate + Drop + Send + Sync + 'static> Driver<L, G> {
+impl<L: Charter + Send + 'static, G: Gate + Drop + Send + Sync + 'static> Driver<L, G> {
     // Posts the event, whose receipt it keeps. It is told whether the event was accepted; memory never runs out, and nothing lacks.
     pub(crate) fn run<R: Threads + Wait + Abort + Copy + Drop + Send + 'static>(
         &mut self,
         rt: &R,
         event: &Event,
     ) -> bool {
-        match self.cluster.run(rt, &mut self.share, event) {
+        match self.cluster.run(rt, &mut self.hand, event) {
             Ok(Ran { receipt, lack }) => {
                 assert!(rt; lack.is_none() && self.receipts.push(receipt).is_ok());
                 true
@@ -88,11 +90,16 @@ impl<L: Ledger + Names + Send + 'static, G: Gate + Drop + Send + Sync + 'static>
         &mut self,
         rt: &R,
     ) {
-        let sights = self.cluster.sights(rt).expect(rt, "memory");
+        let sights = self.cluster.sights(rt, &mut self.hand).expect(rt, "memory");
         for sight in &sights {
             self.run(rt, sight);
         }
     }
+}
+
+// The settings of these clusters.
+pub(crate) fn settings(rt: &impl Abort) -> Settings {
+    Settings::of_directory(Hashing::Stated, 1, 64).expect(rt, "settings")
 }
 
 pub(crate) fn silo(rt: &impl Abort, text: &str) -> SiloAddress {

@@ -4,11 +4,10 @@
 ghost use Rattle.std.specs.Prelude.{◌≡◌};
 ghost use Rattle.silo_threads.specs.declared.cluster.TheConstants.{PARTS};
 
-use crate::driver::{Driver, grain, join, silo};
-use cluster_board::{Blocks, Names};
+use crate::driver::{Driver, grain, join, settings, silo};
+use cluster_board::{Charter, Tokens};
 use cluster_journal::Entry;
-use directory_node::SharedNode;
-use directory_rules::Event;
+use directory_rules::{Event, Settings};
 use silo_address::SiloAddress;
 use silo_threads::PARTS;
 use silo_workers::Gate;
@@ -16,7 +15,6 @@ use std::alloc::Global;
 use std::marker::Brand;
 use std::process::Abort;
 use std::sync::atomic::{AtomicBool, AtomicU64, Ordering};
-use std::sync::ledger::{Blank, Ledger};
 use std::sync::{Arc, Wait};
 use std::thread::{self, Threads};
 use std::time::{Clock, Duration};
@@ -99,7 +97,7 @@ impl<R: Clock + Drop> Gate for TwoDoors<R> {
 
 // Both silos join, see the views and wake a grain whose owner is the other one, so that there is a letter to each.
 fn post_all<
-    L: Ledger + Names + Send + 'static,
+    L: Charter + Send + 'static,
     G: Gate + Drop + Send + Sync + 'static,
     R: Threads + Wait + Abort + Copy + Drop + Send + 'static,
 >(rt: &R, alloc: Global, driver: &mut Driver<L, G>) -> bool {
@@ -139,13 +137,15 @@ fn were_named(journal: &[Entry], seen: &Seen) -> bool {
 }
 
 fn two_silos<
-    L: Ledger + Names + Send + 'static,
+    L: Charter + Send + 'static,
     R: Threads + Wait + Clock + Abort + Copy + Drop + Send + Sync + 'static,
->(rt: &R, alloc: Global, tokens: (Blank, Blocks<SharedNode>)) -> bool
-    requires name { tokens.0.name ≡ L.name }
-    requires parts { tokens.0.parts ≡ L.parts }
-    requires enough { tokens.0.parts ≡ PARTS }
-    requires names { tokens.1 ≡ L.names }
+>(rt: &R, alloc: Global, settings: Settings, tokens: Tokens) -> bool
+    requires settings { settings ≡ L.settings }
+    requires ledger { tokens.ledger.name ≡ L.name }
+    requires parts { tokens.ledger.parts ≡ L.parts }
+    requires enough { tokens.ledger.parts ≡ PARTS }
+    requires marks { tokens.marks ≡ L.names }
+    requires log { tokens.log ≡ L.log }
 {
     let seen = Arc::new(alloc, Seen::new(rt, alloc)).expect(rt, "memory");
     let gate = TwoDoors {
@@ -153,7 +153,7 @@ fn two_silos<
         first: silo(rt, A),
         seen: Arc::try_clone(&seen).expect(rt, "memory"),
     };
-    let mut driver: Driver<L, TwoDoors<R>> = Driver::new(rt, alloc, tokens, gate, 1);
+    let mut driver: Driver<L, TwoDoors<R>> = Driver::new(rt, alloc, settings, tokens, gate, 1);
     let posted = post_all(rt, alloc, &mut driver);
     driver.cluster.settle(rt);
     let board = driver.close(rt);
@@ -163,6 +163,6 @@ fn two_silos<
 #[test]
 fn two_silos_are_at_work_at_once(rt: HostRuntime) {
     let alloc = rt.alloc();
-    let blocks = Blocks::new(alloc, 4).expect(&rt, "memory");
-    assert!(&rt; two_silos::<Brand, HostRuntime>(&rt, alloc, (Blank::new(PARTS), blocks)));
+    let tokens = Tokens::new(alloc, PARTS, 4).expect(&rt, "memory");
+    assert!(&rt; two_silos::<Brand, HostRuntime>(&rt, alloc, settings(&rt), tokens));
 }

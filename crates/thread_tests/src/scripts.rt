@@ -2,7 +2,7 @@
 
 ghost use Rattle.std.specs.Prelude.{Some};
 
-use cluster_board::Slots;
+use cluster_board::Tokens;
 use console_command::{Run, end_threads, run_words};
 use console_threads::{MARK_BLOCKS, play_on_threads};
 use silo_threads::PARTS;
@@ -10,7 +10,6 @@ use std::alloc::Global;
 use std::io::{self, Read, Write};
 use std::marker::Brand;
 use std::sync::Wait;
-use std::sync::ledger::Blank;
 use std::thread::Threads;
 
 const WORDS: [&str; 4] = ["g", "threads", "--hashing", "stated"];
@@ -151,7 +150,7 @@ fn comes<R: Threads + Wait + Copy + Drop + Send + 'static>(
         writes,
     };
     let mut errors = Vec::new(alloc);
-    let Ok(blocks) = Slots::new(alloc, MARK_BLOCKS) else {
+    let Ok(tokens) = Tokens::new(alloc, PARTS, MARK_BLOCKS) else {
         return false;
     };
     let exit = match run_words(alloc, &WORDS, &mut source, &mut output, &mut errors) {
@@ -161,7 +160,7 @@ fn comes<R: Threads + Wait + Copy + Drop + Send + 'static>(
                 rt,
                 alloc,
                 settings,
-                (Blank::new(PARTS), blocks),
+                tokens,
                 &mut source,
                 &mut output,
                 &mut errors,

@@ -4,15 +4,13 @@ ghost use Rattle.std.specs.Prelude.{◌≡◌, ◌<◌};
 
 use crate::desk::Desk;
 use crate::steps::{A, ASKED, B, Step, WOKEN};
-use cluster_board::{Blocks, CommitRefusal, Names};
+use cluster_board::{Charter, CommitRefusal, Tokens};
 use cluster_journal::Receipt;
-use directory_node::SharedNode;
 use directory_rules::{Effect, Happening, LetterKind, Settings};
 use hash_ring::Hashing;
 use std::alloc::Global;
 use std::marker::Brand;
 use std::process::Abort;
-use std::sync::ledger::{Blank, Ledger};
 
 // What a commit answers.
 enum Answer {
@@ -141,7 +139,7 @@ const FULL: Trial = Trial {
 };
 
 // Whether the trial goes so, on a new board.
-fn goes<L: Ledger + Names>(rt: &impl Abort, desk: &mut Desk<L>, trial: &Trial) -> bool {
+fn goes<L: Charter>(rt: &impl Abort, desk: &mut Desk<L>, trial: &Trial) -> bool {
     desk.open(rt, trial.opening);
     let one = desk.work(rt);
     let other = desk.work(rt);
@@ -153,25 +151,26 @@ fn goes<L: Ledger + Names>(rt: &impl Abort, desk: &mut Desk<L>, trial: &Trial) -
     trial.first.is_that(&first) && trial.second.is_that(&second) && is_left(desk, trial)
 }
 
-fn is_left<L: Ledger + Names>(desk: &Desk<L>, trial: &Trial) -> bool {
+fn is_left<L: Charter>(desk: &Desk<L>, trial: &Trial) -> bool {
     let world = desk.board.world();
     world.accepted() == trial.accepted && world.sent() == trial.sent
 }
 
-fn goes_by<L: Ledger + Names>(
+fn goes_by<L: Charter>(
     rt: &impl Abort,
     alloc: Global,
     settings: Settings,
-    blank: Blank,
-    blocks: Blocks<SharedNode>,
+    tokens: Tokens,
     trial: &Trial,
 ) -> bool
-    requires name { blank.name ≡ L.name }
-    requires parts { blank.parts ≡ L.parts }
+    requires settings { settings ≡ L.settings }
+    requires ledger { tokens.ledger.name ≡ L.name }
+    requires parts { tokens.ledger.parts ≡ L.parts }
     requires some { 0 < L.parts }
-    requires names { blocks ≡ L.names }
+    requires marks { tokens.marks ≡ L.names }
+    requires log { tokens.log ≡ L.log }
 {
-    let mut desk: Desk<L> = Desk::new(alloc, settings, blank, blocks);
+    let mut desk: Desk<L> = Desk::new(alloc, settings, tokens);
     goes(rt, &mut desk, trial)
 }
 
@@ -180,16 +179,18 @@ fn settings(rt: &impl Abort, letters: u64) -> Settings {
     settings.with_letters(letters).expect(rt, "so many letters")
 }
 
-pub(crate) fn blocks(rt: &impl Abort, alloc: Global) -> Blocks<SharedNode> {
-    match Blocks::new(alloc, 4) {
-        Ok(blocks) => blocks,
-        Err(_) => Blocks::new(alloc, 4).expect(rt, "memory"),
+fn tokens(rt: &impl Abort, alloc: Global) -> Tokens
+    ensures { result.ledger.parts ≡ 8 }
+{
+    match Tokens::new(alloc, 8, 4) {
+        Ok(tokens) => tokens,
+        Err(_) => Tokens::new(alloc, 8, 4).expect(rt, "memory"),
     }
 }
 
 fn holds(rt: &impl Abort, alloc: Global, trial: &Trial) -> bool {
     let settings = settings(rt, trial.letters);
-    goes_by::<Brand>(rt, alloc, settings, Blank::new(8), blocks(rt, alloc), trial)
+    goes_by::<Brand>(rt, alloc, settings, tokens(rt, alloc), trial)
 }
 
 #[test]

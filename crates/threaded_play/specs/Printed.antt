@@ -29,7 +29,7 @@ pub record TellsWorld (settings : Settings) (script text : List ℕ) : Type 0 wh
   pub world : World
   pub journaled : IsJournaled settings journal world
   pub right : verdict (dump_of world) ≡ None
-  pub carried : CarriesOut journal (commands_of (lines_of script))
+  pub carried : CarriesOut settings journal (commands_of (lines_of script))
   pub told : text ≡ text_of_lines (world_lines journal world)
 
 -- the text is what a script comes to: the line of its first fault, or without any a world

@@ -1,29 +1,51 @@
-use Rattle.std.proofs.Common.{◌∙◌, true≢false, arith, sym}
-use Rattle.std.specs.Prelude.{is_ok}
+use Rattle.std.proofs.Common.{◌≡◌, ◌∙◌, ◌+◌, true≢false, ap, arith, subst, sym}
+use Rattle.silo_address.specs.Silo.{Silo}
+use Rattle.cluster_journal.proofs.Beginnings.{prefix_then}
+use Rattle.silo_workers.specs.Delivered.{AreDeliveriesTo}
+use Rattle.silo_workers.specs.Endings.{Ends}
 use Rattle.silo_threads.specs.Tallied.{HasMore}
-use Rattle.silo_threads.proofs.Tallies.{one_joined, one_more, put_whole}
+use Rattle.silo_threads.proofs.Tallies.{EndedSoFar, one_ended, one_joined, one_more, unless_lost}
 use Rattle.silo_threads.proofs.end.take_in.Goals.{then-is_err, else-is_err}
 use Rattle.silo_threads.proofs.end.take_in.Goals as goal
 
--- one worker was joined: its receipts stand behind the others, unless they were lost
+-- one worker was joined: what it had is put to the others', unless that was lost
 pub loop-worker-preserved : goal.loop-worker-preserved
 loop-worker-preserved g c =
+    let settings = g.L.Charter.settings in
     let silos = c.args.workers.items in
     let left = c.loop-worker.workers.items in
     let now = c.pop.new.self.items in
+    let silo = c.in-Some.worker in
     let popped = c.in-Some.ensures.items in
-    let theirs = c.tally_of-theirs.result in
+    let worked = c.worked_by-worked.result in
+    let whole = c.whole in
+    let hand = whole.result.0 in
+    let put = whole.result.1.items in
+    let ending = whole.result.2 in
+    let before = c.loop-worker.all in
+    let after = c.take_one.new.all in
+    let so_far = c.loop-worker.invariant in
+    let one = c.take_one.ensures in
+    let its : worked ≡ silo = c.worked_by-worked.ensures in
+    let counted = one.amount ∙ ap (λ n. before.hand.share.amount + n) whole.ensures.counted in
     record {
-      parts = let so_far = c.loop-worker.invariant.parts in let merged = c.merge.ensures.parts in let part = theirs.part in let one = c.in-Some.ensures.cases in omega (so_far, merged, part, one, arith);
-      left = one_joined silos left now c.in-Some.worker popped c.loop-worker.invariant.left;
-      receipts = λ whole. elim c.if-is_err.branch as (λ _. HasMore silos c.args.receipts.now.items c.append.new.self.items c.args.share.now.amount c.merge.new.self.amount) [
-        | then-is_err w ↦ absurd (true≢false (sym w.lost-is ∙ whole))
+      parts = let parts = so_far.parts in let part = one.parts in let single = whole.ensures.part in let fewer = c.in-Some.ensures.cases in omega (parts, part, single, fewer, arith);
+      left = one_joined silos left now silo popped so_far.left;
+      seen = prefix_then c.args.all.now.hand.seen before.hand.seen after.hand.seen so_far.seen one.mine;
+      receipts = λ none_lost. elim c.if-is_err.branch as (λ _. HasMore settings after.hand.seen silos c.args.all.now.receipts.items after.receipts.items c.args.all.now.hand.share.amount after.hand.share.amount) [
+        | then-is_err w ↦ absurd (true≢false (sym w.lost-is ∙ none_lost))
         | else-is_err w ↦
-            let merged = c.merge.ensures.amount in
-            let counted = theirs.counted in
-            one_more silos left now c.in-Some.worker popped c.loop-worker.invariant.left c.args.receipts.now.items c.loop-worker.receipts.items theirs.receipts.items c.append.new.self.items
-            c.args.share.now.amount c.loop-worker.share.amount c.merge.new.self.amount
-            c.tally_of-theirs.ensures (put_whole (is_ok c.append.result) c.is_err.result c.loop-worker.receipts.items theirs.receipts.items c.append.new.self.items c.append.ensures.items c.is_err.ensures.negation w.if-is_err.false) (omega (merged, counted, arith))
-            (c.loop-worker.invariant.receipts (sym w.lost-is ∙ whole))
+            one_more settings silos left now silo popped so_far.left before.hand.seen after.hand.seen hand.seen one.mine one.its
+            c.args.all.now.receipts.items before.receipts.items put after.receipts.items c.args.all.now.hand.share.amount before.hand.share.amount after.hand.share.amount
+            (subst (λ (s : Silo). AreDeliveriesTo settings s hand.seen put) its whole.ensures.delivered)
+            (unless_lost c.take_one.result _ one.receipts (w.if-is_err.false)) counted (so_far.receipts (sym w.lost-is ∙ none_lost))
+      ];
+      endings = λ none_lost. elim c.if-is_err.branch as (λ _. EndedSoFar settings after.hand.seen silos now after.endings.items) [
+        | then-is_err w ↦ absurd (true≢false (sym w.lost-is ∙ none_lost))
+        | else-is_err w ↦
+            one_ended settings silos left now silo popped so_far.left before.hand.seen after.hand.seen hand.seen one.mine one.its
+            before.endings.items after.endings.items ending
+            (unless_lost c.take_one.result _ one.endings (w.if-is_err.false))
+            (subst (λ (s : Silo). Ends settings s hand.seen ending) its whole.ensures.ended) (so_far.endings (sym w.lost-is ∙ none_lost))
       ];
     }

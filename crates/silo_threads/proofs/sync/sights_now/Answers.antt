@@ -1,13 +1,15 @@
-use Rattle.std.proofs.Common.{map}
+use Rattle.std.proofs.Common.{ap, sym, ◌∙◌, List}
 use Rattle.std.proofs.lemmas.Result.{IfOk-weaker}
-use Rattle.directory_rules.specs.EventModel.{event_of}
-use Rattle.silo_workers.specs.Moments.{Moment}
-use Rattle.silo_threads.proofs.Sights.{were_unseen}
+use Rattle.directory_rules.specs.World.{World}
+use Rattle.script_rules.specs.Output.{sync_events}
+use Rattle.cluster_journal.specs.Entry.{EntryValue}
+use Rattle.cluster_journal.specs.Journal.{world_of}
+use Rattle.cluster_journal.proofs.Beginnings.{its_world}
 use Rattle.silo_threads.proofs.sync.sights_now.Goals as goal
 
--- the moment is that of the board as it stands
-pub returns : goal.returns
-returns g c =
-    let board = c.args.board.now in
-    let moment : Moment = record { settings = board.settings; journal = board.journal; world = board.world; journaled = c.journaled.ensures } in
-    IfOk-weaker c.sights.result _ _ (λ events are. were_unseen moment c.world.result.now (map event_of events.items) c.world.ensures are) c.sights.ensures
+-- the world is that of the journal, which the hand has seen now
+pub returns-clause-sights : goal.returns-clause-sights
+returns-clause-sights g c =
+    let board = c.renew.new.self in
+    let world_is = c.world.ensures ∙ (sym (its_world g.L.Charter.settings board.journal board.world c.journaled.ensures) ∙ ap (λ (l : List EntryValue). world_of g.L.Charter.settings l) (ap (λ b. b.journal) c.renew.ensures.unchanged ∙ sym c.renew.ensures.front)) in
+    IfOk-weaker c.sights.result _ _ (λ events are. are ∙ ap (λ (w : World). sync_events w) world_is) c.sights.ensures

@@ -1,6 +1,6 @@
-use Rattle.silo_workers.specs.Delivered.{HasDelivered}
+use Rattle.std.proofs.Common.{◌≡◌}
 use Rattle.silo_workers.proofs.worker.work.Given as goal
 
--- so far the worker has only delivered letters to its silo
+-- the tally is of the same silo still
 abbrev pub invariant-loop : goal.invariant-loop
-invariant-loop g l = HasDelivered l.post.silo l.initial.tally.receipts.items l.tally.receipts.items
+invariant-loop g l = l.tally.silo ≡ l.initial.tally.silo

@@ -8,13 +8,18 @@ loop-command-preserved g c =
     let commands = c.args.commands.now in
     let index = c.loop-command.command-index in
     let command = c.command-item.result in
-    one_performed (map command_of commands) (map command_of (drop index commands)) (map command_of (drop (index + 1) commands)) (command_of command)
-    c.args.self.now.receipts.items c.loop-command.self.receipts.items c.carry_out.new.self.receipts.items
+    let before = c.args.self.now in
+    let now = c.loop-command.self in
+    let after = c.carry_out.new.self in
+    one_performed g.L.Charter.settings (map command_of commands) (map command_of (drop index commands)) (map command_of (drop (index + 1) commands)) (command_of command)
+    before.hand.seen now.hand.seen after.hand.seen before.receipts.items now.receipts.items after.receipts.items
     (one_left command_of commands index command c.loop-command-test.true c.command-item.is) (c.carry_out.ensures c.if-self.false) c.loop-command.invariant
 
 pub returns : goal.returns
 returns g c = λ all.
     let commands = c.args.commands.now in
     let index = c.loop-command.command-index in
-    all_performed (map command_of commands) (map command_of (drop index commands)) c.args.self.now.receipts.items c.loop-command.self.receipts.items
+    let before = c.args.self.now in
+    let now = c.loop-command.self in
+    all_performed g.L.Charter.settings (map command_of commands) (map command_of (drop index commands)) before.hand.seen now.hand.seen before.receipts.items now.receipts.items
     (none_left command_of commands index c.loop-command-test.false) c.loop-command.invariant
