@@ -99,7 +99,7 @@ func start(t *testing.T) *test {
 				return ""
 			}
 			return "10.0.0.2:1000@1"
-		}, Status: func() string { return "S version 1" }, Took: func(what string, _ time.Duration) { x.took.Store(what, true) }})
+		}, Status: func() string { return "S version 1" }, Members: func() string { return "1 S active c@host" }, Took: func(what string, _ time.Duration) { x.took.Store(what, true) }})
 	listener, err := Listen(x.path, 0o600)
 	if err != nil {
 		t.Fatal(err)
