@@ -229,12 +229,19 @@ ready(Grain, Silo, S = #state{held = Held}) ->
 %% A name is to come here for a process.
 expect(Key, Pid, Home, From, S = #state{held = Held, monitors = Monitors}) ->
     Grain = grain_term:grain(Key),
-    case is_map_key(Grain, Held) orelse grain_members:is_leaving() of
-        true -> tell(Home, {ready, Grain, none}), S;
-        false ->
-            Monitor = monitor(process, Home),
-            H = #held{phase = expecting, key = Key, pid = Pid, monitor = none, from = From, home = {Home, Monitor}},
-            urge(expect, Grain, watch(Grain, H, S#state{monitors = Monitors#{Monitor => Grain}}))
+    case Held of
+        #{Grain := #held{phase = closing}} -> % it was this node's just now
+            erlang:send_after(?PAUSE, self(), {expect, Key, Pid, Home, From}),
+            S;
+        #{Grain := _} -> tell(Home, {ready, Grain, none}), S;
+        _ ->
+            case grain_members:is_leaving() of
+                true -> tell(Home, {ready, Grain, none}), S;
+                false ->
+                    Monitor = monitor(process, Home),
+                    H = #held{phase = expecting, key = Key, pid = Pid, monitor = none, from = From, home = {Home, Monitor}},
+                    urge(expect, Grain, watch(Grain, H, S#state{monitors = Monitors#{Monitor => Grain}}))
+            end
     end.
 
 arrived(Grain, Token, S = #state{held = Held}) ->
