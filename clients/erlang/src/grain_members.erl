@@ -26,7 +26,9 @@ nodes_at(Silo) -> known(Silo, []).
 
 %% This node takes no names any more, and the others don't hear of it any more.
 -spec leave() -> ok.
-leave() -> gen_server:call(?MODULE, leave, infinity).
+leave() ->
+    ok = application:set_env(grain_registry, left, true), % also if all begins anew here
+    gen_server:call(?MODULE, leave, infinity).
 
 -spec is_leaving() -> boolean().
 is_leaving() -> known(leaving, false).
@@ -41,6 +43,7 @@ known(What, Default) ->
 -spec init([]) -> {ok, #state{}}.
 init([]) ->
     ?MODULE = ets:new(?MODULE, [named_table, protected, {read_concurrency, true}]),
+    ets:insert(?MODULE, {leaving, application:get_env(grain_registry, left, false)}),
     erlang:send_after(?RECONNECT, self(), reconnect),
     {ok, #state{}}.
 

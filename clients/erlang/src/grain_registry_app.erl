@@ -8,7 +8,7 @@
 start(_Type, _Arguments) -> {ok, _} = supervisor:start_link({local, grain_registry_sup}, ?MODULE, []).
 
 -spec stop(term()) -> ok.
-stop(_State) -> ok.
+stop(_State) -> application:unset_env(grain_registry, left).
 
 %% The fence is the first, so that it is the last to end: until then the agent gives no name of this node to another.
 -spec init([]) -> {ok, {supervisor:sup_flags(), [supervisor:child_spec()]}}.

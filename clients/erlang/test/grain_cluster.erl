@@ -50,7 +50,7 @@ node(Name, Servers, Cluster) -> node(Name, Servers, Cluster, []).
 node(Name, Servers, Cluster, Words) -> vm(Name, agent(Name, Servers, Cluster, Words)).
 
 agent(Name, #{etcd := Etcd, nats := Nats}, Cluster, Words) ->
-    Doors = #{etcd => grain_door:open(Etcd), nats => grain_door:open(Nats)},
+    Doors = #{etcd => grain_door:open(Etcd), nats => grain_door:open(Nats)}, % what is measured goes through them, too
     Socket = filename:join("/tmp", lists:concat(["grain-", os:getpid(), "-", Name, erlang:unique_integer([positive])])),
     A = #{servers => #{etcd => Etcd, nats => Nats}, doors => Doors, socket => Socket, cluster => Cluster, port => free_port(), words => Words},
     A#{agent => start_agent(A)}.
