@@ -103,7 +103,8 @@ type test struct {
 func start(t *testing.T) *test {
 	x := &test{T: t, silo: &fake{}, path: filepath.Join(t.TempDir(), "s"), may: 1}
 	x.service = New(Options{Silo: x.silo, May: func() bool { return atomic.LoadInt32(&x.may) == 1 }, Until: func() clock.Time { return 42 }, Now: clock.Boot,
-		Another: func(place directory.Silo) directory.Silo { return place }, Status: func() string { return "S version 1" }, Took: func(what string, _ time.Duration) { x.took.Store(what, true) }})
+		Another: func(place directory.Silo) directory.Silo { return place }, Status: func() string { return "S version 1" },
+		Members: func() string { return "1 S active c@host" }, Took: func(what string, _ time.Duration) { x.took.Store(what, true) }})
 	listener, err := Listen(x.path, 0o600)
 	if err != nil {
 		t.Fatal(err)

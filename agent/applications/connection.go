@@ -24,6 +24,9 @@ const (
 	mostUnanswered   = 4096
 	longestLine      = 4096
 	mostApplications = 1024
+	mostExpected     = 4096
+	mostNames        = 64 // of all connections
+	longestName      = 255
 )
 
 // application is a connection of an application.
@@ -34,6 +37,8 @@ type application struct {
 	process    int // its process, by the kernel's word
 	began      string
 	serves     map[string]bool // kinds of grains that move here; "" is all of them
+	expects    map[string]bool // grains that may move here, and are this connection's then
+	name       string          // what it calls itself, or ""
 	unanswered int64           // atomic
 }
 
@@ -65,6 +70,8 @@ var reasons = map[string]string{
 	"leaving": "this silo leaves: ask another agent",
 	"lost":    "this silo is fenced: end all work, hang up, and connect again",
 	"what":    "no such question, or words are missing",
+	"name":    "a name has up to 255 bytes, and no comma",
+	"many":    "this connection expects as many grains as it may, 4096; or as many connections have names as may, 64",
 	"long":    "a question has up to 4096 bytes",
 }
 
@@ -117,7 +124,8 @@ func (s *Service) Serve(listener *net.UnixListener) {
 		if err != nil {
 			return
 		}
-		app := &application{conn: conn, out: queue.New(mostOut), number: number, serves: map[string]bool{}}
+		app := &application{conn: conn, out: queue.New(mostOut), number: number, serves: map[string]bool{},
+			expects: map[string]bool{}}
 		app.process = processOf(conn)
 		app.began = Began(app.process)
 		s.mu.Lock()
@@ -212,6 +220,17 @@ func (s *Service) asked(k ask, words []string, isLong bool) {
 			k.app.serves[kind] = true
 		}
 		k.answer("ok")
+	case verb == "expect" && len(words) == 2:
+		s.expect(k, words[1])
+	case verb == "unexpect" && len(words) == 2:
+		s.unexpect(k.app, words[1])
+		k.answer("ok")
+	case verb == "named" && len(words) <= 2:
+		s.name(k, strings.Join(words[1:], ""))
+	case verb == "members" && len(words) == 1:
+		k.answer("members %s", s.options.Members())
+	case verb == "clock" && len(words) == 1:
+		k.answer("clock %d", s.options.Now().Nanoseconds())
 	case verb == "status" && len(words) == 1:
 		k.answer("status %s held %d", s.options.Status(), len(s.grains))
 	default:
@@ -250,7 +269,7 @@ func (s *Service) moveTo(k ask, name string, to directory.Silo) {
 // known is a verb as metrics name it: what applications make up isn't counted by name.
 func known(verb string) string {
 	switch verb {
-	case "activate", "find", "deactivate", "migrate", "serve", "status":
+	case "activate", "find", "deactivate", "migrate", "serve", "expect", "unexpect", "named", "members", "clock", "status":
 		return verb
 	}
 	return "other"

@@ -7,6 +7,10 @@
 //	                         here no more
 //	TAG migrate GRAIN SILO   the same; SILO may be `any`
 //	TAG serve [KIND ..]      ok; grains, or those of these kinds, that move here may be given to this connection
+//	TAG expect GRAIN         ok; if it moves here it is this connection's, before any that serves its kind. TAG unexpect GRAIN takes that back
+//	TAG named [NAME]         ok; by this name the other silos' applications hear of this connection; without a word, by none any more
+//	TAG members              members V SILO active|leaving NAME,..|- SILO ..: the silos of version V and their applications' names
+//	TAG clock                clock NOW: by the agent's clock, that of `event valid`
 //	TAG status               status SILO version V seen V settled V held N members N
 //	                         refused CODE WORDS: why, and what to do
 //
@@ -15,6 +19,7 @@
 //	event valid UNTIL                 work is allowed until then, in nanoseconds of CLOCK_BOOTTIME
 //	event firm ACTIVATION GRAIN token V   it moved here, and is this connection's now
 //	event member joined|leaving|dead SILO version V
+//	event named SILO NAME,..|-         the names of a silo's applications, whenever they change
 //	event settled V                   this silo's ranges are settled at that version
 //	event leaving                     this silo leaves: end the work, then deactivate or migrate each grain
 //	event lost WHY                    all activations are lost: end all work, then hang up
@@ -50,6 +55,7 @@ type Options struct {
 	Now     clock.Clock                               //
 	Another func(place directory.Silo) directory.Silo // where `migrate GRAIN any` goes, by the grain's place; "" for nowhere
 	Status  func() string                             // what `status` answers, but for what is held
+	Members func() string                             // what `members` answers
 	Took    func(what string, took time.Duration)     // told how long each question took that was granted
 
 	Connected    func(process int, began string) // told each process that connects, and when it began
@@ -60,14 +66,15 @@ type Options struct {
 type Service struct {
 	options Options
 
-	mu      sync.Mutex
-	over    string // why all is lost
-	leaving bool
-	grains  map[string]*grain
-	whose   map[*application]map[*grain]bool // what each application has; under nil, what nobody has
-	finds   map[string]*search
-	apps    map[*application]bool
-	counts  map[string]int64
+	mu       sync.Mutex
+	over     string // why all is lost
+	leaving  bool
+	grains   map[string]*grain
+	whose    map[*application]map[*grain]bool // what each application has; under nil, what nobody has
+	expected map[string]*application          // whose a grain is if it moves here
+	finds    map[string]*search
+	apps     map[*application]bool
+	counts   map[string]int64
 }
 
 // phase is how far an activation has come.
@@ -98,8 +105,8 @@ type search struct {
 
 // New makes a service; connections come by Serve.
 func New(options Options) *Service {
-	return &Service{options: options, grains: map[string]*grain{}, whose: map[*application]map[*grain]bool{}, finds: map[string]*search{}, apps: map[*application]bool{},
-		counts: map[string]int64{}}
+	return &Service{options: options, grains: map[string]*grain{}, whose: map[*application]map[*grain]bool{}, expected: map[string]*application{},
+		finds: map[string]*search{}, apps: map[*application]bool{}, counts: map[string]int64{}}
 }
 
 // Figures are what a service has, and what it counted.
@@ -359,8 +366,12 @@ func (s *Service) becameFirm(g *grain, said silo.Said) {
 	}
 }
 
-// server is a connection that takes grains which move here, each grain's by its name.
+// server is a connection that takes a grain which moves here: who expects it, or else who serves its kind.
 func (s *Service) server(name string) *application {
+	if app := s.expected[name]; app != nil {
+		s.unexpect(app, name)
+		return app
+	}
 	kind, _, _ := strings.Cut(name, "/")
 	var best *application
 	for app := range s.apps {
@@ -389,6 +400,9 @@ func (s *Service) hungUp(app *application) {
 	s.mu.Lock()
 	defer s.mu.Unlock()
 	delete(s.apps, app)
+	for name := range app.expects {
+		s.unexpect(app, name)
+	}
 	s.disconnected(app.process)
 	for g := range s.whose[app] {
 		s.give(g, nil)

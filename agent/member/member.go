@@ -13,7 +13,6 @@ import (
 	"fmt"
 	"log"
 	"net"
-	"sort"
 	"sync"
 	"time"
 
@@ -74,6 +73,8 @@ type Member struct {
 	settled uint64
 	status  silo.Status
 	skipped int64
+
+	names map[directory.Silo]string // of each silo's applications, as was told last
 }
 
 // Outcome is how a generation ended.
@@ -91,7 +92,7 @@ func Join(ctx context.Context, options Options) (*Member, error) {
 		return nil, err
 	}
 	m := &Member{options: options, silence: peers.New(options.Now), patience: settling.New(options.Now),
-		took: map[string]*metrics.Histogram{"activate": {}, "deactivate": {}, "find": {}}}
+		names: map[directory.Silo]string{}, took: map[string]*metrics.Histogram{"activate": {}, "deactivate": {}, "find": {}}}
 	m.ctx, m.stop = context.WithCancel(context.Background())
 	var err error
 	if m.listener, err = applications.Listen(options.Config.Socket, options.Config.SocketMode); err != nil {
@@ -124,7 +125,7 @@ func Join(ctx context.Context, options Options) (*Member, error) {
 func (m *Member) start(token string) error {
 	config := m.options.Config
 	m.service = applications.New(applications.Options{Silo: (*late)(m), May: m.fence.May, Until: m.fence.Until, Now: m.options.Now, Another: m.another,
-		Status: m.statusLine, Took: m.noteTook, Connected: m.watch, Disconnected: m.forget})
+		Status: m.statusLine, Members: m.membersLine, Took: m.noteTook, Connected: m.watch, Disconnected: m.forget})
 	m.post = transport.New(m.me, m.fence.May, (*letters)(m))
 	m.fence.OnExtended(func(until clock.Time) {
 		m.service.Deadline(until)
@@ -373,6 +374,7 @@ func (m *Member) report() {
 		m.mu.Lock()
 		report.Seen, report.Settled = m.status.Seen, m.settled
 		m.mu.Unlock()
+		report.Names = m.service.Names()
 		if report.Up {
 			report.Suspects = m.silence.Suspects(m.options.Config.SilentAfter, members)
 		}
@@ -386,6 +388,7 @@ func (m *Member) report() {
 			return
 		}
 		m.vote(members, reports)
+		m.tellNames(members, reports)
 	}
 }
 
@@ -441,36 +444,6 @@ func (m *Member) vote(members []directory.Silo, reports map[directory.Silo]peers
 	} else {
 		log.Printf("warning: %s answers most members no more, and is voted out", out)
 	}
-}
-
-// another is where a grain of that place goes, if it leaves this silo: there, or to the next active silo where the place is this one, or was one
-// that leaves by now.
-func (m *Member) another(place directory.Silo) directory.Silo {
-	members, _ := m.members()
-	var others []directory.Silo
-	for _, other := range members {
-		if other != m.me && m.options.Sequence.Status(other) == directory.IsActive {
-			others = append(others, other)
-		}
-	}
-	return fromOn(place, others)
-}
-
-// fromOn is a silo, or the next one behind it in the order of their texts, around; "" where there is none.
-func fromOn(silo directory.Silo, silos []directory.Silo) directory.Silo {
-	if len(silos) == 0 {
-		return ""
-	}
-	sort.Slice(silos, func(i, j int) bool { return silos[i] < silos[j] })
-	next := sort.Search(len(silos), func(i int) bool { return silos[i] >= silo })
-	return silos[next%len(silos)]
-}
-
-func (m *Member) statusLine() string {
-	members, _ := m.members()
-	m.mu.Lock()
-	defer m.mu.Unlock()
-	return fmt.Sprintf("%s version %d seen %d settled %d members %d", m.me, m.told, m.status.Seen, m.settled, len(members))
 }
 
 func (m *Member) noteTook(what string, took time.Duration) {

@@ -98,6 +98,7 @@ type Report struct {
 	Seen, Settled uint64 // the versions that its silo has seen, and at which all its ranges were settled
 	Up            bool   // whether its transport is connected
 	Suspects      []directory.Silo
+	Names         []string // of its applications, as they call themselves
 }
 
 // Text is a report as it stands in the store.
@@ -110,6 +111,9 @@ func (r Report) Text() string {
 	for _, silo := range r.Suspects {
 		words = append(words, string(silo))
 	}
+	if len(r.Names) > 0 {
+		words = append(words, "="+strings.Join(r.Names, ","))
+	}
 	return strings.Join(words, " ")
 }
 
@@ -121,7 +125,11 @@ func ReadReport(text string) (r Report) {
 	}
 	r.Seen, r.Settled, r.Up = number(words[0]), number(words[1]), words[2] == "up"
 	for _, word := range words[3:] {
-		r.Suspects = append(r.Suspects, directory.Silo(word))
+		if strings.HasPrefix(word, "=") {
+			r.Names = strings.Split(word[1:], ",")
+		} else {
+			r.Suspects = append(r.Suspects, directory.Silo(word))
+		}
 	}
 	return r
 }

@@ -25,10 +25,12 @@ class Processes:
         """Starts a process, unless it runs."""
         if name in self.running:
             return
-        command = {"e": self.etcd, "n": self.broker, "a": self.agent}[name[0]](name)
+        self.spawn(name, self.network.inside(name), {"e": self.etcd, "n": self.broker, "a": self.agent}[name[0]](name))
+
+    def spawn(self, name, inside, command):
         environment = dict(self.environment, GRAIN_DIRECTORY_CLOCK_RATE=self.rates[int(name[1:]) % len(self.rates)])
         with open(self.folder / f"{name}.log", "ab") as log:
-            self.running[name] = Popen([*self.network.inside(name), *command], stdout=log, stderr=STDOUT, env=environment, start_new_session=True)
+            self.running[name] = Popen([*inside, *command], stdout=log, stderr=STDOUT, env=environment, start_new_session=True)
         self.starts[name] = self.starts.get(name, 0) + 1
 
     def etcd(self, name):

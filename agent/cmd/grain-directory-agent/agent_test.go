@@ -203,6 +203,14 @@ func TestCluster(t *testing.T) {
 	members := regexp.MustCompile(`members{[^}]*} 3`)
 	until(t, "there are three members", func() bool { _, text := one.get("/metrics"); return members.MatchString(text) })
 
+	if _, err := a.Ask("named ann@one"); err != nil {
+		t.Error(err)
+	}
+	until(t, "the second agent knows the name of the first one's application", func() bool {
+		words, err := b.Ask("members")
+		return err == nil && strings.Contains(strings.Join(words, " "), fmt.Sprintf("127.0.0.1:%d@1 active ann@one", c.ports[1]))
+	})
+
 	second := "127.0.0.1:" + strconv.Itoa(c.ports[2]) + "@1"
 	if err := ann.Migrate(second); err != nil || ann.May() {
 		t.Error(err)

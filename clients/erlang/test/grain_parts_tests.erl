@@ -1,0 +1,93 @@
+%% The parts that need no agent.
+-module(grain_parts_tests).
+-include_lib("eunit/include/eunit.hrl").
+
+%% Distinct terms are distinct grains, which the directory takes: up to 128 characters of visible ASCII behind the slash.
+grains_test() ->
+    Names = [ann, "ann", <<"ann">>, {user, "ann"}, 1, 1.0, 0.0, -0.0, [], #{a => 1}, #{a => 1.0}, lists:seq(1, 1000), lists:seq(1, 1001), self(), make_ref(),
+             {"ä", 'ö'}, binary:copy(<<"x">>, 90), binary:copy(<<"x">>, 91), binary:copy(<<"x">>, 92)],
+    Grains = [grain_term:grain(grain_term:key(Name)) || Name <- Names],
+    ?assertEqual(length(Names), length(lists:usort(Grains))),
+    [?assertMatch({match, _}, re:run(Grain, "^(term|hash)/[!-~]{1,128}$")) || Grain <- Grains],
+    [?assertEqual(Name, binary_to_term(grain_term:key(Name))) || Name <- Names],
+    Pairs = [{K, K} || K <- lists:seq(1, 100)],
+    ?assertEqual(grain_term:key(maps:from_list(Pairs)), grain_term:key(maps:from_list(lists:reverse(Pairs)))).
+
+%% No more than a window of questions is under way, and no more than so many wait; what is urgent waits all the same.
+questions_test() ->
+    {Own, Other} = pair(),
+    Q0 = grain_questions:new($x, 2, 3),
+    {ok, Q1} = grain_questions:ask("a 1", one, Q0),
+    {ok, Q2} = grain_questions:ask("b", two, grain_questions:sent(Q1)), % there is no connection
+    {ok, Q3} = grain_questions:ask("c", three, Q2),
+    ?assertEqual(busy, grain_questions:ask("d", four, Q3)),
+    Q4 = grain_questions:sent(grain_questions:connected(Own, grain_questions:urge("e", five, Q3))),
+    ?assertEqual({ok, <<"x0 a 1\nx1 b\n">>}, gen_tcp:recv(Other, 12, 1000)),
+    {two, Q5} = grain_questions:answered(<<"x1">>, Q4),
+    Q6 = grain_questions:sent(Q5),
+    ?assertEqual({ok, <<"x2 c\n">>}, gen_tcp:recv(Other, 5, 1000)),
+    {three, Q7} = grain_questions:answered(<<"x2">>, Q6),
+    {one, Q8} = grain_questions:answered(<<"x0">>, Q7),
+    {five, _} = grain_questions:answered(<<"x3">>, grain_questions:sent(Q8)),
+    ?assertEqual({ok, <<"x3 e\n">>}, gen_tcp:recv(Other, 5, 1000)).
+
+pair() ->
+    {ok, Listener} = gen_tcp:listen(0, [binary, {active, false}, {ip, {127, 0, 0, 1}}]),
+    {ok, Port} = inet:port(Listener),
+    {ok, Own} = gen_tcp:connect({127, 0, 0, 1}, Port, [binary, {active, false}]),
+    {ok, Other} = gen_tcp:accept(Listener),
+    {Own, Other}.
+
+clock_test() ->
+    Before = grain_clock:printed(),
+    timer:sleep(30),
+    After = grain_clock:latest(),
+    ?assert(After - Before >= 30000000 andalso After - Before < 5000000000),
+    ?assert(grain_clock:is_of(Before + 15000000, Before, After)),
+    ?assertNot(grain_clock:is_of(Before - 1, Before, After)),
+    ?assertNot(grain_clock:is_of(After + 3600000000000, Before, After)).
+
+%% An agent that has another clock isn't worked with, nor is one that says something else.
+agents_clock_test_() ->
+    {timeout, 20, fun() ->
+        Path = lists:concat(["/tmp/grain-clock-", os:getpid()]),
+        [begin
+             file:delete(Path),
+             {ok, Listener} = gen_tcp:listen(0, [local, {ifaddr, {local, Path}}, binary, {active, false}]),
+             ok = application:set_env(grain_registry, socket, Path),
+             {ok, Fence} = grain_fence:start_link(),
+             spawn_link(fun() ->
+                                {ok, Socket} = gen_tcp:accept(Listener),
+                                ok = gen_tcp:send(Socket, ["event valid 1\n", Says(grain_clock:printed()), "event settled 7\n"]),
+                                gen_tcp:recv(Socket, 0)
+                        end),
+             ?assertMatch(Expected, element(1, grain_fence:connect())),
+             unlink(Fence),
+             gen_server:stop(Fence),
+             gen_tcp:close(Listener)
+         end || {Expected, Says} <- [{ok, fun(Now) -> ["c clock ", integer_to_list(Now + 5000000), "\n"] end},
+                                     {error, fun(Now) -> ["c clock ", integer_to_list(Now - 100000000000), "\n"] end},
+                                     {error, fun(Now) -> ["c clock ", integer_to_list(Now + 100000000000), "\n"] end},
+                                     {error, fun(_) -> "c refused what words\n" end}]],
+        file:delete(Path)
+    end}.
+
+%% The fence ends what is registered at its deadline, and then hangs up.
+deadline_test_() ->
+    {timeout, 20, fun() ->
+        process_flag(trap_exit, true),
+        {ok, Fence} = grain_fence:start_link(),
+        Pid = spawn(fun() -> timer:sleep(infinity) end),
+        true = ets:insert(grain_names, {<<"x">>, Pid, 1}),
+        Monitor = monitor(process, Pid),
+        ?assertNot(grain_fence:is_valid()),
+        Start = grain_clock:latest(),
+        grain_fence:extend(Start + 300000000),
+        grain_fence:extend(Start + 200000000), % an older one that comes late
+        timer:sleep(30),
+        ?assert(grain_fence:is_valid()),
+        receive {'DOWN', Monitor, process, _, Why} -> ?assertEqual(killed, Why) end,
+        Took = grain_clock:printed() - Start,
+        ?assert(Took >= 250000000 andalso Took < 400000000),
+        receive {'EXIT', Fence, {shutdown, {fenced, deadline}}} -> ok end
+    end}.
