@@ -21,8 +21,8 @@ func TestExpecting(t *testing.T) {
 	ended := func(l *line, grain string) {
 		l.says("e deactivate " + grain)
 		x.silo.answers(t, "close "+grain, silo.Answer{Activation: "S!5"})
-		x.service.Said(silo.Said{What: silo.Ended, Grain: grain})
-		l.hears("e ended " + grain)
+		x.service.Said(silo.Said{What: silo.Ended, Grain: grain, How: "removed"})
+		l.hears("e ended " + grain + " removed")
 	}
 	a.says("1 serve")
 	a.hears("1 ok")
