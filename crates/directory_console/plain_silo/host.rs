@@ -108,8 +108,8 @@ impl Host {
         self.ask(Request::Find { grain: grain.into(), hash })
     }
 
-    /// The grain about which a request is outstanding under the number.
-    pub fn grain_under(&self, number: u64) -> Option<&Grain> {
+    /// The grain of what is outstanding under the number.
+    pub fn asked_about(&self, number: u64) -> Option<&Grain> {
         self.requests.get(&number).map(|request| match request {
             Request::Of(count) => &self.held[count].grain,
             Request::Find { grain, .. } => grain,
