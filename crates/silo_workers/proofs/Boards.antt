@@ -75,5 +75,5 @@ module _ (T : RattleType) (c : charter.Ghosts T.Denot) (l : ledger.Ghosts T.Deno
         ),
       )
 
-  pub hand_field_sends : IsSend (hand.the_field T c l g n).row
-  hand_field_sends = struct_send (S.shape (hand.the_type T c l g n)) (share_send T l, (logging.front_sends entry.the_row entry_crosses.moved T n s, tt))
+  pub hand_field_sends : IsSend (hand.the_field T l n).row
+  hand_field_sends = struct_send (S.shape (hand.the_type T l n)) (share_send T l, (logging.front_sends entry.the_row entry_crosses.moved T n s, tt))
