@@ -1,5 +1,5 @@
 -- No line that a process writes says a letter but those of the letters that it sends.
-use Rattle.std.proofs.Common.{◌≡◌, ℕ, Bool, true, false, List, [], ◌∷◌, ◌++◌, Option, Some, None, Ok, refl, ap, ◌∙◌}
+use Rattle.std.proofs.Common.{◌≡◌, ℕ, Bool, true, false, List, [], ◌∷◌, ◌++◌, Option, Some, None, Result, Ok, Err, refl, ap, ◌∙◌}
 use Rattle.std.specs.Prelude.{cond, map, All, Contains, codes}
 use Rattle.std.specs.Fmt.{decimal}
 use Rattle.std.proofs.lemmas.List.Elements.{All-nil, All-cons, All-append, All-map, All-weaker}
@@ -13,28 +13,33 @@ use Rattle.membership_view.specs.declared.status.Status.{Status}
 use Rattle.membership_view.specs.declared.status.Status.TheVariants as status
 use Rattle.ring_range.specs.Text.{range_text}
 use Rattle.hash_ring.specs.declared.hashing.Hashing.{Hashing}
+use Rattle.hash_ring.specs.Hash.{hash_grain}
+use Rattle.hash_ring.specs.Owner.{owner_of}
 use Rattle.directory_rules.specs.declared.effect.Effect.{Effect}
 use Rattle.directory_rules.specs.declared.effect.Effect.TheVariants as effect
 use Rattle.directory_rules.specs.declared.held.Held.{Held}
+use Rattle.directory_rules.specs.declared.policy.Policy.{Policy}
 use Rattle.directory_rules.specs.declared.reply.Reply.{Reply}
 use Rattle.directory_rules.specs.declared.reply.Reply.TheVariants as reply
 use Rattle.directory_rules.specs.declared.outcome.Happening.TheVariants.{Saw, Did}
 use Rattle.directory_rules.specs.Host.{Host}
 use Rattle.directory_rules.specs.Letter.{Letter, Body, Request_letter, Reply_letter, Ask_letter, Page_letter, Missing_letter, Done_letter, Query_letter, Report_letter, Behind_letter, Ahead_letter, Offer_letter}
 use Rattle.directory_rules.specs.Piece.{Piece}
+use Rattle.directory_rules.specs.Placement.{silo_for}
 use Rattle.silo_rules.specs.declared.news.News.{News}
 use Rattle.silo_rules.specs.declared.news.News.TheVariants.{Known, Made, Replaced}
 use Rattle.silo_rules.specs.Membership.{Change, Join, Leave, Die}
 use Rattle.silo_rules.specs.SiloValue.{SiloValue, own_status}
+use Rattle.script_rules.specs.Script.{grain_word, ◌>>=◌}
 use Rattle.script_rules.specs.Lines.{happening_words, effect_words, refusal_line}
-use Rattle.script_rules.specs.Show.{held_line, phase_word, seen_words}
+use Rattle.script_rules.specs.Show.{held_line, phase_word, seen_words, owner_words, place_words}
 use Rattle.process_rules.specs.LetterText.{letter_line}
-use Rattle.process_rules.specs.ReadLine.{Receive, read_silo_line}
+use Rattle.process_rules.specs.ReadLine.{Receive, Owner, Place, own_policy_word, read_silo_line}
 use Rattle.process_rules.specs.Happened.{news_words, counted_words, body_words, delivered_words, is_ignored, received_words}
-use Rattle.process_rules.specs.Show.{own_word, state_words, piece_line, show_lines, dump_line}
+use Rattle.process_rules.specs.Show.{own_word, state_words, piece_line, show_lines, dump_line, grain_owner_line, grain_place_line}
 use Rattle.process_rules.specs.Answer.{printing, unless_dead}
 use Rattle.process_rules.specs.Output.{fault_line}
-use Rattle.process_deployment.proofs.Silent.{IsSilent, first_unknown, by_first, other_byte, silo_first}
+use Rattle.process_deployment.proofs.Silent.{IsSilent, AreSilentWords, first_unknown, by_first, by_word, other_byte, silo_first}
 
 -- a line says no letter but one of these
 abbrev pub SaysOnly : Hashing → List Letter → List ℕ → Type 0
@@ -62,6 +67,13 @@ letters_say hashing letters reads =
 pub step_says : (hashing : Hashing) (letters : List Letter) (line : List ℕ) → IsSilent hashing line → All (ReadsAsItself hashing) letters → All (SaysOnly hashing letters) (line ∷ map letter_line letters)
 step_says hashing letters line silent reads =
     All-cons (SaysOnly hashing letters) line (map letter_line letters) (λ letter given. absurd (silent letter given)) (letters_say hashing letters reads)
+
+-- what stands behind the first word of `owner` and of `place`
+abbrev pub owner_tail : SiloValue → Grain → List (List ℕ)
+owner_tail s grain = grain_text grain ∷ owner_words (owner_of s.node.ring.points (hash_grain s.node.settings.hashing grain))
+
+abbrev pub place_tail : SiloValue → Grain → Policy → List (List ℕ)
+place_tail s grain policy = grain_text grain ∷ place_words (silo_for policy s.node.view s.node.host.silo (hash_grain s.node.settings.hashing grain) [])
 
 module _ (hashing : Hashing) where
   -- ---- changes
@@ -96,6 +108,35 @@ module _ (hashing : Hashing) where
 
   pub pong_silent : (word : List ℕ) → IsSilent hashing (sentence (codes "pong" ∷ word ∷ []))
   pong_silent word = by_first hashing (codes "pong" ∷ word ∷ []) refl
+
+  -- ---- who owns a grain, and where it would be placed: lines that begin with the question, which no letter answers
+  owner_given : (read : Result Grain ℕ) (letter : Letter) → (read >>= (λ grain. Ok (Owner grain)) >>= (λ asked. Ok (Some asked))) ≡ Ok (Some (Receive letter)) → ⊥
+  owner_given (Ok grain) letter is = cc is
+  owner_given (Err fault) letter is = cc is
+
+  owner_asked : (words : List (List ℕ)) → AreSilentWords hashing (codes "owner" ∷ words)
+  owner_asked [] letter is = cc is
+  owner_asked (grain ∷ []) letter is = owner_given (grain_word grain) letter is
+  owner_asked (one ∷ two ∷ words) letter is = cc is
+
+  pub owner_silent : (s : SiloValue) (grain : Grain) → IsSilent hashing (grain_owner_line s grain)
+  unfolding grain_owner_line
+  owner_silent s grain = by_word hashing (codes "owner") (owner_tail s grain) refl refl owner_asked
+
+  place_given : (grain : Result Grain ℕ) (policy : Result Policy ℕ) (letter : Letter) → (grain >>= (λ grain. policy >>= (λ policy. Ok (Place grain policy))) >>= (λ asked. Ok (Some asked))) ≡ Ok (Some (Receive letter)) → ⊥
+  place_given (Ok grain) (Ok policy) letter is = cc is
+  place_given (Ok grain) (Err fault) letter is = cc is
+  place_given (Err fault) policy letter is = cc is
+
+  place_asked : (words : List (List ℕ)) → AreSilentWords hashing (codes "place" ∷ words)
+  place_asked [] letter is = cc is
+  place_asked (one ∷ []) letter is = cc is
+  place_asked (grain ∷ policy ∷ []) letter is = place_given (grain_word grain) (own_policy_word policy) letter is
+  place_asked (one ∷ two ∷ three ∷ words) letter is = cc is
+
+  pub place_silent : (s : SiloValue) (grain : Grain) (policy : Policy) → IsSilent hashing (grain_place_line s grain policy)
+  unfolding grain_place_line
+  place_silent s grain policy = by_word hashing (codes "place") (place_tail s grain policy) refl refl place_asked
 
   -- ---- steps
   pub saw_silent : (silo : Silo) (version : ℕ) (made : Effect) → IsSilo silo → IsSilent hashing (sentence (happening_words (Saw silo version made)))
@@ -142,34 +183,34 @@ module _ (hashing : Hashing) where
   did_silent silo made = by_first hashing (happening_words (Did silo made)) (did_unknown silo made)
 
   -- ---- letters
-  counted_unknown : (host : Host) (number : ℕ) (answer : Reply) (letter : Letter) (made : Effect) → first_unknown hashing (counted_words host number answer (delivered_words letter made)) ≡ true
-  counted_unknown host number (reply.Registered entry) letter made = refl
-  counted_unknown host number (reply.Taken entry) letter made = refl
-  counted_unknown host number reply.Removed letter made = refl
-  counted_unknown host number reply.Absent letter made = refl
-  counted_unknown host number (reply.Found entry) letter made = refl
-  counted_unknown host number reply.Nothing letter made = refl
-  counted_unknown host number (reply.Retry why) letter made = refl
+  counted_unknown : (host : Host) (seen number : ℕ) (answer : Reply) (letter : Letter) (made : Effect) → first_unknown hashing (counted_words host seen number answer (delivered_words letter made)) ≡ true
+  counted_unknown host seen number (reply.Registered entry) letter made = refl
+  counted_unknown host seen number (reply.Taken entry) letter made = refl
+  counted_unknown host seen number reply.Removed letter made = refl
+  counted_unknown host seen number reply.Absent letter made = refl
+  counted_unknown host seen number (reply.Found entry) letter made = refl
+  counted_unknown host seen number reply.Nothing letter made = refl
+  counted_unknown host seen number (reply.Retry why) letter made = refl
 
-  body_unknown : (body : Body) (host : Host) (letter : Letter) (made : Effect) → first_unknown hashing (body_words body host made (delivered_words letter made)) ≡ true
-  body_unknown (Request_letter request) host letter made = refl
-  body_unknown (Reply_letter number answer) host letter made = counted_unknown host number answer letter made
-  body_unknown (Ask_letter range page) host letter made = refl
-  body_unknown (Page_letter page) host letter made = refl
-  body_unknown (Missing_letter range) host letter made = refl
-  body_unknown (Done_letter range) host letter made = refl
-  body_unknown (Query_letter range) host letter made = refl
-  body_unknown (Report_letter report) host letter made = refl
-  body_unknown (Behind_letter range) host letter made = refl
-  body_unknown (Ahead_letter range) host letter made = refl
-  body_unknown (Offer_letter entry) host letter made = did_unknown host.silo made
+  body_unknown : (body : Body) (host : Host) (seen : ℕ) (letter : Letter) (made : Effect) → first_unknown hashing (body_words body host seen made (delivered_words letter made)) ≡ true
+  body_unknown (Request_letter request) host seen letter made = refl
+  body_unknown (Reply_letter number answer) host seen letter made = counted_unknown host seen number answer letter made
+  body_unknown (Ask_letter range page) host seen letter made = refl
+  body_unknown (Page_letter page) host seen letter made = refl
+  body_unknown (Missing_letter range) host seen letter made = refl
+  body_unknown (Done_letter range) host seen letter made = refl
+  body_unknown (Query_letter range) host seen letter made = refl
+  body_unknown (Report_letter report) host seen letter made = refl
+  body_unknown (Behind_letter range) host seen letter made = refl
+  body_unknown (Ahead_letter range) host seen letter made = refl
+  body_unknown (Offer_letter entry) host seen letter made = did_unknown host.silo made
 
-  pub received_silent : (host : Host) (letter : Letter) (made : Effect) → IsSilent hashing (sentence (received_words host letter made))
-  received_silent host letter made = by_first hashing (received_words host letter made) (by (is_ignored made))
+  pub received_silent : (host : Host) (seen : ℕ) (letter : Letter) (made : Effect) → IsSilent hashing (sentence (received_words host seen letter made))
+  received_silent host seen letter made = by_first hashing (received_words host seen letter made) (by (is_ignored made))
     where
-      by : (ignored : Bool) → first_unknown hashing (cond ignored (delivered_words letter made) (body_words letter.body host made (delivered_words letter made))) ≡ true
+      by : (ignored : Bool) → first_unknown hashing (cond ignored (delivered_words letter made) (body_words letter.body host seen made (delivered_words letter made))) ≡ true
       by true = refl
-      by false = body_unknown letter.body host letter made
+      by false = body_unknown letter.body host seen letter made
 
   -- ---- what it has
   held_silent : (silo : Silo) (held : List (Grain × Held)) → AreSilent hashing (map (λ e. held_line silo e.0 e.1) held)

@@ -26,18 +26,18 @@ use Rattle.silo_rules.specs.Told.{Heard, told}
 use Rattle.directory_rules.specs.World.{World}
 use Rattle.directory_rules.proofs.Peopled.{peopled_after}
 use Rattle.membership_view.specs.Whole.{IsViews}
-use Rattle.script_rules.specs.Lines.{happening_words}
+use Rattle.script_rules.specs.Lines.{happening_words, refusal_line}
 use Rattle.deployment_headline.specs.Deployment.{Deployment, process_of}
 use Rattle.deployment_headline.specs.Limits.{with_room, process_with_room}
 use Rattle.deployment_headline.specs.Steps as deployment
 use Rattle.deployment_headline.proofs.Lists.{over, lookup-over}
 use Rattle.deployment_headline.proofs.Runs.{made_so, processes_are_behind, processes_are_own}
 use Rattle.deployment_headline.proofs.Worlds.{its_node}
-use Rattle.process_rules.specs.ReadLine.{Asked, Joined, Leaving, Dead, See, Wake, Close, Offer, Find, Forget, Nudge, Receive, Ping, Show, Dump}
+use Rattle.process_rules.specs.ReadLine.{Asked, Joined, Leaving, Dead, See, Wake, Close, Offer, Find, Forget, Nudge, Receive, Ping, Owner, Place, Show, Dump}
 use Rattle.process_rules.specs.Happened.{news_words, received_words}
-use Rattle.process_rules.specs.Answer.{printing, unless_dead, heard, told_so, stepped, seen_so, done_so, received_so, answered}
+use Rattle.process_rules.specs.Answer.{Answered, printing, unless_dead, heard, told_so, stepped, seen_so, done_so, received_so, is_anothers_join, answered, answered_as}
 use Rattle.process_rules.specs.Output.{answered_to, said}
-use Rattle.process_deployment.specs.Cluster.{Process, having_read, reads, Cluster, first_cluster}
+use Rattle.process_deployment.specs.Cluster.{Process, answer_to, having_read, reads, Cluster, first_cluster}
 use Rattle.process_deployment.specs.Steps.{Step, Decide, Read, dying, without, decided, after, after_all}
 use Rattle.process_deployment.specs.Theorems.{LivingGoOn}
 use Rattle.process_deployment.proofs.Everyone.{its_own, reading_keeps, without_keeps, started_keeps}
@@ -74,13 +74,13 @@ done_ends input s = goes_on (done_so input s).ends (done_so input s).silo (steps
 received_ends : (letter : Letter) (s : SiloValue) → (received_so letter s).ends ≡ false
 received_ends letter s = by (silo_eq letter.to s.node.host.silo)
   where
-    by : (own : Bool) → (cond own (stepped (received_words s.node.host letter) (receives s letter) s) (printing [] s)).ends ≡ false
-    by true = steps_end (received_words s.node.host letter) (receives s letter) s
+    by : (own : Bool) → (cond own (stepped (received_words s.node.host s.node.view.version letter) (receives s letter) s) (printing [] s)).ends ≡ false
+    by true = steps_end (received_words s.node.host s.node.view.version letter) (receives s letter) s
     by false = refl
 
 answers_end : (asked : Asked) (s : SiloValue) → EndsDead (answered asked s).ends (answered asked s).silo
 unfolding answered
-answers_end (Joined version who places) s = news_ends version (Join who places) s
+answers_end (Joined version who token places) s = news_ends version (Join who places) s
 answers_end (Leaving version who) s = news_ends version (Leave who) s
 answers_end (Dead version who) s = news_ends version (Die who) s
 answers_end (See version) s = goes_on (seen_so version s).ends (seen_so version s).silo (steps_end (λ made. happening_words (Saw s.node.host.silo version made)) (sees s version) s)
@@ -92,13 +92,20 @@ answers_end (Forget grain) s = done_ends (Forgets grain) s
 answers_end Nudge s = done_ends Nudges s
 answers_end (Receive letter) s = goes_on (received_so letter s).ends (received_so letter s).silo (received_ends letter s)
 answers_end (Ping word) s = goes_on false s refl
+answers_end (Owner grain) s = goes_on false s refl
+answers_end (Place grain policy) s = goes_on false s refl
 answers_end Show s = goes_on false s refl
 answers_end Dump s = goes_on false s refl
 
-lines_end : (read : Result (Option Asked) ℕ) (s : SiloValue) → EndsDead (answered_to read s).ends (answered_to read s).silo
-lines_end (Ok None) s = goes_on false s refl
-lines_end (Ok (Some asked)) s = answers_end asked s
-lines_end (Err fault) s = goes_on false s refl
+unless_anothers : (anothers : Bool) (lines : List (List ℕ)) (it : Answered) (s : SiloValue) → EndsDead it.ends it.silo → EndsDead (cond anothers (printing lines s) it).ends (cond anothers (printing lines s) it).silo
+unless_anothers true lines it s its = goes_on false s refl
+unless_anothers false lines it s its = its
+
+lines_end : (token : Option (List ℕ)) (read : Result (Option Asked) ℕ) (s : SiloValue) → EndsDead (answered_to token read s).ends (answered_to token read s).silo
+unfolding answered_as
+lines_end token (Ok None) s = goes_on false s refl
+lines_end token (Ok (Some asked)) s = unless_anothers (is_anothers_join token asked s.node.host.silo) (refusal_line 208 ∷ []) (answered asked s) s (answers_end asked s)
+lines_end token (Err fault) s = goes_on false s refl
 
 abbrev Q : Silo × Process → Type 0
 Q e = EndsDead e.1.ended e.1.silo
@@ -106,15 +113,15 @@ Q e = EndsDead e.1.ended e.1.silo
 reads_end : (silo : Silo) (line : List ℕ) (p : Process) → Q (silo, p) → Q (silo, reads line p)
 reads_end silo line p its = by p.ended
   where
-    by : (ended : Bool) → Q (silo, cond ended p (having_read line (answered_to (said line p.silo) p.silo) p))
+    by : (ended : Bool) → Q (silo, cond ended p (having_read line (answer_to line p) p))
     by true = its
-    by false = lines_end (said line p.silo) p.silo
+    by false = lines_end p.token (said line p.silo) p.silo
 
 -- ---- so it is after any steps
 decided_end : (c : Cluster) (change : Change) (r : Result Membership ℕ) → All Q c.processes → All Q (decided r c change).processes
 decided_end c change (Err number) all = all
 decided_end c change (Ok m) all =
-    started_keeps Q c.settings change (without (dying c.membership change) c.processes) (λ silo. goes_on false (first_silo c.settings silo) refl) (without_keeps Q (dying c.membership change) c.processes all)
+    started_keeps Q c.settings c.tokens change (without (dying c.membership change) c.processes) (λ silo. goes_on false (first_silo c.settings silo) refl) (without_keeps Q (dying c.membership change) c.processes all)
 
 after_end : (c : Cluster) (step : Step) → All Q c.processes → All Q (after c step).processes
 unfolding after
@@ -159,14 +166,14 @@ module _ (settings : Settings) (steps : List deployment.Step) (are : AreSettings
       cc (ap is_live still, its.1)
 
 pub living_go_on : WrittenReadAsThemselves → LivingGoOn
-living_go_on themselves settings steps are may silo p there = by p.ended refl
+living_go_on themselves settings tokens steps are may silo p there = by p.ended refl
   where
     by : (ended : Bool) → p.ended ≡ ended → p.ended ≡ false
     by false is = is
     by true is =
-        let c = after_all (first_cluster settings) steps in
-        let f = follows_all themselves (first_cluster settings) (follows_first themselves settings are) steps may in
-        let dead = its_own Q silo p c.processes (all_end (first_cluster settings) steps (All-nil Q)) there is in
+        let c = after_all (first_cluster settings tokens) steps in
+        let f = follows_all themselves (first_cluster settings tokens) (follows_first themselves settings tokens are) steps may in
+        let dead = its_own Q silo p c.processes (all_end (first_cluster settings tokens) steps (All-nil Q)) there is in
         let found : process_of (deployment.deployed c.settings f.steps) silo ≡ Some p.silo =
         ap (λ d. process_of d silo) f.same ∙ lookup-over its_silo (is_at (silo_cmp silo)) c.processes ∙ ap (option_map its_silo) there in
         absurd (alive c.settings f.steps f.are f.named silo p.silo found dead)

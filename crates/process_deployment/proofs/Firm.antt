@@ -1,6 +1,7 @@
 -- A process tells `firm` exactly where an activation becomes firm, and what is firm stays firm.
-use Rattle.std.proofs.Common.{arith, ◌≡◌, ℕ, suc, Bool, true, false, List, [], ◌∷◌, ◌⊎◌, inl, inr, Option, Some, None, Result, Ok, Err, length, refl, sym, ap, ◌∙◌, subst}
+use Rattle.std.proofs.Common.{arith, ◌≡◌, ℕ, suc, Bool, true, false, List, [], ◌∷◌, ◌++◌, ◌⊎◌, inl, inr, Option, Some, None, Result, Ok, Err, length, refl, sym, ap, ◌∙◌, subst}
 use Rattle.std.specs.Prelude.{◌==◌, cond, not, nat_lt, map, All, Contains, codes, if◌then◌else◌}
+use Rattle.std.specs.Fmt.{decimal}
 use Rattle.std.specs.Option.{option_map}
 use Rattle.std.specs.Map.{lookup}
 use Rattle.std.specs.BTreeMap.{is_at}
@@ -8,8 +9,6 @@ use Rattle.std.proofs.lemmas.List.Elements.{All-nil, All-cons, All-contains}
 use Rattle.texts.specs.Words.{sentence}
 use Rattle.silo_address.specs.Silo.{Silo, IsSilo, silo_cmp, silo_eq}
 use Rattle.silo_address.specs.Grain.{Grain}
-use Rattle.membership_view.specs.declared.status.Status.{Status}
-use Rattle.membership_view.specs.declared.status.Status.TheVariants as status
 use Rattle.silo_address.specs.declared.Entry.{Entry}
 use Rattle.directory_rules.specs.declared.effect.Effect.{Effect}
 use Rattle.directory_rules.specs.declared.effect.Effect.TheVariants as effect
@@ -40,16 +39,17 @@ use Rattle.deployment_headline.specs.Steps as deployment
 use Rattle.deployment_headline.proofs.Lists.{over, lookup-over}
 use Rattle.deployment_headline.proofs.Runs.{made_so, processes_are_own}
 use Rattle.deployment_headline.proofs.Worlds.{its_node}
+use Rattle.process_rules.proofs.StaysWhole.{silo_kept}
 use Rattle.process_rules.specs.LetterText.{letter_line}
-use Rattle.process_rules.specs.ReadLine.{Asked, Joined, Leaving, Dead, See, Wake, Close, Offer, Find, Forget, Nudge, Receive, Ping, Show, Dump}
-use Rattle.process_rules.specs.Answer.{Answered, printing, unless_dead, heard, told_so, stepped, seen_so, done_so, received_so, answered}
+use Rattle.process_rules.specs.ReadLine.{Asked, Joined, Leaving, Dead, See, Wake, Close, Offer, Find, Forget, Nudge, Receive, Ping, Owner, Place, Show, Dump}
+use Rattle.process_rules.specs.Answer.{Answered, printing, unless_dead, heard, told_so, stepped, seen_so, done_so, received_so, is_anothers_join, answered, answered_as}
 use Rattle.process_rules.specs.Happened.{received_words, own_words, body_words, delivered_words, is_ignored, news_words}
 use Rattle.process_rules.specs.Output.{answered_to, said, fault_line}
-use Rattle.process_rules.specs.Show.{show_lines, dump_line}
+use Rattle.process_rules.specs.Show.{show_lines, dump_line, grain_owner_line, grain_place_line}
 use Rattle.process_deployment.specs.Cluster.{first_cluster}
-use Rattle.process_deployment.specs.Firm.{HasFirm, BecomesFirm, firm_line, AsksToEnd, TellsFirm, LinesTellFirm}
+use Rattle.process_deployment.specs.Firm.{HasFirm, BecomesFirm, its_firm_line, AsksToEnd, TellsFirm, LinesTellFirm}
 use Rattle.process_deployment.specs.Steps.{after_all}
-use Rattle.process_deployment.proofs.FirmLines.{IsOther, AreOther, by_words, is_other, alone, letters_other, refusal_other, fault_other, pong_other, news_other, saw_other, did_other, delivered_other, show_other, dump_other}
+use Rattle.process_deployment.proofs.FirmLines.{IsOther, AreOther, by_words, is_other, alone, letters_other, refusal_other, fault_other, pong_other, news_other, saw_other, did_other, delivered_other, owner_other, place_other, show_other, dump_other}
 use Rattle.process_deployment.proofs.FirmSteps.{EndsIt, ConfirmsOne, Confirmed, shown, asked_before, firm_after, becomes, keeps}
 use Rattle.process_deployment.proofs.Following.{WrittenReadAsThemselves, its_silo, follows_all, follows_first}
 
@@ -88,20 +88,20 @@ module _ (s : SiloValue) (once : HoldsOnce s.node.host) (own : IsSilo s.node.hos
           none grain count becoming (inr now) = never now.one
 
       -- one is confirmed, and told so
-      module _ (telling : (c : ConfirmsOne s.node input it) → sentence (happened it.effect) ≡ firm_line s.node.host.silo c.e.0 c.e.1.count) where
-        lines_are : (c : ConfirmsOne s.node input it) → answer.lines ≡ firm_line s.node.host.silo c.e.0 c.e.1.count ∷ []
+      module _ (telling : (c : ConfirmsOne s.node input it) → sentence (happened it.effect) ≡ its_firm_line s c.e.0 c.e.1.count) where
+        lines_are : (c : ConfirmsOne s.node input it) → answer.lines ≡ its_firm_line s c.e.0 c.e.1.count ∷ []
         lines_are c =
             ap (λ (letters : List Letter). sentence (happened it.effect) ∷ map letter_line letters) (ap (λ (i : Stepped). i.letters) c.is)
             ∙ ap (λ (line : List ℕ). line ∷ []) (telling c)
 
-        is_line : (c : ConfirmsOne s.node input it) (line : List ℕ) → Contains answer.lines line → line ≡ firm_line s.node.host.silo c.e.0 c.e.1.count
+        is_line : (c : ConfirmsOne s.node input it) (line : List ℕ) → Contains answer.lines line → line ≡ its_firm_line s c.e.0 c.e.1.count
         is_line c line there =
-            let its = firm_line s.node.host.silo c.e.0 c.e.1.count in
+            let its = its_firm_line s c.e.0 c.e.1.count in
             All-contains (λ (l : List ℕ). l ≡ its) answer.lines line (subst (All (λ (l : List ℕ). l ≡ its)) (sym (lines_are c)) (All-cons (λ (l : List ℕ). l ≡ its) its [] refl (All-nil (λ (l : List ℕ). l ≡ its)))) there
 
-        tell : (grain : Grain) (count : ℕ) → BecomesFirm grain count s answer.silo → HasFirm s grain count ⊎ Confirmed s.node once input it is grain count → answer.lines ≡ firm_line s.node.host.silo grain count ∷ []
+        tell : (grain : Grain) (count : ℕ) → BecomesFirm grain count s answer.silo → HasFirm s grain count ⊎ Confirmed s.node once input it is grain count → answer.lines ≡ its_firm_line s grain count ∷ []
         tell grain count becoming (inl was) = absurd (becoming.0 was)
-        tell grain count becoming (inr now) = lines_are now.one ∙ (λ i. firm_line s.node.host.silo (now.grain_is i) (now.count_is i) ∷ [])
+        tell grain count becoming (inr now) = lines_are now.one ∙ (λ i. its_firm_line s (now.grain_is i) (now.count_is i) ∷ [])
 
         was_no_firm : (c : ConfirmsOne s.node input it) → ¬ (HasFirm s c.e.0 c.e.1.count)
         was_no_firm c was = let before : ◌≡◌ {A = Option Life} (Some (Is_asking c.e.1.count)) (Some (Is_firm c.e.1.count)) = sym (asked_before s.node once input it is c) ∙ was in cc before
@@ -145,16 +145,16 @@ module _ (s : SiloValue) (once : HoldsOnce s.node.host) (own : IsSilo s.node.hos
     node = s.node
 
     abbrev words : Effect → List (List ℕ)
-    words = received_words s.node.host letter
+    words = received_words s.node.host s.node.view.version letter
 
     ignored_other : (made : Effect) → is_ignored made ≡ true → IsOther (sentence (words made))
-    ignored_other made is = subst (λ b. IsOther (sentence (cond b (delivered_words letter made) (body_words letter.body s.node.host made (delivered_words letter made))))) (sym is) (delivered_other letter made)
+    ignored_other made is = subst (λ b. IsOther (sentence (cond b (delivered_words letter made) (body_words letter.body s.node.host s.node.view.version made (delivered_words letter made))))) (sym is) (delivered_other letter made)
 
     -- what a body says that isn't that of a reply by which one is confirmed
-    by_body : (made : Effect) → IsOther (sentence (body_words letter.body s.node.host made (delivered_words letter made))) → IsOther (sentence (words made))
+    by_body : (made : Effect) → IsOther (sentence (body_words letter.body s.node.host s.node.view.version made (delivered_words letter made))) → IsOther (sentence (words made))
     by_body made other = by (is_ignored made)
       where
-        by : (ignored : Bool) → IsOther (sentence (cond ignored (delivered_words letter made) (body_words letter.body s.node.host made (delivered_words letter made))))
+        by : (ignored : Bool) → IsOther (sentence (cond ignored (delivered_words letter made) (body_words letter.body s.node.host s.node.view.version made (delivered_words letter made))))
         by true = delivered_other letter made
         by false = other
 
@@ -198,18 +198,18 @@ module _ (s : SiloValue) (once : HoldsOnce s.node.host) (own : IsSilo s.node.hos
 
       -- any other letter
       another : (body : Body) → letter.body ≡ body → ((number : ℕ) (entry : Entry) → body ≡ Reply_letter number (reply.Registered entry) → ⊥)
-          → (((ConfirmsOne s.node (Receives letter) it → ⊥)) → IsOther (sentence (body_words body s.node.host it.effect (delivered_words letter it.effect)))) → Outcome
+          → (((ConfirmsOne s.node (Receives letter) it → ⊥)) → IsOther (sentence (body_words body s.node.host s.node.view.version it.effect (delivered_words letter it.effect)))) → Outcome
       another body same never other =
           let none : ConfirmsOne s.node (Receives letter) it → ⊥ = λ c. never c.number c.entry (sym same ∙ same_letter c) in
-          inl (none, by_body it.effect (subst (λ b. IsOther (sentence (body_words b s.node.host it.effect (delivered_words letter it.effect)))) (sym same) (other none)))
+          inl (none, by_body it.effect (subst (λ b. IsOther (sentence (body_words b s.node.host s.node.view.version it.effect (delivered_words letter it.effect)))) (sym same) (other none)))
 
       delivered : (body : Body) → letter.body ≡ body → ((number : ℕ) (entry : Entry) → body ≡ Reply_letter number (reply.Registered entry) → ⊥)
-          → body_words body s.node.host it.effect (delivered_words letter it.effect) ≡ delivered_words letter it.effect → Outcome
+          → body_words body s.node.host s.node.view.version it.effect (delivered_words letter it.effect) ≡ delivered_words letter it.effect → Outcome
       delivered body same never says = another body same never (λ none. subst (λ w. IsOther (sentence w)) (sym says) (delivered_other letter it.effect))
 
       counted : (body : Body) → letter.body ≡ body → ((number : ℕ) (entry : Entry) → body ≡ Reply_letter number (reply.Registered entry) → ⊥)
-          → is_other (body_words body s.node.host it.effect (delivered_words letter it.effect)) ≡ true → Outcome
-      counted body same never other = another body same never (λ none. by_words (body_words body s.node.host it.effect (delivered_words letter it.effect)) other)
+          → is_other (body_words body s.node.host s.node.view.version it.effect (delivered_words letter it.effect)) ≡ true → Outcome
+      counted body same never other = another body same never (λ none. by_words (body_words body s.node.host s.node.view.version it.effect (delivered_words letter it.effect)) other)
 
       outcome : (body : Body) → letter.body ≡ body → Outcome
       outcome (Request_letter request) same = delivered _ same (λ number entry is. cc is) refl
@@ -219,7 +219,7 @@ module _ (s : SiloValue) (once : HoldsOnce s.node.host) (own : IsSilo s.node.hos
       outcome (Reply_letter number reply.Absent) same = counted _ same (λ n e is. cc is) refl
       outcome (Reply_letter number (reply.Found entry)) same = counted _ same (λ n e is. cc is) refl
       outcome (Reply_letter number reply.Nothing) same = counted _ same (λ n e is. cc is) refl
-      outcome (Reply_letter number (reply.Retry why)) same = delivered _ same (λ n e is. cc is) refl
+      outcome (Reply_letter number (reply.Retry why)) same = counted _ same (λ n e is. cc is) refl
       outcome (Ask_letter range page) same = delivered _ same (λ number entry is. cc is) refl
       outcome (Page_letter page) same = delivered _ same (λ number entry is. cc is) refl
       outcome (Missing_letter range) same = delivered _ same (λ number entry is. cc is) refl
@@ -232,11 +232,11 @@ module _ (s : SiloValue) (once : HoldsOnce s.node.host) (own : IsSilo s.node.hos
           another _ same (λ n e is. cc is) (λ none. did_other s.node.host.silo it.effect (λ firm. none ((shown s.node (Receives letter) it is).1 (ap step_of_effect firm))))
 
       -- the line that tells it
-      telling : (c : ConfirmsOne s.node (Receives letter) it) → sentence (words it.effect) ≡ firm_line s.node.host.silo c.e.0 c.e.1.count
+      telling : (c : ConfirmsOne s.node (Receives letter) it) → sentence (words it.effect) ≡ its_firm_line s c.e.0 c.e.1.count
       telling c =
           ap (λ (i : Stepped). sentence (words i.effect)) c.is
-          ∙ (ap (λ b. sentence (body_words b s.node.host effect.Firm (delivered_words letter effect.Firm))) (same_letter c)
-          ∙ ap (λ found. sentence (codes "firm" ∷ own_words s.node.host found)) c.under)
+          ∙ (ap (λ b. sentence (body_words b s.node.host s.node.view.version effect.Firm (delivered_words letter effect.Firm))) (same_letter c)
+          ∙ ap (λ found. sentence (codes "firm" ∷ (own_words s.node.host found ++ codes "at" ∷ decimal s.node.view.version ∷ []))) c.under)
 
       came : TellsFirm s read (stepped words (Ok it) s)
       came = by (outcome letter.body refl)
@@ -260,18 +260,12 @@ module _ (s : SiloValue) (once : HoldsOnce s.node.host) (own : IsSilo s.node.hos
   hears : (version : ℕ) (change : Change) → TellsFirm s read (told_so version change s)
   hears version change = by (told s.node.settings s.membership version change)
     where
-      same_node : (o : Option Status) (it : Answered) → (unless_dead o it).silo.node ≡ it.silo.node
-      same_node None it = refl
-      same_node (Some status.Active) it = refl
-      same_node (Some status.Leaving) it = refl
-      same_node (Some status.Dead) it = refl
-
       by : (o : Result Heard ℕ) → TellsFirm s read (heard o version change s)
       by (Err number) = quiet (printing (refusal_line number ∷ []) s) refl (alone (refusal_line number) (refusal_other number))
       by (Ok its) =
           let next : SiloValue = record s { membership = its.membership } in
           let it = printing (sentence (news_words version change its.news) ∷ []) next in
-          quiet (unless_dead (own_status next) it) (same_node (own_status next) it) (news_other version change its.news (own_status next) next)
+          quiet (unless_dead (own_status next) it) (sym (ap (λ (t : SiloValue). t.node) (silo_kept (own_status next) it))) (news_other version change its.news (own_status next) next)
 
 -- ---- whatever a line says
 module _ (s : SiloValue) (once : HoldsOnce s.node.host) (own : IsSilo s.node.host.silo) where
@@ -280,7 +274,7 @@ module _ (s : SiloValue) (once : HoldsOnce s.node.host) (own : IsSilo s.node.hos
 
   tells_asked : (asked : Asked) → Tells (Ok (Some asked)) (answered asked s)
   unfolding answered
-  tells_asked (Joined version silo places) = hears s once own (Ok (Some (Joined version silo places))) version (Join silo places)
+  tells_asked (Joined version silo token places) = hears s once own (Ok (Some (Joined version silo token places))) version (Join silo places)
   tells_asked (Leaving version silo) = hears s once own (Ok (Some (Leaving version silo))) version (Leave silo)
   tells_asked (Dead version silo) = hears s once own (Ok (Some (Dead version silo))) version (Die silo)
   tells_asked (See version) = saw s once own (Ok (Some (See version))) version
@@ -292,13 +286,21 @@ module _ (s : SiloValue) (once : HoldsOnce s.node.host) (own : IsSilo s.node.hos
   tells_asked Nudge = done s once own (Ok (Some Nudge)) Nudges (λ its ends. absurd ends) (λ it c. cc c.comes)
   tells_asked (Receive letter) = comes s once own (Ok (Some (Receive letter))) letter
   tells_asked (Ping word) = quiet s once own (Ok (Some (Ping word))) (printing (sentence (codes "pong" ∷ word ∷ []) ∷ []) s) refl (alone (sentence (codes "pong" ∷ word ∷ [])) (pong_other word))
+  tells_asked (Owner grain) = quiet s once own (Ok (Some (Owner grain))) (printing (grain_owner_line s grain ∷ []) s) refl (alone (grain_owner_line s grain) (owner_other s grain))
+  tells_asked (Place grain policy) =
+      quiet s once own (Ok (Some (Place grain policy))) (printing (grain_place_line s grain policy ∷ []) s) refl (alone (grain_place_line s grain policy) (place_other s grain policy))
   tells_asked Show = quiet s once own (Ok (Some Show)) (printing (show_lines s) s) refl (show_other s)
   tells_asked Dump = quiet s once own (Ok (Some Dump)) (printing (dump_line s ∷ []) s) refl (alone (dump_line s) (dump_other s))
 
-  pub tells_firm : (read : Result (Option Asked) ℕ) → Tells read (answered_to read s)
-  tells_firm (Ok None) = quiet s once own (Ok None) (printing [] s) refl (All-nil IsOther)
-  tells_firm (Ok (Some asked)) = tells_asked asked
-  tells_firm (Err fault) = quiet s once own (Err fault) (printing (fault_line fault ∷ []) s) refl (alone (fault_line fault) (fault_other fault))
+  unless_anothers : (asked : Asked) (anothers : Bool) → Tells (Ok (Some asked)) (cond anothers (printing (refusal_line 208 ∷ []) s) (answered asked s))
+  unless_anothers asked true = quiet s once own (Ok (Some asked)) (printing (refusal_line 208 ∷ []) s) refl (alone (refusal_line 208) (refusal_other 208))
+  unless_anothers asked false = tells_asked asked
+
+  pub tells_firm : (token : Option (List ℕ)) (read : Result (Option Asked) ℕ) → Tells read (answered_to token read s)
+  unfolding answered_as
+  tells_firm token (Ok None) = quiet s once own (Ok None) (printing [] s) refl (All-nil IsOther)
+  tells_firm token (Ok (Some asked)) = unless_anothers asked (is_anothers_join token asked s.node.host.silo)
+  tells_firm token (Err fault) = quiet s once own (Err fault) (printing (fault_line fault ∷ []) s) refl (alone (fault_line fault) (fault_other fault))
 
 -- ---- the silos of a deployment hold one activation a grain
 module _ (settings : Settings) (steps : List deployment.Step) (are : AreSettings settings) (named : All deployment.IsStep steps) where
@@ -321,10 +323,10 @@ module _ (settings : Settings) (steps : List deployment.Step) (are : AreSettings
       (nodes_are_own (with_room most letters settings) all.events silo (process_with_room most letters s).node (ap (λ (w : World). node_of w silo) all.is ∙ found)).once
 
 pub lines_tell_firm : WrittenReadAsThemselves → LinesTellFirm
-lines_tell_firm themselves settings steps are may silo p line is_silo there =
-    let c = after_all (first_cluster settings) steps in
-    let f = follows_all themselves (first_cluster settings) (follows_first themselves settings are) steps may in
+lines_tell_firm themselves settings tokens steps are may silo p line is_silo there =
+    let c = after_all (first_cluster settings tokens) steps in
+    let f = follows_all themselves (first_cluster settings tokens) (follows_first themselves settings tokens are) steps may in
     let found : process_of (deployment.deployed c.settings f.steps) silo ≡ Some p.silo =
     ap (λ d. process_of d silo) f.same ∙ lookup-over its_silo (is_at (silo_cmp silo)) c.processes ∙ ap (option_map its_silo) there in
     let own = (processes_are_own c.settings f.steps f.are f.named silo p.silo found).address in
-    tells_firm p.silo (holds_once c.settings f.steps f.are f.named silo p.silo found) (subst IsSilo (sym own) is_silo) (said line p.silo)
+    tells_firm p.silo (holds_once c.settings f.steps f.are f.named silo p.silo found) (subst IsSilo (sym own) is_silo) p.token (said line p.silo)

@@ -17,6 +17,7 @@ use Rattle.ring_range.specs.Text.{range_text}
 use Rattle.directory_rules.specs.declared.effect.Effect.{Effect}
 use Rattle.directory_rules.specs.declared.effect.Effect.TheVariants as effect
 use Rattle.directory_rules.specs.declared.held.Held.{Held}
+use Rattle.directory_rules.specs.declared.policy.Policy.{Policy}
 use Rattle.directory_rules.specs.declared.outcome.Happening.TheVariants.{Saw, Did}
 use Rattle.directory_rules.specs.Letter.{Letter}
 use Rattle.directory_rules.specs.Piece.{Piece}
@@ -30,8 +31,9 @@ use Rattle.process_rules.specs.LetterText.{letter_words, letter_line}
 use Rattle.process_rules.specs.Answer.{printing, unless_dead}
 use Rattle.process_rules.specs.Happened.{news_words, delivered_words}
 use Rattle.process_rules.specs.Output.{fault_line}
-use Rattle.process_rules.specs.Show.{own_word, state_words, piece_line, show_lines, dump_line}
+use Rattle.process_rules.specs.Show.{own_word, state_words, piece_line, show_lines, dump_line, grain_owner_line, grain_place_line}
 use Rattle.process_deployment.specs.Firm.{SaysFirm}
+use Rattle.process_deployment.proofs.Answers.{owner_tail, place_tail}
 
 abbrev pub IsOther : List ℕ → Type 0
 IsOther line = ¬ (SaysFirm line)
@@ -164,6 +166,14 @@ did_other silo made never = by_words (happening_words (Did silo made)) (did_is_o
 
 pub delivered_other : (letter : Letter) (made : Effect) → IsOther (sentence (delivered_words letter made))
 delivered_other letter made = by_words (delivered_words letter made) refl
+
+pub owner_other : (s : SiloValue) (grain : Grain) → IsOther (grain_owner_line s grain)
+unfolding grain_owner_line
+owner_other s grain = by_words (codes "owner" ∷ owner_tail s grain) refl
+
+pub place_other : (s : SiloValue) (grain : Grain) (policy : Policy) → IsOther (grain_place_line s grain policy)
+unfolding grain_place_line
+place_other s grain policy = by_words (codes "place" ∷ place_tail s grain policy) refl
 
 -- ---- what it has
 held_other : (silo : Silo) (held : List (Grain × Held)) → AreOther (map (λ e. held_line silo e.0 e.1) held)

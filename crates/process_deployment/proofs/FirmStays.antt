@@ -24,9 +24,9 @@ use Rattle.silo_rules.specs.Membership.{Change, Join, Leave, Die, Membership, ch
 use Rattle.deployment_headline.specs.Deployment.{Deployment, process_of}
 use Rattle.deployment_headline.specs.Steps as deployment
 use Rattle.deployment_headline.proofs.Lists.{lookup-over}
-use Rattle.process_rules.specs.Output.{answered_to, said}
+use Rattle.process_rules.specs.Output.{said}
 use Rattle.process_deployment.specs.Allowed.{May}
-use Rattle.process_deployment.specs.Cluster.{Process, started, having_read, reads, Cluster, first_cluster, process_at}
+use Rattle.process_deployment.specs.Cluster.{Process, started, answer_to, having_read, reads, Cluster, first_cluster, process_at}
 use Rattle.process_deployment.specs.Firm.{HasFirm, AsksToEnd, TellsFirm, HasItFirm, IsItsEnd, FirmStays}
 use Rattle.process_deployment.specs.Steps.{Decide, Read, dying, without, with_started, decided, read_by, reading, after, after_all}
 use Rattle.process_deployment.proofs.Ended.{peopled}
@@ -62,10 +62,10 @@ live_has_row views whole silo None is live = absurd (cc live)
 live_has_row views whole silo (Some status) is live = let has = has_row views whole silo status is in (has.row, has.found)
 
 -- ---- a line
-reads_firm : (p : Process) (line : List ℕ) (grain : Grain) (count : ℕ) → HasFirm p.silo grain count → TellsFirm p.silo (said line p.silo) (answered_to (said line p.silo) p.silo) → HasFirm (reads line p).silo grain count ⊎ AsksToEnd grain (said line p.silo)
+reads_firm : (p : Process) (line : List ℕ) (grain : Grain) (count : ℕ) → HasFirm p.silo grain count → TellsFirm p.silo (said line p.silo) (answer_to line p) → HasFirm (reads line p).silo grain count ⊎ AsksToEnd grain (said line p.silo)
 reads_firm p line grain count firm tells = by p.ended
   where
-    by : (ended : Bool) → HasFirm (cond ended p (having_read line (answered_to (said line p.silo) p.silo) p)).silo grain count ⊎ AsksToEnd grain (said line p.silo)
+    by : (ended : Bool) → HasFirm (cond ended p (having_read line (answer_to line p) p)).silo grain count ⊎ AsksToEnd grain (said line p.silo)
     by true = inl firm
     by false = tells.stays grain count firm
 
@@ -73,7 +73,7 @@ module _ (c : Cluster) (silo : Silo) (grain : Grain) (count : ℕ) (p : Process)
   abbrev Still : List (Silo × Process) → Type 0
   Still processes = (q : Process) × (process_at silo processes ≡ Some q) × HasFirm q.silo grain count
 
-  read_on : (its : Silo) (line : List ℕ) → ((silo ≡ its) → TellsFirm p.silo (said line p.silo) (answered_to (said line p.silo) p.silo)) → Still (reading its line c.processes) ⊎ ((its ≡ silo) × AsksToEnd grain (said line p.silo))
+  read_on : (its : Silo) (line : List ℕ) → ((silo ≡ its) → TellsFirm p.silo (said line p.silo) (answer_to line p)) → Still (reading its line c.processes) ⊎ ((its ≡ silo) × AsksToEnd grain (said line p.silo))
   read_on its line tells = by (same_or_other silo its)
     where
       put : its ≡ silo → HasFirm (reads line p).silo grain count ⊎ AsksToEnd grain (said line p.silo) → Still (insert_entry silo_cmp c.processes its (reads line p)) ⊎ ((its ≡ silo) × AsksToEnd grain (said line p.silo))
@@ -95,8 +95,8 @@ module _ (c : Cluster) (silo : Silo) (grain : Grain) (count : ℕ) (p : Process)
   still_there None never = there
   still_there (Some other) never = found_beside_removed silo_cmp silo_cmp_total silo_cmp_exact other c.processes silo (λ same. never (ap Some (sym same))) ∙ there
 
-  beside_started : (change : Change) (processes : List (Silo × Process)) → ((stated : List ℕ) → ¬ (change ≡ Join silo stated)) → process_at silo processes ≡ Some p → process_at silo (with_started c.settings change processes) ≡ Some p
-  beside_started (Join who stated) processes never found = found_beside_put silo_cmp silo_cmp_total silo_cmp_exact who (started c.settings who) processes silo (λ same. never stated (ap (λ s. Join s stated) (sym same))) ∙ found
+  beside_started : (change : Change) (processes : List (Silo × Process)) → ((stated : List ℕ) → ¬ (change ≡ Join silo stated)) → process_at silo processes ≡ Some p → process_at silo (with_started c.settings c.tokens change processes) ≡ Some p
+  beside_started (Join who stated) processes never found = found_beside_put silo_cmp silo_cmp_total silo_cmp_exact who (started c.settings c.tokens who) processes silo (λ same. never stated (ap (λ s. Join s stated) (sym same))) ∙ found
   beside_started (Leave who) processes never found = found
   beside_started (Die who) processes never found = found
 
@@ -120,26 +120,26 @@ module _ (c : Cluster) (silo : Silo) (grain : Grain) (count : ℕ) (p : Process)
 
 pub firm_stays : WrittenReadAsThemselves → FirmStays
 unfolding after May
-firm_stays themselves settings steps are may (Read its line) silo grain count allowed has =
-    let c = after_all (first_cluster settings) steps in
+firm_stays themselves settings tokens steps are may (Read its line) silo grain count allowed has =
+    let c = after_all (first_cluster settings tokens) steps in
     let p = has.process in
-    by (read_on c silo grain count p has.there has.firm its line (λ same. lines_tell_firm themselves settings steps are may silo p line (subst IsSilo (sym same) allowed.0) has.there))
+    by (read_on c silo grain count p has.there has.firm its line (λ same. lines_tell_firm themselves settings tokens steps are may silo p line (subst IsSilo (sym same) allowed.0) has.there))
   where
-    by : Still (after_all (first_cluster settings) steps) silo grain count has.process has.there has.firm (reading its line (after_all (first_cluster settings) steps).processes) ⊎ ((its ≡ silo) × AsksToEnd grain (said line has.process.silo))
-        → HasItFirm (after (after_all (first_cluster settings) steps) (Read its line)) silo grain count ⊎ IsItsEnd (after_all (first_cluster settings) steps) (Read its line) silo has.process.silo grain
+    by : Still (after_all (first_cluster settings tokens) steps) silo grain count has.process has.there has.firm (reading its line (after_all (first_cluster settings tokens) steps).processes) ⊎ ((its ≡ silo) × AsksToEnd grain (said line has.process.silo))
+        → HasItFirm (after (after_all (first_cluster settings tokens) steps) (Read its line)) silo grain count ⊎ IsItsEnd (after_all (first_cluster settings tokens) steps) (Read its line) silo has.process.silo grain
     by (inl still) = inl (record { process = still.0; there = still.1; firm = still.2 })
     by (inr ends) = inr ends
-firm_stays themselves settings steps are may (Decide change) silo grain count allowed has =
-    let c = after_all (first_cluster settings) steps in
+firm_stays themselves settings tokens steps are may (Decide change) silo grain count allowed has =
+    let c = after_all (first_cluster settings tokens) steps in
     let p = has.process in
-    let f = follows_all themselves (first_cluster settings) (follows_first themselves settings are) steps may in
+    let f = follows_all themselves (first_cluster settings tokens) (follows_first themselves settings tokens are) steps may in
     let found : process_of (deployment.deployed c.settings f.steps) silo ≡ Some p.silo =
     ap (λ d. process_of d silo) f.same ∙ lookup-over its_silo (is_at (silo_cmp silo)) c.processes ∙ ap (option_map its_silo) has.there in
     let its = subst (λ (d : Deployment). IsViews d.membership.views × (is_live (status_at d.membership.views d.membership.views.version silo) ≡ true)) f.same (peopled c.settings f.steps f.are f.named silo p.silo found) in
     let row = live_has_row c.membership.views its.0 silo (status_at c.membership.views c.membership.views.version silo) refl its.1 in
     by (decide_on c silo grain count p has.there has.firm change (changed c.settings c.membership change) refl (λ stated m is. not_again c.membership m c silo stated row.0 row.1 is))
   where
-    by : Still (after_all (first_cluster settings) steps) silo grain count has.process has.there has.firm (after (after_all (first_cluster settings) steps) (Decide change)).processes ⊎ (dying (after_all (first_cluster settings) steps).membership change ≡ Some silo)
-        → HasItFirm (after (after_all (first_cluster settings) steps) (Decide change)) silo grain count ⊎ IsItsEnd (after_all (first_cluster settings) steps) (Decide change) silo has.process.silo grain
+    by : Still (after_all (first_cluster settings tokens) steps) silo grain count has.process has.there has.firm (after (after_all (first_cluster settings tokens) steps) (Decide change)).processes ⊎ (dying (after_all (first_cluster settings tokens) steps).membership change ≡ Some silo)
+        → HasItFirm (after (after_all (first_cluster settings tokens) steps) (Decide change)) silo grain count ⊎ IsItsEnd (after_all (first_cluster settings tokens) steps) (Decide change) silo has.process.silo grain
     by (inl still) = inl (record { process = still.0; there = still.1; firm = still.2 })
     by (inr dies) = inr dies

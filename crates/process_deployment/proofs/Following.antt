@@ -1,5 +1,5 @@
 -- The deployment that a cluster follows, step by step.
-use Rattle.std.proofs.Common.{arith, ◌≡◌, ℕ, suc, ◌+◌, ◌≤◌, Bool, true, false, List, [], ◌∷◌, ◌++◌, length, length-append, append_assoc, append-nil, Option, Some, None, Result, Ok, Err, refl, sym, ap, ◌∙◌, subst}
+use Rattle.std.proofs.Common.{arith, ◌≡◌, ℕ, suc, ◌+◌, ◌≤◌, length, length-append, append_assoc, append-nil, Bool, true, false, List, [], ◌∷◌, ◌++◌, Option, Some, None, Result, Ok, Err, refl, sym, ap, ◌∙◌, subst}
 use Rattle.std.specs.Prelude.{cond, All, Contains, IfSome}
 use Rattle.std.specs.Option.{option_map}
 use Rattle.std.specs.BTreeMap.{is_at, insert_entry}
@@ -23,9 +23,9 @@ use Rattle.deployment_headline.proofs.Lists.{over, lookup-over, insert-over, rem
 use Rattle.deployment_headline.proofs.Runs.{processes_keep_the_headline}
 use Rattle.deployment_headline.proofs.Sound.{Sound, sound_first, keeps}
 use Rattle.process_rules.specs.Answer.{Answered}
-use Rattle.process_rules.specs.Output.{answered_to, said}
+use Rattle.process_rules.specs.Output.{said}
 use Rattle.process_deployment.specs.Allowed.{IsWritten, MayAsk, MayAskDead, IfAsks, May, MayAll}
-use Rattle.process_deployment.specs.Cluster.{Process, started, having_read, reads, Cluster, first_cluster, process_at, everyone}
+use Rattle.process_deployment.specs.Cluster.{Tokens, Process, started, answer_to, having_read, reads, Cluster, first_cluster, process_at, everyone}
 use Rattle.process_deployment.specs.Steps.{Step, Decide, Read, dying, without, with_started, decided, read_by, reading, after, after_all}
 use Rattle.process_deployment.specs.Theorems.{deployment_of, world_of, IsFirmAt, ClustersAreDeployments, LinesKeepTheHeadline, LinesKeepOneFirm}
 use Rattle.process_deployment.proofs.Answers.{SaysOnly, ReadsAsItself, silent_says}
@@ -92,10 +92,10 @@ pub its_sound : (c : Cluster) (f : Follows c) → Sound (deployment_of c f.lette
 its_sound c f = subst Sound f.same (sound_after (first_deployment c.settings) (sound_first c.settings (seen_keep.first c.settings f.are)) f.steps)
 
 -- a line that a process of the cluster reads
-pub its_move : (c : Cluster) (f : Follows c) (silo : Silo) (line : List ℕ) (p : Process) → IsSilo silo → process_at silo c.processes ≡ Some p → IfAsks (said line p.silo) (MayAsk c p.silo)
-    → Moved (deployment_of c f.letters) silo (answered_to (said line p.silo) p.silo)
+pub its_move : (c : Cluster) (f : Follows c) (silo : Silo) (line : List ℕ) (p : Process) → IsSilo silo → process_at silo c.processes ≡ Some p → IfAsks (said line p.silo) (MayAsk c p)
+    → Moved (deployment_of c f.letters) silo (answer_to line p)
 its_move c f silo line p is_silo there may =
-    line_moves c f.letters (its_letters c f) silo p.silo (lookup-over its_silo (is_at (silo_cmp silo)) c.processes ∙ ap (option_map its_silo) there) (its_sound c f) is_silo line (said line p.silo) refl may
+    line_moves c f.letters (its_letters c f) silo p (lookup-over its_silo (is_at (silo_cmp silo)) c.processes ∙ ap (option_map its_silo) there) (its_sound c f) is_silo line (said line p.silo) refl may
 
 -- the cluster in which it goes on so
 abbrev pub with_next : Cluster → Silo → Process → Cluster
@@ -114,10 +114,10 @@ without_over None processes = refl
 without_over (Some silo) processes = remove-over its_silo (is_at (silo_cmp silo)) processes
 
 processes_over : (c : Cluster) (letters : List Letter) (change : Change)
-    → deployment.processes_after (deployment_of c letters) change ≡ over its_silo (with_started c.settings change (without (dying c.membership change) c.processes))
+    → deployment.processes_after (deployment_of c letters) change ≡ over its_silo (with_started c.settings c.tokens change (without (dying c.membership change) c.processes))
 processes_over c letters (Join silo stated) =
     let old = occupant silo c.membership.views.rows in
-    ap (λ l. insert_entry silo_cmp l silo (first_silo c.settings silo)) (without_over old c.processes) ∙ insert-over its_silo silo_cmp (without old c.processes) silo (started c.settings silo)
+    ap (λ l. insert_entry silo_cmp l silo (first_silo c.settings silo)) (without_over old c.processes) ∙ insert-over its_silo silo_cmp (without old c.processes) silo (started c.settings c.tokens silo)
 processes_over c letters (Leave silo) = refl
 processes_over c letters (Die silo) = without_over (Some silo) c.processes
 
@@ -133,15 +133,15 @@ abbrev pub WrittenReadAsThemselves : Type 0
 WrittenReadAsThemselves = (settings : Settings) (steps : List deployment.Step) → AreSettings settings → All deployment.IsStep steps → All (ReadsAsItself settings.hashing) (deployment.deployed settings steps).written
 
 module _ (themselves : WrittenReadAsThemselves) where
-  live_reads : (c : Cluster) (f : Follows c) (silo : Silo) (line : List ℕ) → IsSilo silo → IfSome (process_at silo c.processes) (λ p. IfAsks (said line p.silo) (MayAsk c p.silo))
+  live_reads : (c : Cluster) (f : Follows c) (silo : Silo) (line : List ℕ) → IsSilo silo → IfSome (process_at silo c.processes) (λ p. IfAsks (said line p.silo) (MayAsk c p))
       → FollowsOn c f 1 (record c { processes = reading silo line c.processes })
   live_reads c f silo line is_silo = by (process_at silo c.processes) refl
     where
-      goes : (p : Process) → process_at silo c.processes ≡ Some p → IfAsks (said line p.silo) (MayAsk c p.silo)
-          → FollowsOn c f 1 (with_next c silo (having_read line (answered_to (said line p.silo) p.silo) p))
+      goes : (p : Process) → process_at silo c.processes ≡ Some p → IfAsks (said line p.silo) (MayAsk c p)
+          → FollowsOn c f 1 (with_next c silo (having_read line (answer_to line p) p))
       goes p there may =
           let hashing = c.settings.hashing in
-          let it = answered_to (said line p.silo) p.silo in
+          let it = answer_to line p in
           let next = having_read line it p in
           let m = its_move c f silo line p is_silo there may in
           let named = All-append deployment.IsStep f.steps m.steps f.named m.named in
@@ -167,14 +167,14 @@ module _ (themselves : WrittenReadAsThemselves) where
             few = m.few;
           }
 
-      by_end : (p : Process) (ended : Bool) → process_at silo c.processes ≡ Some p → IfAsks (said line p.silo) (MayAsk c p.silo)
-          → FollowsOn c f 1 (record c { processes = insert_entry silo_cmp c.processes silo (cond ended p (having_read line (answered_to (said line p.silo) p.silo) p)) })
+      by_end : (p : Process) (ended : Bool) → process_at silo c.processes ≡ Some p → IfAsks (said line p.silo) (MayAsk c p)
+          → FollowsOn c f 1 (record c { processes = insert_entry silo_cmp c.processes silo (cond ended p (having_read line (answer_to line p) p)) })
       by_end p true there may =
           subst (λ l. FollowsOn c f 1 (record c { processes = l }))
           (sym (put_again silo_cmp silo_cmp_total silo p c.processes (subst (IsStrictlySortedBy silo_cmp) (keys_over its_silo c.processes) (its_sound c f).sorted) there)) (stays c f 1)
       by_end p false there may = goes p there may
 
-      by : (o : Option Process) → process_at silo c.processes ≡ o → IfSome o (λ p. IfAsks (said line p.silo) (MayAsk c p.silo)) → FollowsOn c f 1 (record c { processes = read_by o silo line c.processes })
+      by : (o : Option Process) → process_at silo c.processes ≡ o → IfSome o (λ p. IfAsks (said line p.silo) (MayAsk c p)) → FollowsOn c f 1 (record c { processes = read_by o silo line c.processes })
       by None there may = stays c f 1
       by (Some p) there may = by_end p p.ended there may
 
@@ -182,12 +182,12 @@ module _ (themselves : WrittenReadAsThemselves) where
   dead_reads c f silo line = by (process_at silo c.dead) refl
     where
       wrote_so : (p : Process) (ended : Bool) → process_at silo c.dead ≡ Some p → IfAsks (said line p.silo) (MayAskDead p.silo)
-          → Says c.settings.hashing f.letters (silo, cond ended p (having_read line (answered_to (said line p.silo) p.silo) p))
+          → Says c.settings.hashing f.letters (silo, cond ended p (having_read line (answer_to line p) p))
       wrote_so p true there may = its_own (Says c.settings.hashing f.letters) silo p c.dead f.dead there
       wrote_so p false there may =
-          let lines = (answered_to (said line p.silo) p.silo).lines in
+          let lines = (answer_to line p).lines in
           All-append (SaysOnly c.settings.hashing f.letters) p.wrote lines (its_own (Says c.settings.hashing f.letters) silo p c.dead f.dead there)
-          (silent_says c.settings.hashing f.letters lines (dead_lines c.settings.hashing (said line p.silo) p.silo may))
+          (silent_says c.settings.hashing f.letters lines (dead_lines c.settings.hashing p.token (said line p.silo) p.silo may))
 
       by : (o : Option Process) → process_at silo c.dead ≡ o → IfSome o (λ p. IfAsks (said line p.silo) (MayAskDead p.silo)) → FollowsOn c f 0 (record c { dead = read_by o silo line c.dead })
       by None there may = stays c f 0
@@ -221,7 +221,7 @@ module _ (themselves : WrittenReadAsThemselves) where
           same = after_more (first_deployment c.settings) f.steps (deployment.Decide change ∷ [])
               ∙ ap (λ d. deployment.after d (deployment.Decide change)) f.same
               ∙ decided_to c f.letters change (Ok m) is;
-          live = started_keeps (Says hashing f.letters) c.settings change (without old c.processes) (λ silo. All-nil (SaysOnly hashing f.letters)) (without_keeps (Says hashing f.letters) old c.processes f.live);
+          live = started_keeps (Says hashing f.letters) c.settings c.tokens change (without old c.processes) (λ silo. All-nil (SaysOnly hashing f.letters)) (without_keeps (Says hashing f.letters) old c.processes f.live);
           dead = dying_keeps (Says hashing f.letters) old c.processes c.dead f.live f.dead;
         };
         more = deployment.Decide change ∷ [];
@@ -259,9 +259,9 @@ module _ (themselves : WrittenReadAsThemselves) where
   pub follows_all : (c : Cluster) → Follows c → (steps : List Step) → MayAll c steps → Follows (after_all c steps)
   follows_all c f steps may = (follows_so c f steps may).follows
 
-  pub follows_first : (settings : Settings) → AreSettings settings → Follows (first_cluster settings)
+  pub follows_first : (settings : Settings) (tokens : Tokens) → AreSettings settings → Follows (first_cluster settings tokens)
   unfolding deployment.after_all
-  follows_first settings are = record {
+  follows_first settings tokens are = record {
     are = are;
     steps = [];
     named = All-nil deployment.IsStep;
@@ -273,20 +273,20 @@ module _ (themselves : WrittenReadAsThemselves) where
 
   -- ---- the laws
   pub clusters_are_deployments : ClustersAreDeployments
-  clusters_are_deployments settings steps are may =
-      let c = after_all (first_cluster settings) steps in
-      let f = follows_all (first_cluster settings) (follows_first settings are) steps may in
+  clusters_are_deployments settings tokens steps are may =
+      let c = after_all (first_cluster settings tokens) steps in
+      let f = follows_all (first_cluster settings tokens) (follows_first settings tokens are) steps may in
       record { steps = f.steps; named = f.named; letters = f.letters; same = f.same; told = its_letters c f }
 
   pub lines_keep_the_headline : LinesKeepTheHeadline
-  lines_keep_the_headline settings steps are may =
-      let f = follows_all (first_cluster settings) (follows_first settings are) steps may in
-      subst (λ d. Headline (deployment_theorems.world_of d)) f.same (processes_keep_the_headline (after_all (first_cluster settings) steps).settings f.steps f.are f.named)
+  lines_keep_the_headline settings tokens steps are may =
+      let f = follows_all (first_cluster settings tokens) (follows_first settings tokens are) steps may in
+      subst (λ d. Headline (deployment_theorems.world_of d)) f.same (processes_keep_the_headline (after_all (first_cluster settings tokens) steps).settings f.steps f.are f.named)
 
   pub lines_keep_one_firm : LinesKeepOneFirm
-  lines_keep_one_firm settings steps are may grain s t one other =
-      let c = after_all (first_cluster settings) steps in
-      (lines_keep_the_headline settings steps are may).no_two_firm grain s t one.held other.held (as_node c s one) (as_node c t other)
+  lines_keep_one_firm settings tokens steps are may grain s t one other =
+      let c = after_all (first_cluster settings tokens) steps in
+      (lines_keep_the_headline settings tokens steps are may).no_two_firm grain s t one.held other.held (as_node c s one) (as_node c t other)
     where
       as_node : (c : Cluster) (silo : Silo) → (is : IsFirmAt c grain silo) → IsFirmOn (world_of c) grain silo is.held
       as_node c silo is = record {

@@ -19,6 +19,8 @@ mod FirmSteps
 mod FirmLines
 mod Firm
 mod Started
+mod JoinedBy
+mod Unjoined
 mod FirmStays
 mod Worked
 mod TokensOfLines

@@ -10,7 +10,6 @@ use Rattle.silo_address.specs.Silo.{Silo, IsSilo, silo_cmp, silo_eq}
 use Rattle.silo_address.proofs.Order.{silo_cmp_total}
 use Rattle.silo_address.proofs.Same.{Decides-silo}
 use Rattle.membership_view.specs.declared.status.Status.{Status}
-use Rattle.membership_view.specs.declared.status.Status.TheVariants as status
 use Rattle.hash_ring.specs.declared.hashing.Hashing.{Hashing}
 use Rattle.directory_rules.specs.declared.effect.Effect.{Effect}
 use Rattle.directory_rules.specs.declared.effect.Effect.TheVariants.{Ignored}
@@ -31,17 +30,18 @@ use Rattle.deployment_headline.specs.Steps as deployment
 use Rattle.deployment_headline.specs.Calls.{TakesItsSteps}
 use Rattle.deployment_headline.proofs.Called.{calls_are_steps}
 use Rattle.deployment_headline.proofs.Sound.{Sound, its_process}
-use Rattle.process_rules.specs.ReadLine.{Asked, Joined, Leaving, Dead, See, Wake, Close, Offer, Find, Forget, Nudge, Receive, Ping, Show, Dump, read_silo_line}
+use Rattle.process_rules.specs.ReadLine.{Asked, Joined, Leaving, Dead, See, Wake, Close, Offer, Find, Forget, Nudge, Receive, Ping, Owner, Place, Show, Dump, read_silo_line}
 use Rattle.process_rules.specs.InRange.{IsInRange}
 use Rattle.process_rules.proofs.LinesInRange.{line_in_range}
+use Rattle.process_rules.proofs.StaysWhole.{silo_kept}
 use Rattle.process_rules.specs.Happened.{news_words, received_words}
-use Rattle.process_rules.specs.Answer.{Answered, printing, unless_dead, after_news, heard, told_so, stepped, seen_so, done_so, received_so, answered}
-use Rattle.process_rules.specs.Show.{show_lines, dump_line}
+use Rattle.process_rules.specs.Answer.{Answered, printing, unless_dead, after_news, heard, told_so, stepped, seen_so, done_so, received_so, is_anothers_join, answered, answered_as}
+use Rattle.process_rules.specs.Show.{show_lines, dump_line, grain_owner_line, grain_place_line}
 use Rattle.process_rules.specs.Output.{answered_to, fault_line, said}
-use Rattle.process_deployment.specs.Allowed.{IsWritten, MayAsk, IfAsks}
-use Rattle.process_deployment.specs.Cluster.{Cluster}
+use Rattle.process_deployment.specs.Allowed.{IsWritten, TakesJoin, MayAsk, IfAsks}
+use Rattle.process_deployment.specs.Cluster.{Process, Cluster}
 use Rattle.process_deployment.specs.Theorems.{deployment_of}
-use Rattle.process_deployment.proofs.Answers.{SaysOnly, ReadsAsItself, AreSilent, silent_alone, silent_says, step_says, news_silent, told_silent, refusal_silent, fault_silent, pong_silent, saw_silent, did_silent, received_silent, show_silent, dump_silent}
+use Rattle.process_deployment.proofs.Answers.{SaysOnly, ReadsAsItself, AreSilent, silent_alone, silent_says, step_says, news_silent, told_silent, refusal_silent, fault_silent, pong_silent, saw_silent, did_silent, received_silent, owner_silent, place_silent, show_silent, dump_silent}
 use Rattle.process_deployment.proofs.Silent.{IsSilent}
 use Rattle.process_deployment.proofs.Lists.{put_again, found_at}
 
@@ -54,12 +54,6 @@ pub record Moved (d : Deployment) (silo : Silo) (it : Answered) : Type 0 where
   pub letters : List Letter
   pub is : deployment.after_all d steps ≡ record d { processes = insert_entry silo_cmp d.processes silo it.silo; written = d.written ++ letters }
   pub says : (hashing : Hashing) → All (ReadsAsItself hashing) letters → All (SaysOnly hashing letters) it.lines
-
-silo_kept : (own : Option Status) (it : Answered) → it.silo ≡ (unless_dead own it).silo
-silo_kept None it = refl
-silo_kept (Some status.Active) it = refl
-silo_kept (Some status.Leaving) it = refl
-silo_kept (Some status.Dead) it = refl
 
 -- what is told again leaves what was known
 known_same : (settings : Settings) (m : Membership) (version : ℕ) (change : Change) (its : Heard) → nat_le version m.views.version ≡ true → told settings m version change ≡ Ok its → its.membership ≡ m
@@ -154,18 +148,18 @@ module _ (d : Deployment) (silo : Silo) (s : SiloValue) (there : process_of d si
   received_moves letter written_so = by (silo_eq letter.to s.node.host.silo) refl
     where
       -- before its own join it refuses the letter
-      by_join : (own : Option Status) → own_status s ≡ own → silo_eq letter.to s.node.host.silo ≡ true → Moved d silo (stepped (received_words s.node.host letter) (receives s letter) s)
+      by_join : (own : Option Status) → own_status s ≡ own → silo_eq letter.to s.node.host.silo ≡ true → Moved d silo (stepped (received_words s.node.host s.node.view.version letter) (receives s letter) s)
       by_join None joined is =
           let refused : receives s letter ≡ Err 901 =
           ap (λ b. if b then does s (Receives letter) else Ok (silently s.node Ignored)) is ∙ ap (λ own. unless_barred (barred_by own) (step s.node (Receives letter))) joined in
-          subst (λ r. Moved d silo (stepped (received_words s.node.host letter) r s)) (sym refused)
+          subst (λ r. Moved d silo (stepped (received_words s.node.host s.node.view.version letter) r s)) (sym refused)
           (stays (refusal_line 901 ∷ []) false (λ hashing. silent_alone hashing (refusal_line 901) (refusal_silent hashing 901)))
       by_join (Some own) joined is =
           let its = written_so ((Decides-silo letter.to s.node.host.silo).0 is) (ap is_some joined) in
-          stepped_moves (received_words s.node.host letter) (receives s letter) (deployment.Receive silo its.0) tt (takes.receives_so its.0 letter (found_at d.written its.0 letter its.1 its.2))
-          (λ hashing made. received_silent hashing s.node.host letter made)
+          stepped_moves (received_words s.node.host s.node.view.version letter) (receives s letter) (deployment.Receive silo its.0) tt (takes.receives_so its.0 letter (found_at d.written its.0 letter its.1 its.2))
+          (λ hashing made. received_silent hashing s.node.host s.node.view.version letter made)
 
-      by : (own : Bool) → silo_eq letter.to s.node.host.silo ≡ own → Moved d silo (cond own (stepped (received_words s.node.host letter) (receives s letter) s) (printing [] s))
+      by : (own : Bool) → silo_eq letter.to s.node.host.silo ≡ own → Moved d silo (cond own (stepped (received_words s.node.host s.node.view.version letter) (receives s letter) s) (printing [] s))
       by false is = stays [] false (λ hashing. All-nil (IsSilent hashing))
       by true is = by_join (own_status s) refl is
 
@@ -174,29 +168,42 @@ in_range : (hashing : Hashing) (line : List ℕ) (asked : Asked) → read_silo_l
 in_range hashing line asked is = line_in_range hashing line asked is
 
 -- what was asked of a process of the cluster
-module _ (c : Cluster) (letters : List Letter) (told_there : (letter : Letter) → IsWritten c letter → Contains letters letter) (silo : Silo) (s : SiloValue) where
+module _ (c : Cluster) (letters : List Letter) (told_there : (letter : Letter) → IsWritten c letter → Contains letters letter) (silo : Silo) (p : Process) where
   abbrev d : Deployment
   d = deployment_of c letters
 
-  module _ (there : process_of d silo ≡ Some s) (sound : Sound d) (is_silo : IsSilo silo) where
-    asked_moves : (asked : Asked) → IsInRange s.node.settings.hashing asked → MayAsk c s asked → Moved d silo (answered asked s)
-    unfolding answered
-    asked_moves (Joined version who places) named may = told_moves d silo s there sound is_silo version (Join who places) may
-    asked_moves (Leaving version who) named may = told_moves d silo s there sound is_silo version (Leave who) may
-    asked_moves (Dead version who) named may = told_moves d silo s there sound is_silo version (Die who) may
-    asked_moves (See version) named may = seen_moves d silo s there sound is_silo version
-    asked_moves (Wake grain) named may = done_moves d silo s there sound is_silo (Wakes grain) (deployment.Wake silo grain) (is_silo, named) ((calls_are_steps.takes d silo s there).wakes grain)
-    asked_moves (Close grain) named may = done_moves d silo s there sound is_silo (Closes grain) (deployment.Close silo grain) (is_silo, named) ((calls_are_steps.takes d silo s there).closes grain)
-    asked_moves (Offer grain to) named may = done_moves d silo s there sound is_silo (Offers grain to) (deployment.Offer silo grain to) (is_silo, named.0, named.1) ((calls_are_steps.takes d silo s there).offers grain to)
-    asked_moves (Find grain) named may = done_moves d silo s there sound is_silo (Finds grain) (deployment.Find silo grain) (is_silo, named) ((calls_are_steps.takes d silo s there).finds grain)
-    asked_moves (Forget grain) named may = done_moves d silo s there sound is_silo (Forgets grain) (deployment.Forget silo grain) (is_silo, named) ((calls_are_steps.takes d silo s there).forgets grain)
-    asked_moves Nudge named may = done_moves d silo s there sound is_silo Nudges (deployment.Nudge silo) is_silo (calls_are_steps.takes d silo s there).nudges
-    asked_moves (Receive letter) named may = received_moves d silo s there sound is_silo letter (λ own joined. told_there letter (may own joined))
-    asked_moves (Ping word) named may = stays d silo s there sound is_silo (sentence (codes "pong" ∷ word ∷ []) ∷ []) false (λ hashing. silent_alone hashing (sentence (codes "pong" ∷ word ∷ [])) (pong_silent hashing word))
-    asked_moves Show named may = stays d silo s there sound is_silo (show_lines s) false (λ hashing. show_silent hashing s)
-    asked_moves Dump named may = stays d silo s there sound is_silo (dump_line s ∷ []) false (λ hashing. silent_alone hashing (dump_line s) (dump_silent hashing s))
+  abbrev s : SiloValue
+  s = p.silo
 
-    pub line_moves : (line : List ℕ) (read : Result (Option Asked) ℕ) → said line s ≡ read → IfAsks read (MayAsk c s) → Moved d silo (answered_to read s)
+  module _ (there : process_of d silo ≡ Some s) (sound : Sound d) (is_silo : IsSilo silo) where
+    asked_moves : (asked : Asked) → IsInRange s.node.settings.hashing asked → MayAsk c p asked → TakesJoin p asked → Moved d silo (answered asked s)
+    unfolding answered
+    asked_moves (Joined version who token places) named may taken = told_moves d silo s there sound is_silo version (Join who places) (may taken)
+    asked_moves (Leaving version who) named may taken = told_moves d silo s there sound is_silo version (Leave who) may
+    asked_moves (Dead version who) named may taken = told_moves d silo s there sound is_silo version (Die who) may
+    asked_moves (See version) named may taken = seen_moves d silo s there sound is_silo version
+    asked_moves (Wake grain) named may taken = done_moves d silo s there sound is_silo (Wakes grain) (deployment.Wake silo grain) (is_silo, named) ((calls_are_steps.takes d silo s there).wakes grain)
+    asked_moves (Close grain) named may taken = done_moves d silo s there sound is_silo (Closes grain) (deployment.Close silo grain) (is_silo, named) ((calls_are_steps.takes d silo s there).closes grain)
+    asked_moves (Offer grain to) named may taken = done_moves d silo s there sound is_silo (Offers grain to) (deployment.Offer silo grain to) (is_silo, named.0, named.1) ((calls_are_steps.takes d silo s there).offers grain to)
+    asked_moves (Find grain) named may taken = done_moves d silo s there sound is_silo (Finds grain) (deployment.Find silo grain) (is_silo, named) ((calls_are_steps.takes d silo s there).finds grain)
+    asked_moves (Forget grain) named may taken = done_moves d silo s there sound is_silo (Forgets grain) (deployment.Forget silo grain) (is_silo, named) ((calls_are_steps.takes d silo s there).forgets grain)
+    asked_moves Nudge named may taken = done_moves d silo s there sound is_silo Nudges (deployment.Nudge silo) is_silo (calls_are_steps.takes d silo s there).nudges
+    asked_moves (Receive letter) named may taken = received_moves d silo s there sound is_silo letter (λ own joined. told_there letter (may own joined))
+    asked_moves (Ping word) named may taken = stays d silo s there sound is_silo (sentence (codes "pong" ∷ word ∷ []) ∷ []) false (λ hashing. silent_alone hashing (sentence (codes "pong" ∷ word ∷ [])) (pong_silent hashing word))
+    asked_moves (Owner grain) named may taken = stays d silo s there sound is_silo (grain_owner_line s grain ∷ []) false (λ hashing. silent_alone hashing (grain_owner_line s grain) (owner_silent hashing s grain))
+    asked_moves (Place grain policy) named may taken =
+        stays d silo s there sound is_silo (grain_place_line s grain policy ∷ []) false (λ hashing. silent_alone hashing (grain_place_line s grain policy) (place_silent hashing s grain policy))
+    asked_moves Show named may taken = stays d silo s there sound is_silo (show_lines s) false (λ hashing. show_silent hashing s)
+    asked_moves Dump named may taken = stays d silo s there sound is_silo (dump_line s ∷ []) false (λ hashing. silent_alone hashing (dump_line s) (dump_silent hashing s))
+
+    unless_anothers : (asked : Asked) (anothers : Bool) → is_anothers_join p.token asked s.node.host.silo ≡ anothers → IsInRange s.node.settings.hashing asked → MayAsk c p asked
+        → Moved d silo (cond anothers (printing (refusal_line 208 ∷ []) s) (answered asked s))
+    unless_anothers asked true is named may = stays d silo s there sound is_silo (refusal_line 208 ∷ []) false (λ hashing. silent_alone hashing (refusal_line 208) (refusal_silent hashing 208))
+    unless_anothers asked false is named may = asked_moves asked named may is
+
+    pub line_moves : (line : List ℕ) (read : Result (Option Asked) ℕ) → said line s ≡ read → IfAsks read (MayAsk c p) → Moved d silo (answered_to p.token read s)
+    unfolding answered_as
     line_moves line (Ok None) is may = stays d silo s there sound is_silo [] false (λ hashing. All-nil (IsSilent hashing))
-    line_moves line (Ok (Some asked)) is may = asked_moves asked (in_range s.node.settings.hashing (strip_last carriage_return line) asked is) may
+    line_moves line (Ok (Some asked)) is may =
+        unless_anothers asked (is_anothers_join p.token asked s.node.host.silo) refl (in_range s.node.settings.hashing (strip_last carriage_return line) asked is) may
     line_moves line (Err fault) is may = stays d silo s there sound is_silo (fault_line fault ∷ []) false (λ hashing. silent_alone hashing (fault_line fault) (fault_silent hashing fault))

@@ -13,8 +13,8 @@ use Rattle.silo_rules.specs.Membership.{Change, Membership, changed}
 use Rattle.silo_rules.specs.SiloValue.{first_silo}
 use Rattle.process_rules.specs.ReadLine.{unended_fault}
 use Rattle.process_rules.specs.Answer.{Answered}
-use Rattle.process_rules.specs.Output.{answered_to, said, unless_ended, written_on}
-use Rattle.process_deployment.specs.Cluster.{Process, started, having_read, reads, Cluster, first_cluster, everyone}
+use Rattle.process_rules.specs.Output.{unless_ended, written_on}
+use Rattle.process_deployment.specs.Cluster.{Tokens, Process, started, answer_to, having_read, reads, Cluster, first_cluster, everyone}
 use Rattle.process_deployment.specs.Steps.{Step, Decide, Read, dying, without, decided, after, after_all}
 use Rattle.process_deployment.specs.Allowed.{IsLine, May, MayAll}
 use Rattle.process_deployment.specs.Theorems.{HasItsOutput, ProcessesWriteTheirOutput}
@@ -40,40 +40,40 @@ lines_cut (line ∷ lines) are =
 -- ---- a process has written what it read, and goes on from there
 record IsPlayed (settings : Settings) (e : Silo × Process) : Type 0 where
   lines : All IsLine e.1.read
-  plays : (next : List ℕ) (rest : List (List ℕ)) → written_on (e.1.read ++ next ∷ rest) (first_silo settings e.0) ≡ text_of_lines e.1.wrote ++ unless_ended e.1.ended (written_on (next ∷ rest)) e.1.silo
+  plays : (next : List ℕ) (rest : List (List ℕ)) → written_on e.1.token (e.1.read ++ next ∷ rest) (first_silo settings e.0) ≡ text_of_lines e.1.wrote ++ unless_ended e.1.ended (written_on e.1.token (next ∷ rest)) e.1.silo
 
-first_played : (settings : Settings) (silo : Silo) → IsPlayed settings (silo, started settings silo)
-first_played settings silo = record { lines = All-nil IsLine; plays = λ next rest. refl }
+first_played : (settings : Settings) (tokens : Tokens) (silo : Silo) → IsPlayed settings (silo, started settings tokens silo)
+first_played settings tokens silo = record { lines = All-nil IsLine; plays = λ next rest. refl }
 
 reads_played : (settings : Settings) (silo : Silo) (line : List ℕ) (p : Process) → IsLine line → IsPlayed settings (silo, p) → IsPlayed settings (silo, reads line p)
 unfolding written_on
 reads_played settings silo line p is_line played = by p.ended refl
   where
     it : Answered
-    it = answered_to (said line p.silo) p.silo
+    it = answer_to line p
 
-    by : (ended : Bool) → p.ended ≡ ended → IsPlayed settings (silo, cond ended p (having_read line (answered_to (said line p.silo) p.silo) p))
+    by : (ended : Bool) → p.ended ≡ ended → IsPlayed settings (silo, cond ended p (having_read line (answer_to line p) p))
     by true is = played
     by false is = record {
       lines = All-append IsLine p.read (line ∷ []) played.lines (All-cons IsLine line [] is_line (All-nil IsLine));
       plays = λ next rest.
-          let it = answered_to (said line p.silo) p.silo in
-          let then_so = unless_ended it.ends (written_on (next ∷ rest)) it.silo in
-          ap (λ (lines : List (List ℕ)). written_on lines (first_silo settings silo)) (append_assoc p.read (line ∷ []) (next ∷ rest))
+          let it = answer_to line p in
+          let then_so = unless_ended it.ends (written_on p.token (next ∷ rest)) it.silo in
+          ap (λ (lines : List (List ℕ)). written_on p.token lines (first_silo settings silo)) (append_assoc p.read (line ∷ []) (next ∷ rest))
           ∙ played.plays line (next ∷ rest)
-          ∙ ap (λ (b : Bool). text_of_lines p.wrote ++ unless_ended b (written_on (line ∷ next ∷ rest)) p.silo) is
+          ∙ ap (λ (b : Bool). text_of_lines p.wrote ++ unless_ended b (written_on p.token (line ∷ next ∷ rest)) p.silo) is
           ∙ sym (append_assoc (text_of_lines p.wrote) (text_of_lines it.lines) then_so)
           ∙ ap (λ (text : List ℕ). text ++ then_so) (sym (flat_map-append (λ line. line ++ line_feed ∷ []) p.wrote it.lines));
     }
 
-nothing_behind : (settings : Settings) (e : Silo × Process) (ended : Bool) → text_of_lines e.1.wrote ++ unless_ended ended (written_on ([] ∷ [])) e.1.silo ≡ text_of_lines e.1.wrote
+nothing_behind : (settings : Settings) (e : Silo × Process) (ended : Bool) → text_of_lines e.1.wrote ++ unless_ended ended (written_on e.1.token ([] ∷ [])) e.1.silo ≡ text_of_lines e.1.wrote
 unfolding written_on unended_fault
 nothing_behind settings e true = append-nil (text_of_lines e.1.wrote)
 nothing_behind settings e false = append-nil (text_of_lines e.1.wrote)
 
 has_output : (settings : Settings) (e : Silo × Process) → IsPlayed settings e → HasItsOutput settings e
 has_output settings e played =
-    sym (ap (λ (pieces : List (List ℕ)). written_on pieces (first_silo settings e.0)) (lines_cut e.1.read played.lines) ∙ played.plays [] [] ∙ nothing_behind settings e e.1.ended)
+    sym (ap (λ (pieces : List (List ℕ)). written_on e.1.token pieces (first_silo settings e.0)) (lines_cut e.1.read played.lines) ∙ played.plays [] [] ∙ nothing_behind settings e e.1.ended)
 
 -- ---- so does each of them, after any steps
 record ArePlayed (c : Cluster) : Type 0 where
@@ -86,7 +86,7 @@ decided_played c change (Ok m) are =
     let Q = IsPlayed c.settings in
     let old = dying c.membership change in
     record {
-      live = started_keeps Q c.settings change (without old c.processes) (first_played c.settings) (without_keeps Q old c.processes are.live);
+      live = started_keeps Q c.settings c.tokens change (without old c.processes) (first_played c.settings c.tokens) (without_keeps Q old c.processes are.live);
       dead = dying_keeps Q old c.processes c.dead are.live are.dead;
     }
 
@@ -104,8 +104,8 @@ all_played c [] may are = are
 all_played c (step ∷ steps) may are = all_played (after c step) steps may.1 (after_played c step may.0 are)
 
 pub processes_write_their_output : ProcessesWriteTheirOutput
-processes_write_their_output settings steps in_range may =
-    let first = first_cluster settings in
+processes_write_their_output settings tokens steps in_range may =
+    let first = first_cluster settings tokens in
     let c = after_all first steps in
     let are = all_played first steps may (record { live = All-nil (IsPlayed settings); dead = All-nil (IsPlayed settings) }) in
     All-weaker (IsPlayed c.settings) (HasItsOutput c.settings) (has_output c.settings) (everyone c) (All-append (IsPlayed c.settings) c.processes c.dead are.live are.dead)

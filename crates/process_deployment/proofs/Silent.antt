@@ -24,10 +24,10 @@ abbrev pub IsSilent : Hashing → List ℕ → Type 0
 IsSilent hashing line = (letter : Letter) → read_silo_line hashing line ≡ Ok (Some (Receive letter)) → ⊥
 
 -- nor are its words
-abbrev AreSilent : Hashing → List (List ℕ) → Type 0
-AreSilent hashing words = (letter : Letter) → asked_of_words hashing words ≡ Ok (Some (Receive letter)) → ⊥
+abbrev pub AreSilentWords : Hashing → List (List ℕ) → Type 0
+AreSilentWords hashing words = (letter : Letter) → asked_of_words hashing words ≡ Ok (Some (Receive letter)) → ⊥
 
-pub silent_by_words : (hashing : Hashing) (line : List ℕ) → AreSilent hashing (words_in line) → IsSilent hashing line
+pub silent_by_words : (hashing : Hashing) (line : List ℕ) → AreSilentWords hashing (words_in line) → IsSilent hashing line
 unfolding read_silo_line
 silent_by_words hashing line silent letter = by (nat_lt longest_line (length line)) (list_all is_text line)
   where
@@ -37,7 +37,7 @@ silent_by_words hashing line silent letter = by (nat_lt longest_line (length lin
     by false false is = cc is
 
 -- the first word names no command
-none_asked : (hashing : Hashing) (word : List ℕ) (words : List (List ℕ)) → lookup (bytes_eq word) (commands hashing) ≡ None → AreSilent hashing (word ∷ words)
+none_asked : (hashing : Hashing) (word : List ℕ) (words : List (List ℕ)) → lookup (bytes_eq word) (commands hashing) ≡ None → AreSilentWords hashing (word ∷ words)
 none_asked hashing word words none letter = by (is_remark word) (lookup (bytes_eq word) (commands hashing)) none
   where
     by : (remark : Bool) (o : Option Grammar) → o ≡ None → ◌≡◌ {A = Result (Option Asked) ℕ} (if remark then Ok None else asked_if_known o words) (Ok (Some (Receive letter))) → ⊥
@@ -103,6 +103,12 @@ first_unknown hashing (word ∷ words) = is_unknown hashing word
 pub by_first : (hashing : Hashing) (words : List (List ℕ)) → first_unknown hashing words ≡ true → IsSilent hashing (sentence words)
 by_first hashing [] is = cc is
 by_first hashing (word ∷ words) is = unknown hashing word words is
+
+-- ---- a first word by which no letter comes
+pub by_word : (hashing : Hashing) (word : List ℕ) (words : List (List ℕ)) → nat_lt 0 (length word) ≡ true → list_all is_inner word ≡ true → ((rest : List (List ℕ)) → AreSilentWords hashing (word ∷ rest))
+    → IsSilent hashing (sentence (word ∷ words))
+by_word hashing word words some inner silent =
+    silent_by_words hashing (sentence (word ∷ words)) (λ letter given. silent (words_in (sentence words)) letter (ap (asked_of_words hashing) (sym (first_is word words some inner)) ∙ given))
 
 -- ---- a first byte that begins no command
 abbrev is_small : ℕ → Bool

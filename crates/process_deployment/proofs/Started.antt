@@ -15,12 +15,12 @@ use Rattle.directory_rules.proofs.Cases.{on_bool}
 use Rattle.directory_rules.specs.Settings.{Settings}
 use Rattle.directory_facts.proofs.Lookups.{found_put, found_beside_put, found_beside_removed}
 use Rattle.silo_rules.specs.Membership.{Change, Join, Leave, Die, Membership, changed}
-use Rattle.silo_rules.specs.SiloValue.{SiloValue}
-use Rattle.process_rules.specs.ReadLine.{Asked, Joined, Leaving, Dead, See, Wake, Close, Offer, Find, Forget, Nudge, Receive, Ping, Show, Dump}
-use Rattle.process_rules.specs.Output.{answered_to, said}
+use Rattle.process_rules.specs.ReadLine.{Asked, Joined, Leaving, Dead, See, Wake, Close, Offer, Find, Forget, Nudge, Receive, Ping, Owner, Place, Show, Dump}
+use Rattle.process_rules.specs.Output.{said}
 use Rattle.process_deployment.specs.Allowed.{IsLine, MayAsk, MayAskDead, IfAsks, May, MayAll}
-use Rattle.process_deployment.specs.Cluster.{Process, started, having_read, reads, Cluster, first_cluster, process_at}
+use Rattle.process_deployment.specs.Cluster.{Tokens, Process, started, answer_to, having_read, reads, Cluster, first_cluster, process_at}
 use Rattle.process_deployment.specs.Started.{Starting, StartingStep, Start, ReadEarly, Go, its_process, still_waiting, joining, after_starting, after_all_starting, MayAskEarly, MayStart, MayAllStart, first_starting, IsRunFrom, StartsAreRuns}
+use Rattle.process_deployment.specs.Unjoined.{reads_all}
 use Rattle.process_deployment.specs.Steps.{Step, Decide, Read, dying, without, with_process, with_dying, decided, read_by, reading, after, after_all}
 use Rattle.process_deployment.proofs.Everyone.{its_own, put_keeps}
 
@@ -89,69 +89,69 @@ none_dying key (Some silo) es dead none none_dead = by (process_at silo es) refl
     by (Some p) there = none_put key silo p dead (apart_from key silo p es none there) none_dead
 
 -- ---- what a process that waits may be asked
-early_asked : (c : Cluster) (s : SiloValue) (asked : Asked) → MayAskEarly c.changes s asked → MayAsk c s asked
-early_asked c s (Joined version silo places) early = early
-early_asked c s (Leaving version silo) early = early
-early_asked c s (Dead version silo) early = early
-early_asked c s (See version) early = tt
-early_asked c s (Wake grain) early = tt
-early_asked c s (Close grain) early = tt
-early_asked c s (Offer grain to) early = tt
-early_asked c s (Find grain) early = tt
-early_asked c s (Forget grain) early = tt
-early_asked c s Nudge early = tt
-early_asked c s (Receive letter) early = λ own joined. absurd (cc (early, joined))
-early_asked c s (Ping word) early = tt
-early_asked c s Show early = tt
-early_asked c s Dump early = tt
+early_asked : (c : Cluster) (p : Process) (asked : Asked) → MayAskEarly c.changes p asked → MayAsk c p asked
+early_asked c p (Joined version silo token places) early = early
+early_asked c p (Leaving version silo) early = early
+early_asked c p (Dead version silo) early = early
+early_asked c p (See version) early = tt
+early_asked c p (Wake grain) early = tt
+early_asked c p (Close grain) early = tt
+early_asked c p (Offer grain to) early = tt
+early_asked c p (Find grain) early = tt
+early_asked c p (Forget grain) early = tt
+early_asked c p Nudge early = tt
+early_asked c p (Receive letter) early = λ own joined. absurd (cc (early, joined))
+early_asked c p (Ping word) early = tt
+early_asked c p (Owner grain) early = tt
+early_asked c p (Place grain policy) early = tt
+early_asked c p Show early = tt
+early_asked c p Dump early = tt
 
-early_asks : (c : Cluster) (s : SiloValue) (read : Result (Option Asked) ℕ) → IfAsks read (MayAskEarly c.changes s) → IfAsks read (MayAsk c s)
-early_asks c s (Ok (Some asked)) early = early_asked c s asked early
-early_asks c s (Ok None) early = tt
-early_asks c s (Err fault) early = tt
+early_asks : (c : Cluster) (p : Process) (read : Result (Option Asked) ℕ) → IfAsks read (MayAskEarly c.changes p) → IfAsks read (MayAsk c p)
+early_asks c p (Ok (Some asked)) early = early_asked c p asked early
+early_asks c p (Ok None) early = tt
+early_asks c p (Err fault) early = tt
 
-more_asked : (changes more : List Change) (s : SiloValue) (asked : Asked) → MayAskEarly changes s asked → MayAskEarly (changes ++ more) s asked
-more_asked changes more s (Joined version silo places) early = λ makes. more_changes changes more _ _ (early makes)
-more_asked changes more s (Leaving version silo) early = λ makes. more_changes changes more _ _ (early makes)
-more_asked changes more s (Dead version silo) early = λ makes. more_changes changes more _ _ (early makes)
-more_asked changes more s (See version) early = tt
-more_asked changes more s (Wake grain) early = tt
-more_asked changes more s (Close grain) early = tt
-more_asked changes more s (Offer grain to) early = tt
-more_asked changes more s (Find grain) early = tt
-more_asked changes more s (Forget grain) early = tt
-more_asked changes more s Nudge early = tt
-more_asked changes more s (Receive letter) early = early
-more_asked changes more s (Ping word) early = tt
-more_asked changes more s Show early = tt
-more_asked changes more s Dump early = tt
+more_asked : (changes more : List Change) (p : Process) (asked : Asked) → MayAskEarly changes p asked → MayAskEarly (changes ++ more) p asked
+more_asked changes more p (Joined version silo token places) early = λ takes makes. more_changes changes more _ _ (early takes makes)
+more_asked changes more p (Leaving version silo) early = λ makes. more_changes changes more _ _ (early makes)
+more_asked changes more p (Dead version silo) early = λ makes. more_changes changes more _ _ (early makes)
+more_asked changes more p (See version) early = tt
+more_asked changes more p (Wake grain) early = tt
+more_asked changes more p (Close grain) early = tt
+more_asked changes more p (Offer grain to) early = tt
+more_asked changes more p (Find grain) early = tt
+more_asked changes more p (Forget grain) early = tt
+more_asked changes more p Nudge early = tt
+more_asked changes more p (Receive letter) early = early
+more_asked changes more p (Ping word) early = tt
+more_asked changes more p (Owner grain) early = tt
+more_asked changes more p (Place grain policy) early = tt
+more_asked changes more p Show early = tt
+more_asked changes more p Dump early = tt
 
-more_asks : (changes more : List Change) (s : SiloValue) (read : Result (Option Asked) ℕ) → IfAsks read (MayAskEarly changes s) → IfAsks read (MayAskEarly (changes ++ more) s)
-more_asks changes more s (Ok (Some asked)) early = more_asked changes more s asked early
-more_asks changes more s (Ok None) early = tt
-more_asks changes more s (Err fault) early = tt
+more_asks : (changes more : List Change) (p : Process) (read : Result (Option Asked) ℕ) → IfAsks read (MayAskEarly changes p) → IfAsks read (MayAskEarly (changes ++ more) p)
+more_asks changes more p (Ok (Some asked)) early = more_asked changes more p asked early
+more_asks changes more p (Ok None) early = tt
+more_asks changes more p (Err fault) early = tt
 
 -- ---- lines one after the other
-abbrev reads_all : List (List ℕ) → Process → Process
-reads_all [] p = p
-reads_all (line ∷ lines) p = reads_all lines (reads line p)
-
 abbrev MayRead : List Change → List (List ℕ) → Process → Type 0
 MayRead changes [] p = ⊤
-MayRead changes (line ∷ lines) p = IsLine line × IfAsks (said line p.silo) (MayAskEarly changes p.silo) × MayRead changes lines (reads line p)
+MayRead changes (line ∷ lines) p = IsLine line × IfAsks (said line p.silo) (MayAskEarly changes p) × MayRead changes lines (reads line p)
 
 one_more : (lines : List (List ℕ)) (line : List ℕ) (p : Process) → reads_all (lines ++ line ∷ []) p ≡ reads line (reads_all lines p)
 one_more [] line p = refl
 one_more (first ∷ lines) line p = one_more lines line (reads first p)
 
-may_one_more : (changes : List Change) (lines : List (List ℕ)) (line : List ℕ) (p : Process) → MayRead changes lines p → IsLine line → IfAsks (said line (reads_all lines p).silo) (MayAskEarly changes (reads_all lines p).silo)
+may_one_more : (changes : List Change) (lines : List (List ℕ)) (line : List ℕ) (p : Process) → MayRead changes lines p → IsLine line → IfAsks (said line (reads_all lines p).silo) (MayAskEarly changes (reads_all lines p))
     → MayRead changes (lines ++ line ∷ []) p
 may_one_more changes [] line p may is asks = (is, asks, tt)
 may_one_more changes (first ∷ lines) line p may is asks = (may.0, may.1, may_one_more changes lines line (reads first p) may.2 is asks)
 
 may_later : (changes more : List Change) (lines : List (List ℕ)) (p : Process) → MayRead changes lines p → MayRead (changes ++ more) lines p
 may_later changes more [] p may = tt
-may_later changes more (line ∷ lines) p may = (may.0, more_asks changes more p.silo (said line p.silo) may.1, may_later changes more lines (reads line p) may.2)
+may_later changes more (line ∷ lines) p may = (may.0, more_asks changes more p (said line p.silo) may.1, may_later changes more lines (reads line p) may.2)
 
 -- ---- steps one after the other
 after_more : (c : Cluster) (xs ys : List Step) → after_all c (xs ++ ys) ≡ after_all (after_all c xs) ys
@@ -165,11 +165,11 @@ may_more c [] ys may more = more
 may_more c (step ∷ xs) ys may more = (may.0, may_more (after c step) xs ys may.1 more)
 
 -- a run goes on
-goes_on : (settings : Settings) (c next : Cluster) (steps : List Step) → IsRunFrom settings c → MayAll c steps → after_all c steps ≡ next → IsRunFrom settings next
-goes_on settings c next steps run may is = record {
+goes_on : (settings : Settings) (tokens : Tokens) (c next : Cluster) (steps : List Step) → IsRunFrom settings tokens c → MayAll c steps → after_all c steps ≡ next → IsRunFrom settings tokens next
+goes_on settings tokens c next steps run may is = record {
   steps = run.steps ++ steps;
-  may = may_more (first_cluster settings) run.steps steps run.may (subst (λ (d : Cluster). MayAll d steps) (sym run.same) may);
-  same = after_more (first_cluster settings) run.steps steps ∙ (ap (λ (d : Cluster). after_all d steps) run.same ∙ is);
+  may = may_more (first_cluster settings tokens) run.steps steps run.may (subst (λ (d : Cluster). MayAll d steps) (sym run.same) may);
+  same = after_more (first_cluster settings tokens) run.steps steps ∙ (ap (λ (d : Cluster). after_all d steps) run.same ∙ is);
 }
 
 -- ---- a process reads after its silo's join what it read before
@@ -191,12 +191,12 @@ module _ (c : Cluster) (silo : Silo) (is_silo : IsSilo silo) (base : List (Silo 
       let dead : reading silo line c.dead ≡ c.dead = ap (λ o. read_by o silo line c.dead) none in
       λ i. record c { processes = processes i; dead = dead i }
 
-  may_one : (p : Process) (line : List ℕ) → IsLine line → IfAsks (said line p.silo) (MayAskEarly c.changes p.silo) → May (having p) (Read silo line)
+  may_one : (p : Process) (line : List ℕ) → IsLine line → IfAsks (said line p.silo) (MayAskEarly c.changes p) → May (having p) (Read silo line)
   unfolding May
   may_one p line is asks = (
     is_silo,
     is,
-    subst (λ o. IfSome o (λ q. IfAsks (said line q.silo) (MayAsk (having p) q.silo))) (sym (there p)) (early_asks (having p) p.silo (said line p.silo) asks),
+    subst (λ o. IfSome o (λ q. IfAsks (said line q.silo) (MayAsk (having p) q))) (sym (there p)) (early_asks (having p) p (said line p.silo) asks),
     subst (λ o. IfSome o (λ q. IfAsks (said line q.silo) (MayAskDead q.silo))) (sym none) tt,
   )
 
@@ -215,28 +215,28 @@ record Waits (c : Cluster) (e : Silo × Process) : Type 0 where
   is_silo : IsSilo e.0
   living : process_at e.0 c.processes ≡ None
   dead : process_at e.0 c.dead ≡ None
-  replays : reads_all e.1.read (started c.settings e.0) ≡ e.1
-  may : MayRead c.changes e.1.read (started c.settings e.0)
+  replays : reads_all e.1.read (started c.settings c.tokens e.0) ≡ e.1
+  may : MayRead c.changes e.1.read (started c.settings c.tokens e.0)
 
-record Runs (settings : Settings) (s : Starting) : Type 0 where
-  run : IsRunFrom settings s.cluster
+record Runs (settings : Settings) (tokens : Tokens) (s : Starting) : Type 0 where
+  run : IsRunFrom settings tokens s.cluster
   each : All (Waits s.cluster) s.waiting
 
 -- it reads a line
-reads_early : (c : Cluster) (silo : Silo) (line : List ℕ) (p : Process) → Waits c (silo, p) → IsLine line → IfAsks (said line p.silo) (MayAskEarly c.changes p.silo) → Waits c (silo, reads line p)
+reads_early : (c : Cluster) (silo : Silo) (line : List ℕ) (p : Process) → Waits c (silo, p) → IsLine line → IfAsks (said line p.silo) (MayAskEarly c.changes p) → Waits c (silo, reads line p)
 reads_early c silo line p waits is asks = by p.ended refl
   where
     next : Process
-    next = having_read line (answered_to (said line p.silo) p.silo) p
+    next = having_read line (answer_to line p) p
 
-    by : (ended : Bool) → p.ended ≡ ended → Waits c (silo, cond ended p (having_read line (answered_to (said line p.silo) p.silo) p))
+    by : (ended : Bool) → p.ended ≡ ended → Waits c (silo, cond ended p (having_read line (answer_to line p) p))
     by true end = waits
     by false end = record {
       is_silo = waits.is_silo;
       living = waits.living;
       dead = waits.dead;
-      replays = one_more p.read line (started c.settings silo) ∙ (ap (reads line) waits.replays ∙ ap (λ b. cond b p (having_read line (answered_to (said line p.silo) p.silo) p)) end);
-      may = may_one_more c.changes p.read line (started c.settings silo) waits.may is (subst (λ (q : Process). IfAsks (said line q.silo) (MayAskEarly c.changes q.silo)) (sym waits.replays) asks);
+      replays = one_more p.read line (started c.settings c.tokens silo) ∙ (ap (reads line) waits.replays ∙ ap (λ b. cond b p (having_read line (answer_to line p) p)) end);
+      may = may_one_more c.changes p.read line (started c.settings c.tokens silo) waits.may is (subst (λ (q : Process). IfAsks (said line q.silo) (MayAskEarly c.changes q)) (sym waits.replays) asks);
     }
 
 -- ---- the steps
@@ -248,22 +248,22 @@ all_others Q P silo (e ∷ es) so all = by (silo_eq e.0 silo) refl (all_others Q
     by true is rest = rest
     by false is rest = All-cons P e (filter (λ e. not (silo_eq e.0 silo)) es) (so e (λ same. let so = (Decides-silo e.0 silo).1 same in absurd (cc (is, so))) (All-head Q e es all)) rest
 
-module _ (settings : Settings) (s : Starting) (runs : Runs settings s) where
+module _ (settings : Settings) (tokens : Tokens) (s : Starting) (runs : Runs settings tokens s) where
   abbrev c : Cluster
   c = s.cluster
 
-  starts : (silo : Silo) → MayStart s (Start silo) → Runs settings (after_starting s (Start silo))
+  starts : (silo : Silo) → MayStart s (Start silo) → Runs settings tokens (after_starting s (Start silo))
   unfolding MayStart after_starting
   starts silo may = record {
     run = runs.run;
-    each = put_keeps (Waits c) silo (started c.settings silo) s.waiting runs.each (record { is_silo = may.0; living = may.2; dead = may.3; replays = refl; may = tt });
+    each = put_keeps (Waits c) silo (started c.settings c.tokens silo) s.waiting runs.each (record { is_silo = may.0; living = may.2; dead = may.3; replays = refl; may = tt });
   }
 
-  reads_early_so : (silo : Silo) (line : List ℕ) → MayStart s (ReadEarly silo line) → Runs settings (after_starting s (ReadEarly silo line))
+  reads_early_so : (silo : Silo) (line : List ℕ) → MayStart s (ReadEarly silo line) → Runs settings tokens (after_starting s (ReadEarly silo line))
   unfolding MayStart after_starting
   reads_early_so silo line may = record { run = runs.run; each = by (process_at silo s.waiting) refl may.2 }
     where
-      by : (o : Option Process) → process_at silo s.waiting ≡ o → IfSome o (λ p. IfAsks (said line p.silo) (MayAskEarly c.changes p.silo)) → All (Waits c) (read_by o silo line s.waiting)
+      by : (o : Option Process) → process_at silo s.waiting ≡ o → IfSome o (λ p. IfAsks (said line p.silo) (MayAskEarly c.changes p)) → All (Waits c) (read_by o silo line s.waiting)
       by None there asks = runs.each
       by (Some p) there asks = put_keeps (Waits c) silo (reads line p) s.waiting runs.each (reads_early c silo line p (its_own (Waits c) silo p s.waiting runs.each there) may.1 asks)
 
@@ -271,10 +271,10 @@ module _ (settings : Settings) (s : Starting) (runs : Runs settings s) where
   unfolding MayAll
   one_step step may = (may, tt)
 
-  reads_on : (silo : Silo) (line : List ℕ) → MayStart s (Go (Read silo line)) → Runs settings (after_starting s (Go (Read silo line)))
+  reads_on : (silo : Silo) (line : List ℕ) → MayStart s (Go (Read silo line)) → Runs settings tokens (after_starting s (Go (Read silo line)))
   unfolding MayStart after_starting after_all after
   reads_on silo line may = record {
-    run = goes_on settings c (after c (Read silo line)) (Read silo line ∷ []) runs.run (one_step (Read silo line) may) refl;
+    run = goes_on settings tokens c (after c (Read silo line)) (Read silo line ∷ []) runs.run (one_step (Read silo line) may) refl;
     each = All-weaker (Waits c) (Waits (after c (Read silo line))) (λ e waits. record {
       is_silo = waits.is_silo;
       living = none_read e.0 silo line c.processes waits.living;
@@ -289,9 +289,9 @@ module _ (settings : Settings) (s : Starting) (runs : Runs settings s) where
     abbrev next : Cluster
     next = decided (Ok m) c change
 
-    run_next : IsRunFrom settings next
+    run_next : IsRunFrom settings tokens next
     unfolding after_all after
-    run_next = goes_on settings c next (Decide change ∷ []) runs.run (one_step (Decide change) may) (ap (λ r. decided r c change) is)
+    run_next = goes_on settings tokens c next (Decide change ∷ []) runs.run (one_step (Decide change) may) (ap (λ r. decided r c change) is)
 
     -- one that waits, waits on
     waits_on : (e : Silo × Process) (processes : List (Silo × Process)) → process_at e.0 processes ≡ None → Waits c e → Waits (record next { processes = processes }) e
@@ -300,13 +300,13 @@ module _ (settings : Settings) (s : Starting) (runs : Runs settings s) where
       living = none;
       dead = none_dying e.0 (dying c.membership change) c.processes c.dead waits.living waits.dead;
       replays = waits.replays;
-      may = may_later c.changes (change ∷ []) e.1.read (started c.settings e.0) waits.may;
+      may = may_later c.changes (change ∷ []) e.1.read (started c.settings c.tokens e.0) waits.may;
     }
 
     none_living : (e : Silo × Process) → Waits c e → process_at e.0 (without (dying c.membership change) c.processes) ≡ None
     none_living e waits = none_without e.0 (dying c.membership change) c.processes waits.living
 
-  decides : (change : Change) → May c (Decide change) → (r : Result Membership ℕ) → changed c.settings c.membership change ≡ r → Runs settings (joining r s change)
+  decides : (change : Change) → May c (Decide change) → (r : Result Membership ℕ) → changed c.settings c.membership change ≡ r → Runs settings tokens (joining r s change)
   decides change may (Err number) is = runs
   decides (Leave silo) may (Ok m) is = record {
     run = run_next (Leave silo) may m is;
@@ -322,18 +322,18 @@ module _ (settings : Settings) (s : Starting) (runs : Runs settings s) where
       change = Join silo stated
 
       by : (o : Option Process) → process_at silo s.waiting ≡ o
-          → Runs settings (record { cluster = its_process o silo (next (Join silo stated) may m is); waiting = still_waiting (Join silo stated) s.waiting })
+          → Runs settings tokens (record { cluster = its_process o silo (next (Join silo stated) may m is); waiting = still_waiting (Join silo stated) s.waiting })
       by None there = record {
         run = run_next (Join silo stated) may m is;
         each = all_others (Waits c) (Waits (next (Join silo stated) may m is)) silo s.waiting (λ e apart waits.
             let old = dying c.membership (Join silo stated) in
-            waits_on (Join silo stated) may m is e (insert_entry silo_cmp (without old c.processes) silo (started c.settings silo))
-            (none_put e.0 silo (started c.settings silo) (without old c.processes) apart (none_living (Join silo stated) may m is e waits)) waits) runs.each;
+            waits_on (Join silo stated) may m is e (insert_entry silo_cmp (without old c.processes) silo (started c.settings c.tokens silo))
+            (none_put e.0 silo (started c.settings c.tokens silo) (without old c.processes) apart (none_living (Join silo stated) may m is e waits)) waits) runs.each;
       }
       by (Some p) there =
           let old = dying c.membership (Join silo stated) in
           let base = without old c.processes in
-          let first = started c.settings silo in
+          let first = started c.settings c.tokens silo in
           let after_it = next (Join silo stated) may m is in
           let its = its_own (Waits c) silo p s.waiting runs.each there in
           let none = none_dying silo old c.processes c.dead its.living its.dead in
@@ -343,31 +343,31 @@ module _ (settings : Settings) (s : Starting) (runs : Runs settings s) where
           ∙ (ap (λ (q : Process). record after_it { processes = insert_entry silo_cmp base silo q }) its.replays
           ∙ ap (λ (l : List (Silo × Process)). record after_it { processes = l }) (sym (put_over silo first p base))) in
           record {
-            run = goes_on settings after_it (its_process (Some p) silo after_it) (steps_of after_it silo its.is_silo base none p.read) (run_next (Join silo stated) may m is)
+            run = goes_on settings tokens after_it (its_process (Some p) silo after_it) (steps_of after_it silo its.is_silo base none p.read) (run_next (Join silo stated) may m is)
                 (may_all after_it silo its.is_silo base none p.read first later) same;
             each = all_others (Waits c) (Waits (its_process (Some p) silo after_it)) silo s.waiting (λ e apart waits.
                 waits_on (Join silo stated) may m is e (insert_entry silo_cmp (insert_entry silo_cmp base silo first) silo p)
                 (none_put e.0 silo p (insert_entry silo_cmp base silo first) apart (none_put e.0 silo first base apart (none_living (Join silo stated) may m is e waits))) waits) runs.each;
           }
 
-  decides_on : (change : Change) → MayStart s (Go (Decide change)) → Runs settings (after_starting s (Go (Decide change)))
+  decides_on : (change : Change) → MayStart s (Go (Decide change)) → Runs settings tokens (after_starting s (Go (Decide change)))
   unfolding MayStart after_starting
   decides_on change may = decides change may (changed c.settings c.membership change) refl
 
-  runs_on : (step : StartingStep) → MayStart s step → Runs settings (after_starting s step)
+  runs_on : (step : StartingStep) → MayStart s step → Runs settings tokens (after_starting s step)
   runs_on (Start silo) may = starts silo may
   runs_on (ReadEarly silo line) may = reads_early_so silo line may
   runs_on (Go (Read silo line)) may = reads_on silo line may
   runs_on (Go (Decide change)) may = decides_on change may
 
-runs_all : (settings : Settings) (s : Starting) (steps : List StartingStep) → Runs settings s → MayAllStart s steps → Runs settings (after_all_starting s steps)
+runs_all : (settings : Settings) (tokens : Tokens) (s : Starting) (steps : List StartingStep) → Runs settings tokens s → MayAllStart s steps → Runs settings tokens (after_all_starting s steps)
 unfolding MayAllStart after_all_starting
-runs_all settings s [] runs may = runs
-runs_all settings s (step ∷ steps) runs may = runs_all settings (after_starting s step) steps (runs_on settings s runs step may.0) may.1
+runs_all settings tokens s [] runs may = runs
+runs_all settings tokens s (step ∷ steps) runs may = runs_all settings tokens (after_starting s step) steps (runs_on settings tokens s runs step may.0) may.1
 
-first_runs : (settings : Settings) → Runs settings (first_starting settings)
+first_runs : (settings : Settings) (tokens : Tokens) → Runs settings tokens (first_starting settings tokens)
 unfolding after_all MayAll
-first_runs settings = record { run = record { steps = []; may = tt; same = refl }; each = All-nil (Waits (first_cluster settings)) }
+first_runs settings tokens = record { run = record { steps = []; may = tt; same = refl }; each = All-nil (Waits (first_cluster settings tokens)) }
 
 pub starts_are_runs : StartsAreRuns
-starts_are_runs settings steps may = (runs_all settings (first_starting settings) steps (first_runs settings) may).run
+starts_are_runs settings tokens steps may = (runs_all settings tokens (first_starting settings tokens) steps (first_runs settings tokens) may).run

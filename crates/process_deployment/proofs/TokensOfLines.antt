@@ -16,10 +16,10 @@ use Rattle.deployment_headline.specs.Tokens.{IsFirm, NeverFall, PassDeaths}
 use Rattle.deployment_headline.proofs.TokensFence.{steps_move, tokens_of_processes_fence}
 use Rattle.deployment_headline.proofs.TokensRise.{Moves, rise}
 use Rattle.process_deployment.specs.Allowed.{May, MayAll}
-use Rattle.process_deployment.specs.Cluster.{Cluster, first_cluster}
+use Rattle.process_deployment.specs.Cluster.{Tokens, Cluster, first_cluster}
 use Rattle.process_deployment.specs.Steps.{Step, Decide, Read, decided, after, after_all, clustered}
 use Rattle.process_deployment.specs.Theorems.{world_of}
-use Rattle.process_deployment.specs.Tokens.{TokensOfLinesFence}
+use Rattle.process_deployment.specs.FencingTokens.{TokensOfLinesFence}
 use Rattle.process_deployment.proofs.Following.{Follows, FollowsOn, WrittenReadAsThemselves, follows_on, follows_so, follows_all, follows_first}
 use Rattle.process_deployment.proofs.Plain.{lines_are_plain}
 
@@ -60,19 +60,19 @@ unfolding after_all
 settings_stay c [] = refl
 settings_stay c (step ∷ steps) = settings_stay (after c step) steps ∙ after_settings c step
 
-module _ (themselves : WrittenReadAsThemselves) (settings : Settings) (are : AreSettings settings) where
+module _ (themselves : WrittenReadAsThemselves) (settings : Settings) (tokens : Tokens) (are : AreSettings settings) where
   abbrev C : List Step → Cluster
-  C steps = clustered settings steps
+  C steps = clustered settings tokens steps
 
   abbrev MayCome : List Step → Type 0
-  MayCome steps = MayAll (first_cluster settings) steps
+  MayCome steps = MayAll (first_cluster settings tokens) steps
 
   -- the world of a deployment's steps
   abbrev W : List deployment.Step → World
   W steps = deployment_theorems.world_of (deployment.deployed settings steps)
 
   follows : (steps : List Step) → MayCome steps → Follows (C steps)
-  follows steps may = follows_all themselves (first_cluster settings) (follows_first themselves settings are) steps may
+  follows steps may = follows_all themselves (first_cluster settings tokens) (follows_first themselves settings tokens are) steps may
 
   its_world : (c : Cluster) → c.settings ≡ settings → (f : Follows c) → W f.steps ≡ world_of c
   its_world c same f = ap (λ (s : Settings). deployment_theorems.world_of (deployment.deployed s f.steps)) (sym same) ∙ ap (λ d. deployment_theorems.world_of d) f.same
@@ -83,12 +83,12 @@ module _ (themselves : WrittenReadAsThemselves) (settings : Settings) (are : Are
 
   never_fall : NeverFall Step MayCome (λ steps. world_of (C steps))
   never_fall before more grain a b u v may firm later =
-      let parts = may_parts (first_cluster settings) before more may in
+      let parts = may_parts (first_cluster settings tokens) before more may in
       let f = follows before parts.0 in
       let g = follows_so themselves (C before) f more parts.1 in
-      let same : after_all (C before) more ≡ C (before ++ more) = sym (after_append (first_cluster settings) before more) in
-      let stay : (after_all (C before) more).settings ≡ settings = settings_stay (C before) more ∙ settings_stay (first_cluster settings) before in
-      let x : W f.steps ≡ world_of (C before) = its_world (C before) (settings_stay (first_cluster settings) before) f in
+      let same : after_all (C before) more ≡ C (before ++ more) = sym (after_append (first_cluster settings tokens) before more) in
+      let stay : (after_all (C before) more).settings ≡ settings = settings_stay (C before) more ∙ settings_stay (first_cluster settings tokens) before in
+      let x : W f.steps ≡ world_of (C before) = its_world (C before) (settings_stay (first_cluster settings tokens) before) f in
       let y : W (f.steps ++ g.more) ≡ world_of (C (before ++ more)) = on_world (C before) (after_all (C before) more) f (length more) g stay ∙ ap (λ c. world_of c) same in
       (tokens_of_processes_fence settings are).never_fall f.steps g.more grain a b u v (subst (All deployment.IsStep) g.is g.follows.named) (subst (λ w. IsFirm w grain a u) (sym x) firm)
       (subst (λ w. IsFirm w grain b v) (sym y) later)
@@ -112,16 +112,16 @@ module _ (themselves : WrittenReadAsThemselves) (settings : Settings) (are : Are
 
   pass_deaths : PassDeaths Step MayCome (λ steps. world_of (C steps))
   pass_deaths before more death grain a b u v may firm gone later =
-      let parts = may_parts (first_cluster settings) before (death ∷ more) may in
+      let parts = may_parts (first_cluster settings tokens) before (death ∷ more) may in
       let its = may_one (C before) death more parts.1 in
       let f = follows before parts.0 in
       let next = after (C before) death in
       let one = follows_on themselves (C before) f death its.0 in
       let g = follows_so themselves next one.follows more its.1 in
-      let stay : next.settings ≡ settings = after_settings (C before) death ∙ settings_stay (first_cluster settings) before in
-      let now : next ≡ C (before ++ death ∷ []) = sym (after_append (first_cluster settings) before (death ∷ []) ∙ after_one (C before) death [] ∙ after_none next) in
-      let end : after_all next more ≡ C (before ++ death ∷ more) = sym (after_append (first_cluster settings) before (death ∷ more) ∙ after_one (C before) death more) in
-      let x : W f.steps ≡ world_of (C before) = its_world (C before) (settings_stay (first_cluster settings) before) f in
+      let stay : next.settings ≡ settings = after_settings (C before) death ∙ settings_stay (first_cluster settings tokens) before in
+      let now : next ≡ C (before ++ death ∷ []) = sym (after_append (first_cluster settings tokens) before (death ∷ []) ∙ after_one (C before) death [] ∙ after_none next) in
+      let end : after_all next more ≡ C (before ++ death ∷ more) = sym (after_append (first_cluster settings tokens) before (death ∷ more) ∙ after_one (C before) death more) in
+      let x : W f.steps ≡ world_of (C before) = its_world (C before) (settings_stay (first_cluster settings tokens) before) f in
       let y : W (f.steps ++ one.more) ≡ world_of (C (before ++ death ∷ [])) = on_world (C before) next f 1 one stay ∙ ap (λ c. world_of c) now in
       let whole : g.follows.steps ≡ (f.steps ++ one.more) ++ g.more = g.is ∙ ap (λ l. l ++ g.more) one.is in
       let z : W ((f.steps ++ one.more) ++ g.more) ≡ world_of (C (before ++ death ∷ more)) = ap W (sym whole) ∙ its_world (after_all next more) (settings_stay next more ∙ stay) g.follows ∙ ap (λ c. world_of c) end in
@@ -129,20 +129,20 @@ module _ (themselves : WrittenReadAsThemselves) (settings : Settings) (are : Are
 
   moves : Moves Step MayCome (λ steps. world_of (C steps))
   moves = record {
-    begins = λ before more may. (may_parts (first_cluster settings) before more may).0;
+    begins = λ before more may. (may_parts (first_cluster settings tokens) before more may).0;
     plain = λ before step may.
-        let parts = may_parts (first_cluster settings) before (step ∷ []) may in
-        let its = lines_are_plain themselves settings before are parts.0 step (may_one (C before) step [] parts.1).0 in
-        let now : after (C before) step ≡ C (before ++ step ∷ []) = sym (after_append (first_cluster settings) before (step ∷ []) ∙ after_one (C before) step [] ∙ after_none (after (C before) step)) in
+        let parts = may_parts (first_cluster settings tokens) before (step ∷ []) may in
+        let its = lines_are_plain themselves settings tokens before are parts.0 step (may_one (C before) step [] parts.1).0 in
+        let now : after (C before) step ≡ C (before ++ step ∷ []) = sym (after_append (first_cluster settings tokens) before (step ∷ []) ∙ after_one (C before) step [] ∙ after_none (after (C before) step)) in
         (its.0, subst (λ c. IsPlainStep (plain_of (world_of (C before))) its.0 (plain_of (world_of c))) now its.1);
     gone = λ before silo may.
         let f = follows before may in
-        subst (λ (w : World). is_dead_in (view_at w.views w.views.version) silo ≡ true → node_of w silo ≡ None) (its_world (C before) (settings_stay (first_cluster settings) before) f)
+        subst (λ (w : World). is_dead_in (view_at w.views w.views.version) silo ≡ true → node_of w silo ≡ None) (its_world (C before) (settings_stay (first_cluster settings tokens) before) f)
         ((steps_move settings are).gone f.steps silo f.named);
   }
 
 pub tokens_of_lines_fence : WrittenReadAsThemselves → TokensOfLinesFence
-tokens_of_lines_fence themselves settings are =
-    let fall = never_fall themselves settings are in
-    let pass = pass_deaths themselves settings are in
-    record { never_fall = fall; pass_deaths = pass; rise = rise Step (MayAll (first_cluster settings)) (λ steps. world_of (clustered settings steps)) (moves themselves settings are) fall pass }
+tokens_of_lines_fence themselves settings tokens are =
+    let fall = never_fall themselves settings tokens are in
+    let pass = pass_deaths themselves settings tokens are in
+    record { never_fall = fall; pass_deaths = pass; rise = rise Step (MayAll (first_cluster settings tokens)) (λ steps. world_of (clustered settings tokens steps)) (moves themselves settings tokens are) fall pass }

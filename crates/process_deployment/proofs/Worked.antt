@@ -25,15 +25,15 @@ use Rattle.directory_rules.specs.Worked.{silo_a, silo_b}
 use Rattle.process_rules.specs.LetterText.{letter_line}
 use Rattle.process_rules.specs.ReadLetter.{read_letter}
 use Rattle.process_rules.specs.ReadLine.{Receive, read_silo_line}
-use Rattle.process_rules.specs.Answer.{answered}
+use Rattle.process_rules.specs.Answer.{answered, answered_as}
 use Rattle.process_deployment.specs.Allowed.{IsWritten, IsLine, May, MayAll}
 use Rattle.process_deployment.specs.Cluster.{Cluster, all_lines}
 use Rattle.process_deployment.specs.Steps.{after, after_all}
 use Rattle.process_deployment.specs.Worked.{WorkedCluster}
-use Rattle.process_deployment.specs.Wrong.{AForgedLineConfirms, ADeadProcessGoesOn, AnotherChangeIsTold, ARestartForgets}
+use Rattle.process_deployment.specs.Wrong.{AForgedLineConfirms, ADeadProcessGoesOn, AnotherChangeIsTold, ARestartForgets, ARestartIsRefused}
 
 unfoldable pub all_opened : Type 0
-unfolding digits sha256 hash_after compress rounds schedule first_words digest_bytes encode_with decode_pairs silo_words read_silo read_grain read_activation stated_hash read_range meet_of cut_parts letter_line read_letter read_silo_line answered after after_all May MayAll
+unfolding digits sha256 hash_after compress rounds schedule first_words digest_bytes encode_with decode_pairs silo_words read_silo read_grain read_activation stated_hash read_range meet_of cut_parts letter_line read_letter read_silo_line answered answered_as after after_all May MayAll
 all_opened = Unit {0}
 
 a : IsSilo silo_a
@@ -69,7 +69,7 @@ worked_cluster = record {
   may = (
     (a, place 0 refl),
     (
-      (a, line (codes "joined 1 10.0.0.1:1000@1 0") refl, λ makes. refl, tt),
+      (a, line (codes "joined 1 10.0.0.1:1000@1 0") refl, λ takes makes. refl, tt),
       (
         (a, line (codes "see 1") refl, tt, tt),
         (
@@ -79,26 +79,29 @@ worked_cluster = record {
             (
               (b, place 1000 refl),
               (
-                (a, line (codes "joined 2 10.0.0.2:1000@1 1000") refl, λ makes. refl, tt),
+                (a, line (codes "joined 2 10.0.0.2:1000@1 1000") refl, λ takes makes. refl, tt),
                 (
                   (a, line (codes "see 2") refl, tt, tt),
                   (
-                    (b, line (codes "joined 1 10.0.0.1:1000@1 0") refl, λ makes. refl, tt),
+                    (b, line (codes "joined 1 10.0.0.1:1000@1 0") refl, λ takes makes. refl, tt),
                     (
-                      (b, line (codes "joined 2 10.0.0.2:1000@1 1000") refl, λ makes. refl, tt),
+                      (b, line (codes "joined 2 10.0.0.2:1000@1 token=b2 5") refl, λ takes makes. absurd (cc takes), tt),
                       (
-                        (b, line (codes "see 2") refl, tt, tt),
+                        (b, line (codes "joined 2 10.0.0.2:1000@1 token=b1 1000") refl, λ takes makes. refl, tt),
                         (
-                          (b, line (codes "wake user/a#7") refl, tt, tt),
+                          (b, line (codes "see 2") refl, tt, tt),
                           (
-                            (a, line (codes "letter 10.0.0.2:1000@1 10.0.0.1:1000@1 2 register 1 user/a#7 10.0.0.2:1000@1!1") refl, λ own joined. said_so _ _ 13 (codes "letter 10.0.0.2:1000@1 10.0.0.1:1000@1 2 register 1 user/a#7 10.0.0.2:1000@1!1") refl refl, tt),
+                            (b, line (codes "wake user/a#7") refl, tt, tt),
                             (
-                              (b, line (codes "letter 10.0.0.1:1000@1 10.0.0.2:1000@1 2 registered 1 user/a#7 10.0.0.2:1000@1!1") refl, λ own joined. said_so _ _ 9 (codes "letter 10.0.0.1:1000@1 10.0.0.2:1000@1 2 registered 1 user/a#7 10.0.0.2:1000@1!1") refl refl, tt),
+                              (a, line (codes "letter 10.0.0.2:1000@1 10.0.0.1:1000@1 2 register 1 user/a#7 10.0.0.2:1000@1!1") refl, λ own joined. said_so _ _ 14 (codes "letter 10.0.0.2:1000@1 10.0.0.1:1000@1 2 register 1 user/a#7 10.0.0.2:1000@1!1") refl refl, tt),
                               (
-                                b,
+                                (b, line (codes "letter 10.0.0.1:1000@1 10.0.0.2:1000@1 2 registered 1 user/a#7 10.0.0.2:1000@1!1") refl, λ own joined. said_so _ _ 9 (codes "letter 10.0.0.1:1000@1 10.0.0.2:1000@1 2 registered 1 user/a#7 10.0.0.2:1000@1!1") refl refl, tt),
                                 (
-                                  (b, line (codes "dead 3 10.0.0.2:1000@1") refl, tt, tt),
-                                  tt,
+                                  b,
+                                  (
+                                    (b, line (codes "dead 3 10.0.0.2:1000@1") refl, tt, tt),
+                                    tt,
+                                  ),
                                 ),
                               ),
                             ),
@@ -133,3 +136,7 @@ another_change_is_told = refl
 pub a_restart_forgets : ARestartForgets
 unfolding all_opened
 a_restart_forgets = refl
+
+pub a_restart_is_refused : ARestartIsRefused
+unfolding all_opened
+a_restart_is_refused = refl

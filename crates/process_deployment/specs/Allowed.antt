@@ -1,5 +1,5 @@
 -- What the promise stands on: which lines may come to a process.
-use Rattle.std.specs.Prelude.{◌≡◌, ⊤, true, ℕ, ◌-◌, ◌≢◌, List, [], ◌∷◌, All, Contains, IfSome, Option, Some, None, Result, Ok, Err, slice_get}
+use Rattle.std.specs.Prelude.{◌≡◌, ⊤, true, false, ℕ, ◌-◌, ◌≢◌, List, [], ◌∷◌, All, Contains, IfSome, Option, Some, None, Result, Ok, Err, slice_get}
 use Rattle.texts.specs.Words.{line_feed}
 use Rattle.silo_address.specs.Silo.{IsSilo}
 use Rattle.directory_rules.specs.Letter.{Letter}
@@ -8,8 +8,9 @@ use Rattle.silo_rules.specs.SiloValue.{SiloValue, told_of_its_join}
 use Rattle.silo_rules.specs.Told.{MakesVersion, told}
 use Rattle.deployment_headline.specs.Steps.{IsChange}
 use Rattle.process_rules.specs.ReadLine.{Asked, Joined, Leaving, Dead, See, Wake, Close, Offer, Find, Forget, Nudge, Receive, read_silo_line}
+use Rattle.process_rules.specs.Answer.{is_anothers_join}
 use Rattle.process_rules.specs.Output.{said}
-use Rattle.process_deployment.specs.Cluster.{Cluster, process_at, all_lines}
+use Rattle.process_deployment.specs.Cluster.{Process, Cluster, process_at, all_lines}
 use Rattle.process_deployment.specs.Steps.{Step, Decide, Read, after}
 
 -- some process wrote a line that says the letter
@@ -23,14 +24,18 @@ pub record IsWritten (c : Cluster) (letter : Letter) : Type 0 where
 abbrev pub IsDecided : (changes : List Change) → SiloValue → (version : ℕ) → Change → Type 0
 IsDecided changes s version change = MakesVersion s.membership version (told s.node.settings s.membership version change) → slice_get changes (version - 1) ≡ Some change
 
--- what may be asked of a silo that isn't Dead by the changes decided: a letter to it was written, unless the silo wasn't told of its own
--- join yet, and refuses it. All else may be asked of it at any time
-abbrev pub MayAsk : Cluster → SiloValue → Asked → Type 0
-MayAsk c s (Joined version silo places) = IsDecided c.changes s version (Join silo places)
-MayAsk c s (Leaving version silo) = IsDecided c.changes s version (Leave silo)
-MayAsk c s (Dead version silo) = IsDecided c.changes s version (Die silo)
-MayAsk c s (Receive letter) = letter.to ≡ s.node.host.silo → told_of_its_join s ≡ true → IsWritten c letter
-MayAsk c s other = ⊤
+-- a join that the process doesn't refuse as another process's, by its token
+abbrev pub TakesJoin : Process → Asked → Type 0
+TakesJoin p join = is_anothers_join p.token join p.silo.node.host.silo ≡ false
+
+-- what may be asked of a process whose silo isn't Dead by the changes decided: a letter to it was written, unless the silo wasn't told of
+-- its own join yet, and refuses it. All else may be asked of it at any time
+abbrev pub MayAsk : Cluster → Process → Asked → Type 0
+MayAsk c p (Joined version silo token places) = TakesJoin p (Joined version silo token places) → IsDecided c.changes p.silo version (Join silo places)
+MayAsk c p (Leaving version silo) = IsDecided c.changes p.silo version (Leave silo)
+MayAsk c p (Dead version silo) = IsDecided c.changes p.silo version (Die silo)
+MayAsk c p (Receive letter) = letter.to ≡ p.silo.node.host.silo → told_of_its_join p.silo ≡ true → IsWritten c letter
+MayAsk c p other = ⊤
 
 -- what may be asked of one that is Dead by them: neither a step of its own nor a letter to it
 abbrev pub MayAskDead : SiloValue → Asked → Type 0
@@ -59,7 +64,7 @@ unfoldable pub May : Cluster → Step → Type 0
 May c (Decide change) = IsChange change
 May c (Read silo line) =
     IsSilo silo × IsLine line
-    × IfSome (process_at silo c.processes) (λ p. IfAsks (said line p.silo) (MayAsk c p.silo))
+    × IfSome (process_at silo c.processes) (λ p. IfAsks (said line p.silo) (MayAsk c p))
     × IfSome (process_at silo c.dead) (λ p. IfAsks (said line p.silo) (MayAskDead p.silo))
 
 -- steps that may come one after the other

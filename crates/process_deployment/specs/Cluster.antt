@@ -9,8 +9,14 @@ use Rattle.silo_rules.specs.SiloValue.{SiloValue, first_silo}
 use Rattle.process_rules.specs.Answer.{Answered}
 use Rattle.process_rules.specs.Output.{answered_to, said}
 
+-- the token that each silo's process is started with, if it is started with one
+abbrev pub Tokens : Type 0
+Tokens = Silo → Option (List ℕ)
+
 -- a process that was started
 pub record Process : Type 0 where
+  -- with that token, or with none
+  pub token : Option (List ℕ)
   -- the lines that it read, and those that it wrote, the first one first, each without the line feed behind it
   pub read : List (List ℕ)
   pub wrote : List (List ℕ)
@@ -19,21 +25,26 @@ pub record Process : Type 0 where
   pub ended : Bool
 
 -- one that read nothing yet
-abbrev pub started : Settings → Silo → Process
-started settings silo = record { read = []; wrote = []; silo = first_silo settings silo; ended = false }
+abbrev pub started : Settings → Tokens → Silo → Process
+started settings tokens silo = record { token = tokens silo; read = []; wrote = []; silo = first_silo settings silo; ended = false }
+
+-- what it answers to a line
+abbrev pub answer_to : (line : List ℕ) → Process → Answered
+answer_to line p = answered_to p.token (said line p.silo) p.silo
 
 -- after one line more, by what it answers
 abbrev pub having_read : (line : List ℕ) → Answered → Process → Process
-having_read line it p = record { read = p.read ++ line ∷ []; wrote = p.wrote ++ it.lines; silo = it.silo; ended = it.ends }
+having_read line it p = record { token = p.token; read = p.read ++ line ∷ []; wrote = p.wrote ++ it.lines; silo = it.silo; ended = it.ends }
 
 -- it reads a line, unless it has ended
 abbrev pub reads : (line : List ℕ) → Process → Process
-reads line p = if p.ended then p else having_read line (answered_to (said line p.silo) p.silo) p
+reads line p = if p.ended then p else having_read line (answer_to line p) p
 
 -- a cluster
 pub record Cluster : Type 0 where
   -- those of each process
   pub settings : Settings
+  pub tokens : Tokens
   -- the changes of membership decided so far, the first one first, and what they make
   pub changes : List Change
   pub membership : Membership
@@ -43,8 +54,8 @@ pub record Cluster : Type 0 where
   pub dead : List (Silo × Process)
 
 -- before the first change
-abbrev pub first_cluster : Settings → Cluster
-first_cluster settings = record { settings = settings; changes = []; membership = first_membership settings; processes = []; dead = [] }
+abbrev pub first_cluster : Settings → Tokens → Cluster
+first_cluster settings tokens = record { settings = settings; tokens = tokens; changes = []; membership = first_membership settings; processes = []; dead = [] }
 
 -- the silo's process among these
 abbrev pub process_at : Silo → List (Silo × Process) → Option Process

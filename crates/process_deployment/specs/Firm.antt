@@ -1,6 +1,7 @@
 -- What an application rests on: its silo's process tells it that an activation is firm exactly where that becomes firm, and firm it
 -- stays until the application closes or offers it, or its silo dies. No view ends it.
 use Rattle.std.specs.Prelude.{◌≡◌, ℕ, List, ◌∷◌, [], ◌++◌, ◌⊎◌, Contains, Option, Some, Result, Ok, codes}
+use Rattle.std.specs.Fmt.{decimal}
 use Rattle.texts.specs.Words.{sentence}
 use Rattle.silo_address.specs.Silo.{Silo, IsSilo}
 use Rattle.silo_address.specs.Grain.{Grain}
@@ -9,9 +10,9 @@ use Rattle.silo_rules.specs.SiloValue.{SiloValue}
 use Rattle.script_rules.specs.Lines.{entry_words}
 use Rattle.process_rules.specs.ReadLine.{Asked, Close, Offer}
 use Rattle.process_rules.specs.Answer.{Answered}
-use Rattle.process_rules.specs.Output.{answered_to, said}
+use Rattle.process_rules.specs.Output.{said}
 use Rattle.process_deployment.specs.Allowed.{May}
-use Rattle.process_deployment.specs.Cluster.{Process, Cluster, process_at}
+use Rattle.process_deployment.specs.Cluster.{Process, answer_to, Cluster, process_at}
 use Rattle.process_deployment.specs.Steps.{Step, Decide, Read, dying, after}
 use Rattle.process_deployment.specs.Theorems.{AfterAnySteps}
 
@@ -23,9 +24,14 @@ HasFirm s grain count = life_on grain s.node ≡ Some (Is_firm count)
 abbrev pub BecomesFirm : Grain → (count : ℕ) → (before after : SiloValue) → Type 0
 BecomesFirm grain count before after = (¬ HasFirm before grain count) × HasFirm after grain count
 
--- `firm`, the activation, and its grain
-abbrev pub firm_line : Silo → Grain → (count : ℕ) → List ℕ
-firm_line silo grain count = sentence (codes "firm" ∷ entry_words (record { grain = grain; activation = record { silo = silo; count = count } }))
+-- `firm`, the activation, its grain, and the version that the silo has seen then
+abbrev pub firm_line : Silo → Grain → (count seen : ℕ) → List ℕ
+firm_line silo grain count seen =
+    sentence (codes "firm" ∷ (entry_words (record { grain = grain; activation = record { silo = silo; count = count } }) ++ codes "at" ∷ decimal seen ∷ []))
+
+-- that line, of a silo
+abbrev pub its_firm_line : SiloValue → Grain → (count : ℕ) → List ℕ
+its_firm_line s grain count = firm_line s.node.host.silo grain count s.node.view.version
 
 -- the line's first word is `firm`
 abbrev pub SaysFirm : List ℕ → Type 0
@@ -40,15 +46,15 @@ AsksToEnd grain other = ⊥
 -- what a silo answers to a line that says this
 pub record TellsFirm (s : SiloValue) (read : Result (Option Asked) ℕ) (it : Answered) : Type 0 where
   -- what becomes firm is told, and nothing else
-  pub told : (grain : Grain) (count : ℕ) → BecomesFirm grain count s it.silo → it.lines ≡ firm_line s.node.host.silo grain count ∷ []
+  pub told : (grain : Grain) (count : ℕ) → BecomesFirm grain count s it.silo → it.lines ≡ its_firm_line s grain count ∷ []
   -- and whatever is told so becomes firm
-  pub only : (line : List ℕ) → Contains it.lines line → SaysFirm line → (grain : Grain) × (count : ℕ) × BecomesFirm grain count s it.silo × (line ≡ firm_line s.node.host.silo grain count)
+  pub only : (line : List ℕ) → Contains it.lines line → SaysFirm line → (grain : Grain) × (count : ℕ) × BecomesFirm grain count s it.silo × (line ≡ its_firm_line s grain count)
   -- what is firm stays firm, unless the application asks for its end
   pub stays : (grain : Grain) (count : ℕ) → HasFirm s grain count → HasFirm it.silo grain count ⊎ AsksToEnd grain read
 
 -- so does each process that isn't of a Dead silo, whatever line comes to it
 abbrev pub LinesTellFirm : Type 0
-LinesTellFirm = AfterAnySteps (λ c. (silo : Silo) (p : Process) (line : List ℕ) → IsSilo silo → process_at silo c.processes ≡ Some p → TellsFirm p.silo (said line p.silo) (answered_to (said line p.silo) p.silo))
+LinesTellFirm = AfterAnySteps (λ c. (silo : Silo) (p : Process) (line : List ℕ) → IsSilo silo → process_at silo c.processes ≡ Some p → TellsFirm p.silo (said line p.silo) (answer_to line p))
 
 -- ---- So a firm activation ends by nothing else.
 -- a silo's process has it firm

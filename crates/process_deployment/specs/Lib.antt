@@ -7,4 +7,5 @@ pub mod Worked
 pub mod Wrong
 pub mod Firm
 pub mod Started
-pub mod Tokens
+pub mod Unjoined
+pub mod FencingTokens

@@ -5,11 +5,11 @@ use Rattle.std.specs.BTreeMap.{insert_entry}
 use Rattle.silo_address.specs.Silo.{Silo, IsSilo, silo_cmp, silo_eq}
 use Rattle.directory_rules.specs.Settings.{Settings}
 use Rattle.silo_rules.specs.Membership.{Change, Join, Leave, Die, Membership, changed}
-use Rattle.silo_rules.specs.SiloValue.{SiloValue, told_of_its_join}
+use Rattle.silo_rules.specs.SiloValue.{told_of_its_join}
 use Rattle.process_rules.specs.ReadLine.{Asked, Joined, Leaving, Dead, Receive}
 use Rattle.process_rules.specs.Output.{said}
-use Rattle.process_deployment.specs.Allowed.{IsDecided, IsLine, IfAsks, May, MayAll}
-use Rattle.process_deployment.specs.Cluster.{Process, started, Cluster, first_cluster, process_at}
+use Rattle.process_deployment.specs.Allowed.{IsDecided, TakesJoin, IsLine, IfAsks, May, MayAll}
+use Rattle.process_deployment.specs.Cluster.{Tokens, Process, started, Cluster, first_cluster, process_at}
 use Rattle.process_deployment.specs.Steps.{Step, Decide, Read, decided, reading, after, clustered}
 
 -- a cluster, and the processes that were started whose silos' joins aren't decided
@@ -48,7 +48,7 @@ joining (Err number) s change = s
 joining (Ok m) s change = record { cluster = with_waiting change s.waiting (decided (Ok m) s.cluster change); waiting = still_waiting change s.waiting }
 
 unfoldable pub after_starting : Starting → StartingStep → Starting
-after_starting s (Start silo) = record s { waiting = insert_entry silo_cmp s.waiting silo (started s.cluster.settings silo) }
+after_starting s (Start silo) = record s { waiting = insert_entry silo_cmp s.waiting silo (started s.cluster.settings s.cluster.tokens silo) }
 after_starting s (ReadEarly silo line) = record s { waiting = reading silo line s.waiting }
 after_starting s (Go (Decide change)) = joining (changed s.cluster.settings s.cluster.membership change) s change
 after_starting s (Go (Read silo line)) = record s { cluster = after s.cluster (Read silo line) }
@@ -59,17 +59,17 @@ after_all_starting s (step ∷ steps) = after_all_starting (after_starting s ste
 
 -- what may be asked of a process that waits: a change that it is told was decided. Any letter may come to it, whether it was written or
 -- not, since it wasn't told of its join
-abbrev pub MayAskEarly : List Change → SiloValue → Asked → Type 0
-MayAskEarly changes s (Joined version silo places) = IsDecided changes s version (Join silo places)
-MayAskEarly changes s (Leaving version silo) = IsDecided changes s version (Leave silo)
-MayAskEarly changes s (Dead version silo) = IsDecided changes s version (Die silo)
-MayAskEarly changes s (Receive letter) = told_of_its_join s ≡ false
-MayAskEarly changes s other = ⊤
+abbrev pub MayAskEarly : List Change → Process → Asked → Type 0
+MayAskEarly changes p (Joined version silo token places) = TakesJoin p (Joined version silo token places) → IsDecided changes p.silo version (Join silo places)
+MayAskEarly changes p (Leaving version silo) = IsDecided changes p.silo version (Leave silo)
+MayAskEarly changes p (Dead version silo) = IsDecided changes p.silo version (Die silo)
+MayAskEarly changes p (Receive letter) = told_of_its_join p.silo ≡ false
+MayAskEarly changes p other = ⊤
 
 -- a step that may come: a silo's process is started once
 unfoldable pub MayStart : Starting → StartingStep → Type 0
 MayStart s (Start silo) = IsSilo silo × (process_at silo s.waiting ≡ None) × (process_at silo s.cluster.processes ≡ None) × (process_at silo s.cluster.dead ≡ None)
-MayStart s (ReadEarly silo line) = IsSilo silo × IsLine line × IfSome (process_at silo s.waiting) (λ p. IfAsks (said line p.silo) (MayAskEarly s.cluster.changes p.silo))
+MayStart s (ReadEarly silo line) = IsSilo silo × IsLine line × IfSome (process_at silo s.waiting) (λ p. IfAsks (said line p.silo) (MayAskEarly s.cluster.changes p))
 MayStart s (Go step) = May s.cluster step
 
 unfoldable pub MayAllStart : Starting → List StartingStep → Type 0
@@ -77,14 +77,15 @@ MayAllStart s [] = ⊤
 MayAllStart s (step ∷ steps) = MayStart s step × MayAllStart (after_starting s step) steps
 
 -- before the first step
-abbrev pub first_starting : Settings → Starting
-first_starting settings = record { cluster = first_cluster settings; waiting = [] }
+abbrev pub first_starting : Settings → Tokens → Starting
+first_starting settings tokens = record { cluster = first_cluster settings tokens; waiting = [] }
 
 -- some steps of a cluster that may come make the same
-pub record IsRunFrom (settings : Settings) (c : Cluster) : Type 0 where
+pub record IsRunFrom (settings : Settings) (tokens : Tokens) (c : Cluster) : Type 0 where
   pub steps : List Step
-  pub may : MayAll (first_cluster settings) steps
-  pub same : clustered settings steps ≡ c
+  pub may : MayAll (first_cluster settings tokens) steps
+  pub same : clustered settings tokens steps ≡ c
 
 abbrev pub StartsAreRuns : Type 0
-StartsAreRuns = (settings : Settings) (steps : List StartingStep) → MayAllStart (first_starting settings) steps → IsRunFrom settings (after_all_starting (first_starting settings) steps).cluster
+StartsAreRuns =
+    (settings : Settings) (tokens : Tokens) (steps : List StartingStep) → MayAllStart (first_starting settings tokens) steps → IsRunFrom settings tokens (after_all_starting (first_starting settings tokens) steps).cluster

@@ -1,6 +1,8 @@
 -- What holds of a cluster after any steps that may come.
-use Rattle.std.specs.Prelude.{◌≡◌, List, [], All, Contains, false, Some, map}
+use Rattle.std.specs.Prelude.{◌≡◌, ℕ, List, [], All, Contains, false, true, Ok, Some, map}
+use Rattle.std.specs.Io.BufRead.{strip_last}
 use Rattle.texts.specs.Printed.{text_of_lines}
+use Rattle.texts.specs.Words.{carriage_return}
 use Rattle.silo_address.specs.Silo.{Silo}
 use Rattle.silo_address.specs.Grain.{Grain}
 use Rattle.directory_rules.specs.declared.held.Held.{Held}
@@ -14,14 +16,18 @@ use Rattle.directory_rules.specs.World.{World}
 use Rattle.deployment_headline.specs.Deployment.{Deployment}
 use Rattle.deployment_headline.specs.Steps as deployment
 use Rattle.deployment_headline.specs.Theorems as deployment_theorems
+use Rattle.silo_rules.specs.SiloValue.{told_of_its_join}
+use Rattle.process_rules.specs.ReadLine.{Asked, read_silo_line}
+use Rattle.process_rules.specs.OutputLaws.{CarriesItsJoin}
 use Rattle.process_rules.specs.Output.{written}
 use Rattle.process_deployment.specs.Allowed.{IsWritten, May, MayAll}
-use Rattle.process_deployment.specs.Cluster.{Process, Cluster, first_cluster, process_at, everyone}
+use Rattle.process_deployment.specs.Cluster.{Tokens, Process, Cluster, first_cluster, process_at, everyone}
 use Rattle.process_deployment.specs.Steps.{Step, after, clustered}
 
 -- what holds of the cluster after any steps that may come
 abbrev pub AfterAnySteps : (Cluster → Type 0) → Type 0
-AfterAnySteps Holds = (settings : Settings) (steps : List Step) → AreSettings settings → MayAll (first_cluster settings) steps → Holds (clustered settings steps)
+AfterAnySteps Holds =
+    (settings : Settings) (tokens : Tokens) (steps : List Step) → AreSettings settings → MayAll (first_cluster settings tokens) steps → Holds (clustered settings tokens steps)
 
 -- the silos of the processes that aren't Dead, as a deployment in which these letters were written
 abbrev pub deployment_of : Cluster → List Letter → Deployment
@@ -74,9 +80,24 @@ LinesArePlain = AfterAnySteps (λ c. (step : Step) → May c step → (kind : Pl
 abbrev pub LivingGoOn : Type 0
 LivingGoOn = AfterAnySteps (λ c. (silo : Silo) (p : Process) → process_at silo c.processes ≡ Some p → p.ended ≡ false)
 
+-- among the lines is one that tells the silo's own join, and carries the token
+pub record ReadItsJoin (settings : Settings) (silo : Silo) (token : List ℕ) (lines : List (List ℕ)) : Type 0 where
+  pub line : List ℕ
+  pub there : Contains lines line
+  pub asked : Asked
+  pub says : read_silo_line settings.hashing (strip_last carriage_return line) ≡ Ok (Some asked)
+  pub carries : CarriesItsJoin silo token asked
+
+-- a process that was started with a token has read such a line, if its silo was told of its join
+abbrev pub JoinedByItsToken : Settings → Silo × Process → Type 0
+JoinedByItsToken settings e = (token : List ℕ) → e.1.token ≡ Some token → told_of_its_join e.1.silo ≡ true → ReadItsJoin settings e.0 token e.1.read
+
+abbrev pub ProcessesJoinByTheirTokens : Type 0
+ProcessesJoinByTheirTokens = AfterAnySteps (λ c. All (JoinedByItsToken c.settings) (everyone c))
+
 -- what the process wrote is the output of the bytes that it read
 abbrev pub HasItsOutput : Settings → Silo × Process → Type 0
-HasItsOutput settings e = text_of_lines e.1.wrote ≡ written settings e.0 (text_of_lines e.1.read)
+HasItsOutput settings e = text_of_lines e.1.wrote ≡ written settings e.0 e.1.token (text_of_lines e.1.read)
 
 abbrev pub ProcessesWriteTheirOutput : Type 0
 ProcessesWriteTheirOutput = AfterAnySteps (λ c. All (HasItsOutput c.settings) (everyone c))

@@ -1,12 +1,17 @@
 -- A worked cluster of two processes. The first one takes the circle; the second one joins, is woken for a grain that the first one
 -- keeps, and dies. Not all that they write comes to anybody.
-use Rattle.std.specs.Prelude.{◌≡◌, ℕ, List, [], ◌∷◌, ◌++◌, map, codes}
+use Rattle.std.specs.Prelude.{◌≡◌, ℕ, if◌then◌else◌, List, [], ◌∷◌, ◌++◌, map, codes, Some, None}
+use Rattle.silo_address.specs.Silo.{silo_eq}
 use Rattle.directory_rules.specs.Worked.{silo_a, silo_b}
 use Rattle.silo_rules.specs.Membership.{Join, Die}
 use Rattle.deployment_headline.specs.Worked.{worked_settings}
 use Rattle.process_deployment.specs.Allowed.{MayAll}
-use Rattle.process_deployment.specs.Cluster.{Cluster, first_cluster, everyone}
+use Rattle.process_deployment.specs.Cluster.{Tokens, Cluster, first_cluster, everyone}
 use Rattle.process_deployment.specs.Steps.{Step, Decide, Read, clustered}
+
+-- the second silo's process is started with a token
+abbrev pub worked_tokens : Tokens
+worked_tokens silo = if silo_eq silo silo_b then Some (codes "b1") else None
 
 -- the first silo is alone, and asks itself for what it holds
 abbrev pub opening : List Step
@@ -18,14 +23,15 @@ opening =
     ∷ Read silo_a (codes "letter 10.0.0.1:1000@1 10.0.0.1:1000@1 1 report 0+4294967296")
     ∷ []
 
--- the second silo has its point at 1000
+-- the second silo has its point at 1000; its process refuses a join that another one of its address would take
 abbrev pub joining : List Step
 joining =
     Decide (Join silo_b (1000 ∷ []))
     ∷ Read silo_a (codes "joined 2 10.0.0.2:1000@1 1000")
     ∷ Read silo_a (codes "see 2")
     ∷ Read silo_b (codes "joined 1 10.0.0.1:1000@1 0")
-    ∷ Read silo_b (codes "joined 2 10.0.0.2:1000@1 1000")
+    ∷ Read silo_b (codes "joined 2 10.0.0.2:1000@1 token=b2 5")
+    ∷ Read silo_b (codes "joined 2 10.0.0.2:1000@1 token=b1 1000")
     ∷ Read silo_b (codes "see 2")
     ∷ []
 
@@ -47,8 +53,8 @@ all_wrote c = map (λ e. e.1.wrote) (everyone c)
 
 pub record WorkedCluster : Type 0 where
   -- each of these steps may come
-  pub may : MayAll (first_cluster worked_settings) (opening ++ joining ++ asking ++ dying)
-  pub wrote : all_wrote (clustered worked_settings (opening ++ joining ++ asking ++ dying)) ≡
+  pub may : MayAll (first_cluster worked_settings worked_tokens) (opening ++ joining ++ asking ++ dying)
+  pub wrote : all_wrote (clustered worked_settings worked_tokens (opening ++ joining ++ asking ++ dying)) ≡
       (codes "view 1 joined 10.0.0.1:1000@1"
       ∷ codes "10.0.0.1:1000@1 sees 1 next"
       ∷ codes "letter 10.0.0.1:1000@1 10.0.0.1:1000@1 1 query 0+4294967296"
@@ -61,12 +67,13 @@ pub record WorkedCluster : Type 0 where
       ∷ codes "letter 10.0.0.1:1000@1 10.0.0.2:1000@1 2 registered 1 user/a#7 10.0.0.2:1000@1!1"
       ∷ [])
       ∷ (codes "view 1 joined 10.0.0.1:1000@1"
+      ∷ codes "refused 208"
       ∷ codes "view 2 joined 10.0.0.2:1000@1"
       ∷ codes "10.0.0.2:1000@1 sees 2 next"
       ∷ codes "letter 10.0.0.2:1000@1 10.0.0.1:1000@1 2 ask 1000+4294966296 0"
       ∷ codes "started 10.0.0.2:1000@1!1 user/a#7"
       ∷ codes "letter 10.0.0.2:1000@1 10.0.0.1:1000@1 2 register 1 user/a#7 10.0.0.2:1000@1!1"
-      ∷ codes "firm 10.0.0.2:1000@1!1 user/a#7"
+      ∷ codes "firm 10.0.0.2:1000@1!1 user/a#7 at 2"
       ∷ codes "view 3 dead 10.0.0.2:1000@1"
       ∷ codes "dead"
       ∷ [])

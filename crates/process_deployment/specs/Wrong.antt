@@ -1,6 +1,6 @@
 -- Clusters in which a line comes that may not come, a dead silo's process goes on, or a process begins anew as the same silo, and two
--- processes have the grain firm.
-use Rattle.std.specs.Prelude.{◌≡◌, List, [], ◌∷◌, ◌++◌, map, filter, codes}
+-- processes have the grain firm; and what a token is for.
+use Rattle.std.specs.Prelude.{◌≡◌, ℕ, List, [], ◌∷◌, ◌++◌, map, filter, codes, Option, Some, None}
 use Rattle.std.specs.BTreeMap.{insert_entry}
 use Rattle.silo_address.specs.Silo.{Silo, silo_cmp}
 use Rattle.silo_address.specs.Grain.{Grain}
@@ -10,7 +10,7 @@ use Rattle.deployment_headline.specs.Worked.{worked_settings}
 use Rattle.deployment_headline.specs.Wrong.{has_firm}
 use Rattle.process_deployment.specs.Cluster.{started, Cluster}
 use Rattle.process_deployment.specs.Steps.{Step, Decide, Read, after, after_all, clustered}
-use Rattle.process_deployment.specs.Worked.{opening, joining, asking}
+use Rattle.process_deployment.specs.Worked.{worked_tokens, opening, joining, asking}
 
 -- the silos, not Dead by the changes decided, at whose processes it is firm
 abbrev pub firm_at : Grain → Cluster → List Silo
@@ -28,7 +28,7 @@ waking =
 abbrev pub AForgedLineConfirms : Type 0
 AForgedLineConfirms =
     firm_at grain_a
-    (clustered worked_settings
+    (clustered worked_settings worked_tokens
     (opening ++ waking ++ joining
     ++ Read silo_b (codes "wake user/a#7")
     ∷ Read silo_b (codes "letter 10.0.0.1:1000@1 10.0.0.2:1000@1 2 registered 1 user/a#7 10.0.0.2:1000@1!1")
@@ -43,7 +43,7 @@ dies_in_vain c = record (after c (Decide (Die silo_a))) { processes = c.processe
 abbrev pub ADeadProcessGoesOn : Type 0
 ADeadProcessGoesOn =
     firm_at grain_a
-    (after_all (dies_in_vain (clustered worked_settings (opening ++ waking ++ joining)))
+    (after_all (dies_in_vain (clustered worked_settings worked_tokens (opening ++ waking ++ joining)))
     (Read silo_b (codes "dead 3 10.0.0.1:1000@1")
     ∷ Read silo_b (codes "see 3")
     ∷ Read silo_b (codes "letter 10.0.0.2:1000@1 10.0.0.2:1000@1 3 query 0+1000")
@@ -58,10 +58,10 @@ ADeadProcessGoesOn =
 abbrev pub AnotherChangeIsTold : Type 0
 AnotherChangeIsTold =
     firm_at grain_a
-    (clustered worked_settings
+    (clustered worked_settings worked_tokens
     (opening ++ waking
     ++ Decide (Join silo_b (5 ∷ []))
-    ∷ Read silo_b (codes "joined 1 10.0.0.2:1000@1 5")
+    ∷ Read silo_b (codes "joined 1 10.0.0.2:1000@1 token=b1 5")
     ∷ Read silo_b (codes "see 1")
     ∷ Read silo_b (codes "letter 10.0.0.2:1000@1 10.0.0.2:1000@1 1 query 0+4294967296")
     ∷ Read silo_b (codes "letter 10.0.0.2:1000@1 10.0.0.2:1000@1 1 report 0+4294967296")
@@ -71,19 +71,24 @@ AnotherChangeIsTold =
     ∷ []))
     ≡ silo_a ∷ silo_b ∷ []
 
--- the first silo's process is started again, as the same silo
-abbrev pub begins_anew : Cluster → Cluster
-begins_anew c = record c { processes = insert_entry silo_cmp c.processes silo_a (started c.settings silo_a) }
+-- the first silo's process is started again, as the same silo, with that token or with none
+abbrev pub begins_anew : (token : Option (List ℕ)) → Cluster → Cluster
+begins_anew token c = record c { processes = insert_entry silo_cmp c.processes silo_a (record (started c.settings c.tokens silo_a) { token = token }) }
 
 -- the second silo has the grain firm, and the first one, which owns the grain's hash, has forgotten that; it's told all changes again,
 -- recovers the circle from itself alone, and is woken for the grain
-abbrev pub ARestartForgets : Type 0
-ARestartForgets =
-    firm_at grain_a
-    (after_all (begins_anew (clustered worked_settings (opening ++ joining ++ asking)))
-    (Read silo_a (codes "joined 1 10.0.0.1:1000@1 0")
+abbrev pub told_again : List Step
+told_again =
+    Read silo_a (codes "joined 1 10.0.0.1:1000@1 0")
     ∷ Read silo_a (codes "see 1")
     ∷ Read silo_a (codes "letter 10.0.0.1:1000@1 10.0.0.1:1000@1 1 query 0+4294967296")
     ∷ Read silo_a (codes "letter 10.0.0.1:1000@1 10.0.0.1:1000@1 1 report 0+4294967296")
-    ∷ waking))
-    ≡ silo_a ∷ silo_b ∷ []
+    ∷ waking
+
+abbrev pub ARestartForgets : Type 0
+ARestartForgets = firm_at grain_a (after_all (begins_anew None (clustered worked_settings worked_tokens (opening ++ joining ++ asking))) told_again) ≡ silo_a ∷ silo_b ∷ []
+
+-- with a token of its own it refuses the join of the process before it, and so all else
+abbrev pub ARestartIsRefused : Type 0
+ARestartIsRefused =
+    firm_at grain_a (after_all (begins_anew (Some (codes "a2")) (clustered worked_settings worked_tokens (opening ++ joining ++ asking))) told_again) ≡ silo_b ∷ []

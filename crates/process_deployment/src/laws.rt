@@ -1,8 +1,10 @@
-//! The laws. All but the last one hold after any steps of a cluster of processes: lines come late, again, in another order, astray, faulty, or never.
+//! The laws. All but the last one hold after any steps of a cluster of processes, each started with any token or with none: lines come
+//! late, again, in another order, astray, faulty, or never.
 ghost use Rattle.process_deployment.specs.Firm.{FirmStays, LinesTellFirm};
 ghost use Rattle.process_deployment.specs.Started.{StartsAreRuns};
-ghost use Rattle.process_deployment.specs.Tokens.{TokensOfLinesFence};
-ghost use Rattle.process_deployment.specs.Theorems.{ClustersAreDeployments, LinesArePlain, LinesKeepOneFirm, LinesKeepTheHeadline, LivingGoOn, ProcessesWriteTheirOutput};
+ghost use Rattle.process_deployment.specs.Theorems.{ClustersAreDeployments, LinesArePlain, LinesKeepOneFirm, LinesKeepTheHeadline, LivingGoOn, ProcessesJoinByTheirTokens, ProcessesWriteTheirOutput};
+ghost use Rattle.process_deployment.specs.FencingTokens.{TokensOfLinesFence};
+ghost use Rattle.process_deployment.specs.Unjoined.{UnjoinedDoNothing};
 ghost use Rattle.process_deployment.specs.Worked.{WorkedCluster};
 
 /// Some steps of a deployment make the processes' silos, and write each letter that their lines say.
@@ -25,8 +27,8 @@ pub fn lines_are_plain()
     ensures { LinesArePlain }
 {}
 
-/// A process tells `firm` exactly where an activation becomes firm, and what is firm stays firm at every line but a close or an offer of
-/// its grain: no view ends it.
+/// A process tells `firm`, with the version that its silo has seen, exactly where an activation becomes firm; and what is firm stays firm
+/// at every line but a close or an offer of its grain: no view ends it.
 pub fn lines_tell_firm()
     ensures { LinesTellFirm }
 {}
@@ -36,7 +38,7 @@ pub fn firm_stays()
     ensures { FirmStays }
 {}
 
-/// The version that a silo has seen when its process tells `firm` is a fencing token, as it is of a deployment.
+/// The version that a process tells with `firm` is a fencing token, as it is of a deployment.
 pub fn tokens_of_lines_fence()
     ensures { TokensOfLinesFence }
 {}
@@ -44,6 +46,16 @@ pub fn tokens_of_lines_fence()
 /// A process ends only where its silo is Dead by the changes decided.
 pub fn living_go_on()
     ensures { LivingGoOn }
+{}
+
+/// No process joins by another's join: one that was started with a token was told of its silo's join by a line that carries this token.
+pub fn processes_join_by_their_tokens()
+    ensures { ProcessesJoinByTheirTokens }
+{}
+
+/// Until then it takes no step, and none of its lines says a letter, whatever lines come to it.
+pub fn unjoined_do_nothing()
+    ensures { UnjoinedDoNothing }
 {}
 
 /// Each process has written exactly the output of all that it read.

@@ -1,6 +1,6 @@
 //! Wrong clusters of processes: in each a line comes that may not come, a dead silo's process goes on, or one begins anew as the same
 //! silo, and two processes have a grain firm.
-ghost use Rattle.process_deployment.specs.Wrong.{ADeadProcessGoesOn, AForgedLineConfirms, AnotherChangeIsTold, ARestartForgets};
+ghost use Rattle.process_deployment.specs.Wrong.{ADeadProcessGoesOn, AForgedLineConfirms, AnotherChangeIsTold, ARestartForgets, ARestartIsRefused};
 
 /// A letter's line that no process wrote confirms an activation.
 pub fn a_forged_line_confirms()
@@ -20,4 +20,9 @@ pub fn another_change_is_told()
 /// A process that has ended is started again as the same silo, of the same generation.
 pub fn a_restart_forgets()
     ensures { ARestartForgets }
+{}
+
+/// But where it was started with a token of its own, it joins by none of the lines that its silo joined by, and does nothing.
+pub fn a_restart_is_refused()
+    ensures { ARestartIsRefused }
 {}
