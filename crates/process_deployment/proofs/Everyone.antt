@@ -7,7 +7,7 @@ use Rattle.silo_address.proofs.Order.{silo_cmp_exact}
 use Rattle.directory_rules.specs.Settings.{Settings}
 use Rattle.directory_facts.proofs.Entries.{all_put, all_removed, found_so, same_key}
 use Rattle.silo_rules.specs.Membership.{Change, Join, Leave, Die}
-use Rattle.process_deployment.specs.Cluster.{Tokens, Process, started, reads, process_at}
+use Rattle.process_deployment.specs.Cluster.{JoinTokens, Process, started, reads, process_at}
 use Rattle.process_deployment.specs.Steps.{without, with_process, with_dying, with_started, read_by, reading}
 
 module _ (Q : Silo × Process → Type 0) where
@@ -38,7 +38,7 @@ module _ (Q : Silo × Process → Type 0) where
       by None there = its
       by (Some p) there = put_keeps silo p dead its (its_own silo p processes all there)
 
-  pub started_keeps : (settings : Settings) (tokens : Tokens) (change : Change) (processes : List (Silo × Process)) → ((silo : Silo) → Q (silo, started settings tokens silo)) → All Q processes → All Q (with_started settings tokens change processes)
+  pub started_keeps : (settings : Settings) (tokens : JoinTokens) (change : Change) (processes : List (Silo × Process)) → ((silo : Silo) → Q (silo, started settings tokens silo)) → All Q processes → All Q (with_started settings tokens change processes)
   started_keeps settings tokens (Join silo stated) processes new all = put_keeps silo (started settings tokens silo) processes all (new silo)
   started_keeps settings tokens (Leave silo) processes new all = all
   started_keeps settings tokens (Die silo) processes new all = all

@@ -25,7 +25,7 @@ use Rattle.deployment_headline.proofs.Sound.{Sound, sound_first, keeps}
 use Rattle.process_rules.specs.Answer.{Answered}
 use Rattle.process_rules.specs.Output.{said}
 use Rattle.process_deployment.specs.Allowed.{IsWritten, MayAsk, MayAskDead, IfAsks, May, MayAll}
-use Rattle.process_deployment.specs.Cluster.{Tokens, Process, started, answer_to, having_read, reads, Cluster, first_cluster, process_at, everyone}
+use Rattle.process_deployment.specs.Cluster.{JoinTokens, Process, started, answer_to, having_read, reads, Cluster, first_cluster, process_at, everyone}
 use Rattle.process_deployment.specs.Steps.{Step, Decide, Read, dying, without, with_started, decided, read_by, reading, after, after_all}
 use Rattle.process_deployment.specs.Theorems.{deployment_of, world_of, IsFirmAt, ClustersAreDeployments, LinesKeepTheHeadline, LinesKeepOneFirm}
 use Rattle.process_deployment.proofs.Answers.{SaysOnly, ReadsAsItself, silent_says}
@@ -259,7 +259,7 @@ module _ (themselves : WrittenReadAsThemselves) where
   pub follows_all : (c : Cluster) → Follows c → (steps : List Step) → MayAll c steps → Follows (after_all c steps)
   follows_all c f steps may = (follows_so c f steps may).follows
 
-  pub follows_first : (settings : Settings) (tokens : Tokens) → AreSettings settings → Follows (first_cluster settings tokens)
+  pub follows_first : (settings : Settings) (tokens : JoinTokens) → AreSettings settings → Follows (first_cluster settings tokens)
   unfolding deployment.after_all
   follows_first settings tokens are = record {
     are = are;

@@ -28,7 +28,7 @@ use Rattle.process_rules.specs.Output.{answered_to, said}
 use Rattle.process_rules.specs.OutputLaws.{CarriesItsJoin}
 use Rattle.process_rules.proofs.StaysWhole.{silo_kept, line_whole}
 use Rattle.process_rules.proofs.Joins.{joins_by_its_token}
-use Rattle.process_deployment.specs.Cluster.{Tokens, Process, started, answer_to, having_read, reads, Cluster, first_cluster, everyone}
+use Rattle.process_deployment.specs.Cluster.{JoinTokens, Process, started, answer_to, having_read, reads, Cluster, first_cluster, everyone}
 use Rattle.process_deployment.specs.Steps.{Step, Decide, Read, dying, without, decided, after, after_all}
 use Rattle.process_deployment.specs.Theorems.{ReadItsJoin, JoinedByItsToken, ProcessesJoinByTheirTokens}
 use Rattle.process_deployment.proofs.Everyone.{reading_keeps, without_keeps, dying_keeps, started_keeps}
@@ -119,7 +119,7 @@ record Keeps (shared : Settings) (e : Silo × Process) : Type 0 where
   settings : e.1.silo.node.settings ≡ shared
   joined : JoinedByItsToken shared e
 
-first_keeps : (settings : Settings) (tokens : Tokens) (silo : Silo) → AreSettings settings → Keeps settings (silo, started settings tokens silo)
+first_keeps : (settings : Settings) (tokens : JoinTokens) (silo : Silo) → AreSettings settings → Keeps settings (silo, started settings tokens silo)
 first_keeps settings tokens silo are = record { whole = first_whole settings silo are; address = refl; settings = refl; joined = λ token is told_so. absurd (cc told_so) }
 
 -- by the line that it reads now

@@ -14,7 +14,7 @@ use Rattle.silo_rules.specs.SiloValue.{first_silo}
 use Rattle.process_rules.specs.ReadLine.{unended_fault}
 use Rattle.process_rules.specs.Answer.{Answered}
 use Rattle.process_rules.specs.Output.{unless_ended, written_on}
-use Rattle.process_deployment.specs.Cluster.{Tokens, Process, started, answer_to, having_read, reads, Cluster, first_cluster, everyone}
+use Rattle.process_deployment.specs.Cluster.{JoinTokens, Process, started, answer_to, having_read, reads, Cluster, first_cluster, everyone}
 use Rattle.process_deployment.specs.Steps.{Step, Decide, Read, dying, without, decided, after, after_all}
 use Rattle.process_deployment.specs.Allowed.{IsLine, May, MayAll}
 use Rattle.process_deployment.specs.Theorems.{HasItsOutput, ProcessesWriteTheirOutput}
@@ -42,7 +42,7 @@ record IsPlayed (settings : Settings) (e : Silo × Process) : Type 0 where
   lines : All IsLine e.1.read
   plays : (next : List ℕ) (rest : List (List ℕ)) → written_on e.1.token (e.1.read ++ next ∷ rest) (first_silo settings e.0) ≡ text_of_lines e.1.wrote ++ unless_ended e.1.ended (written_on e.1.token (next ∷ rest)) e.1.silo
 
-first_played : (settings : Settings) (tokens : Tokens) (silo : Silo) → IsPlayed settings (silo, started settings tokens silo)
+first_played : (settings : Settings) (tokens : JoinTokens) (silo : Silo) → IsPlayed settings (silo, started settings tokens silo)
 first_played settings tokens silo = record { lines = All-nil IsLine; plays = λ next rest. refl }
 
 reads_played : (settings : Settings) (silo : Silo) (line : List ℕ) (p : Process) → IsLine line → IsPlayed settings (silo, p) → IsPlayed settings (silo, reads line p)

@@ -18,7 +18,7 @@ use Rattle.silo_rules.specs.Membership.{Change, Join, Leave, Die, Membership, ch
 use Rattle.process_rules.specs.ReadLine.{Asked, Joined, Leaving, Dead, See, Wake, Close, Offer, Find, Forget, Nudge, Receive, Ping, Owner, Place, Show, Dump}
 use Rattle.process_rules.specs.Output.{said}
 use Rattle.process_deployment.specs.Allowed.{IsLine, MayAsk, MayAskDead, IfAsks, May, MayAll}
-use Rattle.process_deployment.specs.Cluster.{Tokens, Process, started, answer_to, having_read, reads, Cluster, first_cluster, process_at}
+use Rattle.process_deployment.specs.Cluster.{JoinTokens, Process, started, answer_to, having_read, reads, Cluster, first_cluster, process_at}
 use Rattle.process_deployment.specs.Started.{Starting, StartingStep, Start, ReadEarly, Go, its_process, still_waiting, joining, after_starting, after_all_starting, MayAskEarly, MayStart, MayAllStart, first_starting, IsRunFrom, StartsAreRuns}
 use Rattle.process_deployment.specs.Unjoined.{reads_all}
 use Rattle.process_deployment.specs.Steps.{Step, Decide, Read, dying, without, with_process, with_dying, decided, read_by, reading, after, after_all}
@@ -165,7 +165,7 @@ may_more c [] ys may more = more
 may_more c (step ∷ xs) ys may more = (may.0, may_more (after c step) xs ys may.1 more)
 
 -- a run goes on
-goes_on : (settings : Settings) (tokens : Tokens) (c next : Cluster) (steps : List Step) → IsRunFrom settings tokens c → MayAll c steps → after_all c steps ≡ next → IsRunFrom settings tokens next
+goes_on : (settings : Settings) (tokens : JoinTokens) (c next : Cluster) (steps : List Step) → IsRunFrom settings tokens c → MayAll c steps → after_all c steps ≡ next → IsRunFrom settings tokens next
 goes_on settings tokens c next steps run may is = record {
   steps = run.steps ++ steps;
   may = may_more (first_cluster settings tokens) run.steps steps run.may (subst (λ (d : Cluster). MayAll d steps) (sym run.same) may);
@@ -218,7 +218,7 @@ record Waits (c : Cluster) (e : Silo × Process) : Type 0 where
   replays : reads_all e.1.read (started c.settings c.tokens e.0) ≡ e.1
   may : MayRead c.changes e.1.read (started c.settings c.tokens e.0)
 
-record Runs (settings : Settings) (tokens : Tokens) (s : Starting) : Type 0 where
+record Runs (settings : Settings) (tokens : JoinTokens) (s : Starting) : Type 0 where
   run : IsRunFrom settings tokens s.cluster
   each : All (Waits s.cluster) s.waiting
 
@@ -248,7 +248,7 @@ all_others Q P silo (e ∷ es) so all = by (silo_eq e.0 silo) refl (all_others Q
     by true is rest = rest
     by false is rest = All-cons P e (filter (λ e. not (silo_eq e.0 silo)) es) (so e (λ same. let so = (Decides-silo e.0 silo).1 same in absurd (cc (is, so))) (All-head Q e es all)) rest
 
-module _ (settings : Settings) (tokens : Tokens) (s : Starting) (runs : Runs settings tokens s) where
+module _ (settings : Settings) (tokens : JoinTokens) (s : Starting) (runs : Runs settings tokens s) where
   abbrev c : Cluster
   c = s.cluster
 
@@ -360,12 +360,12 @@ module _ (settings : Settings) (tokens : Tokens) (s : Starting) (runs : Runs set
   runs_on (Go (Read silo line)) may = reads_on silo line may
   runs_on (Go (Decide change)) may = decides_on change may
 
-runs_all : (settings : Settings) (tokens : Tokens) (s : Starting) (steps : List StartingStep) → Runs settings tokens s → MayAllStart s steps → Runs settings tokens (after_all_starting s steps)
+runs_all : (settings : Settings) (tokens : JoinTokens) (s : Starting) (steps : List StartingStep) → Runs settings tokens s → MayAllStart s steps → Runs settings tokens (after_all_starting s steps)
 unfolding MayAllStart after_all_starting
 runs_all settings tokens s [] runs may = runs
 runs_all settings tokens s (step ∷ steps) runs may = runs_all settings tokens (after_starting s step) steps (runs_on settings tokens s runs step may.0) may.1
 
-first_runs : (settings : Settings) (tokens : Tokens) → Runs settings tokens (first_starting settings tokens)
+first_runs : (settings : Settings) (tokens : JoinTokens) → Runs settings tokens (first_starting settings tokens)
 unfolding after_all MayAll
 first_runs settings tokens = record { run = record { steps = []; may = tt; same = refl }; each = All-nil (Waits (first_cluster settings tokens)) }
 

@@ -10,8 +10,8 @@ use Rattle.process_rules.specs.Answer.{Answered}
 use Rattle.process_rules.specs.Output.{answered_to, said}
 
 -- the token that each silo's process is started with, if it is started with one
-abbrev pub Tokens : Type 0
-Tokens = Silo → Option (List ℕ)
+abbrev pub JoinTokens : Type 0
+JoinTokens = Silo → Option (List ℕ)
 
 -- a process that was started
 pub record Process : Type 0 where
@@ -25,7 +25,7 @@ pub record Process : Type 0 where
   pub ended : Bool
 
 -- one that read nothing yet
-abbrev pub started : Settings → Tokens → Silo → Process
+abbrev pub started : Settings → JoinTokens → Silo → Process
 started settings tokens silo = record { token = tokens silo; read = []; wrote = []; silo = first_silo settings silo; ended = false }
 
 -- what it answers to a line
@@ -44,7 +44,7 @@ reads line p = if p.ended then p else having_read line (answer_to line p) p
 pub record Cluster : Type 0 where
   -- those of each process
   pub settings : Settings
-  pub tokens : Tokens
+  pub tokens : JoinTokens
   -- the changes of membership decided so far, the first one first, and what they make
   pub changes : List Change
   pub membership : Membership
@@ -54,7 +54,7 @@ pub record Cluster : Type 0 where
   pub dead : List (Silo × Process)
 
 -- before the first change
-abbrev pub first_cluster : Settings → Tokens → Cluster
+abbrev pub first_cluster : Settings → JoinTokens → Cluster
 first_cluster settings tokens = record { settings = settings; tokens = tokens; changes = []; membership = first_membership settings; processes = []; dead = [] }
 
 -- the silo's process among these

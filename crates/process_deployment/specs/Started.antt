@@ -9,7 +9,7 @@ use Rattle.silo_rules.specs.SiloValue.{told_of_its_join}
 use Rattle.process_rules.specs.ReadLine.{Asked, Joined, Leaving, Dead, Receive}
 use Rattle.process_rules.specs.Output.{said}
 use Rattle.process_deployment.specs.Allowed.{IsDecided, TakesJoin, IsLine, IfAsks, May, MayAll}
-use Rattle.process_deployment.specs.Cluster.{Tokens, Process, started, Cluster, first_cluster, process_at}
+use Rattle.process_deployment.specs.Cluster.{JoinTokens, Process, started, Cluster, first_cluster, process_at}
 use Rattle.process_deployment.specs.Steps.{Step, Decide, Read, decided, reading, after, clustered}
 
 -- a cluster, and the processes that were started whose silos' joins aren't decided
@@ -77,15 +77,15 @@ MayAllStart s [] = ⊤
 MayAllStart s (step ∷ steps) = MayStart s step × MayAllStart (after_starting s step) steps
 
 -- before the first step
-abbrev pub first_starting : Settings → Tokens → Starting
+abbrev pub first_starting : Settings → JoinTokens → Starting
 first_starting settings tokens = record { cluster = first_cluster settings tokens; waiting = [] }
 
 -- some steps of a cluster that may come make the same
-pub record IsRunFrom (settings : Settings) (tokens : Tokens) (c : Cluster) : Type 0 where
+pub record IsRunFrom (settings : Settings) (tokens : JoinTokens) (c : Cluster) : Type 0 where
   pub steps : List Step
   pub may : MayAll (first_cluster settings tokens) steps
   pub same : clustered settings tokens steps ≡ c
 
 abbrev pub StartsAreRuns : Type 0
 StartsAreRuns =
-    (settings : Settings) (tokens : Tokens) (steps : List StartingStep) → MayAllStart (first_starting settings tokens) steps → IsRunFrom settings tokens (after_all_starting (first_starting settings tokens) steps).cluster
+    (settings : Settings) (tokens : JoinTokens) (steps : List StartingStep) → MayAllStart (first_starting settings tokens) steps → IsRunFrom settings tokens (after_all_starting (first_starting settings tokens) steps).cluster

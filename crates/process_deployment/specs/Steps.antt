@@ -6,7 +6,7 @@ use Rattle.silo_address.specs.Silo.{Silo, silo_cmp}
 use Rattle.membership_view.specs.Changes.{occupant}
 use Rattle.directory_rules.specs.Settings.{Settings}
 use Rattle.silo_rules.specs.Membership.{Change, Join, Leave, Die, Membership, changed}
-use Rattle.process_deployment.specs.Cluster.{Tokens, Process, started, reads, Cluster, first_cluster, process_at}
+use Rattle.process_deployment.specs.Cluster.{JoinTokens, Process, started, reads, Cluster, first_cluster, process_at}
 
 -- a step
 pub data Step : Type 0 where
@@ -39,7 +39,7 @@ with_dying None processes dead = dead
 with_dying (Some silo) processes dead = with_process (process_at silo processes) silo dead
 
 -- a silo that joins has a process
-abbrev pub with_started : Settings → Tokens → Change → List (Silo × Process) → List (Silo × Process)
+abbrev pub with_started : Settings → JoinTokens → Change → List (Silo × Process) → List (Silo × Process)
 with_started settings tokens (Join silo stated) processes = insert_entry silo_cmp processes silo (started settings tokens silo)
 with_started settings tokens (Leave silo) processes = processes
 with_started settings tokens (Die silo) processes = processes
@@ -76,5 +76,5 @@ after_all c [] = c
 after_all c (step ∷ steps) = after_all (after c step) steps
 
 -- the cluster that the steps make of the first one
-abbrev pub clustered : Settings → Tokens → List Step → Cluster
+abbrev pub clustered : Settings → JoinTokens → List Step → Cluster
 clustered settings tokens steps = after_all (first_cluster settings tokens) steps

@@ -21,13 +21,13 @@ use Rattle.process_rules.specs.ReadLine.{Asked, read_silo_line}
 use Rattle.process_rules.specs.OutputLaws.{CarriesItsJoin}
 use Rattle.process_rules.specs.Output.{written}
 use Rattle.process_deployment.specs.Allowed.{IsWritten, May, MayAll}
-use Rattle.process_deployment.specs.Cluster.{Tokens, Process, Cluster, first_cluster, process_at, everyone}
+use Rattle.process_deployment.specs.Cluster.{JoinTokens, Process, Cluster, first_cluster, process_at, everyone}
 use Rattle.process_deployment.specs.Steps.{Step, after, clustered}
 
 -- what holds of the cluster after any steps that may come
 abbrev pub AfterAnySteps : (Cluster → Type 0) → Type 0
 AfterAnySteps Holds =
-    (settings : Settings) (tokens : Tokens) (steps : List Step) → AreSettings settings → MayAll (first_cluster settings tokens) steps → Holds (clustered settings tokens steps)
+    (settings : Settings) (tokens : JoinTokens) (steps : List Step) → AreSettings settings → MayAll (first_cluster settings tokens) steps → Holds (clustered settings tokens steps)
 
 -- the silos of the processes that aren't Dead, as a deployment in which these letters were written
 abbrev pub deployment_of : Cluster → List Letter → Deployment

@@ -9,7 +9,7 @@ use Rattle.directory_rules.specs.Node.{new_node}
 use Rattle.directory_rules.specs.Settings.{Settings, AreSettings}
 use Rattle.process_rules.specs.ReadLine.{Asked, Receive, read_silo_line}
 use Rattle.process_rules.specs.OutputLaws.{CarriesItsJoin}
-use Rattle.process_deployment.specs.Cluster.{Tokens, Process, started, reads}
+use Rattle.process_deployment.specs.Cluster.{JoinTokens, Process, started, reads}
 
 -- the process after it has read these lines, the first one first
 abbrev pub reads_all : (lines : List (List ℕ)) → Process → Process
@@ -31,5 +31,5 @@ pub record HasDoneNothing (settings : Settings) (silo : Silo) (p : Process) : Ty
 
 abbrev pub UnjoinedDoNothing : Type 0
 UnjoinedDoNothing =
-    (settings : Settings) (tokens : Tokens) (silo : Silo) (token : List ℕ) (lines : List (List ℕ)) → AreSettings settings → tokens silo ≡ Some token
+    (settings : Settings) (tokens : JoinTokens) (silo : Silo) (token : List ℕ) (lines : List (List ℕ)) → AreSettings settings → tokens silo ≡ Some token
     → All (TellsNoJoin settings silo token) lines → HasDoneNothing settings silo (reads_all lines (started settings tokens silo))

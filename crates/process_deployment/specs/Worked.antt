@@ -6,12 +6,12 @@ use Rattle.directory_rules.specs.Worked.{silo_a, silo_b}
 use Rattle.silo_rules.specs.Membership.{Join, Die}
 use Rattle.deployment_headline.specs.Worked.{worked_settings}
 use Rattle.process_deployment.specs.Allowed.{MayAll}
-use Rattle.process_deployment.specs.Cluster.{Tokens, Cluster, first_cluster, everyone}
+use Rattle.process_deployment.specs.Cluster.{JoinTokens, Cluster, first_cluster, everyone}
 use Rattle.process_deployment.specs.Steps.{Step, Decide, Read, clustered}
 
 -- the second silo's process is started with a token
-abbrev pub worked_tokens : Tokens
-worked_tokens silo = if silo_eq silo silo_b then Some (codes "b1") else None
+abbrev pub worked_join_tokens : JoinTokens
+worked_join_tokens silo = if silo_eq silo silo_b then Some (codes "b1") else None
 
 -- the first silo is alone, and asks itself for what it holds
 abbrev pub opening : List Step
@@ -53,8 +53,8 @@ all_wrote c = map (λ e. e.1.wrote) (everyone c)
 
 pub record WorkedCluster : Type 0 where
   -- each of these steps may come
-  pub may : MayAll (first_cluster worked_settings worked_tokens) (opening ++ joining ++ asking ++ dying)
-  pub wrote : all_wrote (clustered worked_settings worked_tokens (opening ++ joining ++ asking ++ dying)) ≡
+  pub may : MayAll (first_cluster worked_settings worked_join_tokens) (opening ++ joining ++ asking ++ dying)
+  pub wrote : all_wrote (clustered worked_settings worked_join_tokens (opening ++ joining ++ asking ++ dying)) ≡
       (codes "view 1 joined 10.0.0.1:1000@1"
       ∷ codes "10.0.0.1:1000@1 sees 1 next"
       ∷ codes "letter 10.0.0.1:1000@1 10.0.0.1:1000@1 1 query 0+4294967296"

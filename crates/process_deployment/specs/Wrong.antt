@@ -10,7 +10,7 @@ use Rattle.deployment_headline.specs.Worked.{worked_settings}
 use Rattle.deployment_headline.specs.Wrong.{has_firm}
 use Rattle.process_deployment.specs.Cluster.{started, Cluster}
 use Rattle.process_deployment.specs.Steps.{Step, Decide, Read, after, after_all, clustered}
-use Rattle.process_deployment.specs.Worked.{worked_tokens, opening, joining, asking}
+use Rattle.process_deployment.specs.Worked.{worked_join_tokens, opening, joining, asking}
 
 -- the silos, not Dead by the changes decided, at whose processes it is firm
 abbrev pub firm_at : Grain → Cluster → List Silo
@@ -28,7 +28,7 @@ waking =
 abbrev pub AForgedLineConfirms : Type 0
 AForgedLineConfirms =
     firm_at grain_a
-    (clustered worked_settings worked_tokens
+    (clustered worked_settings worked_join_tokens
     (opening ++ waking ++ joining
     ++ Read silo_b (codes "wake user/a#7")
     ∷ Read silo_b (codes "letter 10.0.0.1:1000@1 10.0.0.2:1000@1 2 registered 1 user/a#7 10.0.0.2:1000@1!1")
@@ -43,7 +43,7 @@ dies_in_vain c = record (after c (Decide (Die silo_a))) { processes = c.processe
 abbrev pub ADeadProcessGoesOn : Type 0
 ADeadProcessGoesOn =
     firm_at grain_a
-    (after_all (dies_in_vain (clustered worked_settings worked_tokens (opening ++ waking ++ joining)))
+    (after_all (dies_in_vain (clustered worked_settings worked_join_tokens (opening ++ waking ++ joining)))
     (Read silo_b (codes "dead 3 10.0.0.1:1000@1")
     ∷ Read silo_b (codes "see 3")
     ∷ Read silo_b (codes "letter 10.0.0.2:1000@1 10.0.0.2:1000@1 3 query 0+1000")
@@ -58,7 +58,7 @@ ADeadProcessGoesOn =
 abbrev pub AnotherChangeIsTold : Type 0
 AnotherChangeIsTold =
     firm_at grain_a
-    (clustered worked_settings worked_tokens
+    (clustered worked_settings worked_join_tokens
     (opening ++ waking
     ++ Decide (Join silo_b (5 ∷ []))
     ∷ Read silo_b (codes "joined 1 10.0.0.2:1000@1 token=b1 5")
@@ -86,9 +86,9 @@ told_again =
     ∷ waking
 
 abbrev pub ARestartForgets : Type 0
-ARestartForgets = firm_at grain_a (after_all (begins_anew None (clustered worked_settings worked_tokens (opening ++ joining ++ asking))) told_again) ≡ silo_a ∷ silo_b ∷ []
+ARestartForgets = firm_at grain_a (after_all (begins_anew None (clustered worked_settings worked_join_tokens (opening ++ joining ++ asking))) told_again) ≡ silo_a ∷ silo_b ∷ []
 
 -- with a token of its own it refuses the join of the process before it, and so all else
 abbrev pub ARestartIsRefused : Type 0
 ARestartIsRefused =
-    firm_at grain_a (after_all (begins_anew (Some (codes "a2")) (clustered worked_settings worked_tokens (opening ++ joining ++ asking))) told_again) ≡ silo_b ∷ []
+    firm_at grain_a (after_all (begins_anew (Some (codes "a2")) (clustered worked_settings worked_join_tokens (opening ++ joining ++ asking))) told_again) ≡ silo_b ∷ []
