@@ -58,6 +58,7 @@ module _ (s : SiloValue) (once : HoldsOnce s.node.host) (own : IsSilo s.node.hos
   quiet : (it : Answered) → it.silo.node ≡ s.node → AreOther it.lines → TellsFirm s read it
   quiet it same other = record {
     told = λ grain count becomes. absurd (becomes.0 (ap (λ node. life_on grain node) (sym same) ∙ becomes.1));
+    seen = λ grain count becomes. ap (λ (node : Node). node.view.version) same;
     only = λ line there says. absurd (All-contains IsOther it.lines line other there says);
     stays = λ grain count firm. inl (ap (λ node. life_on grain node) same ∙ firm);
   }
@@ -79,6 +80,7 @@ module _ (s : SiloValue) (once : HoldsOnce s.node.host) (own : IsSilo s.node.hos
       other_step : (ConfirmsOne s.node input it → ⊥) → IsOther (sentence (happened it.effect)) → TellsFirm s read answer
       other_step never other = record {
         told = λ grain count becoming. absurd (none grain count becoming (becomes s.node once input it is grain count becoming.1));
+        seen = λ grain count becoming. absurd (none grain count becoming (becomes s.node once input it is grain count becoming.1));
         only = λ line there says. absurd (All-contains IsOther answer.lines line (All-cons IsOther (sentence (happened it.effect)) (map letter_line it.letters) other (letters_other it.letters)) there says);
         stays = stays;
       }
@@ -109,6 +111,7 @@ module _ (s : SiloValue) (once : HoldsOnce s.node.host) (own : IsSilo s.node.hos
         firm_step : ConfirmsOne s.node input it → TellsFirm s read answer
         firm_step c = record {
           told = λ grain count becoming. tell grain count becoming (becomes s.node once input it is grain count becoming.1);
+          seen = λ grain count becoming. ap (λ (i : Stepped). i.node.view.version) c.is;
           only = λ line there says. (c.e.0, c.e.1.count, (was_no_firm c, firm_after s.node once input it is c), is_line c line there);
           stays = stays;
         }

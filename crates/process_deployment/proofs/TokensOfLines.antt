@@ -1,27 +1,37 @@
 -- The tokens of a cluster are those of the deployment that it follows.
-use Rattle.std.proofs.Common.{arith, ◌≡◌, ℕ, ◌<◌, ◌≤◌, List, [], ◌∷◌, ◌++◌, length, Some, None, Result, Ok, Err, refl, sym, ap, ◌∙◌, subst, append_assoc, append-nil}
-use Rattle.std.specs.Prelude.{true, All}
+use Rattle.std.proofs.Common.{arith, ◌≡◌, ℕ, ◌<◌, ◌≤◌, true, false, List, [], ◌∷◌, ◌++◌, length, Option, Some, None, Result, Ok, Err, refl, sym, ap, ◌∙◌, subst, append_assoc, append-nil}
+use Rattle.std.specs.Prelude.{cond, All}
+use Rattle.std.specs.Option.{option_map}
+use Rattle.std.specs.BTreeMap.{is_at}
+use Rattle.silo_address.specs.Silo.{Silo, IsSilo, silo_cmp}
 use Rattle.silo_address.specs.Grain.{Grain}
 use Rattle.silo_address.specs.declared.ActivationId.{ActivationId}
+use Rattle.silo_address.proofs.Order.{silo_cmp_total, silo_cmp_exact}
 use Rattle.membership_view.specs.Views.{view_at}
 use Rattle.directory_rules.specs.Membership.{is_dead_in}
 use Rattle.directory_rules.specs.Settings.{Settings, AreSettings}
 use Rattle.directory_rules.specs.World.{World}
 use Rattle.directory_rules.specs.Happens.{node_of}
-use Rattle.directory_rules.specs.PlainMachine.{IsPlainStep, plain_of}
+use Rattle.directory_rules.specs.PlainMachine.{life_on, IsPlainStep, plain_of}
+use Rattle.directory_rules.specs.Node.{Node}
+use Rattle.directory_facts.proofs.Lookups.{found_put}
+use Rattle.silo_rules.specs.SiloValue.{SiloValue}
+use Rattle.deployment_headline.proofs.Lists.{over, lookup-over}
 use Rattle.silo_rules.specs.Membership.{Change, Membership, changed}
 use Rattle.deployment_headline.specs.Steps as deployment
 use Rattle.deployment_headline.specs.Theorems as deployment_theorems
-use Rattle.deployment_headline.specs.Tokens.{IsFirm, NeverFall, PassDeaths}
+use Rattle.deployment_headline.specs.Tokens.{IsFirm, BecomesFirm, NeverFall, PassDeaths}
 use Rattle.deployment_headline.proofs.TokensFence.{steps_move, tokens_of_processes_fence}
 use Rattle.deployment_headline.proofs.TokensRise.{Moves, rise}
 use Rattle.process_deployment.specs.Allowed.{May, MayAll}
-use Rattle.process_deployment.specs.Cluster.{JoinTokens, Cluster, first_cluster}
-use Rattle.process_deployment.specs.Steps.{Step, Decide, Read, decided, after, after_all, clustered}
+use Rattle.process_deployment.specs.Cluster.{JoinTokens, Process, answer_to, having_read, reads, Cluster, first_cluster, process_at}
+use Rattle.process_deployment.specs.Steps.{Step, Decide, Read, decided, read_by, after, after_all, clustered}
 use Rattle.process_deployment.specs.Theorems.{world_of}
-use Rattle.process_deployment.specs.Tokens.{TokensOfLinesFence}
-use Rattle.process_deployment.proofs.Following.{Follows, FollowsOn, WrittenReadAsThemselves, follows_on, follows_so, follows_all, follows_first}
+use Rattle.process_deployment.specs.FencingTokens.{TokensOfLinesFence, TellsToken, TokensToldRise}
+use Rattle.process_deployment.proofs.Following.{Follows, FollowsOn, WrittenReadAsThemselves, follows_on, follows_so, follows_all, follows_first, its_silo}
 use Rattle.process_deployment.proofs.Plain.{lines_are_plain}
+use Rattle.process_deployment.proofs.Ended.{living_go_on}
+use Rattle.process_deployment.proofs.Firm.{lines_tell_firm}
 
 -- ---- steps, one after the other
 after_append : (c : Cluster) (xs ys : List Step) → after_all c (xs ++ ys) ≡ after_all (after_all c xs) ys
@@ -141,8 +151,68 @@ module _ (themselves : WrittenReadAsThemselves) (settings : Settings) (tokens : 
         ((steps_move settings are).gone f.steps silo f.named);
   }
 
+-- ---- what is told
+reader_is_silo : (c : Cluster) (silo : Silo) (line : List ℕ) → May c (Read silo line) → IsSilo silo
+unfolding May
+reader_is_silo c silo line may = may.0
+
+-- the node of a silo's process
+its_node : (c : Cluster) (silo : Silo) (p : Process) → process_at silo c.processes ≡ Some p → node_of (world_of c) silo ≡ Some p.silo.node
+its_node c silo p there =
+    lookup-over (λ (v : SiloValue). v.node) (is_at (silo_cmp silo)) (over its_silo c.processes)
+    ∙ ap (option_map (λ (v : SiloValue). v.node)) (lookup-over its_silo (is_at (silo_cmp silo)) c.processes ∙ ap (option_map its_silo) there)
+
+-- a process that goes on, after one line
+read_there : (c : Cluster) (silo : Silo) (line : List ℕ) (p : Process) → process_at silo c.processes ≡ Some p → p.ended ≡ false
+    → process_at silo (after c (Read silo line)).processes ≡ Some (having_read line (answer_to line p) p)
+unfolding after
+read_there c silo line p there lives =
+    ap (λ o. process_at silo (read_by o silo line c.processes)) there
+    ∙ found_put silo_cmp silo_cmp_total silo_cmp_exact silo (reads line p) c.processes
+    ∙ ap (λ b. Some (cond b p (having_read line (answer_to line p) p))) lives
+
+-- what is told becomes firm, with that token
+becomes_so :
+    WrittenReadAsThemselves → (settings : Settings) (tokens : JoinTokens) → AreSettings settings → (before : List Step) (one : Step) → MayAll (first_cluster settings tokens) (before ++ one ∷ [])
+    → (grain : Grain) (a : ActivationId) (u : ℕ) → TellsToken (clustered settings tokens before) one grain a u → BecomesFirm Step (λ steps. world_of (clustered settings tokens steps)) before one grain a u
+becomes_so themselves settings tokens are before one may grain a u tells =
+    let c = clustered settings tokens before in
+    let p = tells.process in
+    let parts = may_parts (first_cluster settings tokens) before (one ∷ []) may in
+    let its = (may_one c one [] parts.1).0 in
+    let is_silo = reader_is_silo c a.silo tells.line (subst (May c) tells.is its) in
+    let lives = living_go_on themselves settings tokens before are parts.0 a.silo p tells.there in
+    let firm = lines_tell_firm themselves settings tokens before are parts.0 a.silo p tells.line is_silo tells.there in
+    let now : after c (Read a.silo tells.line) ≡ clustered settings tokens (before ++ one ∷ []) =
+    ap (after c) (sym tells.is) ∙ sym (after_append (first_cluster settings tokens) before (one ∷ []) ∙ after_one c one [] ∙ after_none (after c one)) in
+    let there : node_of (world_of (after c (Read a.silo tells.line))) a.silo ≡ Some (answer_to tells.line p).silo.node =
+    its_node (after c (Read a.silo tells.line)) a.silo (having_read tells.line (answer_to tells.line p) p) (read_there c a.silo tells.line p tells.there lives) in
+    record {
+      not_before = λ seen was.
+          let same : was.node ≡ p.silo.node = some_same was.node p.silo.node (sym was.there ∙ its_node c a.silo p tells.there) in
+          tells.becomes.0 (ap (life_on grain) (sym same) ∙ was.held);
+      firm = subst (λ c. IsFirm (world_of c) grain a u) now (record {
+        node = (answer_to tells.line p).silo.node;
+        there = there;
+        held = tells.becomes.1;
+        version = firm.seen grain a.count tells.becomes ∙ tells.seen;
+      });
+    }
+  where
+    some_same : (x y : Node) → ◌≡◌ {A = Option Node} (Some x) (Some y) → x ≡ y
+    some_same x y is = cc is
+
 pub tokens_of_lines_fence : WrittenReadAsThemselves → TokensOfLinesFence
 tokens_of_lines_fence themselves settings tokens are =
     let fall = never_fall themselves settings tokens are in
     let pass = pass_deaths themselves settings tokens are in
     record { never_fall = fall; pass_deaths = pass; rise = rise Step (MayAll (first_cluster settings tokens)) (λ steps. world_of (clustered settings tokens steps)) (moves themselves settings tokens are) fall pass }
+
+pub tokens_told_rise : WrittenReadAsThemselves → TokensToldRise
+tokens_told_rise themselves settings tokens before between one later grain a b u v are may x y =
+    let first = first_cluster settings tokens in
+    let until : MayAll first (before ++ one ∷ between) = (may_parts first (before ++ one ∷ between) (later ∷ []) may).0 in
+    let begun : MayAll first (before ++ one ∷ []) = (may_parts first (before ++ one ∷ []) between (subst (MayAll first) (sym (append_assoc before (one ∷ []) between)) until)).0 in
+    (tokens_of_lines_fence themselves settings tokens are).rise before between one later grain a b u v may
+    (becomes_so themselves settings tokens are before one begun grain a u x)
+    (becomes_so themselves settings tokens are (before ++ one ∷ between) later may grain b v y)

@@ -47,6 +47,8 @@ AsksToEnd grain other = ⊥
 pub record TellsFirm (s : SiloValue) (read : Result (Option Asked) ℕ) (it : Answered) : Type 0 where
   -- what becomes firm is told, and nothing else
   pub told : (grain : Grain) (count : ℕ) → BecomesFirm grain count s it.silo → it.lines ≡ its_firm_line s grain count ∷ []
+  -- its silo sees no other version by it
+  pub seen : (grain : Grain) (count : ℕ) → BecomesFirm grain count s it.silo → it.silo.node.view.version ≡ s.node.view.version
   -- and whatever is told so becomes firm
   pub only : (line : List ℕ) → Contains it.lines line → SaysFirm line → (grain : Grain) × (count : ℕ) × BecomesFirm grain count s it.silo × (line ≡ its_firm_line s grain count)
   -- what is firm stays firm, unless the application asks for its end

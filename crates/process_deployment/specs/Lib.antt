@@ -8,4 +8,4 @@ pub mod Wrong
 pub mod Firm
 pub mod Started
 pub mod Unjoined
-pub mod Tokens
+pub mod FencingTokens

@@ -3,8 +3,8 @@
 ghost use Rattle.process_deployment.specs.Firm.{FirmStays, LinesTellFirm};
 ghost use Rattle.process_deployment.specs.Started.{StartsAreRuns};
 ghost use Rattle.process_deployment.specs.Theorems.{ClustersAreDeployments, LinesArePlain, LinesKeepOneFirm, LinesKeepTheHeadline, LivingGoOn, ProcessesJoinByTheirTokens, ProcessesWriteTheirOutput};
+ghost use Rattle.process_deployment.specs.FencingTokens.{TokensOfLinesFence, TokensToldRise};
 ghost use Rattle.process_deployment.specs.Unjoined.{UnjoinedDoNothing};
-ghost use Rattle.process_deployment.specs.Tokens.{TokensOfLinesFence};
 ghost use Rattle.process_deployment.specs.Worked.{WorkedCluster};
 
 /// Some steps of a deployment make the processes' silos, and write each letter that their lines say.
@@ -38,9 +38,15 @@ pub fn firm_stays()
     ensures { FirmStays }
 {}
 
-/// The version that a silo has seen when its process tells `firm` is a fencing token, as it is of a deployment.
+/// The version that a silo has seen when an activation becomes firm is a fencing token, as it is of a deployment.
 pub fn tokens_of_lines_fence()
     ensures { TokensOfLinesFence }
+{}
+
+/// So of two versions that are told with `firm`, of one grain, the later one is higher; or it is the same, and the earlier activation was
+/// closing in between.
+pub fn tokens_told_rise()
+    ensures { TokensToldRise }
 {}
 
 /// A process ends only where its silo is Dead by the changes decided.
