@@ -1,5 +1,5 @@
 -- A publication of what an event left.
-use Rattle.std.proofs.Common.{◌≡◌, ◌∙◌, ◌≤◌, ◌++◌, [], ◌∷◌, ℕ, IfErr, IfOk, IfSome, List, Option, Result, Ok, Err, ap, arith, inl, inr, length, subst, sym}
+use Rattle.std.proofs.Common.{◌≡◌, ◌∙◌, ◌≤◌, ◌++◌, [], ◌∷◌, ℕ, IfErr, IfOk, IfSome, List, Option, Some, Result, Ok, Err, ap, arith, inl, inr, length, subst, sym}
 use Rattle.membership_view.specs.View.{ViewValue}
 use Rattle.hash_ring.specs.Places.{PlacesValue}
 use Rattle.directory_rules.specs.Settings.{Settings}
@@ -15,7 +15,7 @@ use Rattle.std.specs.Prelude.{OnErr, OnOk}
 use Rattle.std.specs.Result.{result_err}
 use Rattle.silo_address.specs.Silo.{Silo}
 use Rattle.silo_threads.specs.Cluster.{ClusterValue}
-use Rattle.silo_threads.specs.Followed.{HasChanged, HasJoined, HasPublished, IsLeftIn, Shows, ShowsNewest, version_made, with_worker}
+use Rattle.silo_threads.specs.Followed.{HasChanged, HasJoined, HasPublished, IsLeftIn, LacksThread, Shows, ShowsNewest, version_made, with_worker}
 use Rattle.silo_threads.specs.declared.fault.Lack.{Lack}
 use Rattle.silo_threads.specs.declared.fault.Lack.TheVariants.{Publication, Thread}
 use Rattle.silo_threads.proofs.VersionsMade.{up_to, version_left}
@@ -24,6 +24,15 @@ use Rattle.silo_threads.proofs.VersionsMade.{up_to, version_left}
 shown_up_to : (view : ViewValue) (places : PlacesValue) (before after : PublisherValue) → Shows view places before after → view.version ≤ after.last.version
 shown_up_to view places before after (inl shown) = let its = ap (λ (p : PublisherValue). p.last.version) shown.1 in omega arith
 shown_up_to view places before after (inr shown) = let its = ap (λ (p : PublisherValue). p.last.version) shown.1 in let within = shown.0 in omega arith
+
+-- a join whose worker lacks its thread
+pub unstarted : (world : World) (silo : Silo) (receipt : Receipt) (before after : ClusterValue) (workers : List Silo) (lack : Option Lack) (why : Lack) → lack ≡ Some why → why ≡ Thread
+    → LacksThread silo before.workers workers → after ≡ record before { workers = workers } → HasJoined world silo receipt before after lack
+unstarted world silo receipt before after workers lack why is its lacks after_is =
+    subst (HasJoined world silo receipt before after) (sym (is ∙ ap (λ (l : Lack). Some l) its)) (
+      subst (LacksThread silo before.workers) (sym (ap (λ (v : ClusterValue). v.workers) after_is)) lacks,
+      ap (λ (v : ClusterValue). v.published) after_is,
+    )
 
 module _ (settings : Settings) (known now : List EntryValue) (event : Event) (receipt : Receipt) (its : IsReceiptOf settings known now event receipt) (last : receipt.number ≡ length now) where
   -- what the receipt tells is the version of the world that its event left

@@ -1,0 +1,11 @@
+use Rattle.directory_rules.specs.EventModel.{event_of}
+use Rattle.silo_threads.proofs.Rings.{changed}
+use Rattle.silo_threads.proofs.cluster.Cluster.change.Goals as goal
+
+pub returns-clause-followed : goal.returns-clause-followed
+returns-clause-followed g c =
+    let posted = c.in_ok-posted in
+    let publish = c.publish in
+    changed g.L.Charter.settings c.args.hand.now.seen c.post_change.new.hand.seen (event_of c.args.event.now) posted.posted.receipt posted.ensures.receipt posted.ensures.last
+    posted.posted.newest posted.ensures.left c.args.self.now publish.new.self publish.result c.err-lack.result c.err-lack.ensures.value
+    publish.ensures.workers publish.ensures.published publish.ensures.unchanged publish.ensures.lack
