@@ -70,20 +70,20 @@ test(unregister, [A, B, C]) ->
 
 %% A process gives its name up or hands it over, and all begins anew at its node before that is done. Whoever has the name next keeps it.
 test(once, [A, B, C]) ->
+    #{agent := Agent} = A,
     New = on(C, fun() -> {ok, P} = gen_server:start(grain_counter, x, []), P end),
     [begin
          {ok, _} = start(A, {x, What}),
-         #{agent := Agent} = A,
          os:cmd("kill -STOP " ++ integer_to_list(Agent)), % so that nothing is answered
          on(A, erlang, spawn, [grain_registry, What, [{x, What} | More]]),
          timer:sleep(200),
          on(A, grain_fence, fence, [trial]),
-         timer:sleep(200),
+         until(fun() -> start(B, {x, What}), is_pid(where(B, {x, What})) end, 60000),
+         Holder = where(B, {x, What}),
          os:cmd("kill -CONT " ++ integer_to_list(Agent)),
-         until(fun() -> (catch element(1, start(B, {x, What}))) =:= ok end, 20000),
+         grain_cluster:join(A),
          timer:sleep(1000),
-         ?assertEqual({name(B), 1}, call(C, {x, What}, add)),
-         ?assertMatch({error, {already_started, _}}, start(C, {x, What}))
+         ?assertEqual(Holder, on(C, grain_finder, where, [grain_term:key({x, What})]))
      end || {What, More} <- [{unregister_name, []}, {hand_over, [New]}]];
 
 %% Each node hears which names the others have, and which they haven't any more; a node that comes hears all.
