@@ -18,7 +18,7 @@ main() ->
         grain_cluster:kill(Victim),
         Began = erlang:monotonic_time(millisecond),
         [Other | _] = Nodes -- [Victim],
-        grain_cluster:until(fun() -> is_tuple(catch on(Other, grain, call, [{counter, "ann"}, add])) end, 60000),
+        grain_cluster:until(fun() -> counts(catch on(Other, grain, call, [{counter, "ann"}, add])) end, 60000),
         {_, _, Now} = add(Other),
         io:format("after ~b ms it went on from ~b~n", [erlang:monotonic_time(millisecond) - Began, Count]),
         true = Now >= Count + 2
@@ -27,6 +27,9 @@ main() ->
         gen_server:stop(Store),
         grain_cluster:stop_servers(Servers)
     end.
+
+counts({_, _, Count}) -> is_integer(Count);
+counts(_) -> false.
 
 add(N) ->
     {At, Token, Count} = Answer = on(N, grain, call, [{counter, "ann"}, add]),

@@ -10,9 +10,10 @@
 -define(WAIT, 30000).
 -define(TURNS, 5).
 -define(PAUSE, 10).
+-define(ANSWER, 1000). % milliseconds for a node's answer: its registry may begin anew just then
 
 -type answer() :: pid() | undefined | {refused, Code :: binary()}.
--record(find, {key :: binary(), froms :: [gen_server:from()], turns = ?TURNS :: non_neg_integer(), asked = [] :: [node()]}).
+-record(find, {key :: binary(), froms :: [gen_server:from()], turns = ?TURNS :: non_neg_integer(), asked = [] :: [node()], asking = none :: none | reference()}).
 -record(state, {questions = grain_questions:new($f, ?WINDOW, ?MOST) :: grain_questions:questions(), finds = #{} :: #{binary() => #find{}}}).
 
 -spec start_link() -> gen_server:start_ret().
@@ -48,7 +49,12 @@ handle_info({here, Grain, Node, Pid}, S) -> {noreply, sent(answered(Grain, Node,
 handle_info({nodedown, Node}, S = #state{finds = Finds}) -> % it answers no more
     Grains = [Grain || {Grain, #find{asked = Asked}} <- maps:to_list(Finds), lists:member(Node, Asked)],
     {noreply, sent(lists:foldl(fun(Grain, S1) -> answered(Grain, Node, undefined, S1) end, S, Grains))};
-handle_info({again, Grain}, S) -> {noreply, sent(search(Grain, <<" fresh">>, S))};
+handle_info({unanswered, Grain, Asking}, S = #state{finds = Finds}) ->
+    case Finds of
+        #{Grain := #find{asking = Asking}} -> {noreply, sent(again(Grain, S))};
+        _ -> {noreply, S}
+    end;
+handle_info({again, Grain}, S = #state{finds = Finds}) when is_map_key(Grain, Finds) -> {noreply, sent(search(Grain, <<" fresh">>, S))};
 handle_info(_, S) -> {noreply, S}.
 
 sent(S = #state{questions = Q}) -> S#state{questions = grain_questions:sent(Q)}.
@@ -59,9 +65,12 @@ search(Grain, Fresh, S = #state{questions = Q}) ->
         busy -> done(Grain, {refused, <<"busy">>}, S)
     end.
 
-line([Tag | Answer], S = #state{questions = Q}) ->
+line([Tag | Answer], S = #state{questions = Q, finds = Finds}) ->
     {Grain, Q1} = grain_questions:answered(Tag, Q),
-    said(Answer, Grain, S#state{questions = Q1}).
+    case is_map_key(Grain, Finds) of
+        true -> said(Answer, Grain, S#state{questions = Q1});
+        false -> S#state{questions = Q1} % a node has answered late, and before
+    end.
 
 said([<<"at">>, Activation | _], Grain, S) -> at(hd(binary:split(Activation, <<"!">>)), Grain, S);
 said([<<"nowhere">> | _], Grain, S) -> done(Grain, undefined, S);
@@ -72,10 +81,11 @@ at(Silo, Grain, S = #state{finds = Finds}) ->
     F = #find{key = Key} = maps:get(Grain, Finds),
     Reached = [Node || Node <- grain_members:nodes_at(Silo), Node =:= node() orelse lists:member(Node, nodes())],
     [erlang:send({?MODULE, Node}, {where, self(), Grain, Key}, [noconnect]) || Node <- Reached],
-    S1 = S#state{finds = Finds#{Grain := F#find{asked = Reached}}},
+    Asking = make_ref(),
+    S1 = S#state{finds = Finds#{Grain := F#find{asked = Reached, asking = Asking}}},
     case Reached of
         [] -> again(Grain, S1);
-        _ -> S1
+        _ -> erlang:send_after(?ANSWER, self(), {unanswered, Grain, Asking}), S1
     end.
 
 answered(Grain, Node, Pid, S = #state{finds = Finds}) ->
@@ -85,7 +95,7 @@ answered(Grain, Node, Pid, S = #state{finds = Finds}) ->
             done(Grain, Pid, S);
         #{Grain := F = #find{asked = Asked}} ->
             case lists:member(Node, Asked) andalso lists:delete(Node, Asked) of
-                [] -> again(Grain, S#state{finds = Finds#{Grain := F#find{asked = []}}});
+                [] -> again(Grain, S);
                 false -> S;
                 Rest -> S#state{finds = Finds#{Grain := F#find{asked = Rest}}}
             end;
@@ -98,7 +108,7 @@ again(Grain, S = #state{finds = Finds}) ->
         #find{turns = 0} -> done(Grain, undefined, S);
         F = #find{turns = Turns} ->
             erlang:send_after(?PAUSE, self(), {again, Grain}),
-            S#state{finds = Finds#{Grain := F#find{turns = Turns - 1}}}
+            S#state{finds = Finds#{Grain := F#find{turns = Turns - 1, asked = [], asking = none}}}
     end.
 
 done(Grain, Answer, S = #state{finds = Finds}) ->

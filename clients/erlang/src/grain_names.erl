@@ -17,7 +17,7 @@
 -define(ARRIVAL, 100).  % for a name that was handed over and may still be on its way
 
 -type registered() :: yes | no | {refused, Code :: binary()}.
--type handed_over() :: yes | no | gone. % it isn't that process' any more
+-type handed_over() :: registered() | gone. % it isn't that process' any more
 -type grain() :: binary().
 -record(held, {phase :: asking | expecting | firm | closing, key :: binary(), pid :: none | pid(), monitor :: none | reference(),
                from = none :: none | gen_server:from(),         % who waits for it here

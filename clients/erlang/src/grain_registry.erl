@@ -7,6 +7,7 @@
 -define(WAIT, 30000). % milliseconds for a node that isn't a member just now, or has too much to do
 -define(PAUSE, 50).
 -define(TURNS, 5). % until a name that is always somewhere else is taken for nobody's
+-define(BEGINS_ANEW(Why), Why =:= noproc; Why =:= killed; Why =:= shutdown; element(1, Why) =:= shutdown).
 
 %% Gives a name to a process; no if another has it. Exits with {refused, Code} where the agent refuses, and with timeout.
 -spec register_name(Name :: term(), pid()) -> yes | no.
@@ -22,9 +23,9 @@ register_name(Name, Pid) when is_pid(Pid) ->
 -spec unregister_name(Name :: term()) -> ok.
 unregister_name(Name) ->
     Key = grain_term:key(Name),
-    case at_holder(Key, fun(Pid) -> grain_names:unregister(Key, Pid) end) of
-        {refused, Why} -> exit({refused, Why});
+    try at_holder(Key, fun(Pid) -> grain_names:unregister(Key, Pid) end) of
         _ -> ok
+    catch exit:{Why, _} when ?BEGINS_ANEW(Why) -> ok % what was registered at that node has ended
     end.
 
 %% The process that has a name. At another node it may be one that has just given it up.
@@ -48,13 +49,18 @@ ask_where(Key) ->
         Refused -> exit(Refused)
     end.
 
-%% Asks the node of the process that has a name. Where it hasn't any more, as hints may be old, the directory says who has.
-at_holder(Key, Ask) -> at_holder(where(Key), Key, Ask, ?TURNS).
+%% Asks the node of the process that has a name, once: where all begins anew there meanwhile, another may have the name by then, and isn't to lose
+%% it. Only where a hint was old the directory says who has it.
+at_holder(Key, Ask) ->
+    case here(Key) of
+        {Pid, _} -> Ask(Pid);
+        none -> at_holder(where(Key), Key, Ask, ?TURNS)
+    end.
 
 at_holder(undefined, _, _, _) -> gone;
 at_holder(_, _, _, 0) -> gone;
 at_holder(Pid, Key, Ask, Turns) ->
-    case patiently(fun() -> Ask(Pid) end) of
+    case Ask(Pid) of
         gone -> at_holder(ask_where(Key), Key, Ask, Turns - 1);
         Answer -> Answer
     end.
@@ -67,7 +73,7 @@ send(Name, Message) ->
     end.
 
 %% The name goes from its process, which works under it no more, to another one, at any node; no if that one's node didn't get it. At no time
-%% have two of them the name.
+%% have two of them the name. Exits where all begins anew at the process' node meanwhile: then either may have come of it.
 -spec hand_over(Name :: term(), pid()) -> yes | no.
 hand_over(Name, Pid) when is_pid(Pid) ->
     Key = grain_term:key(Name),
@@ -121,7 +127,7 @@ patiently(Ask) -> patiently(Ask, erlang:monotonic_time(millisecond) + ?WAIT).
 
 patiently(Ask, Until) ->
     Answer = try Ask()
-             catch exit:{Why, _} when Why =:= noproc; Why =:= killed; Why =:= shutdown; element(1, Why) =:= shutdown -> {refused, Why}
+             catch exit:{Why, _} when ?BEGINS_ANEW(Why) -> {refused, Why}
              end,
     case Answer of
         {refused, Again} when Again =/= <<"leaving">>, not is_binary(Again) orelse Again =:= <<"busy">> orelse Again =:= <<"lost">> ->

@@ -12,13 +12,13 @@ main(What) ->
         lists:member(grain_registry, What) andalso waits(Servers)
     after grain_cluster:stop_servers(Servers) end.
 
-nodes_of(Registry, Servers) ->
+nodes_of(Registry, Servers, Ttl) ->
     Cluster = lists:concat([Registry, erlang:unique_integer([positive])]),
-    Ns = [start(list_to_atom(lists:concat([b, K])), Servers, Cluster) || K <- [1, 2, 3]],
+    Ns = [start(list_to_atom(lists:concat([b, K])), Servers, Cluster, Ttl) || K <- [1, 2, 3]],
     connect(Registry, Ns),
     Ns.
 
-start(Name, Servers, Cluster) -> grain_cluster:node(Name, Servers, Cluster).
+start(Name, Servers, Cluster, Ttl) -> grain_cluster:node(Name, Servers, Cluster, [lists:concat(["--ttl=", Ttl, "s"])]).
 
 connect(global, Ns) ->
     [on(A, net_kernel, connect_node, [grain_cluster:name(B)]) || A <- Ns, B <- Ns],
@@ -28,7 +28,7 @@ connect(grain_registry, Ns) ->
     grain_cluster:settled(Ns, length(Ns)).
 
 run(Registry, Servers) ->
-    Ns = [A, B, _] = nodes_of(Registry, Servers),
+    Ns = [A, B, _] = nodes_of(Registry, Servers, 15),
     try
         One = on(A, ?MODULE, register_for, [Registry, one, 1, ?SECONDS]),
         say(Registry, "registrations, 1 caller", per(One, ?SECONDS)),
@@ -110,7 +110,7 @@ spread(Registry, Tag, Count) ->
 
 joins(Registry, Ns = [A | _], Servers, Each) ->
     #{cluster := Cluster} = A,
-    D = start(b4, Servers, Cluster),
+    D = start(b4, Servers, Cluster, 15),
     Names = [{{spread, grain_cluster:name(N)}, K} || N <- Ns, K <- lists:seq(1, Each, 32)],
     Began = erlang:monotonic_time(millisecond),
     connect(Registry, [D | Ns]),
@@ -121,7 +121,7 @@ joins(Registry, Ns = [A | _], Servers, Each) ->
 
 %% Both sides of a cut register one name, and the cut heals. The third node is cut off from all, its agent too.
 partition(Registry, Servers) ->
-    Ns = [A, B, C] = nodes_of(Registry, Servers),
+    Ns = [A, B, C] = nodes_of(Registry, Servers, 5),
     try
         Register = fun(N) -> try on(N, fun() -> Pid = spawn(?MODULE, stay, []), {Registry:register_name(ann, Pid), Pid} end) catch _:Why -> {exits(Why), none} end end,
         grain_cluster:shut(C),
@@ -145,11 +145,11 @@ exits(Why) -> Why.
 
 %% How long registering waits while a silo joins, and while a machine dies, with 10,000 names in all.
 waits(Servers) ->
-    Ns = [A, _, C] = nodes_of(grain_registry, Servers),
+    Ns = [A, _, C] = nodes_of(grain_registry, Servers, 5),
     [on(N, ?MODULE, registrations, [grain_registry, {waits, grain_cluster:name(N)}, 32, 3334]) || N <- Ns],
     #{cluster := Cluster} = A,
     {_, Calm} = probe(A, fun() -> timer:sleep(3000), none end),
-    {D, Joining} = probe(A, fun() -> N = grain_cluster:join(start(b5, Servers, Cluster)), timer:sleep(2000), N end),
+    {D, Joining} = probe(A, fun() -> N = grain_cluster:join(start(b5, Servers, Cluster, 5)), timer:sleep(2000), N end),
     {_, Dying} = probe(A, fun() -> grain_cluster:kill(C), timer:sleep(10000), none end),
     [io:format("grain_registry  the longest that registering waited ~s: ~b ms of ~b times~n", [When, Longest, Times])
      || {When, {Times, Longest}} <- [{"in calm", Calm}, {"while a silo joined", Joining}, {"while a machine died (TTL 5 s)", Dying}]],

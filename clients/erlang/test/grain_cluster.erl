@@ -59,7 +59,7 @@ start_agent(#{doors := #{etcd := Etcd, nats := Nats}, socket := Socket, cluster 
     spawn_program(os:getenv("AGENT"), [lists:concat(["--endpoint=127.0.0.1:", Port]), "--socket=" ++ Socket, "--program=" ++ os:getenv("SILO_PROGRAM"),
                                        lists:concat(["--etcd=127.0.0.1:", grain_door:port(Etcd)]),
                                        lists:concat(["--nats=nats://127.0.0.1:", grain_door:port(Nats)]),
-                                       "--cluster=" ++ Cluster, "--ttl=5s", "--lock-delay=300ms", "--points=8", "--log=warning",
+                                       "--cluster=" ++ Cluster, "--ttl=5s", "--lock-delay=300ms", "--points=8", "--log=info",
                                        "--silent-after=3s", "--transport-timeout=4s", "--leave-timeout=10s" | Words]).
 
 %% A node at an agent; several may share one.

@@ -10,7 +10,7 @@ all_test_() ->
 
 tests() ->
     case string:lexemes(os:getenv("ONLY", ""), " ") of
-        [] -> [names, race, exits, unregister, hints, full, two_at_one, killed, vm_killed, joins, hand_over, leaves, agent_leaves, cut_off, cut_from_nodes,
+        [] -> [names, race, exits, unregister, once, hints, full, two_at_one, killed, vm_killed, joins, hand_over, leaves, agent_leaves, cut_off, cut_from_nodes,
                one_link, silo_killed, etcd_away, frozen, actors];
         Names -> [list_to_atom(Name) || Name <- Names]
     end.
@@ -67,6 +67,24 @@ test(unregister, [A, B, C]) ->
     until(fun() -> [New] =:= lists:usort([where(N, x) || N <- [A, B, C]]) end, 1000),
     ?assert(on(A, erlang, is_process_alive, [Pid])),
     ok = on(A, grain_registry, unregister_name, [nobody]);
+
+%% A process gives its name up or hands it over, and all begins anew at its node before that is done. Whoever has the name next keeps it.
+test(once, [A, B, C]) ->
+    #{agent := Agent} = A,
+    New = on(C, fun() -> {ok, P} = gen_server:start(grain_counter, x, []), P end),
+    [begin
+         {ok, _} = start(A, {x, What}),
+         os:cmd("kill -STOP " ++ integer_to_list(Agent)), % so that nothing is answered
+         on(A, erlang, spawn, [grain_registry, What, [{x, What} | More]]),
+         timer:sleep(200),
+         on(A, grain_fence, fence, [trial]),
+         until(fun() -> start(B, {x, What}), is_pid(where(B, {x, What})) end, 60000),
+         Holder = where(B, {x, What}),
+         os:cmd("kill -CONT " ++ integer_to_list(Agent)),
+         grain_cluster:join(A),
+         timer:sleep(1000),
+         ?assertEqual(Holder, on(C, grain_finder, where, [grain_term:key({x, What})]))
+     end || {What, More} <- [{unregister_name, []}, {hand_over, [New]}]];
 
 %% Each node hears which names the others have, and which they haven't any more; a node that comes hears all.
 test(hints, Nodes = [A, B, C]) ->
