@@ -1,5 +1,5 @@
 -- Events that commands post.
-use Rattle.std.proofs.Common.{◌≡◌, ◌∙◌, ◌+◌, ◌<◌, ◌≤◌, ℕ, suc, Bool, true, false, List, [], ◌∷◌, ◌++◌, Result, Ok, Err, add-one, ap, arith, drop, drop-cons, get_or, length, map, refl, sym, subst, append-nil}
+use Rattle.std.proofs.Common.{◌≡◌, ◌∙◌, ◌+◌, ◌<◌, ◌≤◌, ◌⊎◌, ℕ, inl, inr, suc, Bool, true, false, List, [], ◌∷◌, ◌++◌, Result, Ok, Err, add-one, ap, arith, drop, drop-cons, get_or, length, map, refl, sym, subst, append-nil}
 use Rattle.std.specs.Prelude.{OnOk}
 use Rattle.std.proofs.lemmas.List.{drop_all}
 use mathlib.Core.List.{IsPrefix}
@@ -31,6 +31,20 @@ pub posts_itself : (event : Event) (world : World) → ((number : ℕ) → event
 posts_itself (Deliver number) world not_delivered not_lost = absurd (not_delivered number refl)
 posts_itself (Lose number) world not_delivered not_lost = absurd (not_lost number refl)
 posts_itself other world not_delivered not_lost = refl
+
+-- one that is
+no_delivery : (event : Event) (number : ℕ) → event ≡ Deliver number → (world : World) → posted_by world (script.Happen (event_of event)) ≡ []
+no_delivery event number is world = ap (λ (e : Event). posted_by world (script.Happen (event_of e))) is
+
+no_loss : (event : Event) (number : ℕ) → event ≡ Lose number → (world : World) → posted_by world (script.Happen (event_of event)) ≡ []
+no_loss event number is world = ap (λ (e : Event). posted_by world (script.Happen (event_of e))) is
+
+pub no_own : (event : Event) → ((number : ℕ) × (event ≡ Deliver number)) ⊎ ((number : ℕ) × (event ≡ Lose number)) → (world : World) → posted_by world (script.Happen (event_of event)) ≡ []
+no_own event (inl delivers) world = no_delivery event delivers.0 delivers.1 world
+no_own event (inr loses) world = no_loss event loses.0 loses.1 world
+
+pub no_settling : (command : Command) → command ≡ commands.Settle → (world : World) → posted_by world (command_of command) ≡ []
+no_settling command is world = ap (λ (c : Command). posted_by world (command_of c)) is
 
 -- a command that asks for no event
 pub posts_none : (command : Command) (world : World) → ((event : Event) → command ≡ commands.Happen event → ⊥) → (command ≡ commands.Sync → ⊥) → posted_by world (command_of command) ≡ []

@@ -1,7 +1,9 @@
-use Rattle.std.proofs.Common.{List, map, subst}
+use Rattle.std.proofs.Common.{List, map, subst, sym}
+use Rattle.directory_rules.specs.Settings.{Settings}
 use Rattle.script_lines.specs.CommandModel.{command_of}
 use Rattle.script_lines.specs.declared.command.Command.{Command}
 use Rattle.threaded_play.specs.CarriedOut.{CarriesOut}
+use Rattle.console_threads.specs.Endings.{EndsBy}
 use Rattle.console_threads.proofs.Closed.{told_lacking, told_nothing}
 use Rattle.console_threads.proofs.Endings.{script_ends}
 use Rattle.console_threads.proofs.play.play_on_threads.Goals as goal
@@ -26,4 +28,6 @@ returns-in-Ok-closed-clause-ends g c =
     (g.R.Source.remaining c.play_lines-lines.new.reader) (g.W.Sink.contents c.args.writer.now) (g.W.Sink.contents c.print.new.writer) c.print.result
     c.new.ensures.items c.in-Ok-closed.ensures.journaled
     (subst (λ (l : List Command). CarriesOut c.args.settings board.journal (map command_of l)) c.deref.ensures.value c.in-Ok-closed.ensures.carried)
-    c.in-Ok.ensures.ends c.in-Ok.ensures.kept c.print.ensures.ends
+    c.in-Ok.ensures.ends c.in-Ok.ensures.kept
+    (subst (λ (s : Settings). EndsBy s board.journal board.world lines.text.items lines.ended (g.W.Sink.contents c.args.writer.now) (g.W.Sink.contents c.print.new.writer) c.print.result)
+    (sym c.requires.settings) c.print.ensures.ends)

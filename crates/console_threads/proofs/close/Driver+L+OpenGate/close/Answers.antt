@@ -1,4 +1,5 @@
 use Rattle.std.proofs.lemmas.Result.{IfOk-weaker}
+use Rattle.cluster_journal.proofs.Beginnings.{prefix_then}
 use Rattle.threaded_play.specs.declared.ended.ThreadsEnded.TheVariants.{Lacking}
 use Rattle.threaded_play.proofs.Nothing.{nothing_told}
 use Rattle.console_threads.proofs.Closed.{closed_silently}
@@ -16,3 +17,8 @@ pub returns-clause-beside : goal.returns-clause-beside
 returns-clause-beside g c =
     IfOk-weaker c.closed.result _ _ (λ board agree. deliveries_beside board.journal g.L.Charter.settings c.in-Ok.ended.hand.seen c.args.self.cluster c.args.self.receipts.items c.in-Ok.ended.receipts.items _ _ c.in-Ok.ensures.receipts agree)
     c.closed.ensures.agree
+
+-- what the driver saw begins what was seen at the end
+pub returns-clause-seen : goal.returns-clause-seen
+returns-clause-seen g c =
+    IfOk-weaker c.closed.result _ _ (λ board begins. prefix_then c.args.self.hand.seen c.in-Ok.ended.hand.seen board.journal c.in-Ok.ensures.seen begins) c.closed.ensures.seen

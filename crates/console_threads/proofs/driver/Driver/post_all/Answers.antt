@@ -1,7 +1,8 @@
 use Rattle.std.proofs.Common.{◌+◌, Bool, drop, map, subst}
 use Rattle.directory_rules.specs.EventModel.{event_of}
 use Rattle.console_threads.specs.Driven.{IsPosted}
-use Rattle.console_threads.proofs.Posted.{all_accepted, none_left, one_accepted, one_left, one_refused}
+use Rattle.console_threads.proofs.SoFar.{nothing_yet}
+use Rattle.console_threads.proofs.Posted.{Posted, all_accepted, none_left, one_accepted, one_left, one_refused}
 use Rattle.console_threads.proofs.driver.Driver.post_all.Goals as goal
 
 pub loop-event-preserved : goal.loop-event-preserved
@@ -40,3 +41,6 @@ returns g c = λ all.
     let now = c.loop-event.self in
     all_accepted g.L.Charter.settings (map event_of events) (map event_of (drop index events)) before.hand.seen now.hand.seen before.receipts.items now.receipts.items
     (none_left event_of events index c.loop-event-test.false) (c.loop-event.invariant all)
+
+pub loop-event-init : goal.loop-event-init
+loop-event-init g c = λ all. nothing_yet (Posted g.L.Charter.settings) (map event_of c.args.events.now) c.args.self.now.hand.seen c.args.self.now.receipts.items

@@ -1,4 +1,5 @@
-use Rattle.std.proofs.Common.{map, sym}
+use Rattle.std.proofs.Common.{◌∙◌, List, ap, map}
+use Rattle.directory_rules.specs.declared.event.Event.{Event}
 use Rattle.directory_rules.specs.EventModel.{event_of}
 use Rattle.script_rules.specs.Script.{Sync}
 use Rattle.console_threads.proofs.Posted.{performed, where_well}
@@ -11,5 +12,5 @@ returns g c =
     let known = c.sights.new.hand.seen in
     let after = c.post_all.new.self in
     where_well c.post_all.result (λ posted lacking.
-    performed g.L.Charter.settings Sync (map event_of c.in_ok-sights.sights.items) before.hand.seen known after.hand.seen before.receipts.items after.receipts.items
-    c.sights.ensures.seen c.in_ok-sights.ensures (posted lacking)) c.post_all.ensures
+    performed g.L.Charter.settings Sync (map event_of c.deref.result.now) before.hand.seen known after.hand.seen before.receipts.items after.receipts.items
+    c.in_ok-sights.ensures.seen (ap (λ (l : List Event). map event_of l) c.deref.ensures.value ∙ c.in_ok-sights.ensures.sights) (posted lacking)) c.post_all.ensures
