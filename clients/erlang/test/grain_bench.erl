@@ -8,8 +8,8 @@
 main(What) ->
     Servers = grain_cluster:servers(),
     try
-        [begin run(Registry, Servers), partition(Registry, Servers) end || Registry <- What],
-        lists:member(grain_registry, What) andalso waits(Servers)
+        [begin run(Registry, Servers#{doors => none}), partition(Registry, Servers) end || Registry <- What],
+        lists:member(grain_registry, What) andalso waits(Servers#{doors => none})
     after grain_cluster:stop_servers(Servers) end.
 
 nodes_of(Registry, Servers, Ttl) ->

@@ -49,10 +49,11 @@ end_program(Pid) ->
 node(Name, Servers, Cluster) -> node(Name, Servers, Cluster, []).
 node(Name, Servers, Cluster, Words) -> vm(Name, agent(Name, Servers, Cluster, Words)).
 
-agent(Name, #{etcd := Etcd, nats := Nats}, Cluster, Words) ->
-    Doors = #{etcd => grain_door:open(Etcd), nats => grain_door:open(Nats)}, % what is measured goes through them, too
+agent(Name, Servers = #{etcd := Etcd, nats := Nats}, Cluster, Words) ->
+    Door = maps:get(doors, Servers, open),
+    Doors = #{etcd => grain_door:Door(Etcd), nats => grain_door:Door(Nats)},
     Socket = filename:join("/tmp", lists:concat(["grain-", os:getpid(), "-", Name, erlang:unique_integer([positive])])),
-    A = #{servers => #{etcd => Etcd, nats => Nats}, doors => Doors, socket => Socket, cluster => Cluster, port => free_port(), words => Words},
+    A = #{servers => Servers, doors => Doors, socket => Socket, cluster => Cluster, port => free_port(), words => Words},
     A#{agent => start_agent(A)}.
 
 start_agent(#{doors := #{etcd := Etcd, nats := Nats}, socket := Socket, cluster := Cluster, port := Port, words := Words}) ->

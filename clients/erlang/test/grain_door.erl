@@ -1,7 +1,7 @@
 %% A port that leads to another, while it is open. One that is shut loses what comes, and answers nothing; where something was lost, the
 %% connection ends when the door is opened.
 -module(grain_door).
--export([open/1, port/1, shut/1, reopen/1, close/1]).
+-export([open/1, none/1, port/1, shut/1, reopen/1, close/1]).
 
 open(To) ->
     Own = self(),
@@ -15,10 +15,14 @@ open(To) ->
                    end),
     receive {Keeper, Port, Table} -> {Keeper, Port, Table} end.
 
+%% No door: the port itself, for measures.
+none(To) -> {none, To, none}.
+
 port({_, Port, _}) -> Port.
 
 shut({_, _, Table}) -> ets:insert(Table, {open, false}).
 reopen({_, _, Table}) -> ets:insert(Table, {open, true}).
+close({none, _, _}) -> true;
 close({Keeper, _, _}) -> exit(Keeper, kill).
 
 accept(Listener, To, Table) ->

@@ -59,8 +59,9 @@ obey(take, Self) ->
          Pid -> true = node(Pid) =:= node()
      end || Name <- checked(Self)],
     done;
-%% All are found, by hints and by the directory.
-obey(look, _) ->
+%% All are found, by hints and by the directory. What a node lost meanwhile, as one that is fenced does, it takes again.
+obey(look, Self) ->
+    done = obey(take, Self),
     [begin
          Pid = grain_finder:where(grain_term:key(Name)),
          true = is_pid(Pid),
