@@ -22,7 +22,7 @@ use Rattle.directory_rules.specs.Event as event
 use Rattle.directory_rules.specs.declared.outcome.Happening.TheVariants as happening
 use Rattle.directory_rules.specs.Event.{Event, IsEvent}
 use Rattle.directory_rules.specs.Step.{Stepped, silently}
-use Rattle.directory_rules.specs.Input.{Input, Wakes, Closes, Finds, Forgets, Nudges, Offers, Receives, step}
+use Rattle.directory_rules.specs.Input.{Input, Does, Receives, step}
 use Rattle.directory_rules.specs.World.{Posted, World}
 use Rattle.directory_rules.specs.Happens as rule
 use Rattle.silo_rules.specs.Membership.{Change, Join, Leave, Die, Membership, placed, joined, with_places, with_views, changed}
@@ -31,7 +31,7 @@ use Rattle.silo_rules.specs.Steps.{barred_by, unless_barred, is_seeable, sight_o
 use Rattle.silo_rules.specs.Told.{Heard, told}
 use Rattle.silo_rules.proofs.Whole.{Are}
 use Rattle.deployment_headline.specs.Deployment.{Deployment, process_of}
-use Rattle.deployment_headline.specs.Steps.{Step, Decide, Tell, See, Wake, Close, Find, Forget, Nudge, Offer, Receive, IsStep, without, decided, heard, took, tells, tells_at, does_at, sees_at, delivers, receives_at, after}
+use Rattle.deployment_headline.specs.Steps.{Step, Decide, Tell, See, Do, Receive, IsStep, without, decided, heard, took, tells, tells_at, does_at, sees_at, delivers, receives_at, after}
 use Rattle.deployment_headline.proofs.Lists.{over, insert-over, remove-over, set_same, put_same}
 use Rattle.deployment_headline.proofs.Memberships.{Leads, leads_to, same_sight, still_seeable}
 use Rattle.deployment_headline.proofs.Worlds.{its_node, its_letter, make, HasWritten, node_there, letter_there, Moves, stays, goes, steps}
@@ -229,10 +229,5 @@ module _ (d : Deployment) (accepted : ℕ) (mail : List (ℕ × Posted)) (has : 
   moves sorted its (Decide c) named fits = decides_so c named
   moves sorted its (Tell silo index) named fits = tells_at_so sorted silo index (process_of d silo) refl
   moves sorted its (See silo version) named fits = sees_so silo named version (process_of d silo) refl (its silo) fits
-  moves sorted its (Wake silo grain) named fits = does_so (event.Wake silo grain) named silo (Wakes grain) (process_of d silo) refl refl fits
-  moves sorted its (Close silo grain) named fits = does_so (event.Close silo grain) named silo (Closes grain) (process_of d silo) refl refl fits
-  moves sorted its (Find silo grain) named fits = does_so (event.Find silo grain) named silo (Finds grain) (process_of d silo) refl refl fits
-  moves sorted its (Forget silo grain) named fits = does_so (event.Forget silo grain) named silo (Forgets grain) (process_of d silo) refl refl fits
-  moves sorted its (Nudge silo) named fits = does_so (event.Nudge silo) named silo Nudges (process_of d silo) refl refl fits
-  moves sorted its (Offer silo grain to) named fits = does_so (event.Offer silo grain to) named silo (Offers grain to) (process_of d silo) refl refl fits
+  moves sorted its (Do silo step) named fits = does_so (event.Do silo step) named silo (Does step) (process_of d silo) refl refl fits
   moves sorted its (Receive silo index) named fits = receives_so sorted silo index (process_of d silo) refl (its silo) fits

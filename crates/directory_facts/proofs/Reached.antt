@@ -19,10 +19,10 @@ use Rattle.hash_ring.specs.Places.{PlacesValue, after_add}
 use Rattle.directory_rules.specs.Settings.{Settings}
 use Rattle.directory_rules.specs.Letter.{Letter}
 use Rattle.directory_rules.specs.Node.{Node, new_node}
-use Rattle.directory_rules.specs.Event.{Event, Join, Leave, Kill, See, Wake, Close, Find, Forget, Deliver, Lose, Nudge, Offer}
+use Rattle.directory_rules.specs.Event.{Event, Join, Leave, Kill, See, Do, Deliver, Lose}
 use Rattle.directory_rules.specs.declared.outcome.Happening.{Happening}
 use Rattle.directory_rules.specs.Step.{Stepped}
-use Rattle.directory_rules.specs.Input.{Input, Wakes, Closes, Finds, Forgets, Nudges, Offers, Receives, step}
+use Rattle.directory_rules.specs.Input.{Input, Does, Receives, step}
 use Rattle.directory_rules.specs.World.{Posted, World, Accepted, first_world}
 use Rattle.directory_rules.specs.Mail.{fresh_letter, numbered, letter_of, has_room_for, with_delivered}
 use Rattle.directory_rules.specs.Happens as rule
@@ -210,14 +210,9 @@ attempted F k world (Join silo given) named all = join_viewed F k (change.after_
 attempted F k world (Leave silo) named all = leave_by F k (rule.status_now world silo) world silo all refl
 attempted F k world (Kill silo) named all = kill_by F k (rule.status_now world silo) world silo all refl
 attempted F k world (See silo version) named all = sees_at F k (rule.node_of world silo) world silo version all refl
-attempted F k world (Wake silo grain) named all = does F k world silo (Wakes grain) all named
-attempted F k world (Close silo grain) named all = does F k world silo (Closes grain) all named
-attempted F k world (Find silo grain) named all = does F k world silo (Finds grain) all named
-attempted F k world (Forget silo grain) named all = does F k world silo (Forgets grain) all named
+attempted F k world (Do silo step) named all = does F k world silo (Does step) all named
 attempted F k world (Deliver number) named all = delivers F k (letter_of world number) world number all (found_letter F world.settings (is_at (nat_cmp number)) world.mail all.letters)
 attempted F k world (Lose number) named all = lost F world number all
-attempted F k world (Nudge silo) named all = does F k world silo Nudges all named
-attempted F k world (Offer silo grain to) named all = does F k world silo (Offers grain to) all named
 
 -- an event keeps what is carried
 pub happened : (F : Facts) → Keeps F → (world : World) (event : Event) → F.named event → Everywhere F world → Held F (rule.happens world event)

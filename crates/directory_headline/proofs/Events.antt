@@ -11,11 +11,11 @@ use Rattle.membership_view.specs.Changes as change
 use Rattle.hash_ring.specs.Places.{PlacesValue, after_add}
 use Rattle.directory_rules.specs.Letter.{Letter, kind_of}
 use Rattle.directory_rules.specs.Node.{Node}
-use Rattle.directory_rules.specs.Event.{Event, Join, Leave, Kill, See, Wake, Close, Find, Forget, Deliver, Lose, Nudge, Offer}
+use Rattle.directory_rules.specs.Event.{Event, Join, Leave, Kill, See, Do, Deliver, Lose}
 use Rattle.directory_rules.specs.declared.outcome.Happening.{Happening}
 use Rattle.directory_rules.specs.declared.outcome.Happening.TheVariants.{Joined, Left, Saw, Did, Delivered, Lost}
 use Rattle.directory_rules.specs.Step.{Stepped}
-use Rattle.directory_rules.specs.Input.{Input, Sees, Wakes, Closes, Finds, Forgets, Nudges, Offers, Receives, step}
+use Rattle.directory_rules.specs.Input.{Input, Sees, Does, Receives, step}
 use Rattle.directory_rules.specs.World.{World, Accepted}
 use Rattle.directory_rules.specs.Mail.{letter_of, with_sent, has_room_for, span_of, with_delivered, with_lost}
 use Rattle.directory_rules.specs.Happens as rule
@@ -25,12 +25,7 @@ use Rattle.directory_facts.proofs.Carried.{IsSight}
 -- an input that is the silo's own doing: it brings neither a view nor a letter
 abbrev pub IsOwnInput : Input → Type 0
 IsOwnInput (Sees before view places) = ⊥
-IsOwnInput (Wakes grain) = ⊤
-IsOwnInput (Closes grain) = ⊤
-IsOwnInput (Finds grain) = ⊤
-IsOwnInput (Forgets grain) = ⊤
-IsOwnInput Nudges = ⊤
-IsOwnInput (Offers grain to) = ⊤
+IsOwnInput (Does step) = ⊤
 IsOwnInput (Receives letter) = ⊥
 
 -- the step is done: the silo has its new node, and its letters are in the mail
@@ -147,14 +142,9 @@ module _ (world : World) (P : Accepted → Type 0) (w : EventWays world P) where
   attempted (Leave silo) = leave_by (rule.status_now world silo) silo refl
   attempted (Kill silo) = kill_by (rule.status_now world silo) silo refl
   attempted (See silo version) = sees_at (rule.node_of world silo) silo version refl
-  attempted (Wake silo grain) = does_at (rule.node_of world silo) silo (Wakes grain) tt refl
-  attempted (Close silo grain) = does_at (rule.node_of world silo) silo (Closes grain) tt refl
-  attempted (Find silo grain) = does_at (rule.node_of world silo) silo (Finds grain) tt refl
-  attempted (Forget silo grain) = does_at (rule.node_of world silo) silo (Forgets grain) tt refl
+  attempted (Do silo step) = does_at (rule.node_of world silo) silo (Does step) tt refl
   attempted (Deliver number) = delivers (letter_of world number) number refl
   attempted (Lose number) = when (is_some (letter_of world number)) 905 _ (w.loses number)
-  attempted (Nudge silo) = does_at (rule.node_of world silo) silo Nudges tt refl
-  attempted (Offer silo grain to) = does_at (rule.node_of world silo) silo (Offers grain to) tt refl
 
 -- what happens at an event
 pub by_event : (world : World) (P : Accepted → Type 0) → EventWays world P → (event : Event) → IfOk (rule.happens world event) P

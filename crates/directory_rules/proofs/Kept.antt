@@ -13,10 +13,10 @@ use Rattle.hash_ring.specs.Places.{PlacesValue}
 use Rattle.directory_rules.specs.Settings.{Settings}
 use Rattle.directory_rules.specs.Letter.{Letter}
 use Rattle.directory_rules.specs.Node.{Node}
-use Rattle.directory_rules.specs.Event.{Event, Join, Leave, Kill, See, Wake, Close, Find, Forget, Deliver, Lose, Nudge, Offer}
+use Rattle.directory_rules.specs.Event.{Event, Join, Leave, Kill, See, Do, Deliver, Lose}
 use Rattle.directory_rules.specs.declared.outcome.Happening.{Happening}
 use Rattle.directory_rules.specs.Step.{Stepped}
-use Rattle.directory_rules.specs.Input.{Input, Wakes, Closes, Finds, Forgets, Nudges, Offers, Receives, step}
+use Rattle.directory_rules.specs.Input.{Input, Does, Receives, step}
 use Rattle.directory_rules.specs.World.{Posted, World, Accepted}
 use Rattle.directory_rules.specs.Mail.{letter_of, numbered, has_room_for, with_delivered}
 use Rattle.directory_rules.specs.Happens as rule
@@ -112,14 +112,9 @@ attempted P k world (Join silo places) on = join_viewed P _ world silo places on
 attempted P k world (Leave silo) on = leave_by P (rule.status_now world silo) world silo on
 attempted P k world (Kill silo) on = kill_by P (rule.status_now world silo) world silo on
 attempted P k world (See silo version) on = sees_at P k (rule.node_of world silo) world silo version on
-attempted P k world (Wake silo grain) on = does P k world silo (Wakes grain) on
-attempted P k world (Close silo grain) on = does P k world silo (Closes grain) on
-attempted P k world (Find silo grain) on = does P k world silo (Finds grain) on
-attempted P k world (Forget silo grain) on = does P k world silo (Forgets grain) on
+attempted P k world (Do silo step) on = does P k world silo (Does step) on
 attempted P k world (Deliver number) on = delivers P k (letter_of world number) world number on
 attempted P k world (Lose number) on = when P (is_some (letter_of world number)) 905 _ (λ there. k.losing world.settings world.mail world.sent number on)
-attempted P k world (Nudge silo) on = does P k world silo Nudges on
-attempted P k world (Offer silo grain to) on = does P k world silo (Offers grain to) on
 
 -- an accepted event keeps the fact
 pub happened : (P : Fact) → Keeps P → (world : World) (event : Event) → On P world → After P (rule.happens world event)

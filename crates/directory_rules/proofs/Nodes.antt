@@ -15,10 +15,10 @@ use Rattle.hash_ring.specs.Places.{PlacesValue, after_add}
 use Rattle.directory_rules.specs.Settings.{Settings}
 use Rattle.directory_rules.specs.Letter.{Letter}
 use Rattle.directory_rules.specs.Node.{Node, new_node}
-use Rattle.directory_rules.specs.Event.{Event, Join, Leave, Kill, See, Wake, Close, Find, Forget, Deliver, Lose, Nudge, Offer}
+use Rattle.directory_rules.specs.Event.{Event, Join, Leave, Kill, See, Do, Deliver, Lose}
 use Rattle.directory_rules.specs.declared.outcome.Happening.{Happening}
 use Rattle.directory_rules.specs.Step.{Stepped}
-use Rattle.directory_rules.specs.Input.{Input, Sees, Wakes, Closes, Finds, Forgets, Nudges, Offers, Receives, step}
+use Rattle.directory_rules.specs.Input.{Input, Sees, Does, Receives, step}
 use Rattle.directory_rules.specs.World.{World, Accepted, first_world}
 use Rattle.directory_rules.specs.Mail.{letter_of, has_room_for, with_delivered}
 use Rattle.directory_rules.specs.Happens as rule
@@ -27,12 +27,7 @@ use Rattle.directory_rules.specs.Run.{run, run_from_start, world_after}
 -- the places that an input brings are so: a sight brings those of all silos, and nothing else brings any
 abbrev pub Brings : (PlacesValue → Type 0) → Input → Type 0
 Brings P (Sees before view places) = P places
-Brings P (Wakes grain) = ⊤
-Brings P (Closes grain) = ⊤
-Brings P (Finds grain) = ⊤
-Brings P (Forgets grain) = ⊤
-Brings P Nudges = ⊤
-Brings P (Offers grain to) = ⊤
+Brings P (Does step) = ⊤
 Brings P (Receives letter) = ⊤
 
 -- by events that are so the places stay so; new nodes have the fact, and steps that bring such places keep it
@@ -141,14 +136,9 @@ attempted E P Q k world (Join silo places) so each = join_viewed E P Q k (after_
 attempted E P Q k world (Leave silo) so each = leave_by P Q (rule.status_now world silo) world silo each
 attempted E P Q k world (Kill silo) so each = kill_by P Q (rule.status_now world silo) world silo each
 attempted E P Q k world (See silo version) so each = sees_at E P Q k (rule.node_of world silo) world silo version each refl
-attempted E P Q k world (Wake silo grain) so each = does E P Q k world silo (Wakes grain) each tt
-attempted E P Q k world (Close silo grain) so each = does E P Q k world silo (Closes grain) each tt
-attempted E P Q k world (Find silo grain) so each = does E P Q k world silo (Finds grain) each tt
-attempted E P Q k world (Forget silo grain) so each = does E P Q k world silo (Forgets grain) each tt
+attempted E P Q k world (Do silo step) so each = does E P Q k world silo (Does step) each tt
 attempted E P Q k world (Deliver number) so each = delivers E P Q k (letter_of world number) world number each
 attempted E P Q k world (Lose number) so each = when P Q (is_some (letter_of world number)) 905 _ (record { places = each.places; nodes = each.nodes })
-attempted E P Q k world (Nudge silo) so each = does E P Q k world silo Nudges each tt
-attempted E P Q k world (Offer silo grain to) so each = does E P Q k world silo (Offers grain to) each tt
 
 happened : (E : Event → Type 0) (P : PlacesValue → Type 0) (Q : Node → Type 0) (k : StepsKeepBy E P Q) (world : World) (event : Event) → E event → Each P Q world → After P Q (rule.happens world event)
 unfolding rule.happens

@@ -12,10 +12,10 @@ use Rattle.hash_ring.specs.Places.{PlacesValue}
 use Rattle.directory_rules.specs.Settings.{Settings, AreSettings}
 use Rattle.directory_rules.specs.Letter.{Letter}
 use Rattle.directory_rules.specs.Node.{Node, new_node}
-use Rattle.directory_rules.specs.Event.{Event, Join, Leave, Kill, See, Wake, Close, Find, Forget, Deliver, Lose, Nudge, Offer}
+use Rattle.directory_rules.specs.Event.{Event, Join, Leave, Kill, See, Do, Deliver, Lose}
 use Rattle.directory_rules.specs.declared.outcome.Happening.{Happening}
 use Rattle.directory_rules.specs.Step.{Stepped}
-use Rattle.directory_rules.specs.Input.{Input, Wakes, Closes, Finds, Forgets, Nudges, Offers, Receives, step}
+use Rattle.directory_rules.specs.Input.{Input, Does, Receives, step}
 use Rattle.directory_rules.specs.World.{World, Accepted, first_world}
 use Rattle.directory_rules.specs.Mail.{letter_of, has_room_for, with_delivered}
 use Rattle.directory_rules.specs.Happens as rule
@@ -104,14 +104,9 @@ attempted world (Join silo places) are = join_viewed (after_join world.views sil
 attempted world (Leave silo) are = leave_by (rule.status_now world silo) world silo are refl
 attempted world (Kill silo) are = kill_by (rule.status_now world silo) world silo are refl
 attempted world (See silo version) are = sees_at (rule.node_of world silo) world silo version are refl
-attempted world (Wake silo grain) are = does world silo (Wakes grain) are
-attempted world (Close silo grain) are = does world silo (Closes grain) are
-attempted world (Find silo grain) are = does world silo (Finds grain) are
-attempted world (Forget silo grain) are = does world silo (Forgets grain) are
+attempted world (Do silo step) are = does world silo (Does step) are
 attempted world (Deliver number) are = delivers (letter_of world number) world number are
 attempted world (Lose number) are = when (is_some (letter_of world number)) 905 _ are
-attempted world (Nudge silo) are = does world silo Nudges are
-attempted world (Offer silo grain to) are = does world silo (Offers grain to) are
 
 happened : (world : World) (event : Event) → Peopled world → After (rule.happens world event)
 unfolding rule.happens

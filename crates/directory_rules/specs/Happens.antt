@@ -12,11 +12,11 @@ use Rattle.membership_view.specs.Changes.{occupant, with_leave, with_death, afte
 use Rattle.hash_ring.specs.Places.{PlacesValue, after_add}
 use Rattle.directory_rules.specs.Letter.{Letter, kind_of}
 use Rattle.directory_rules.specs.Node.{Node, new_node}
-use Rattle.directory_rules.specs.Event.{Event, Join, Leave, Kill, See, Wake, Close, Find, Forget, Deliver, Lose, Nudge, Offer}
+use Rattle.directory_rules.specs.Event.{Event, Join, Leave, Kill, See, Do, Deliver, Lose}
 use Rattle.directory_rules.specs.declared.outcome.Happening.{Happening}
 use Rattle.directory_rules.specs.declared.outcome.Happening.TheVariants.{Joined, Left, Died, Saw, Did, Delivered, Lost}
 use Rattle.directory_rules.specs.Step.{Stepped}
-use Rattle.directory_rules.specs.Input.{Input, Sees, Wakes, Closes, Finds, Forgets, Nudges, Offers, Receives, step}
+use Rattle.directory_rules.specs.Input.{Input, Sees, Does, Receives, step}
 use Rattle.directory_rules.specs.World.{World, Posted, Accepted}
 use Rattle.directory_rules.specs.Mail.{letter_of, with_sent, has_room_for, span_of, with_delivered, with_lost}
 
@@ -201,14 +201,9 @@ attempted world (Join silo places) = join world silo places
 attempted world (Leave silo) = leave world silo
 attempted world (Kill silo) = kill world silo
 attempted world (See silo version) = sees world silo version
-attempted world (Wake silo grain) = does world silo (Wakes grain)
-attempted world (Close silo grain) = does world silo (Closes grain)
-attempted world (Find silo grain) = does world silo (Finds grain)
-attempted world (Forget silo grain) = does world silo (Forgets grain)
+attempted world (Do silo step) = does world silo (Does step)
 attempted world (Deliver number) = deliver world number
 attempted world (Lose number) = lose world number
-attempted world (Nudge silo) = does world silo Nudges
-attempted world (Offer silo grain to) = does world silo (Offers grain to)
 
 -- what happens at an event; before all else 908 where as many events were accepted as ever may be
 unfoldable pub happens : World → Event → Result Accepted ℕ

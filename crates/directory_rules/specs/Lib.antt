@@ -31,3 +31,4 @@ pub mod Laws
 pub mod Worked
 pub mod EventModel
 pub mod EventCopies
+pub mod OwnStep
