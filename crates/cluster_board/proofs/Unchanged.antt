@@ -8,9 +8,9 @@ use Rattle.std.specs.BTreeMap.{is_at}
 use Rattle.silo_address.specs.Silo.{Silo, silo_cmp}
 use Rattle.silo_address.proofs.Order.{silo_cmp_total, silo_cmp_exact}
 use Rattle.membership_view.proofs.Entries.{lookup-insert_entry}
-use Rattle.directory_rules.specs.Event.{Event, Join, Leave, Kill, See, Wake, Close, Find, Forget, Deliver, Lose, Nudge, Offer}
+use Rattle.directory_rules.specs.Event.{Event, Join, Leave, Kill, See, Do, Deliver, Lose}
 use Rattle.directory_rules.specs.declared.outcome.Happening.{Happening}
-use Rattle.directory_rules.specs.Input.{Input, Wakes, Closes, Finds, Forgets, Nudges, Offers, Receives, step}
+use Rattle.directory_rules.specs.Input.{Input, Does, Receives, step}
 use Rattle.directory_rules.specs.Letter.{Letter}
 use Rattle.directory_rules.specs.Node.{Node}
 use Rattle.directory_rules.specs.Step.{Stepped}
@@ -86,14 +86,9 @@ attempted world (Join silo places) other away = absurd (away tt)
 attempted world (Leave silo) other away = absurd (away tt)
 attempted world (Kill silo) other away = absurd (away tt)
 attempted world (See silo version) other away = sees_at (rule.node_of world silo) world silo other version away
-attempted world (Wake silo grain) other away = does world silo other (Wakes grain) away
-attempted world (Close silo grain) other away = does world silo other (Closes grain) away
-attempted world (Find silo grain) other away = does world silo other (Finds grain) away
-attempted world (Forget silo grain) other away = does world silo other (Forgets grain) away
+attempted world (Do silo step) other away = does world silo other (Does step) away
 attempted world (Deliver number) other away = delivers (letter_of world number) world number other refl away
 attempted world (Lose number) other away = when world other (is_some (letter_of world number)) 905 _ refl
-attempted world (Nudge silo) other away = does world silo other Nudges away
-attempted world (Offer silo grain to) other away = does world silo other (Offers grain to) away
 
 -- an accepted event leaves a node that it may not change
 pub happened : (world : World) (event : Event) (other : Silo) → (MayChange world event other → ⊥) → Stays world other (rule.happens world event)

@@ -4,7 +4,7 @@ use Rattle.silo_address.specs.Silo.{Silo}
 use Rattle.membership_view.specs.View.{ViewValue}
 use Rattle.hash_ring.specs.Places.{PlacesValue}
 use Rattle.hash_ring.specs.Ring.{ring_of}
-use Rattle.directory_rules.specs.Event.{Event, Join, Leave, Kill, See, Wake, Close, Find, Forget, Deliver, Lose, Nudge, Offer}
+use Rattle.directory_rules.specs.Event.{Event, Join, Leave, Kill, See, Do, Deliver, Lose}
 use Rattle.directory_rules.specs.declared.outcome.Happening.{Happening}
 use Rattle.directory_rules.specs.declared.outcome.Happening.TheVariants.{Joined, Left, Died}
 use Rattle.directory_rules.specs.World.{World, current_view}
@@ -87,11 +87,6 @@ HasFollowed (Join silo places) receipt before after lack = HasJoined silo receip
 HasFollowed (Leave silo) receipt before after lack = HasChanged receipt before after lack
 HasFollowed (Kill silo) receipt before after lack = HasChanged receipt before after lack
 HasFollowed (See silo version) receipt before after lack = HasStayed before after lack
-HasFollowed (Wake silo grain) receipt before after lack = HasStayed before after lack
-HasFollowed (Close silo grain) receipt before after lack = HasStayed before after lack
-HasFollowed (Find silo grain) receipt before after lack = HasStayed before after lack
-HasFollowed (Forget silo grain) receipt before after lack = HasStayed before after lack
+HasFollowed (Do silo step) receipt before after lack = HasStayed before after lack
 HasFollowed (Deliver number) receipt before after lack = HasStayed before after lack
 HasFollowed (Lose number) receipt before after lack = HasStayed before after lack
-HasFollowed (Nudge silo) receipt before after lack = HasStayed before after lack
-HasFollowed (Offer silo grain to) receipt before after lack = HasStayed before after lack
