@@ -6,7 +6,7 @@ use Rattle.silo_address.proofs.Order.{silo_cmp_total, silo_cmp_exact}
 use Rattle.membership_view.specs.Changes.{occupant}
 use Rattle.directory_facts.proofs.Lookups.{found_put}
 use Rattle.directory_rules.specs.Input.{Does}
-use Rattle.silo_rules.specs.Membership.{Join, Membership, changed}
+use Rattle.directory_rules.specs.Membership.{Join, Membership, changed}
 use Rattle.silo_rules.specs.SiloValue.{SiloValue, first_silo}
 use Rattle.deployment_headline.specs.Deployment.{Deployment, process_of}
 use Rattle.deployment_headline.specs.Steps.{Decide, without, decided, tells, tells_at, sees_at, does_at, delivers, receives_at, after}

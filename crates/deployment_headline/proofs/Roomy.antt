@@ -12,7 +12,7 @@ use Rattle.directory_rules.specs.Settings.{Settings}
 use Rattle.directory_rules.specs.Letter.{Letter}
 use Rattle.directory_rules.specs.Step.{Stepped, silently}
 use Rattle.directory_rules.specs.Input.{Input, Does, Receives, step}
-use Rattle.silo_rules.specs.Membership.{Change, Join, Leave, Die, Membership, joined, changed, replaced_by}
+use Rattle.directory_rules.specs.Membership.{Change, Join, Leave, Die, Membership, joined, changed, replaced_by}
 use Rattle.silo_rules.specs.SiloValue.{SiloValue, first_silo}
 use Rattle.silo_rules.specs.Steps.{barred, unless_barred, is_seeable, sight_of, sees, does, receives}
 use Rattle.silo_rules.specs.Steps as alone

@@ -20,7 +20,7 @@ use Rattle.directory_rules.proofs.Removed.{sorted_removed}
 use Rattle.directory_facts.proofs.Entries.{all_put, all_removed, found_so, same_key}
 use Rattle.silo_rules.specs.declared.news.News.TheVariants.{Known}
 use Rattle.silo_rules.specs.Known.{is_known}
-use Rattle.silo_rules.specs.Membership.{Change, Join, Leave, Die, Membership, first_membership, changed, replaced_by}
+use Rattle.directory_rules.specs.Membership.{Change, Join, Leave, Die, Membership, first_membership, changed, replaced_by}
 use Rattle.silo_rules.specs.SiloValue.{SiloValue, first_silo}
 use Rattle.silo_rules.specs.Steps.{barred, unless_barred, is_seeable, sight_of, seen, sees, does, receives}
 use Rattle.silo_rules.specs.Told.{Heard, heard_by, told}

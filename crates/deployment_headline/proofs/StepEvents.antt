@@ -25,7 +25,7 @@ use Rattle.directory_rules.specs.Step.{Stepped, silently}
 use Rattle.directory_rules.specs.Input.{Input, Does, Receives, step}
 use Rattle.directory_rules.specs.World.{Posted, World}
 use Rattle.directory_rules.specs.Happens as rule
-use Rattle.silo_rules.specs.Membership.{Change, Join, Leave, Die, Membership, placed, joined, with_places, with_views, changed}
+use Rattle.directory_rules.specs.Membership.{Change, Join, Leave, Die, Membership, placed, joined, with_places, with_views, changed}
 use Rattle.silo_rules.specs.SiloValue.{SiloValue, first_silo, own_status}
 use Rattle.silo_rules.specs.Steps.{barred_by, unless_barred, is_seeable, sight_of, seen, does}
 use Rattle.silo_rules.specs.Told.{Heard, told}

@@ -6,7 +6,7 @@ use Rattle.directory_rules.specs.Input.{Does}
 use Rattle.directory_rules.specs.Letter.{Letter}
 use Rattle.directory_rules.specs.declared.own_step.OwnStep.{OwnStep}
 use Rattle.directory_rules.specs.Step.{Stepped}
-use Rattle.silo_rules.specs.Membership.{Change, Join, Membership, changed}
+use Rattle.directory_rules.specs.Membership.{Change, Join, Membership, changed}
 use Rattle.silo_rules.specs.SiloValue.{SiloValue, first_silo}
 use Rattle.silo_rules.specs.Steps.{does, sees, receives}
 use Rattle.silo_rules.specs.Told.{Heard, told}

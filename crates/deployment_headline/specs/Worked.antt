@@ -9,7 +9,7 @@ use Rattle.directory_rules.specs.declared.piece_state.PieceState.TheVariants.{Se
 use Rattle.directory_rules.specs.Settings.{Settings, directory_settings}
 use Rattle.directory_rules.specs.declared.own_step.OwnStep.TheVariants.{Wake, Offer}
 use Rattle.directory_rules.specs.Worked.{silo_a, silo_b, silo_c, grain_a}
-use Rattle.silo_rules.specs.Membership.{Join, Leave, Die}
+use Rattle.directory_rules.specs.Membership.{Join, Leave, Die}
 use Rattle.silo_rules.specs.SiloValue.{SiloValue}
 use Rattle.deployment_headline.specs.Deployment.{Deployment}
 use Rattle.deployment_headline.specs.Steps.{Step, Decide, Tell, See, Do, Receive, deployed}

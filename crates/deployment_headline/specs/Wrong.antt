@@ -8,7 +8,7 @@ use Rattle.directory_rules.specs.Host.{held_of, is_firm}
 use Rattle.directory_rules.specs.Letter.{Letter, Reply_letter}
 use Rattle.directory_rules.specs.declared.own_step.OwnStep.TheVariants.{Wake}
 use Rattle.directory_rules.specs.Worked.{silo_a, silo_b, grain_a}
-use Rattle.silo_rules.specs.Membership.{Change, Join, Die}
+use Rattle.directory_rules.specs.Membership.{Change, Join, Die}
 use Rattle.silo_rules.specs.SiloValue.{SiloValue}
 use Rattle.silo_rules.specs.Told.{told}
 use Rattle.deployment_headline.specs.Deployment.{Deployment, process_of}

@@ -22,7 +22,7 @@ use Rattle.directory_rules.specs.Receive.{received, replying}
 use Rattle.directory_rules.specs.Sent.{letter_to, hash_of, request_of}
 use Rattle.directory_rules.specs.declared.own_step.OwnStep.TheVariants.{Nudge}
 use Rattle.directory_rules.specs.Step.{Stepped, silently}
-use Rattle.silo_rules.specs.Membership.{Membership}
+use Rattle.directory_rules.specs.Membership.{Membership}
 use Rattle.progress_rules.specs.Owed.{Owes}
 use Rattle.progress_rules.specs.Requests.{Ends}
 use Rattle.progress_rules.proofs.Answered.{ended}

@@ -24,7 +24,7 @@ use Rattle.directory_rules.specs.Step.{Stepped, silently}
 use Rattle.directory_rules.specs.declared.own_step.OwnStep.TheVariants.{Nudge}
 use Rattle.directory_rules.proofs.Cases.{on_bool}
 use Rattle.directory_facts.proofs.Lookups.{found_put, found_beside_put}
-use Rattle.silo_rules.specs.Membership.{Change, Membership}
+use Rattle.directory_rules.specs.Membership.{Change, Membership}
 use Rattle.silo_rules.specs.SiloValue.{SiloValue, own_status}
 use Rattle.silo_rules.specs.Steps.{barred, barred_by, unless_barred, is_seeable, sight_of, seen, does}
 use Rattle.silo_rules.specs.Told.{Heard, told}

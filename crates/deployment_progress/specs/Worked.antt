@@ -6,7 +6,7 @@ use Rattle.directory_rules.specs.declared.held.Phase.TheVariants.{Asking, Firm}
 use Rattle.directory_rules.specs.declared.piece_state.PieceState.TheVariants.{Settled, Awaiting}
 use Rattle.directory_rules.specs.declared.own_step.OwnStep.TheVariants.{Wake, Nudge}
 use Rattle.directory_rules.specs.Worked.{silo_a, silo_b, grain_a}
-use Rattle.silo_rules.specs.Membership.{Join}
+use Rattle.directory_rules.specs.Membership.{Join}
 use Rattle.progress_rules.specs.Owed.{Owes}
 use Rattle.deployment_headline.specs.Deployment.{Deployment}
 use Rattle.deployment_headline.specs.Steps.{Step, Decide, Tell, See, Do, Receive, after, after_all, deployed}

@@ -10,7 +10,7 @@ use Rattle.membership_view.specs.Changes as change
 use Rattle.membership_view.specs.Step.{Joins, MembershipStep}
 use Rattle.membership_view.proofs.Unchanged.{rows_stay}
 use Rattle.hash_ring.specs.Places.{PlacesValue}
-use Rattle.directory_rules.specs.Membership.{is_dead_in}
+use Rattle.directory_rules.specs.Members.{is_dead_in}
 use Rattle.directory_rules.specs.Node.{Node, new_node}
 use Rattle.directory_rules.specs.Input.{step}
 use Rattle.directory_rules.specs.World.{World}

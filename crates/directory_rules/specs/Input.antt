@@ -1,9 +1,11 @@
 -- A silo's step is a function of its node and of one input.
-use Rattle.std.specs.Prelude.{ℕ, Result, Ok}
+use Rattle.std.specs.Prelude.{ℕ, ◌-◌, Result, Ok}
 use Rattle.membership_view.specs.View.{ViewValue}
+use Rattle.membership_view.specs.Views.{view_at}
 use Rattle.hash_ring.specs.Places.{PlacesValue}
 use Rattle.directory_rules.specs.declared.own_step.OwnStep.{OwnStep}
 use Rattle.directory_rules.specs.declared.own_step.OwnStep.TheVariants.{Wake, Close, Find, Forget, Nudge, Offer}
+use Rattle.directory_rules.specs.Membership.{Membership}
 use Rattle.directory_rules.specs.Letter.{Letter}
 use Rattle.directory_rules.specs.Node.{Node}
 use Rattle.directory_rules.specs.Step.{Stepped, see, wake, close, find_grain, forget, nudge, offer}
@@ -31,3 +33,7 @@ abbrev pub step : Node → Input → Result Stepped ℕ
 step node (Sees before view places) = see node before view places
 step node (Does own) = own_step node own
 step node (Receives letter) = Ok (received node letter)
+
+-- the input of a sight of that version, by what changes made
+abbrev pub sight_of : Membership → (version : ℕ) → Input
+sight_of m version = Sees (view_at m.views (version - 1)) (view_at m.views version) m.places

@@ -1,5 +1,6 @@
 pub mod Settings
 pub mod SettingsFields
+pub mod Members
 pub mod Membership
 pub mod Table
 pub mod Piece

@@ -29,7 +29,7 @@ use Rattle.directory_rules.specs.Step.{Stepped, silently}
 use Rattle.directory_rules.specs.World.{World}
 use Rattle.directory_facts.specs.Own.{HoldsOnce}
 use Rattle.directory_facts.proofs.Lawful.{nodes_are_own}
-use Rattle.silo_rules.specs.Membership.{Change, Join, Leave, Die}
+use Rattle.directory_rules.specs.Membership.{Change, Join, Leave, Die}
 use Rattle.silo_rules.specs.SiloValue.{SiloValue, own_status}
 use Rattle.silo_rules.specs.Steps.{barred, unless_barred, is_seeable, sight_of, seen, does, sees}
 use Rattle.silo_rules.specs.Told.{Heard, told}

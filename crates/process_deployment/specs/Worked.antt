@@ -2,7 +2,7 @@
 -- keeps, and dies. Not all that they write comes to anybody.
 use Rattle.std.specs.Prelude.{◌≡◌, ℕ, List, [], ◌∷◌, ◌++◌, map, codes}
 use Rattle.directory_rules.specs.Worked.{silo_a, silo_b}
-use Rattle.silo_rules.specs.Membership.{Join, Die}
+use Rattle.directory_rules.specs.Membership.{Join, Die}
 use Rattle.deployment_headline.specs.Worked.{worked_settings}
 use Rattle.process_deployment.specs.Allowed.{MayAll}
 use Rattle.process_deployment.specs.Cluster.{Cluster, first_cluster, everyone}

@@ -26,7 +26,7 @@ use Rattle.directory_rules.specs.declared.effect.Effect.TheVariants.{Ignored}
 use Rattle.silo_rules.specs.declared.news.News.TheVariants.{Known}
 use Rattle.silo_rules.specs.Known.{is_known}
 use Rattle.silo_rules.specs.Laws.{StaysWhole, IsOf, FollowsTheRule, ChangesAreEvents, joined_by, membership_of}
-use Rattle.silo_rules.specs.Membership.{Change, Join, Leave, Die, Membership, changed, joined, placed, replaced_by, with_places, with_views}
+use Rattle.directory_rules.specs.Membership.{Change, Join, Leave, Die, Membership, changed, joined, placed, replaced_by, with_places, with_views}
 use Rattle.silo_rules.specs.SiloValue.{SiloValue, own_status, told_of_its_join}
 use Rattle.silo_rules.specs.Steps.{barred, barred_by, unless_barred, does, is_seeable, receives, seen, sees, sight_of}
 use Rattle.silo_rules.specs.NodeInputs.{IsNoSight}

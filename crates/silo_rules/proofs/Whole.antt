@@ -18,7 +18,7 @@ use Rattle.directory_facts.specs.Seen.{SeesItsVersion}
 use Rattle.directory_facts.proofs.Carried.{Brings}
 use Rattle.directory_facts.proofs.Places.{added_view}
 use Rattle.directory_facts.proofs.SeenRings.{AreViews, seen_facts, seen_keep}
-use Rattle.silo_rules.specs.Membership.{Change, Join, Leave, Die, Membership, changed, joined, placed, with_places, with_views, first_membership}
+use Rattle.directory_rules.specs.Membership.{Change, Join, Leave, Die, Membership, changed, joined, placed, with_places, with_views, first_membership}
 use Rattle.silo_rules.specs.SiloValue.{SiloValue, first_silo}
 use Rattle.silo_rules.specs.Steps.{sight_of}
 use Rattle.silo_rules.specs.NodeInputs.{IsNoSight}
