@@ -1,0 +1,72 @@
+-- A change of membership that is decided, by what it makes.
+use Rattle.std.proofs.Common.{◌≡◌, refl, sym, subst, ℕ, List}
+use Rattle.std.specs.Prelude.{Bool, true, false, cond, nat_lt, length, Option, Some, None, Result, Ok, Err}
+use Rattle.silo_address.specs.Silo.{Silo}
+use Rattle.membership_view.specs.Views.{ViewsValue}
+use Rattle.membership_view.specs.Changes as change
+use Rattle.hash_ring.specs.Places.{PlacesValue, after_add}
+use Rattle.directory_rules.specs.Settings.{Settings}
+use Rattle.directory_rules.specs.Membership.{Change, Join, Leave, Die, Membership, placed, with_places, joined, with_views, changed, dying}
+use Rattle.directory_rules.specs.World.{World, Accepted, membership_of}
+use Rattle.directory_rules.specs.Happens.{tells, after_change, change_told, changed_by, is_of_dead, decides}
+
+-- what is told of the change, and the world after it
+abbrev pub made : World → Change → Membership → Result Accepted ℕ
+made world change m = Ok (tells (after_change world change m) (change_told m.views.version change (dying (membership_of world) change)))
+
+-- of a change that is decided holds what holds of each refusal, and of what the change makes
+pub decided : (C : Result Accepted ℕ → Type 0) (world : World) (change : Change) → ((number : ℕ) → C (Err number))
+    → ((m : Membership) → changed world.settings (membership_of world) change ≡ Ok m → C (made world change m)) → C (decides world change)
+decided C world change refused makes = by_dead (is_of_dead world change)
+  where
+    by_made : (o : Result Membership ℕ) → changed world.settings (membership_of world) change ≡ o → C (changed_by o world change)
+    by_made (Err number) is = refused number
+    by_made (Ok m) is = makes m is
+
+    by_dead : (b : Bool) → C (cond b (Err 902) (changed_by (changed world.settings (membership_of world) change) world change))
+    by_dead true = refused 902
+    by_dead false = by_made (changed world.settings (membership_of world) change) refl
+
+-- ---- What each change makes.
+
+-- a join: the views after it, and the places with those stated
+pub record JoinMakes (settings : Settings) (m next : Membership) (silo : Silo) (stated : List ℕ) : Type 0 where
+  pub viewed : change.after_join m.views silo ≡ Ok next.views
+  pub added : after_add m.places silo stated ≡ Ok next.places
+
+-- any other change: the views after it
+pub record ViewsMake (m next : Membership) (way : change.Change) : Type 0 where
+  pub viewed : change.after m.views way ≡ Ok next.views
+  pub places : next.places ≡ m.places
+
+-- places that the settings let are those of a silo that is added
+pub placed_added : (b : Bool) (places : Result PlacesValue ℕ) (next : PlacesValue) → cond b (Err 402) places ≡ Ok next → places ≡ Ok next
+placed_added true places next is = absurd (cc)
+placed_added false places next is = is
+
+pub join_makes : (settings : Settings) (m next : Membership) (silo : Silo) (stated : List ℕ) → changed settings m (Join silo stated) ≡ Ok next → JoinMakes settings m next silo stated
+join_makes settings m next silo stated is = by_views (change.after_join m.views silo) refl is
+  where
+    by_places : (views : ViewsValue) → change.after_join m.views silo ≡ Ok views → (o : Result PlacesValue ℕ) → placed settings m.places silo stated ≡ o → with_places o views ≡ Ok next
+        → JoinMakes settings m next silo stated
+    by_places views viewed (Err number) at is = absurd (cc (is))
+    by_places views viewed (Ok places) at is =
+        let same : record { views = views; places = places } ≡ next = cc (is) in
+        subst (λ its. JoinMakes settings m its silo stated) same
+        (record { viewed = viewed; added = placed_added (nat_lt settings.places (length stated)) (after_add m.places silo stated) places at })
+
+    by_views : (o : Result ViewsValue ℕ) → change.after_join m.views silo ≡ o → joined o settings m.places silo stated ≡ Ok next → JoinMakes settings m next silo stated
+    by_views (Err number) viewed is = absurd (cc (is))
+    by_views (Ok views) viewed is = by_places views viewed (placed settings m.places silo stated) refl is
+
+views_make : (m next : Membership) (way : change.Change) (o : Result ViewsValue ℕ) → change.after m.views way ≡ o → with_views o m.places ≡ Ok next → ViewsMake m next way
+views_make m next way (Err number) viewed is = absurd (cc (is))
+views_make m next way (Ok views) viewed is =
+    let same : record { views = views; places = m.places } ≡ next = cc (is) in
+    subst (λ its. ViewsMake m its way) same (record { viewed = viewed; places = refl })
+
+pub leave_makes : (settings : Settings) (m next : Membership) (silo : Silo) → changed settings m (Leave silo) ≡ Ok next → ViewsMake m next (change.Leave silo)
+leave_makes settings m next silo is = views_make m next (change.Leave silo) (change.after m.views (change.Leave silo)) refl is
+
+pub death_makes : (settings : Settings) (m next : Membership) (silo : Silo) → changed settings m (Die silo) ≡ Ok next → ViewsMake m next (change.Die silo)
+death_makes settings m next silo is = views_make m next (change.Die silo) (change.after m.views (change.Die silo)) refl is
