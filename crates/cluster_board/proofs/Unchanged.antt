@@ -8,13 +8,14 @@ use Rattle.std.specs.BTreeMap.{is_at}
 use Rattle.silo_address.specs.Silo.{Silo, silo_cmp}
 use Rattle.silo_address.proofs.Order.{silo_cmp_total, silo_cmp_exact}
 use Rattle.membership_view.proofs.Entries.{lookup-insert_entry}
+use Rattle.directory_rules.specs.Membership.{is_seeable}
 use Rattle.directory_rules.specs.Event.{Event, Join, Leave, Kill, See, Do, Deliver, Lose}
 use Rattle.directory_rules.specs.declared.outcome.Happening.{Happening}
-use Rattle.directory_rules.specs.Input.{Input, Does, Receives, step}
+use Rattle.directory_rules.specs.Input.{Input, Does, Receives, step, sight_of}
 use Rattle.directory_rules.specs.Letter.{Letter}
 use Rattle.directory_rules.specs.Node.{Node}
 use Rattle.directory_rules.specs.Step.{Stepped}
-use Rattle.directory_rules.specs.World.{World, Accepted}
+use Rattle.directory_rules.specs.World.{World, Accepted, membership_of}
 use Rattle.directory_rules.specs.Mail.{has_room_for, letter_of, with_delivered}
 use Rattle.directory_rules.specs.Happens as rule
 use Rattle.cluster_board.specs.Changed.{MayChange}
@@ -66,7 +67,7 @@ seen_by (Ok stepped) world silo other version differ = taken world silo other _ 
 sees_at : (node : Option Node) (world : World) (silo other : Silo) (version : ℕ) → (other ≡ silo → ⊥) → Stays world other (rule.sees_at node world silo version)
 sees_at None world silo other version differ = tt
 sees_at (Some node) world silo other version differ =
-    unless world other _ 903 _ (unless world other (rule.is_seeable world silo version) 904 _ (seen_by (step node (rule.sight_of world version)) world silo other version differ))
+    unless world other _ 903 _ (unless world other (is_seeable (membership_of world) silo version) 904 _ (seen_by (step node (sight_of (membership_of world) version)) world silo other version differ))
 
 delivered_by : (result : Result Stepped ℕ) (world : World) (number : ℕ) (letter : Letter) (other : Silo) → (other ≡ letter.to → ⊥) → Stays world other (rule.delivered_by result world number letter)
 delivered_by (Err refusal) world number letter other differ = tt

@@ -22,10 +22,10 @@ use Rattle.directory_rules.specs.Event as event
 use Rattle.directory_rules.specs.declared.outcome.Happening.TheVariants as happening
 use Rattle.directory_rules.specs.Event.{Event, IsEvent}
 use Rattle.directory_rules.specs.Step.{Stepped, silently}
-use Rattle.directory_rules.specs.Input.{Input, Does, Receives, step}
-use Rattle.directory_rules.specs.World.{Posted, World}
+use Rattle.directory_rules.specs.Input.{Input, Does, Receives, step, sight_of}
+use Rattle.directory_rules.specs.World.{Posted, World, membership_of}
 use Rattle.directory_rules.specs.Happens as rule
-use Rattle.directory_rules.specs.Membership.{Change, Join, Leave, Die, Membership, placed, joined, with_places, with_views, changed}
+use Rattle.directory_rules.specs.Membership.{Change, Join, Leave, Die, Membership, placed, joined, with_places, with_views, changed, is_seeable}
 use Rattle.silo_rules.specs.SiloValue.{SiloValue, first_silo, own_status}
 use Rattle.silo_rules.specs.Steps.{barred_by, unless_barred, is_seeable, sight_of, seen, does}
 use Rattle.silo_rules.specs.Told.{Heard, told}
@@ -97,8 +97,8 @@ module _ (d : Deployment) (accepted : ℕ) (mail : List (ℕ × Posted)) (has : 
       let sight = sym (same_sight s.node m d.membership version to.0 still.0) ∙ is in
       steps d accepted mail mail (event.See silo version) silo s (happening.Saw silo version stepped.effect) stepped named room fits has
       (ap (λ o. rule.sees_at o w silo version) (has_process silo s there)
-      ∙ ap (λ b. cond (not b) (Err 903) (cond (not (rule.is_seeable w silo version)) (Err 904) (rule.seen_by (step s.node (rule.sight_of w version)) w silo version))) newer
-      ∙ ap (λ b. cond (not b) (Err 904) (rule.seen_by (step s.node (rule.sight_of w version)) w silo version)) still.1
+      ∙ ap (λ b. cond (not b) (Err 903) (cond (not (is_seeable (membership_of w) silo version)) (Err 904) (rule.seen_by (step s.node (sight_of (membership_of w) version)) w silo version))) newer
+      ∙ ap (λ b. cond (not b) (Err 904) (rule.seen_by (step s.node (sight_of (membership_of w) version)) w silo version)) still.1
       ∙ ap (λ r. rule.seen_by r w silo version) sight)
 
   abbrev seen_to : (silo : Silo) (version : ℕ) (s : SiloValue) (newer seeable : Bool) → Deployment

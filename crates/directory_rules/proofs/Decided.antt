@@ -1,18 +1,21 @@
 -- A change of membership that is decided, by what it makes.
 use Rattle.std.proofs.Common.{◌≡◌, refl, sym, subst, ℕ, List}
-use Rattle.std.specs.Prelude.{Bool, true, false, cond, nat_lt, length, Option, Some, None, Result, Ok, Err}
+use Rattle.std.specs.Prelude.{◌+◌, Bool, true, false, cond, nat_lt, length, Option, Some, None, Result, Ok, Err}
 use Rattle.silo_address.specs.Silo.{Silo}
-use Rattle.membership_view.specs.Views.{ViewsValue}
+use Rattle.membership_view.specs.declared.status.Status.{Status}
+use Rattle.membership_view.specs.declared.status.Status.TheVariants.{Active, Leaving, Dead}
+use Rattle.membership_view.specs.Views.{ViewsValue, status_at}
 use Rattle.membership_view.specs.Changes as change
 use Rattle.hash_ring.specs.Places.{PlacesValue, after_add}
+use Rattle.directory_rules.specs.declared.outcome.Happening.TheVariants.{Died}
 use Rattle.directory_rules.specs.Settings.{Settings}
-use Rattle.directory_rules.specs.Membership.{Change, Join, Leave, Die, Membership, placed, with_places, joined, with_views, changed, dying}
+use Rattle.directory_rules.specs.Membership.{Change, Join, Leave, Die, Membership, placed, with_places, joined, with_views, changed, replaced_by}
 use Rattle.directory_rules.specs.World.{World, Accepted, membership_of}
 use Rattle.directory_rules.specs.Happens.{tells, after_change, change_told, changed_by, is_of_dead, decides}
 
 -- what is told of the change, and the world after it
 abbrev pub made : World → Change → Membership → Result Accepted ℕ
-made world change m = Ok (tells (after_change world change m) (change_told m.views.version change (dying (membership_of world) change)))
+made world change m = Ok (tells (after_change world change m) (change_told m.views.version change (replaced_by (membership_of world) change)))
 
 -- of a change that is decided holds what holds of each refusal, and of what the change makes
 pub decided : (C : Result Accepted ℕ → Type 0) (world : World) (change : Change) → ((number : ℕ) → C (Err number))
@@ -70,3 +73,45 @@ leave_makes settings m next silo is = views_make m next (change.Leave silo) (cha
 
 pub death_makes : (settings : Settings) (m next : Membership) (silo : Silo) → changed settings m (Die silo) ≡ Ok next → ViewsMake m next (change.Die silo)
 death_makes settings m next silo is = views_make m next (change.Die silo) (change.after m.views (change.Die silo)) refl is
+
+-- ---- A leave and a death, as views make them.
+leave_same : (o : Option Status) (views next : ViewsValue) (silo : Silo) → change.leave_from o views silo ≡ Ok next → next ≡ change.with_leave views silo
+leave_same None views next silo is = absurd (cc (is))
+leave_same (Some Active) views next silo is = cc (is)
+leave_same (Some Leaving) views next silo is = absurd (cc (is))
+leave_same (Some Dead) views next silo is = absurd (cc (is))
+
+death_same : (o : Option Status) (views next : ViewsValue) (silo : Silo) → change.die_from o views silo ≡ Ok next → next ≡ change.with_death views silo
+death_same None views next silo is = absurd (cc (is))
+death_same (Some Active) views next silo is = cc (is)
+death_same (Some Leaving) views next silo is = cc (is)
+death_same (Some Dead) views next silo is = absurd (cc (is))
+
+-- what a leave and a death leave
+abbrev pub left : Membership → Silo → Membership
+left m silo = record { views = change.with_leave m.views silo; places = m.places }
+
+abbrev pub dead : Membership → Silo → Membership
+dead m silo = record { views = change.with_death m.views silo; places = m.places }
+
+pub leave_is : (settings : Settings) (m next : Membership) (silo : Silo) → changed settings m (Leave silo) ≡ Ok next → (next ≡ left m silo) × (change.after m.views (change.Leave silo) ≡ Ok (change.with_leave m.views silo))
+leave_is settings m next silo is =
+    let makes = leave_makes settings m next silo is in
+    let same = leave_same (status_at m.views m.views.version silo) m.views next.views silo makes.viewed in
+    (made_of next (left m silo) same makes.places, subst (λ v. change.after m.views (change.Leave silo) ≡ Ok v) same makes.viewed)
+  where
+    made_of : (one other : Membership) → one.views ≡ other.views → one.places ≡ other.places → one ≡ other
+    made_of one other views places = cc (views, places)
+
+pub death_is : (settings : Settings) (m next : Membership) (silo : Silo) → changed settings m (Die silo) ≡ Ok next → (next ≡ dead m silo) × (change.after m.views (change.Die silo) ≡ Ok (change.with_death m.views silo))
+death_is settings m next silo is =
+    let makes = death_makes settings m next silo is in
+    let same = death_same (status_at m.views m.views.version silo) m.views next.views silo makes.viewed in
+    (made_of next (dead m silo) same makes.places, subst (λ v. change.after m.views (change.Die silo) ≡ Ok v) same makes.viewed)
+  where
+    made_of : (one other : Membership) → one.views ≡ other.views → one.places ≡ other.places → one ≡ other
+    made_of one other views places = cc (views, places)
+
+-- the silo is Dead from now on, and its node goes
+abbrev pub died : World → Silo → Accepted
+died world silo = tells (after_change world (Die silo) (dead (membership_of world) silo)) (Died (world.views.version + 1) silo)

@@ -5,16 +5,17 @@ use Rattle.std.specs.Ordering.{nat_cmp}
 use Rattle.std.specs.Map.{set_value, remove_entry}
 use Rattle.std.specs.BTreeMap.{is_at}
 use Rattle.silo_address.specs.Silo.{Silo}
+use Rattle.membership_view.specs.Changes.{occupant}
 use Rattle.directory_rules.specs.Settings.{Settings}
 use Rattle.directory_rules.specs.Membership as membership
-use Rattle.directory_rules.specs.Membership.{Change, Die, Membership, dying, is_seeable}
+use Rattle.directory_rules.specs.Membership.{Change, Die, Membership, is_seeable}
 use Rattle.directory_rules.specs.Letter.{Letter}
 use Rattle.directory_rules.specs.Node.{Node}
 use Rattle.directory_rules.specs.Event.{Event, Join, Leave, Kill, See, Do, Deliver, Lose}
 use Rattle.directory_rules.specs.declared.outcome.Happening.{Happening}
 use Rattle.directory_rules.specs.Step.{Stepped}
 use Rattle.directory_rules.specs.Input.{Input, Does, Receives, sight_of, step}
-use Rattle.directory_rules.specs.World.{Posted, World, Accepted, membership_of, with_membership}
+use Rattle.directory_rules.specs.World.{Posted, World, Accepted, membership_of}
 use Rattle.directory_rules.specs.Mail.{letter_of, numbered, has_room_for, with_delivered}
 use Rattle.directory_rules.specs.Happens as rule
 use Rattle.directory_rules.specs.Run.{run, world_after}
@@ -69,16 +70,17 @@ sees_at P k (Some node) world silo version on =
     unless P _ 903 _ (λ newer. unless P (is_seeable (membership_of world) silo version) 904 _ (λ seeable. seen_by P k (step node (sight_of (membership_of world) version)) world silo version on))
 
 -- a change of membership changes neither settings nor mail
-change_kept : (P : Fact) (world : World) (dead : Option Silo) (change : Change) (m : Membership) → On P world → On P (rule.counted (with_membership (rule.with_joined (rule.without_dead world dead) change) m))
-change_kept P world None (membership.Join silo stated) m on = on
-change_kept P world None (membership.Leave silo) m on = on
-change_kept P world None (Die silo) m on = on
-change_kept P world (Some old) (membership.Join silo stated) m on = on
-change_kept P world (Some old) (membership.Leave silo) m on = on
-change_kept P world (Some old) (Die silo) m on = on
+joins_kept : (P : Fact) (world : World) (silo : Silo) (replaced : Option Silo) (m : Membership) → On P world → On P (rule.after_joining world silo replaced m.views m.places)
+joins_kept P world silo None m on = on
+joins_kept P world silo (Some old) m on = on
+
+change_kept : (P : Fact) (world : World) (change : Change) (m : Membership) → On P world → On P (rule.after_change world change m)
+change_kept P world (membership.Join silo stated) m on = joins_kept P world silo (occupant silo world.views.rows) m on
+change_kept P world (membership.Leave silo) m on = on
+change_kept P world (Die silo) m on = on
 
 decides : (P : Fact) (world : World) (change : Change) → On P world → After P (rule.decides world change)
-decides P world change on = decided (After P) world change (λ number. tt) (λ m is. change_kept P world (dying (membership_of world) change) change m on)
+decides P world change on = decided (After P) world change (λ number. tt) (λ m is. change_kept P world change m on)
 
 delivered_by : (P : Fact) → Keeps P → (result : Result Stepped ℕ) (world : World) (number : ℕ) (letter : Letter) → On P world → After P (rule.delivered_by result world number letter)
 delivered_by P k (Err refusal) world number letter on = tt

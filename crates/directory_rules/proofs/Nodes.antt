@@ -81,18 +81,18 @@ sees_at E P Q k (Some node) world silo version each there =
     unless P Q _ 903 _ (unless P Q (is_seeable (membership_of world) silo version) 904 _
     (seen_by E P Q k node (sight_of (membership_of world) version) (step node (sight_of (membership_of world) version)) world silo version each each.places (of_found Q (is_at (silo_cmp silo)) world.nodes node each.nodes there) refl))
 
--- the nodes without that of a silo that is Dead from now on
-without_dead : (Q : Node → Type 0) (world : World) (dead : Option Silo) → All Q (values_of world.nodes) → All Q (values_of (rule.without_dead world dead).nodes)
-without_dead Q world None all = all
-without_dead Q world (Some old) all = All-map-remove_entry (is_at (silo_cmp old)) (λ e. e.1) Q world.nodes all
+-- the nodes without that of the silo that is replaced
+replaced : (Q : Node → Type 0) (world : World) (old : Option Silo) → All Q (values_of world.nodes) → All Q (values_of (rule.without_replaced world old).nodes)
+replaced Q world None all = all
+replaced Q world (Some old) all = All-map-remove_entry (is_at (silo_cmp old)) (λ e. e.1) Q world.nodes all
 
 -- a join: the places of the silo are added, and its node is new
 joins : (E : Event → Type 0) (P : PlacesValue → Type 0) (Q : Node → Type 0) (k : StepsKeepBy E P Q) (world : World) (silo : Silo) (given : List ℕ) → E (Join silo given) → Each P Q world → After P Q (rule.decides world (membership.Join silo given))
 joins E P Q k world silo given so each = decided (After P Q) world (membership.Join silo given) (λ number. tt) (λ m is.
     record {
       places = k.adding world.places silo given m.places so each.places (join_makes world.settings (membership_of world) m silo given is).added;
-      nodes = All-values-insert_entry silo_cmp silo (new_node world.settings silo) Q (rule.without_dead world (occupant silo world.views.rows)).nodes
-          (without_dead Q world (occupant silo world.views.rows) each.nodes) (k.new world.settings silo);
+      nodes = All-values-insert_entry silo_cmp silo (new_node world.settings silo) Q (rule.without_replaced world (occupant silo world.views.rows)).nodes
+          (replaced Q world (occupant silo world.views.rows) each.nodes) (k.new world.settings silo);
     })
 
 leaves : (P : PlacesValue → Type 0) (Q : Node → Type 0) (world : World) (silo : Silo) → Each P Q world → After P Q (rule.decides world (membership.Leave silo))
@@ -101,7 +101,7 @@ leaves P Q world silo each = decided (After P Q) world (membership.Leave silo) (
 
 dies : (P : PlacesValue → Type 0) (Q : Node → Type 0) (world : World) (silo : Silo) → Each P Q world → After P Q (rule.decides world (Die silo))
 dies P Q world silo each = decided (After P Q) world (Die silo) (λ number. tt) (λ m is.
-    record { places = subst P (sym (death_makes world.settings (membership_of world) m silo is).places) each.places; nodes = without_dead Q world (Some silo) each.nodes })
+    record { places = subst P (sym (death_makes world.settings (membership_of world) m silo is).places) each.places; nodes = replaced Q world (Some silo) each.nodes })
 
 delivered_by : (E : Event → Type 0) (P : PlacesValue → Type 0) (Q : Node → Type 0) (k : StepsKeepBy E P Q) (node : Node) (result : Result Stepped ℕ) (world : World) (number : ℕ) (letter : Letter) → Each P Q world → Q node → step node (Receives letter) ≡ result → After P Q (rule.delivered_by result world number letter)
 delivered_by E P Q k node (Err refusal) world number letter each has is = tt

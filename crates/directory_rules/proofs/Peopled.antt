@@ -60,15 +60,15 @@ sees_at None world silo version are there = tt
 sees_at (Some node) world silo version are there =
     unless _ 903 _ (unless (is_seeable (membership_of world) silo version) 904 _ (seen_by (step node (sight_of (membership_of world) version)) world silo version node are there))
 
-joining : (dead : Option Silo) (world : World) (silo : Silo) (views : ViewsValue) (node : Node) → ArePeopled views (insert_entry silo_cmp (without dead world.nodes) silo node) → ArePeopled views (rule.with_node (rule.without_dead world dead) silo node).nodes
+joining : (dead : Option Silo) (world : World) (silo : Silo) (views : ViewsValue) (node : Node) → ArePeopled views (insert_entry silo_cmp (without dead world.nodes) silo node) → ArePeopled views (rule.with_node (rule.without_replaced world dead) silo node).nodes
 joining None world silo views node are = are
 joining (Some old) world silo views node are = are
 
 joins : (world : World) (silo : Silo) (places : List ℕ) → Peopled world → After (rule.decides world (membership.Join silo places))
 joins world silo places are = decided After world (membership.Join silo places) (λ number. tt) (λ m is.
     let dead = occupant silo world.views.rows in
-    joining dead world silo m.views (new_node (rule.without_dead world dead).settings silo)
-    (peopled_join world.views m.views world.nodes silo (new_node (rule.without_dead world dead).settings silo) are (join_makes world.settings (membership_of world) m silo places is).viewed))
+    joining dead world silo m.views (new_node world.settings silo)
+    (peopled_join world.views m.views world.nodes silo (new_node world.settings silo) are (join_makes world.settings (membership_of world) m silo places is).viewed))
 
 leaves : (world : World) (silo : Silo) → Peopled world → After (rule.decides world (membership.Leave silo))
 leaves world silo are = decided After world (membership.Leave silo) (λ number. tt) (λ m is.

@@ -6,9 +6,12 @@ use Rattle.std.specs.Map.{lookup, remove_entry}
 use Rattle.std.specs.BTreeMap.{is_at, insert_entry}
 use Rattle.silo_address.specs.Silo.{Silo, silo_cmp}
 use Rattle.membership_view.specs.declared.status.Status.{Status}
+use Rattle.membership_view.specs.Views.{ViewsValue}
+use Rattle.membership_view.specs.Changes.{occupant}
+use Rattle.hash_ring.specs.Places.{PlacesValue}
 use Rattle.directory_rules.specs.Members.{is_known_dead}
 use Rattle.directory_rules.specs.Membership as membership
-use Rattle.directory_rules.specs.Membership.{Change, Die, Membership, barred_by, changed, dying, is_seeable, status_in}
+use Rattle.directory_rules.specs.Membership.{Change, Die, Membership, barred_by, changed, is_seeable, replaced_by, status_in}
 use Rattle.directory_rules.specs.Letter.{Letter, kind_of}
 use Rattle.directory_rules.specs.Node.{Node, new_node}
 use Rattle.directory_rules.specs.Event.{Event, Join, Leave, Kill, See, Do, Deliver, Lose}
@@ -45,31 +48,32 @@ tells world happening = record { outcome = record { happening = happening; sent 
 
 -- Membership.
 
--- without the node of a silo that is Dead from now on, if one is
-abbrev pub without_dead : World → Option Silo → World
-without_dead world None = world
-without_dead world (Some old) = without_node world old
+-- without the node of the silo that is replaced, if there is one
+abbrev pub without_replaced : World → Option Silo → World
+without_replaced world None = world
+without_replaced world (Some old) = without_node world old
 
--- a silo that joins has a node from now on
-abbrev pub with_joined : World → Change → World
-with_joined world (membership.Join silo places) = with_node world silo (new_node world.settings silo)
-with_joined world (membership.Leave silo) = world
-with_joined world (Die silo) = world
+-- the new silo has a node, and the one that it replaces has none any more
+abbrev pub after_joining : World → Silo → (replaced : Option Silo) → ViewsValue → PlacesValue → World
+after_joining world silo replaced views places =
+    record (with_node (without_replaced world replaced) silo (new_node world.settings silo)) { views = views; places = places }
 
--- what happened: the change that made the version, and for a join whom it replaced
-abbrev pub change_told : (version : ℕ) → Change → (dead : Option Silo) → Happening
-change_told version (membership.Join silo places) dead = Joined version silo dead
-change_told version (membership.Leave silo) dead = Left version silo
-change_told version (Die silo) dead = Died version silo
-
--- the world after the change
+-- the world after a change
 abbrev pub after_change : World → Change → Membership → World
-after_change world change m = with_membership (with_joined (without_dead world (dying (membership_of world) change)) change) m
+after_change world (membership.Join silo places) m = after_joining world silo (occupant silo world.views.rows) m.views m.places
+after_change world (membership.Leave silo) m = with_membership world m
+after_change world (Die silo) m = with_membership (without_node world silo) m
+
+-- what happened, and for a join whom it replaced
+abbrev pub change_told : (version : ℕ) → Change → (replaced : Option Silo) → Happening
+change_told version (membership.Join silo places) replaced = Joined version silo replaced
+change_told version (membership.Leave silo) replaced = Left version silo
+change_told version (Die silo) replaced = Died version silo
 
 -- by what the change makes, or its refusal
 abbrev pub changed_by : Result Membership ℕ → World → Change → Result Accepted ℕ
 changed_by (Err number) world change = Err number
-changed_by (Ok m) world change = Ok (tells (after_change world change m) (change_told m.views.version change (dying (membership_of world) change)))
+changed_by (Ok m) world change = Ok (tells (after_change world change m) (change_told m.views.version change (replaced_by (membership_of world) change)))
 
 -- whether the change is one of a silo that is Dead: its leave or its death
 abbrev pub is_of_dead : World → Change → Bool

@@ -61,12 +61,6 @@ replaced_by m (Join silo stated) = occupant silo m.views.rows
 replaced_by m (Leave silo) = None
 replaced_by m (Die silo) = None
 
--- who is Dead from the change on: whom a silo that joins replaces, and who dies
-abbrev pub dying : Membership → Change → Option Silo
-dying m (Join silo stated) = occupant silo m.views.rows
-dying m (Leave silo) = None
-dying m (Die silo) = Some silo
-
 -- ---- What is seen of it.
 
 -- the version in which a silo joined

@@ -12,9 +12,9 @@ use Rattle.directory_rules.specs.Settings.{Settings, AreSettings}
 use Rattle.directory_rules.specs.Node.{Node}
 use Rattle.directory_rules.specs.Event.{See, Do, Deliver}
 use Rattle.directory_rules.specs.Letter.{Letter}
-use Rattle.directory_rules.specs.Input.{Input, Does, Receives}
-use Rattle.directory_rules.specs.World.{World, Posted, Accepted}
-use Rattle.directory_rules.specs.Happens.{happens, node_of, sight_of}
+use Rattle.directory_rules.specs.Input.{Input, Does, Receives, sight_of}
+use Rattle.directory_rules.specs.World.{World, Posted, Accepted, membership_of}
+use Rattle.directory_rules.specs.Happens.{happens, node_of}
 use Rattle.directory_rules.proofs.Cases.{on_bool}
 use Rattle.directory_rules.proofs.Kept.{On}
 use Rattle.directory_rules.specs.declared.own_step.OwnStep.TheVariants.{Nudge}
@@ -37,7 +37,7 @@ Ends I E (Err number) = E number
 
 -- what the plan's events keep, and what each refusal of one says
 pub record PlanKeeps (settings : Settings) (I : World → Type 0) (E : ℕ → Type 0) : Type 0 where
-  pub sees : (world after : World) (silo : Silo) → IsReachedBy settings world → I world → IsStep world after silo (sight_of world world.views.version) → I after
+  pub sees : (world after : World) (silo : Silo) → IsReachedBy settings world → I world → IsStep world after silo (sight_of (membership_of world) world.views.version) → I after
   pub nudges : (world after : World) (silo : Silo) → IsReachedBy settings world → I world → IsStep world after silo (Does Nudge) → I after
   pub delivers : (world after : World) (number : ℕ) → IsReachedBy settings world → I world → IsDelivery world after number → I after
   pub refuses : (world : World) (silo : Silo) (input : Input) (number : ℕ) → IsReachedBy settings world → I world → Refused world silo input number → E number
@@ -107,7 +107,7 @@ module _ (settings : Settings) (are : AreSettings settings) (I : World → Type 
       (λ accepted ok.
       let it = saw world silo world.views.version accepted ok in
       on accepted.world (reached_on settings are world r.0 (See silo world.views.version) accepted named ok, k.sees world accepted.world silo r.0 r.1 it))
-      (λ number refused. k.refuses world silo (sight_of world world.views.version) number r.0 r.1
+      (λ number refused. k.refuses world silo (sight_of (membership_of world) world.views.version) number r.0 r.1
       (refused_sight world silo who.node world.views.version number who.its who.newer (seeable_now world silo (reached_peopled settings are world r.0).whole) refused))
 
   sights_end : (silos : List Silo) (world : World) → All IsSilo silos → J world → Ends J E (sights silos world)

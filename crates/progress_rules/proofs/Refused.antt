@@ -4,19 +4,20 @@ use Rattle.std.specs.Prelude.{Bool, true, false, cond, not, nat_lt, Some, Result
 use Rattle.std.proofs.lemmas.Bool.{leb-false, ltb-true, ltb-false, lt-ltb}
 use Rattle.silo_address.specs.Silo.{Silo}
 use Rattle.membership_view.specs.Views.{view_at}
+use Rattle.directory_rules.specs.Membership.{is_seeable}
 use Rattle.directory_rules.specs.Host.{outstanding, has_numbers}
 use Rattle.directory_rules.specs.Letter.{Letter}
 use Rattle.directory_rules.specs.Node.{Node}
 use Rattle.directory_rules.specs.Sight.{is_next}
 use Rattle.directory_rules.specs.Step.{Stepped, sight}
-use Rattle.directory_rules.specs.Input.{Input, Does, Receives, step}
+use Rattle.directory_rules.specs.Input.{Input, Does, Receives, step, sight_of}
 use Rattle.directory_rules.specs.Receive.{received}
 use Rattle.directory_rules.specs.Event.{See, Do, Deliver}
-use Rattle.directory_rules.specs.World.{World, Accepted}
+use Rattle.directory_rules.specs.World.{World, Accepted, membership_of}
 use Rattle.directory_rules.specs.Mail.{letter_of, has_room_for, with_delivered}
 use Rattle.directory_rules.specs.declared.outcome.Happening.{Happening}
 use Rattle.directory_rules.specs.declared.own_step.OwnStep.TheVariants.{Nudge}
-use Rattle.directory_rules.specs.Happens.{happens, node_of, taken, does_at, done_by, sees_at, seen_by, is_seeable, sight_of, delivers, delivers_to}
+use Rattle.directory_rules.specs.Happens.{happens, node_of, taken, does_at, done_by, sees_at, seen_by, delivers, delivers_to}
 
 -- as many events were accepted as ever may be
 pub record IsLate (world : World) (number : ℕ) : Type 0 where
@@ -107,10 +108,10 @@ refused_nudge world silo node number its is =
     ]
 
 by_sight : (world : World) (silo : Silo) (node : Node) (version number : ℕ) → node_of world silo ≡ Some node → nat_lt node.view.version version ≡ true → early world ≡ true
-    → (r : Result Stepped ℕ) → step node (sight_of world version) ≡ r → seen_by r world silo version ≡ Err number
-    → HasNoRoom world silo (sight_of world version) number ⊎ HasNoNumbers world silo number
+    → (r : Result Stepped ℕ) → step node (sight_of (membership_of world) version) ≡ r → seen_by r world silo version ≡ Err number
+    → HasNoRoom world silo (sight_of (membership_of world) version) number ⊎ HasNoNumbers world silo number
 by_sight world silo node version number its newer in_time (Ok stepped) made is =
-    inl (cramped world silo node its (sight_of world version) stepped number made (full world silo _ stepped number is))
+    inl (cramped world silo node its (sight_of (membership_of world) version) stepped number made (full world silo _ stepped number is))
 by_sight world silo node version number its newer in_time (Err refusal) made is =
     let before = view_at world.views (version - 1) in
     let view = view_at world.views version in
@@ -122,8 +123,8 @@ by_sight world silo node version number its newer in_time (Err refusal) made is 
 
 -- a sight of a version that a live silo hasn't seen and may see
 pub refused_sight :
-    (world : World) (silo : Silo) (node : Node) (version number : ℕ) → node_of world silo ≡ Some node → node.view.version < version → is_seeable world silo version ≡ true
-    → happens world (See silo version) ≡ Err number → Refused world silo (sight_of world version) number
+    (world : World) (silo : Silo) (node : Node) (version number : ℕ) → node_of world silo ≡ Some node → node.view.version < version → is_seeable (membership_of world) silo version ≡ true
+    → happens world (See silo version) ≡ Err number → Refused world silo (sight_of (membership_of world) version) number
 unfolding happens
 refused_sight world silo node version number its less seeable is =
     let newer = lt-ltb node.view.version version less in
@@ -131,8 +132,8 @@ refused_sight world silo node version number its less seeable is =
       | inl after ↦ inl (late world number after.0 after.1)
       | inr in_time ↦ inr (
           let at : sees_at (Some node) world silo version ≡ Err number = subst (λ o. sees_at o world silo version ≡ Err number) its in_time.1 in
-          let seen = passed (is_seeable world silo version) 904 _ number seeable (passed (nat_lt node.view.version version) 903 _ number newer at) in
-          by_sight world silo node version number its newer in_time.0 (step node (sight_of world version)) refl seen)
+          let seen = passed (is_seeable (membership_of world) silo version) 904 _ number seeable (passed (nat_lt node.view.version version) 903 _ number newer at) in
+          by_sight world silo node version number its newer in_time.0 (step node (sight_of (membership_of world) version)) refl seen)
     ]
 
 -- ---- a delivery to a live silo
