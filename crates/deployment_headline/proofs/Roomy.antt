@@ -11,10 +11,10 @@ use Rattle.directory_rules.specs.declared.effect.Effect.TheVariants.{Ignored}
 use Rattle.directory_rules.specs.Settings.{Settings}
 use Rattle.directory_rules.specs.Letter.{Letter}
 use Rattle.directory_rules.specs.Step.{Stepped, silently}
-use Rattle.directory_rules.specs.Input.{Input, Does, Receives, step}
-use Rattle.directory_rules.specs.Membership.{Change, Join, Leave, Die, Membership, joined, changed, replaced_by}
+use Rattle.directory_rules.specs.Input.{Input, Does, Receives, step, sight_of}
+use Rattle.directory_rules.specs.Membership.{Change, Join, Leave, Die, Membership, joined, changed, replaced_by, is_seeable}
 use Rattle.silo_rules.specs.SiloValue.{SiloValue, first_silo}
-use Rattle.silo_rules.specs.Steps.{barred, unless_barred, is_seeable, sight_of, sees, does, receives}
+use Rattle.silo_rules.specs.Steps.{barred, unless_barred, sees, does, receives}
 use Rattle.silo_rules.specs.Steps as alone
 use Rattle.silo_rules.specs.Told.{Heard, heard_by, told_again, told}
 use Rattle.deployment_headline.specs.Deployment.{Deployment, first_deployment, process_of}

@@ -15,14 +15,14 @@ use Rattle.directory_rules.specs.declared.effect.Effect.TheVariants.{Ignored}
 use Rattle.directory_rules.specs.Settings.{Settings}
 use Rattle.directory_rules.specs.Letter.{Letter}
 use Rattle.directory_rules.specs.Step.{Stepped, silently}
-use Rattle.directory_rules.specs.Input.{Input, Does, Receives, step}
+use Rattle.directory_rules.specs.Input.{Input, Does, Receives, step, sight_of}
 use Rattle.directory_rules.proofs.Removed.{sorted_removed}
 use Rattle.directory_facts.proofs.Entries.{all_put, all_removed, found_so, same_key}
 use Rattle.silo_rules.specs.declared.news.News.TheVariants.{Known}
 use Rattle.silo_rules.specs.Known.{is_known}
-use Rattle.directory_rules.specs.Membership.{Change, Join, Leave, Die, Membership, first_membership, changed, replaced_by}
+use Rattle.directory_rules.specs.Membership.{Change, Join, Leave, Die, Membership, first_membership, changed, replaced_by, is_seeable}
 use Rattle.silo_rules.specs.SiloValue.{SiloValue, first_silo}
-use Rattle.silo_rules.specs.Steps.{barred, unless_barred, is_seeable, sight_of, seen, sees, does, receives}
+use Rattle.silo_rules.specs.Steps.{barred, unless_barred, seen, sees, does, receives}
 use Rattle.silo_rules.specs.Told.{Heard, heard_by, told}
 use Rattle.silo_rules.proofs.Own.{StaysOwn, stays_own}
 use Rattle.silo_rules.proofs.Whole.{Are, made}

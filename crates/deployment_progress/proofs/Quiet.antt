@@ -15,7 +15,7 @@ use Rattle.membership_view.specs.declared.status.Status.TheVariants.{Active, Lea
 use Rattle.membership_view.specs.View.{ViewValue}
 use Rattle.membership_view.specs.Views.{ViewsValue, status_at, joining_version}
 use Rattle.directory_rules.specs.declared.effect.Effect.TheVariants.{Ignored}
-use Rattle.directory_rules.specs.Input.{Input, Sees, Does, Receives, step}
+use Rattle.directory_rules.specs.Input.{Input, Sees, Does, Receives, step, sight_of}
 use Rattle.directory_rules.specs.Laws.{is_live}
 use Rattle.directory_rules.specs.Letter.{Letter}
 use Rattle.directory_rules.specs.Node.{Node}
@@ -24,9 +24,9 @@ use Rattle.directory_rules.specs.Step.{Stepped, silently}
 use Rattle.directory_rules.specs.declared.own_step.OwnStep.TheVariants.{Nudge}
 use Rattle.directory_rules.proofs.Cases.{on_bool}
 use Rattle.directory_facts.proofs.Lookups.{found_put, found_beside_put}
-use Rattle.directory_rules.specs.Membership.{Change, Membership}
+use Rattle.directory_rules.specs.Membership.{Change, Membership, barred_by, is_seeable}
 use Rattle.silo_rules.specs.SiloValue.{SiloValue, own_status}
-use Rattle.silo_rules.specs.Steps.{barred, barred_by, unless_barred, is_seeable, sight_of, seen, does}
+use Rattle.silo_rules.specs.Steps.{barred, unless_barred, seen, does}
 use Rattle.silo_rules.specs.Told.{Heard, told}
 use Rattle.progress_rules.proofs.Covered.{view_kept}
 use Rattle.deployment_headline.specs.Deployment.{Deployment, process_of}

@@ -13,14 +13,14 @@ use Rattle.hash_ring.proofs.Lawful.{ring_stays}
 use Rattle.directory_rules.specs.Settings.{Settings, AreSettings}
 use Rattle.directory_rules.specs.Node.{Node}
 use Rattle.directory_rules.specs.Step.{Stepped}
-use Rattle.directory_rules.specs.Input.{Input, Sees, Does, Receives, step}
+use Rattle.directory_rules.specs.Input.{Input, Sees, Does, Receives, step, sight_of}
 use Rattle.directory_facts.specs.Seen.{SeesItsVersion}
 use Rattle.directory_facts.proofs.Carried.{Brings}
 use Rattle.directory_facts.proofs.Places.{added_view}
 use Rattle.directory_facts.proofs.SeenRings.{AreViews, seen_facts, seen_keep}
 use Rattle.directory_rules.specs.Membership.{Change, Join, Leave, Die, Membership, changed, joined, placed, with_places, with_views, first_membership}
 use Rattle.silo_rules.specs.SiloValue.{SiloValue, first_silo}
-use Rattle.silo_rules.specs.Steps.{sight_of}
+
 use Rattle.silo_rules.specs.NodeInputs.{IsNoSight}
 use Rattle.silo_rules.specs.Whole.{AreWhole, IsWhole}
 use Rattle.silo_rules.proofs.Own.{stays_own}
