@@ -27,7 +27,7 @@ use Rattle.directory_rules.specs.World.{Accepted, Posted, World, membership_of}
 use Rattle.directory_rules.specs.Members.{is_known_dead}
 use Rattle.directory_rules.specs.Happens as rule
 use Rattle.directory_rules.proofs.Decided.{died}
-use Rattle.directory_rules.specs.Membership.{Change, Join, Leave, Die, Membership, placed, joined, with_places, with_views, changed, is_seeable, barred_by}
+use Rattle.directory_rules.specs.Membership.{Change, Join, Leave, Die, Membership, with_views, changed, is_seeable, barred_by}
 use Rattle.silo_rules.specs.SiloValue.{SiloValue, first_silo, own_status}
 use Rattle.silo_rules.specs.Steps.{unless_barred, seen, does}
 use Rattle.silo_rules.specs.Told.{Heard, told}

@@ -1,5 +1,5 @@
 -- A change of membership that is decided, by what it makes.
-use Rattle.std.proofs.Common.{◌≡◌, refl, sym, subst, ℕ, List}
+use Rattle.std.proofs.Common.{◌≡◌, refl, ap, ◌∙◌, subst, ℕ, List}
 use Rattle.std.specs.Prelude.{◌+◌, Bool, true, false, cond, nat_lt, length, Option, Some, None, Result, Ok, Err}
 use Rattle.silo_address.specs.Silo.{Silo}
 use Rattle.membership_view.specs.declared.status.Status.{Status}
@@ -101,7 +101,7 @@ leave_is settings m next silo is =
     (made_of next (left m silo) same makes.places, subst (λ v. change.after m.views (change.Leave silo) ≡ Ok v) same makes.viewed)
   where
     made_of : (one other : Membership) → one.views ≡ other.views → one.places ≡ other.places → one ≡ other
-    made_of one other views places = cc (views, places)
+    made_of one other views places = ap (λ v. record { views = v; places = one.places }) views ∙ ap (λ p. record { views = other.views; places = p }) places
 
 pub death_is : (settings : Settings) (m next : Membership) (silo : Silo) → changed settings m (Die silo) ≡ Ok next → (next ≡ dead m silo) × (change.after m.views (change.Die silo) ≡ Ok (change.with_death m.views silo))
 death_is settings m next silo is =
@@ -110,7 +110,7 @@ death_is settings m next silo is =
     (made_of next (dead m silo) same makes.places, subst (λ v. change.after m.views (change.Die silo) ≡ Ok v) same makes.viewed)
   where
     made_of : (one other : Membership) → one.views ≡ other.views → one.places ≡ other.places → one ≡ other
-    made_of one other views places = cc (views, places)
+    made_of one other views places = ap (λ v. record { views = v; places = one.places }) views ∙ ap (λ p. record { views = other.views; places = p }) places
 
 -- the silo is Dead from now on, and its node goes
 abbrev pub died : World → Silo → Accepted
