@@ -49,6 +49,9 @@ func (f *fake) Find(grain string, answer func(silo.Answer)) error {
 	return f.add("find "+grain, answer)
 }
 func (f *fake) Forget(grain string) error { return f.add("forget "+grain, func(silo.Answer) {}) }
+func (f *fake) Place(grain string, answer func(directory.Silo)) error {
+	return f.add("place "+grain, func(place silo.Answer) { answer(directory.Silo(place.Activation)) })
+}
 
 // answers waits for a line to the silo, and answers it.
 func (f *fake) answers(t *testing.T, line string, answer silo.Answer) {
@@ -70,6 +73,12 @@ func (f *fake) answers(t *testing.T, line string, answer silo.Answer) {
 			t.Fatalf("the silo isn't told %q", line)
 		}
 	}
+}
+
+func (f *fake) pending() int {
+	f.mu.Lock()
+	defer f.mu.Unlock()
+	return len(f.lines)
 }
 
 func (f *fake) isTold(t *testing.T, nothing string) {
@@ -94,12 +103,7 @@ type test struct {
 func start(t *testing.T) *test {
 	x := &test{T: t, silo: &fake{}, path: filepath.Join(t.TempDir(), "s"), may: 1}
 	x.service = New(Options{Silo: x.silo, May: func() bool { return atomic.LoadInt32(&x.may) == 1 }, Until: func() clock.Time { return 42 }, Now: clock.Boot,
-		Another: func(grain string) directory.Silo {
-			if grain == "user/alone" {
-				return ""
-			}
-			return "10.0.0.2:1000@1"
-		}, Status: func() string { return "S version 1" }, Took: func(what string, _ time.Duration) { x.took.Store(what, true) }})
+		Another: func(place directory.Silo) directory.Silo { return place }, Status: func() string { return "S version 1" }, Took: func(what string, _ time.Duration) { x.took.Store(what, true) }})
 	listener, err := Listen(x.path, 0o600)
 	if err != nil {
 		t.Fatal(err)
@@ -167,6 +171,7 @@ func TestOneLife(t *testing.T) {
 	b.says("4 deactivate user/ann")
 	b.hears("4 refused 803 ")
 	b.says("4 migrate user/ann any")
+	x.silo.answers(t, "place user/ann", silo.Answer{Activation: "10.0.0.2:1000@1"})
 	b.hears("4 refused 803 ")
 	a.says("5 deactivate user/ann")
 	x.silo.answers(t, "close user/ann", silo.Answer{Activation: "S!1"})
@@ -174,9 +179,9 @@ func TestOneLife(t *testing.T) {
 	a.says("7 deactivate user/ann")
 	a.says("8 status")
 	a.hears("8 status S version 1 held 1")
-	x.service.Said(silo.Said{What: silo.Ended, Activation: "S!1", Grain: "user/ann"})
-	a.hears("5 ended user/ann")
-	a.hears("7 ended user/ann")
+	x.service.Said(silo.Said{What: silo.Ended, Activation: "S!1", Grain: "user/ann", How: "removed"})
+	a.hears("5 ended user/ann removed")
+	a.hears("7 ended user/ann removed")
 	x.silo.answers(t, "wake user/ann", silo.Answer{Activation: "S!2"})
 	x.service.Said(silo.Said{What: silo.Taken, Activation: "T!9", Grain: "user/ann"})
 	a.hears("6 taken T!9 user/ann")
@@ -232,12 +237,15 @@ func TestRefusals(t *testing.T) {
 	a := x.dial()
 	for _, one := range []struct{ line, code string }{
 		{"1", "what"}, {"1 wake user/ann", "what"}, {"1 activate", "what"}, {"1 activate a b", "what"}, {"1 find a old", "what"}, {"1 migrate user/ann", "what"},
-		{"1 activate us\x01er/ann", "113"}, {"1 activate user/\u00e4nn", "113"}, {"1 migrate user/ann nowhere", "807"}, {"1 migrate user/alone any", "807"},
+		{"1 activate us\x01er/ann", "113"}, {"1 activate user/\u00e4nn", "113"}, {"1 migrate user/ann nowhere", "807"},
 		{"1 activate " + strings.Repeat("x", 20000), "long"},
 	} {
 		a.says(one.line)
 		a.hears("1 refused " + one.code + " ")
 	}
+	a.says("1 migrate user/ann any")
+	x.silo.answers(t, "place user/ann", silo.Answer{})
+	a.hears("1 refused 807 ")
 	a.says("")
 	for _, code := range []string{"111", "804", "806", "999"} {
 		a.says("2 activate user")
@@ -251,7 +259,7 @@ func TestRefusals(t *testing.T) {
 	a.says("4 activate user/ann") // its work goes on
 	a.hears("4 firm S!1 user/ann token 1")
 	x.silo.busy = true
-	for _, line := range []string{"activate user/bob", "deactivate user/ann", "find user/bob", "find user/bob fresh"} {
+	for _, line := range []string{"activate user/bob", "deactivate user/ann", "migrate user/ann any", "find user/bob", "find user/bob fresh"} {
 		a.says("5 " + line)
 		a.hears("5 refused busy ")
 	}
@@ -286,9 +294,39 @@ func TestMoves(t *testing.T) {
 	moved("cart/eve")
 	a.hears("event firm S!5 cart/eve token 3")
 	b.says("2 migrate user/bob any")
+	x.silo.answers(t, "place user/bob", silo.Answer{Activation: "10.0.0.2:1000@1"})
 	x.silo.answers(t, "offer user/bob 10.0.0.2:1000@1", silo.Answer{Activation: "S!5"})
-	x.service.Said(silo.Said{What: silo.Ended, Grain: "user/bob"})
-	b.hears("2 ended user/bob")
+	x.service.Said(silo.Said{What: silo.Ended, Grain: "user/bob", How: "absent"})
+	b.hears("2 ended user/bob absent")
+}
+
+// What was fenced while the silo is asked for a place isn't moved.
+func TestLostBeforeItsPlace(t *testing.T) {
+	x := start(t)
+	a := x.dial()
+	x.firm(a, "user/ann", "S!1", 1)
+	a.says("2 migrate user/ann any")
+	for x.silo.pending() == 0 {
+		time.Sleep(time.Millisecond)
+	}
+	atomic.StoreInt32(&x.may, 0)
+	x.silo.answers(t, "place user/ann", silo.Answer{Activation: "10.0.0.2:1000@1"})
+	a.hears("2 refused lost ")
+	x.silo.isTold(t, "nothing more")
+}
+
+// Ends and the reasons of retries are counted.
+func TestCounts(t *testing.T) {
+	x := start(t)
+	x.service.Said(silo.Said{Kind: "retry", Effect: "noted", Grain: "user/ann", Why: "603"})
+	x.service.Said(silo.Said{Kind: "retry", Effect: "ignored"})
+	x.service.Said(silo.Said{What: silo.Ended, Grain: "user/ann", How: "absent"})
+	counts := x.service.Figures().Counts
+	for name, count := range map[string]int64{"retry 603": 1, "delivered retry noted": 1, "delivered retry ignored": 1, "ended absent": 1} {
+		if counts[name] != count {
+			t.Errorf("%s is counted %d times", name, counts[name])
+		}
+	}
 }
 
 func TestFinds(t *testing.T) {
@@ -423,8 +461,8 @@ func TestWhose(t *testing.T) {
 	}
 	b.says("1 deactivate b/0")
 	x.silo.answers(t, "close b/0", silo.Answer{Activation: "S!1"})
-	x.service.Said(silo.Said{What: silo.Ended, Grain: "b/0"})
-	b.hears("1 ended b/0")
+	x.service.Said(silo.Said{What: silo.Ended, Grain: "b/0", How: "removed"})
+	b.hears("1 ended b/0 removed")
 	a.conn.Close()
 	closed := map[string]bool{}
 	for i := 0; i < 5; i++ {

@@ -219,16 +219,32 @@ func (s *Service) asked(k ask, words []string, isLong bool) {
 	}
 }
 
+// migrate ends an activation by an offer. `any` is the silo where the grain is placed, or another.
 func (s *Service) migrate(k ask, name, to string) {
-	other := directory.Silo(to)
-	if to == "any" {
-		other = s.options.Another(name)
+	if to != "any" {
+		s.moveTo(k, name, directory.Silo(to))
+		return
 	}
-	if _, err := directory.ReadSilo(string(other)); err != nil {
+	err := s.options.Silo.Place(name, func(place directory.Silo) {
+		s.mu.Lock()
+		defer s.mu.Unlock()
+		if s.over != "" || !s.options.May() {
+			k.refuse("lost")
+		} else {
+			s.moveTo(k, name, s.options.Another(place))
+		}
+	})
+	if err != nil {
+		k.refuse("busy")
+	}
+}
+
+func (s *Service) moveTo(k ask, name string, to directory.Silo) {
+	if _, err := directory.ReadSilo(string(to)); err != nil {
 		k.refuse("807")
 		return
 	}
-	s.close(k, name, other)
+	s.close(k, name, to)
 }
 
 // known is a verb as metrics name it: what applications make up isn't counted by name.

@@ -3,8 +3,9 @@
 //
 //	TAG activate GRAIN       firm ACTIVATION GRAIN token V | taken ACTIVATION GRAIN: it is there | refused ..
 //	TAG find GRAIN [fresh]   at ACTIVATION GRAIN [hint] | nowhere GRAIN | refused ..; fresh asks the directory where there is a hint
-//	TAG deactivate GRAIN     ended GRAIN | refused ..; the application ends the work, then asks
-//	TAG migrate GRAIN SILO   ended GRAIN | refused ..; the same; SILO may be `any`
+//	TAG deactivate GRAIN     ended GRAIN removed|absent | refused ..; the application ends the work, then asks; absent: the directory had it
+//	                         here no more
+//	TAG migrate GRAIN SILO   the same; SILO may be `any`
 //	TAG serve [KIND ..]      ok; grains, or those of these kinds, that move here may be given to this connection
 //	TAG status               status SILO version V seen V settled V held N members N
 //	                         refused CODE WORDS: why, and what to do
@@ -38,17 +39,18 @@ type Directory interface {
 	Offer(grain string, to directory.Silo, answer func(silo.Answer)) error
 	Find(grain string, answer func(silo.Answer)) error
 	Forget(grain string) error
+	Place(grain string, answer func(directory.Silo)) error
 }
 
 // Options are what a service works with.
 type Options struct {
 	Silo    Directory
-	May     func() bool                           // whether the silo may work now
-	Until   func() clock.Time                     // the deadline so far
-	Now     clock.Clock                           //
-	Another func(grain string) directory.Silo     // where `migrate GRAIN any` goes, "" for nowhere
-	Status  func() string                         // what `status` answers, but for what is held
-	Took    func(what string, took time.Duration) // told how long each question took that was granted
+	May     func() bool                               // whether the silo may work now
+	Until   func() clock.Time                         // the deadline so far
+	Now     clock.Clock                               //
+	Another func(place directory.Silo) directory.Silo // where `migrate GRAIN any` goes, by the grain's place; "" for nowhere
+	Status  func() string                             // what `status` answers, but for what is held
+	Took    func(what string, took time.Duration)     // told how long each question took that was granted
 
 	Connected    func(process int, began string) // told each process that connects, and when it began
 	Disconnected func(process int)               // told each process that has hung up, with all its connections
@@ -307,8 +309,9 @@ func (s *Service) Said(said silo.Said) {
 			}
 		}
 	case silo.Ended:
+		s.counts["ended "+said.How]++
 		if g != nil {
-			s.ended(g)
+			s.ended(g, said.How)
 		}
 	case silo.Started: // by an offer
 		moved := &grain{name: said.Grain, activation: said.Activation, phase: asking, since: s.options.Now()}
@@ -320,6 +323,9 @@ func (s *Service) Said(said silo.Said) {
 		s.found(said.Grain, "nowhere %s", said.Grain)
 	case silo.Noted:
 		s.counts["delivered "+said.Kind+" "+said.Effect]++
+		if said.Why != "" {
+			s.counts["retry "+said.Why]++
+		}
 	}
 }
 
@@ -365,11 +371,11 @@ func (s *Service) server(name string) *application {
 	return best
 }
 
-func (s *Service) ended(g *grain) {
+func (s *Service) ended(g *grain, how string) {
 	s.drop(g)
 	s.took("deactivate", g.since)
 	for _, k := range g.ending {
-		k.answer("ended %s", g.name)
+		k.answer("ended %s %s", g.name, how)
 	}
 	for _, k := range g.again {
 		if s.apps[k.app] {

@@ -60,6 +60,13 @@ func (m *Member) Metrics(out io.Writer) {
 				"kind", words[1], "effect", words[2])
 		}
 	}
+	for _, how := range []string{"removed", "absent"} {
+		page.Counter("ended_total", "activations that ended, by whether the directory had them here until then", float64(figures.Counts["ended "+how]), "how", how)
+	}
+	for _, why := range []string{"601", "602", "603", "604"} {
+		page.Counter("retries_total", "requests of this silo that an owner didn't serve: 601 another view, 602 not settled, 603 an old number, 604 not its hash",
+			float64(figures.Counts["retry "+why]), "why", why)
+	}
 	for _, what := range []string{"activate", "deactivate", "find"} {
 		page.Histogram("latency_seconds", "from a question to its granting", m.took[what], "verb", what)
 	}

@@ -36,6 +36,9 @@ func (m *late) Offer(grain string, to directory.Silo, answer func(silo.Answer)) 
 }
 func (m *late) Find(grain string, answer func(silo.Answer)) error { return m.silo.Find(grain, answer) }
 func (m *late) Forget(grain string) error                         { return m.silo.Forget(grain) }
+func (m *late) Place(grain string, answer func(directory.Silo)) error {
+	return m.silo.Place(grain, answer)
+}
 
 // TransportChanged says that the transport was lost, or is back: silence until now says nothing of the others, and letters may come again.
 func (m *Member) TransportChanged() {

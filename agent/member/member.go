@@ -443,29 +443,27 @@ func (m *Member) vote(members []directory.Silo, reports map[directory.Silo]peers
 	}
 }
 
-// another is an active silo other than this, by the grain's name.
-func (m *Member) another(grain string) directory.Silo {
+// another is where a grain of that place goes, if it leaves this silo: there, or to the next active silo where the place is this one, or was one
+// that leaves by now.
+func (m *Member) another(place directory.Silo) directory.Silo {
 	members, _ := m.members()
-	var best directory.Silo
-	var most uint32
-	sort.Slice(members, func(i, j int) bool { return members[i] < members[j] })
+	var others []directory.Silo
 	for _, other := range members {
-		if other == m.me || m.options.Sequence.Status(other) != directory.IsActive {
-			continue
-		}
-		if hash := fnv(string(other) + grain); best == "" || hash > most {
-			best, most = other, hash
+		if other != m.me && m.options.Sequence.Status(other) == directory.IsActive {
+			others = append(others, other)
 		}
 	}
-	return best
+	return fromOn(place, others)
 }
 
-func fnv(text string) uint32 {
-	hash := uint32(2166136261)
-	for _, c := range []byte(text) {
-		hash = (hash ^ uint32(c)) * 16777619
+// fromOn is a silo, or the next one behind it in the order of their texts, around; "" where there is none.
+func fromOn(silo directory.Silo, silos []directory.Silo) directory.Silo {
+	if len(silos) == 0 {
+		return ""
 	}
-	return hash
+	sort.Slice(silos, func(i, j int) bool { return silos[i] < silos[j] })
+	next := sort.Search(len(silos), func(i int) bool { return silos[i] >= silo })
+	return silos[next%len(silos)]
 }
 
 func (m *Member) statusLine() string {

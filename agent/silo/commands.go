@@ -12,6 +12,9 @@ import (
 // Tell tells the silo a change of membership; answer gets nil, or why the silo doesn't take it, and then there are two sequences of changes.
 func (s *Silo) Tell(change directory.Change, answer func(error)) error {
 	line := fmt.Sprintf("%s %d %s", change.Kind, change.Version, change.Silo)
+	if change.Token != "" {
+		line += " token=" + change.Token
+	}
 	return s.send(line, func(said string) {
 		var err error
 		if !strings.HasPrefix(said, "view ") && !strings.HasPrefix(said, "known ") {
@@ -57,6 +60,18 @@ func (s *Silo) Find(grain string, answer func(Answer)) error { return s.ask("fin
 
 // Forget drops the hint of where a grain is.
 func (s *Silo) Forget(grain string) error { return s.ask("forget", grain, func(Answer) {}) }
+
+// Place tells where a grain would be placed by its hash, of the silos that are active in the view that this one has seen: "" where none is.
+func (s *Silo) Place(grain string, answer func(directory.Silo)) error {
+	return s.send("place "+grain+" hash_based", func(said string) { // place GRAIN SILO, or place GRAIN none
+		words := strings.Fields(said)
+		if len(words) != 3 || words[0] != "place" || words[2] == "none" {
+			answer("")
+		} else {
+			answer(directory.Silo(words[2]))
+		}
+	})
+}
 
 // ask gives a command about one grain. Words of an application are tested before: a space or a control byte would make them another line.
 func (s *Silo) ask(verb, words string, answer func(Answer)) error {

@@ -1,11 +1,9 @@
 // Package silo runs a silo's process and speaks its lines (docs/RULES.md, "Lines of a silo's process"). Nothing else in the agent writes or
-// reads such a line, so what the process learns to say later is taken up here:
+// reads such a line, so what the process may learn to say later is taken up here:
 //
 //	status           Status is counted here from the lines that pass, and confirmed once a view by `show`
 //	nudge GRAIN      Nudge renews all requests; so whoever nudges waits for longer each time (package settling)
-//	firm .. at V     Said.Token is the version that the silo had seen when it wrote `firm`; see Said
-//	--join TOKEN     Options.Token isn't told to the process
-//	place, cancel    applications choose by a hash of the agent's own, and an asking that nobody wants is closed once it is firm
+//	cancel           an asking that nobody wants is closed once it is firm
 package silo
 
 import (
@@ -46,7 +44,7 @@ type Options struct {
 	Program  string             // the path of grain-directory, or of what does the same
 	Silo     directory.Silo     //
 	Settings directory.Settings //
-	Token    string             // what its join was decided with; today's process isn't told
+	Token    string             // what its join was decided with: by another join of its silo the process doesn't join
 	May      func() bool        // whether the silo may be told anything now; asked before each write
 }
 
@@ -78,14 +76,15 @@ const (
 
 // Said is what came of a letter.
 //
-// Token belongs to Firm. It never falls for a grain, and rises across a death: hashes are served at rising versions only, so what became firm
-// later did so at a version no lower; and behind a death, at a higher one. It is the version that the silo had seen when it wrote the line, as
-// the agent, which told it each `see`, reads from the answers in their order.
+// Token belongs to Firm, and is the version that the silo had seen. It never falls for a grain, and rises across a death: hashes are served at
+// rising versions only, so what became firm later did so at a version no lower; and behind a death, at a higher one.
 type Said struct {
 	What              What
 	Grain, Activation string
 	Token             uint64
+	How               string // of Ended: `removed`, or `absent` where the directory had it here no more
 	Kind, Effect      string // of Noted: the letter's kind, and `installed`, `noted`, ..
+	Why               string // of a retry that is noted, which has a Grain: 601 to 604
 }
 
 // Answer is what a silo said to a command of an application.
@@ -136,7 +135,7 @@ type waiting struct {
 // Start starts a silo's process.
 func Start(options Options, listener Listener) (*Silo, error) {
 	settings := options.Settings
-	command := exec.Command(options.Program, "silo", string(options.Silo), "--hashing", settings.Hashing,
+	command := exec.Command(options.Program, "silo", string(options.Silo), "--join", options.Token, "--hashing", settings.Hashing,
 		"--points", strconv.Itoa(settings.Points), "--cache", strconv.Itoa(settings.Cache))
 	// A group of its own: a ^C at a terminal is for the agent, which leaves in order. When the agent ends, the silo's input does, and so the
 	// silo. (Pdeathsig would be wrong: it comes when the thread ends that started the process, and Go ends threads.)
@@ -162,7 +161,7 @@ func Start(options Options, listener Listener) (*Silo, error) {
 // Check says what is wrong with a program as a silo's, or nil: each join that comes to nothing uses up a generation.
 func Check(program string, silo directory.Silo, settings directory.Settings) error {
 	const patience = 20 * time.Second
-	s, err := Start(Options{Program: program, Silo: silo, Settings: settings}, deaf{})
+	s, err := Start(Options{Program: program, Silo: silo, Settings: settings, Token: "none"}, deaf{})
 	if err != nil {
 		return err
 	}
@@ -387,19 +386,18 @@ func (s *Silo) answered(line []byte) bool {
 		return false
 	}
 	s.tracked.note(words, w.settle)
-	seen := s.tracked.seen
 	s.mu.Unlock()
 	if w.answer != nil {
 		w.answer(text)
 	} else {
-		s.said(words, seen)
+		s.said(words)
 	}
 	return true
 }
 
 // said tells what came of a letter.
-func (s *Silo) said(words []string, seen uint64) {
-	said, ok := readSaid(words, seen)
+func (s *Silo) said(words []string) {
+	said, ok := readSaid(words)
 	if !ok {
 		s.listener.Broken("the silo's process answered a letter by: " + short(strings.Join(words, " ")))
 		return
@@ -411,35 +409,35 @@ func (s *Silo) said(words []string, seen uint64) {
 }
 
 // readSaid reads the line that a letter was answered with.
-func readSaid(words []string, seen uint64) (Said, bool) {
-	has := func(least int) bool { return len(words) >= least }
+func readSaid(words []string) (Said, bool) {
 	switch words[0] {
-	case "firm": // firm ACT GRAIN [at VERSION]
-		if !has(3) {
+	case "firm": // firm ACT GRAIN at VERSION
+		if len(words) != 5 || words[3] != "at" {
 			return Said{}, false
 		}
-		token := seen
-		if len(words) == 5 && words[3] == "at" {
-			if version, err := strconv.ParseUint(words[4], 10, 64); err == nil {
-				token = version
-			}
-		}
-		return Said{What: Firm, Activation: words[1], Grain: words[2], Token: token}, true
+		version, err := strconv.ParseUint(words[4], 10, 64)
+		return Said{What: Firm, Activation: words[1], Grain: words[2], Token: version}, err == nil
 	case "taken": // taken GRAIN by ACT
 		return lone(Said{What: Taken}, words, 1, 3)
-	case "ended", "moved": // ended ACT GRAIN ..
-		return lone(Said{What: Ended}, words, 2, 1)
+	case "ended": // ended ACT GRAIN removed|absent
+		if len(words) != 4 {
+			return Said{}, false
+		}
+		return Said{What: Ended, Activation: words[1], Grain: words[2], How: words[3]}, true
 	case "started":
 		return lone(Said{What: Started}, words, 2, 1)
 	case "found":
 		return lone(Said{What: Found}, words, 2, 1)
 	case "nothing":
 		return lone(Said{What: Nothing}, words, 1, 0)
-	case "delivered": // delivered KIND EFFECT ..
-		if !has(3) {
-			return Said{}, false
+	case "delivered": // delivered KIND EFFECT ..; delivered retry noted GRAIN CODE
+		switch {
+		case len(words) == 5 && words[1] == "retry" && words[2] == "noted":
+			return Said{Kind: "retry", Effect: "noted", Grain: words[3], Why: words[4]}, true
+		case len(words) > 2:
+			return Said{Kind: words[1], Effect: words[2]}, true
 		}
-		return Said{Kind: words[1], Effect: words[2]}, true
+		return Said{}, false
 	case "fault", "refused":
 		return Said{Kind: words[0], Effect: strings.Join(words[1:], " ")}, true
 	}

@@ -66,6 +66,22 @@ func (h *heard) Quiet()               {}
 func (h *heard) Said(said Said)       { h.add("%+v", said) }
 func (h *heard) Broken(reason string) { h.add("broken: %s", reason) }
 
+// awaits waits until something is heard, whatever else was before.
+func (h *heard) awaits(t *testing.T, event string) {
+	t.Helper()
+	for end := time.Now().Add(5 * time.Second); time.Now().Before(end); time.Sleep(time.Millisecond) {
+		h.mu.Lock()
+		for _, one := range h.events {
+			if one == event {
+				h.mu.Unlock()
+				return
+			}
+		}
+		h.mu.Unlock()
+	}
+	t.Fatalf("%q isn't heard", event)
+}
+
 func (h *heard) expects(t *testing.T, events ...string) {
 	t.Helper()
 	for range events {
@@ -110,8 +126,8 @@ func TestActivation(t *testing.T) {
 	reply := "letter 10.0.0.2:1000@1 " + string(me) + " 4 registered 1 user/ann " + string(me) + "!1"
 	s.Receive([]byte(reply))
 	f.expects(reply)
-	f.writes("firm " + string(me) + "!1 user/ann")
-	h.expects(t, fmt.Sprintf("%+v", Said{What: Firm, Activation: string(me) + "!1", Grain: "user/ann", Token: 4}))
+	f.writes("firm " + string(me) + "!1 user/ann at 3")
+	h.expects(t, fmt.Sprintf("%+v", Said{What: Firm, Activation: string(me) + "!1", Grain: "user/ann", Token: 3}))
 	if status := s.status(); status.Asking != 0 || status.Held != 1 || status.Seen != 4 || status.Outstanding() {
 		t.Fatalf("%+v", status)
 	}
@@ -121,6 +137,43 @@ func TestActivation(t *testing.T) {
 	f.writes("refused 801")
 	if a := answer(); a.Refused != "801" {
 		t.Fatalf("%+v", a)
+	}
+}
+
+// What is said of an activation's end and of a retry; a `firm` that tells no version is none.
+func TestSaid(t *testing.T) {
+	activation := string(me) + "!1"
+	for _, one := range []struct {
+		line string
+		said Said
+	}{
+		{"firm " + activation + " user/ann at 18446744073709551615", Said{What: Firm, Activation: activation, Grain: "user/ann", Token: 1<<64 - 1}},
+		{"ended " + activation + " user/ann removed", Said{What: Ended, Activation: activation, Grain: "user/ann", How: "removed"}},
+		{"ended " + activation + " user/ann absent", Said{What: Ended, Activation: activation, Grain: "user/ann", How: "absent"}},
+		{"delivered retry noted user/ann 603", Said{Kind: "retry", Effect: "noted", Grain: "user/ann", Why: "603"}},
+		{"delivered retry ignored", Said{Kind: "retry", Effect: "ignored"}},
+		{"delivered register retry 601", Said{Kind: "register", Effect: "retry"}},
+	} {
+		if said, ok := readSaid(strings.Fields(one.line)); !ok || said != one.said {
+			t.Errorf("%q: %+v %v", one.line, said, ok)
+		}
+	}
+	for _, line := range []string{"firm " + activation + " user/ann", "firm " + activation + " user/ann at x", "firm " + activation + " user/ann at 1 2",
+		"ended " + activation + " user/ann", "delivered retry", "moved " + activation + " user/ann"} {
+		if said, ok := readSaid(strings.Fields(line)); ok {
+			t.Errorf("%q: %+v", line, said)
+		}
+	}
+}
+
+func TestPlace(t *testing.T) {
+	h := newHeard()
+	f, s := newFake(t, h)
+	for said, place := range map[string]string{"place user/ann 10.0.0.2:1000@1": "10.0.0.2:1000@1", "place user/ann none": "", "fault 111": ""} {
+		s.Place("user/ann", func(place directory.Silo) { h.add("%s", place) })
+		f.expects("place user/ann hash_based")
+		f.writes(said)
+		h.expects(t, place)
 	}
 }
 
@@ -223,10 +276,10 @@ func TestRefusedChange(t *testing.T) {
 	f, s := newFake(t, h)
 	for _, step := range []struct{ said, heard string }{
 		{"view 7 joined 10.0.0.2:1000@1 dead 10.0.0.2:1000@1", "<nil>"}, {"known 7", "<nil>"},
-		{"refused 207", `the silo doesn't take the change "joined 7 10.0.0.2:1000@1": refused 207`},
+		{"refused 208", `the silo doesn't take the change "joined 7 10.0.0.2:1000@1 token=t": refused 208`},
 	} {
-		s.Tell(directory.Change{Version: 7, Kind: directory.Joined, Silo: "10.0.0.2:1000@1"}, func(err error) { h.add("%v", err) })
-		f.expects("joined 7 10.0.0.2:1000@1")
+		s.Tell(directory.Change{Version: 7, Kind: directory.Joined, Silo: "10.0.0.2:1000@1", Token: "t"}, func(err error) { h.add("%v", err) })
+		f.expects("joined 7 10.0.0.2:1000@1 token=t")
 		f.writes(step.said)
 		h.expects(t, step.heard)
 	}
@@ -251,19 +304,26 @@ func TestBounds(t *testing.T) {
 	}
 }
 
-// A process that is killed has surely ended behind Kill, and its lines have come.
+// A process joins by its own join alone. One that is killed has surely ended behind Kill, and its lines have come.
 func TestProcess(t *testing.T) {
 	program := os.Getenv("SILO_PROGRAM")
 	if program == "" {
 		t.Skip("SILO_PROGRAM names no program")
 	}
 	h := newHeard()
-	s, err := Start(Options{Program: program, Silo: me, Settings: directory.DefaultSettings()}, h)
+	s, err := Start(Options{Program: program, Silo: me, Settings: directory.DefaultSettings(), Token: "mine"}, h)
 	if err != nil {
 		t.Fatal(err)
 	}
-	s.Tell(directory.Change{Version: 1, Kind: directory.Joined, Silo: me}, func(err error) { h.add("%v", err) })
-	h.expects(t, "<nil>")
+	for _, one := range []struct{ token, line, refusal string }{{"", "joined 1 " + string(me), "208"}, {"theirs", "joined 1 " + string(me) + " token=theirs", "208"},
+		{"mine", "", ""}} {
+		s.Tell(directory.Change{Version: 1, Kind: directory.Joined, Silo: me, Token: one.token}, func(err error) { h.add("%v", err) })
+		if one.refusal == "" {
+			h.expects(t, "<nil>")
+		} else {
+			h.expects(t, fmt.Sprintf("the silo doesn't take the change %q: refused %s", one.line, one.refusal))
+		}
+	}
 	statuses := make(chan Status, 1)
 	s.See(1, func(bool, error) {})
 	for settled := false; !settled; time.Sleep(time.Millisecond) {
@@ -271,6 +331,12 @@ func TestProcess(t *testing.T) {
 		status := <-statuses
 		settled = status.Seen == 1 && status.Unsettled == 0
 	}
+	s.Place("user/ann", func(place directory.Silo) { h.add("place %s", place) })
+	h.awaits(t, "place "+string(me))
+	s.Wake("user/ann", func(Answer) {})
+	h.awaits(t, fmt.Sprintf("%+v", Said{What: Firm, Activation: string(me) + "!1", Grain: "user/ann", Token: 1}))
+	s.Close("user/ann", func(Answer) {})
+	h.awaits(t, fmt.Sprintf("%+v", Said{What: Ended, Activation: string(me) + "!1", Grain: "user/ann", How: "removed"}))
 	s.Kill()
 	<-s.Ended()
 }

@@ -35,7 +35,7 @@ func (t *tracked) note(words []string, settles string) {
 		t.moved++
 	case "closing", "offered":
 		t.closing++
-	case "ended", "moved":
+	case "ended":
 		t.closing--
 		t.held--
 		t.moved++

@@ -62,15 +62,17 @@ class Application:
         said = line.split()
         if said[0] == "firm":
             if not silo.ended:
-                self.works.begin(silo.name, said[2], said[1])
+                self.works.begin(silo.name, said[2], said[1], int(said[4]))
         elif said[0] == "ended" and self.works_on_closing:
             self.works.end(silo.name, said[2])
         elif said[0] in ("found", "nothing"):
             self.found[silo.name, said[-1]] = said[1] if said[0] == "found" else None
+        elif said[0] in ("owner", "place"):
+            self.found[silo.name, said[1], said[0]] = said[2:]
         elif words[0] in ("close", "offer") and said[0] == "refused" and not self.works_on_closing:
             self.go_on(silo, words[1])
 
     def go_on(self, silo, grain):
         """What was refused leaves all as it was."""
         before = next(work for work in reversed(self.works.all) if work.grain == grain and work.activation.startswith(silo.name + "!"))
-        self.works.begin(silo.name, grain, before.activation)
+        self.works.begin(silo.name, grain, before.activation, before.token)

@@ -32,7 +32,7 @@ class Changes:
 
     def take(self, line):
         """Takes a line as the next change, and answers it."""
-        kind, version, silo, *places = line.split()
+        kind, version, silo, *places = [word for word in line.split() if not word.startswith("token=")]
         if int(version) != self.version() + 1:
             raise ValueError(f"`{line}` is not change {self.version() + 1}")
         self.lines.append(line)
@@ -58,10 +58,21 @@ class Changes:
         return [row for row in self.rows.values() if not row.dead]
 
     def owner(self, hashed):
-        """The silo that owns a hash: of those that are active the one with the point the fewest steps back, of several the first."""
-        active = [row for row in self.living() if not row.left]
-        points = [((hashed - place) % 2**32, address_of(row.silo), row.silo) for row in active for place in row.places]
-        return min(points)[2]
+        """The silo and the index of the point that owns a hash: of those that are active the one the fewest steps back, of several the
+        first."""
+        points = [((hashed - place) % 2**32, address_of(row.silo), index, row.silo)
+                  for row in self.active() for index, place in enumerate(row.places)]
+        _, _, index, silo = min(points)
+        return silo, index
+
+    def place(self, hashed):
+        """Where a grain of that hash is to be by it."""
+        active = self.active()
+        return active[hashed % len(active)].silo
+
+    def active(self):
+        """The rows of the silos that are active, by address."""
+        return [row for row in self.in_order() if not row.dead and not row.left]
 
     def in_order(self):
         """The rows by address."""

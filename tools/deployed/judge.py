@@ -44,16 +44,18 @@ class Judge:
             self.team.application.rush()
             await self.be_still()
             self.team.counts["quiet ends", "judged"] += 1
-        self.tell_overlaps()
-
-    def tell_overlaps(self):
-        """Tells works of one grain that overlap, each once."""
         for first, second in self.team.works.overlaps():
-            pair = (first.grain, first.activation, second.activation)
-            if pair not in self.told:
-                self.told.add(pair)
-                self.team.counts["found", "two works of one grain overlap"] += 1
-                self.team.fault(f"{first.grain} works as {first.activation} and as {second.activation}, {time_of(first, second)}")
+            self.tell("two works of one grain overlap", first, second, time_of(first, second))
+        for first, second in self.team.works.falls():
+            self.tell("a token falls", first, second, f"with the tokens {first.token} and {second.token}")
+
+    def tell(self, what, first, second, how):
+        """Tells two works of one grain that shouldn't be so, each once."""
+        pair = (what, first.grain, first.activation, second.activation)
+        if pair not in self.told:
+            self.told.add(pair)
+            self.team.counts["found", what] += 1
+            self.team.fault(f"{first.grain} works as {first.activation} and as {second.activation}, {how}")
 
     async def come_back(self):
         """All see the last view; then, twice, all are nudged and all letters come. Whether letters ever stop coming."""
@@ -147,7 +149,7 @@ class Judge:
         entries = sorted(tuple(entry) for piece in pieces for entry in piece["entries"])
         self.expect(entries, firm, "what is entered, beside what is firm")
         entered = [(node["silo"], grain) for node in nodes for piece in node["pieces"] for grain, _ in piece["entries"]]
-        self.expect([one for one in entered if one[0] != changes.owner(hash_of(one[1]))], [], "entries that aren't at their owner")
+        self.expect([one for one in entered if one[0] != changes.owner(hash_of(one[1]))[0]], [], "entries that aren't at their owner")
         self.team.counts["quiet ends", "firm activations, in all"] += len(firm)
 
     async def look_up(self):
@@ -158,12 +160,22 @@ class Judge:
             silo = self.team.random.choice(self.silos())
             silo.write(f"forget {grain}")
             silo.write(f"find {grain}")
+            silo.write(f"owner {grain}")
+            silo.write(f"place {grain} hash_based")
             asked.append((silo.name, grain))
         await self.be_still()
         for silo, grain in asked:
             found = self.team.application.found.get((silo, grain), "no answer")
             self.expect(found, self.team.works.activation_of(grain), "what a look-up finds", f"{grain} on {silo}, ")
+            self.compare_owner(silo, grain)
         self.team.counts["quiet ends", "look-ups"] += LOOK_UPS
+
+    def compare_owner(self, silo, grain):
+        """Compares whom the grain's hash belongs to, and where it would be placed, by what the silo says."""
+        found, changes = self.team.application.found, self.team.changes
+        owner = [str(it) for it in changes.owner(hash_of(grain))]
+        self.expect(found.get((silo, grain, "owner")), owner, "the owner", f"{grain} on {silo}, ")
+        self.expect(found.get((silo, grain, "place")), [changes.place(hash_of(grain))], "the place", f"{grain} on {silo}, ")
 
     def expect(self, found, wanted, words, where=""):
         """Something is as it should be, or is a fault."""

@@ -33,17 +33,36 @@ class Life:
                     await self.start()
 
     async def start(self):
-        """Starts the next silo of the endpoint, tells it all that was decided, and then decides that it joins."""
+        """The next silo of the endpoint: that it joins is decided before its process is started, or after that."""
         self.generation += 1
-        silo = Silo(f"{self.endpoint}@{self.generation}", self.team)
+        self.silo = self.silo_with(self.token())
+        is_decided = self.random.random() < 0.5
+        if is_decided:
+            await self.decide_join()
+        await self.begin(self.silo)
+        if not is_decided:
+            await self.decide_join()
+        self.team.counts["processes", f"started, {'after' if is_decided else 'before'} the join was decided"] += 1
+
+    def token(self):
+        """A token that no other process has."""
+        return f"{self.random.randrange(2**64):x}"
+
+    def silo_with(self, token):
+        """The silo that is next here, or is there, by a process that has the token."""
+        return Silo(f"{self.endpoint}@{self.generation}", token, self.team)
+
+    async def decide_join(self):
+        """Decides that the silo joins, by the process that has the token."""
+        async with self.team.deciding:
+            self.team.decide("joined", self.silo.name, f"token={self.silo.token}", *self.places())
+            self.silo.joined = self.team.changes.version()
+
+    async def begin(self, silo):
+        """Starts a process, and tells it all that was decided."""
         await self.team.start(silo)
         for line in self.team.changes.lines:
             put(silo.way, line)
-        async with self.team.deciding:
-            self.team.decide("joined", silo.name, *self.places())
-        silo.joined = self.team.changes.version()
-        self.silo = silo
-        self.team.counts["processes", "started"] += 1
 
     def places(self):
         """Some places on the circle; half of the silos get one just before the range where most of the crowd is."""
@@ -57,6 +76,8 @@ class Life:
         kind = self.random.choices(kinds, chances)[0]
         if self.team.is_unfenced and kind != "left":
             kind = "frozen, declared dead, and let go on"
+        if self.is_to_begin_anew() and kind.startswith("killed"):
+            kind = "killed"
         if self.team.plant.name == "goes-on" and kind.startswith("killed"):
             kind = "declared dead, and not told"
         self.team.counts["processes", kind] += 1
@@ -71,10 +92,27 @@ class Life:
         }
 
     async def kill(self):
-        """Killed, and declared dead once it has ended."""
+        """Killed, and declared dead once it has ended; perhaps another process begins meanwhile as the same silo."""
         await self.silo.kill()
         await self.pause(0, 2)
+        if self.random.random() < 0.3 or self.is_to_begin_anew():
+            await self.begin_anew()
         await self.bury()
+
+    async def begin_anew(self):
+        """A process begins as a silo that has joined by another one: it takes no join for its own, and writes no letter."""
+        self.team.counts["processes", "begun as a silo that had joined already"] += 1
+        anew = self.silo_with(self.silo.token if self.is_to_begin_anew() else self.token())
+        anew.disowned = True
+        await self.begin(anew)
+        await self.pause(1, 3)
+        await anew.kill()
+        if anew.known >= self.silo.joined or anew.has_written:
+            self.team.fault(f"{anew.name} joins twice")
+
+    def is_to_begin_anew(self):
+        """Whether it is to be found that a process begins with the token of the one before."""
+        return self.team.plant.name == "begins-anew"
 
     async def replace(self):
         """Killed; the next generation's joining makes it dead."""

@@ -43,7 +43,7 @@ class Relay:
         self.written += 1
         silo = self.silos.get(line.split(maxsplit=3)[2])
         if not silo:
-            self.counts["letters", "to a silo that is gone"] += 1
+            self.counts["letters", "to a silo without a process"] += 1
             return
         self.at_broker[silo.name] += 1
         put(silo.way, line)

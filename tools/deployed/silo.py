@@ -13,22 +13,24 @@ PING = "ping still"
 
 
 class Silo:
-    """A silo's process with its feed, and the lines that it has still to answer. A listener is told of letters, answers and its end."""
+    """A silo's process with its feed, and the lines that it has still to answer. A listener is told of letters, answers and its end. The
+    process joins by the line that carries its token, and by no other."""
 
-    def __init__(self, name, listener):
+    def __init__(self, name, token, listener):
         self.name = name
+        self.token = token
         self.listener = listener
         self.asked = deque()
         self.untold = deque()
         self.told = []
         self.known = self.seen = self.joined = self.newest = self.early = 0
-        self.frozen = self.ended = self.doomed = self.disowned = False
+        self.frozen = self.ended = self.doomed = self.disowned = self.has_written = False
         self.listening = asyncio.Event()
         self.patience = Patience()
 
     async def start(self, program, options, broker, spawn):
         """Starts the process, its feed, and the tasks that read what they write."""
-        self.process = await broker.run(program, "silo", self.name, *options)
+        self.process = await broker.run(program, "silo", self.name, "--join", self.token, *options)
         self.feed = await broker.feed_of(self.name)
         self.way = await broker.way_to(topic_of(self.name))
         self.broker = broker
@@ -51,6 +53,7 @@ class Silo:
                 return
             line = line[:-1]
             if line.startswith("letter "):
+                self.has_written = True
                 self.patience.wrote(line)
                 self.listener.letter_written(self, line)
             elif line != "dead":

@@ -148,7 +148,7 @@ class Team:
         elif said[0] == "delivered":
             self.counts["answers", self.words_of(said)] += 1
         elif asked[0] == "letter":
-            self.counts["answers", said[0]] += 1
+            self.counts["answers", f"ended, {said[3]}" if said[0] == "ended" else said[0]] += 1
         elif asked[0] in CHANGES:
             self.counts["views", "changes told" if said[0] == "view" else "changes that were known"] += 1
         else:
@@ -156,7 +156,7 @@ class Team:
 
     def words_of(self, said):
         """What came of a letter that doesn't concern the application, in words."""
-        return " ".join(said[1:3]) + (f" {said[3]}, {REASONS.get(said[3], 'refused')}" if len(said) > 3 else "")
+        return " ".join(said[1:3]) + (f" {said[-1]}, {REASONS.get(said[-1], 'refused')}" if len(said) > 3 else "")
 
     def process_ended(self, silo):
         """A process has ended, and with it all that worked there."""

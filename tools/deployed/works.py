@@ -1,8 +1,8 @@
 """When activations work, by one monotonic clock: from when `firm` was read until just before `close` or `offer` was written, or until the
-process has ended. No two works of one grain may overlap."""
+process has ended. No two works of one grain may overlap, and of two the later one never has a lower token."""
 
 from dataclasses import dataclass
-from itertools import groupby
+from itertools import groupby, pairwise
 from time import monotonic
 
 FOR_EVER = float("inf")
@@ -13,6 +13,7 @@ class Work:
     """A time in which an activation works."""
     grain: str
     activation: str
+    token: int
     start: float
     end: float = FOR_EVER
 
@@ -24,9 +25,9 @@ class Works:
         self.all = []
         self.going = {}
 
-    def begin(self, silo, grain, activation):
+    def begin(self, silo, grain, activation, token):
         """A silo's activation begins to work, or goes on where its close was refused."""
-        work = Work(grain, activation, monotonic())
+        work = Work(grain, activation, token, monotonic())
         self.all.append(work)
         self.going[silo, grain] = work
 
@@ -52,8 +53,16 @@ class Works:
 
     def overlaps(self):
         """Pairs of works of one grain of which the later began before the earlier had ended."""
+        return [pair for works in self.by_grain() for pair in overlaps_in(works)]
+
+    def falls(self):
+        """Pairs of works of one grain, one behind the other, of which the later has a lower token."""
+        return [pair for works in self.by_grain() for pair in pairwise(works) if pair[1].token < pair[0].token]
+
+    def by_grain(self):
+        """The works of each grain, in order of their starts."""
         by_grain = sorted(self.all, key=lambda work: (work.grain, work.start))
-        return [pair for _, works in groupby(by_grain, lambda work: work.grain) for pair in overlaps_in(works)]
+        return [list(works) for _, works in groupby(by_grain, lambda work: work.grain)]
 
 
 def overlaps_in(works):

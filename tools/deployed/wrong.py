@@ -3,6 +3,7 @@
 FAULTS = {
     "confirms": "a process confirms a registration by itself: `registered` is made up, and the owner never asked",
     "goes-on": "a process goes on after its death was decided, and isn't told of it",
+    "begins-anew": "a process begins as a silo that has joined already, with the token of that join",
     "invents": "the transport invents a letter: a `deregister` of an activation that works",
     "alters": "the transport changes a letter: a report loses its entries",
     "works-on": "the application works on until its close is answered",

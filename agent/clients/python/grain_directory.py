@@ -32,7 +32,7 @@ class Work:
 
     def __init__(self, connection, activation, grain, token):
         self.grain, self.activation, self.token, self.ends = grain, activation, int(token), threading.Event()
-        self.connection, self.is_over = connection, False
+        self.connection, self.is_over, self.ended = connection, False, None
 
     def check(self):
         if self.is_over or self.connection.is_lost or time.clock_gettime_ns(time.CLOCK_BOOTTIME) >= self.connection.until:
@@ -42,7 +42,8 @@ class Work:
         self._end(f"deactivate {self.grain}")
 
     def migrate(self, silo="any"):
-        """Its work has ended here, and goes on at another silo, where an application serves."""
+        """Its work has ended here, and goes on at another silo, where an application serves. Where `ended` is "removed" afterwards, that may be
+        yet to come, or never: who wants the grain activates it."""
         self._end(f"migrate {self.grain} {silo}")
 
     def _end(self, question):
@@ -50,7 +51,7 @@ class Work:
             self.is_over = True
             try:
                 with suppress(Lost, OSError):
-                    self.connection.ask(question)
+                    self.ended = self.connection.ask(question)[-1]
             except Refused:
                 self.is_over = False
                 raise

@@ -90,8 +90,9 @@ class Case(unittest.TestCase):
         work.check()
         asked = self.asks(lambda: work.migrate("10.0.0.2:1@1"))
         self.hears("2 migrate user/ann 10.0.0.2:1@1")
-        self.says("2 ended user/ann")
+        self.says("2 ended user/ann absent")
         self.ends(*asked)
+        self.assertEqual(work.ended, "absent")
         self.assertRaises(Lost, work.check)
         self.assertTrue(self.firm(60, 3, False).ends.is_set())
 
@@ -104,8 +105,9 @@ class Case(unittest.TestCase):
         work.check()  # it goes on
         asked = self.asks(work.deactivate)
         self.hears("3 deactivate user/ann")
-        self.says("3 ended user/ann")
+        self.says("3 ended user/ann removed")
         self.assertIsNone(self.ends(*asked))
+        self.assertEqual(work.ended, "removed")
         self.assertRaises(Lost, work.check)
 
     def test_answers(self):

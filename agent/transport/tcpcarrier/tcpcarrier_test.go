@@ -11,6 +11,7 @@ import (
 	"math/big"
 	"net"
 	"strings"
+	"sync/atomic"
 	"testing"
 	"time"
 
@@ -34,13 +35,16 @@ func open(t *testing.T, me directory.Silo, certificates *tls.Config) (transport.
 	return c, came
 }
 
-// comes sends a message until it comes, since any may be lost.
+var greetings int64
+
+// comes sends a message of its own until that comes, since any may be lost.
 func comes(from transport.Carrier, to directory.Silo, came chan string, wait time.Duration) bool {
+	hello := fmt.Sprintf("hello %d", atomic.AddInt64(&greetings, 1))
 	for end := time.Now().Add(wait); time.Now().Before(end); {
-		from.Publish(to, []byte("hello"))
+		from.Publish(to, []byte(hello))
 		select {
 		case message := <-came:
-			if message == "hello" {
+			if message == hello {
 				return true
 			}
 		case <-time.After(50 * time.Millisecond):

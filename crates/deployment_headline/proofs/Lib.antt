@@ -9,3 +9,8 @@ pub mod Unlimited
 pub mod Runs
 pub mod Called
 pub mod Worked
+pub mod TokensKept
+pub mod TokensRuns
+pub mod TokensRule
+pub mod TokensRise
+pub mod TokensFence

@@ -55,7 +55,7 @@ unfolding run
 after_append world [] ys = refl
 after_append world (event ∷ xs) ys = after_append (world_after (happens world event) world) xs ys
 
-run_on : (world middle last : World) (xs ys : List Event) → (run world xs).world ≡ middle → (run middle ys).world ≡ last → (run world (xs ++ ys)).world ≡ last
+pub run_on : (world middle last : World) (xs ys : List Event) → (run world xs).world ≡ middle → (run middle ys).world ≡ last → (run world (xs ++ ys)).world ≡ last
 run_on world middle last xs ys first second = after_append world xs ys ∙ ap (λ its. (run its ys).world) first ∙ second
 
 pub settings_stay : (d : Deployment) → Sound d → (steps : List Step) → (after_all d steps).settings ≡ d.settings
@@ -63,12 +63,12 @@ unfolding after_all
 settings_stay d sound [] = refl
 settings_stay d sound (s ∷ steps) = let one = keeps d sound s in settings_stay (after d s) one.sound steps ∙ one.settings
 
-written_grow : (d : Deployment) → Sound d → (steps : List Step) → length d.written ≤ length (after_all d steps).written
+pub written_grow : (d : Deployment) → Sound d → (steps : List Step) → length d.written ≤ length (after_all d steps).written
 unfolding after_all
 written_grow d sound [] = omega arith
 written_grow d sound (s ∷ steps) = let one = keeps d sound s in let later = written_grow (after d s) one.sound steps in omega (one.written, later, arith)
 
-makes : (d : Deployment) → Sound d → (accepted : ℕ) (mail : List (ℕ × Posted)) → HasWritten d mail → (steps : List Step) → All IsStep steps → accepted + length steps ≤ d.settings.events
+pub makes : (d : Deployment) → Sound d → (accepted : ℕ) (mail : List (ℕ × Posted)) → HasWritten d mail → (steps : List Step) → All IsStep steps → accepted + length steps ≤ d.settings.events
     → length (after_all d steps).written ≤ d.settings.letters → Makes d (after_all d steps) accepted (length steps) mail
 unfolding after_all run
 makes d sound accepted mail has [] named room space = record { events = []; named = All-nil IsEvent; count = accepted; letters = mail; few = omega arith; has = has; is = refl }
@@ -209,7 +209,7 @@ pub limits_do_not_matter : LimitsDoNotMatter
 limits_do_not_matter settings steps events letters = deployed_same events letters settings steps
 
 -- so the headline holds of the deployment
-has_settings : (its : Settings) (events letters : ℕ) → AreSettings its → 1 ≤ events → 1 ≤ letters → AreSettings (with_room events letters its)
+pub has_settings : (its : Settings) (events letters : ℕ) → AreSettings its → 1 ≤ events → 1 ≤ letters → AreSettings (with_room events letters its)
 has_settings its events letters are some any = record {
   points_above = are.points_above;
   points_within = are.points_within;

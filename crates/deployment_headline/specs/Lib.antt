@@ -3,5 +3,7 @@ pub mod Steps
 pub mod Limits
 pub mod Theorems
 pub mod Calls
+pub mod Tokens
 pub mod Worked
+pub mod WorkedTokens
 pub mod Wrong

@@ -1,8 +1,10 @@
-//! The laws. All but the last three hold after any steps of a deployment, from its first moment on: letters that come late, again, in
+//! The laws. All but the last five hold after any steps of a deployment, from its first moment on: letters that come late, again, in
 //! another order, astray, or never.
 ghost use Rattle.deployment_headline.specs.Calls.{CallsAreSteps};
 ghost use Rattle.deployment_headline.specs.Theorems.{DeploymentsAreRuns, LimitsDoNotMatter, ProcessesAreBehind, ProcessesAreOwn, ProcessesKeepOneFirm, ProcessesKeepTheHeadline, StepsArePlain, WrittenAreOwn};
+ghost use Rattle.deployment_headline.specs.Tokens.{TokensOfEventsFence, TokensOfProcessesFence};
 ghost use Rattle.deployment_headline.specs.Worked.{WorkedDeployment};
+ghost use Rattle.deployment_headline.specs.WorkedTokens.{WorkedTokens};
 
 /// Some events of the rule make a world with the deployment's views, places and letters, and its processes' nodes.
 pub fn deployments_are_runs()
@@ -40,6 +42,13 @@ pub fn written_are_own()
     ensures { WrittenAreOwn }
 {}
 
+/// The version that a silo has seen when an activation becomes firm is a fencing token: of two activations of a grain the one that
+/// became firm later has the higher one; or the same one, and that only where the earlier one was closing in between. Where a silo died
+/// while its activation was firm, whoever has the grain firm later has seen that death.
+pub fn tokens_of_processes_fence()
+    ensures { TokensOfProcessesFence }
+{}
+
 /// A deployment's steps look at no limit on events or letters.
 pub fn limits_do_not_matter()
     ensures { LimitsDoNotMatter }
@@ -50,7 +59,18 @@ pub fn calls_are_steps()
     ensures { CallsAreSteps }
 {}
 
+/// Tokens fence after any events of the rule, too.
+pub fn tokens_of_events_fence()
+    ensures { TokensOfEventsFence }
+{}
+
 /// A deployment, worked out.
 pub fn worked_deployment()
     ensures { WorkedDeployment }
+{}
+
+/// Tokens, worked out: the same one after a close, even where the silo died while the earlier activation was closing; and a higher one
+/// where it died while that was firm.
+pub fn worked_tokens()
+    ensures { WorkedTokens }
 {}

@@ -10,8 +10,12 @@ use crate::views::{Status, Version};
 const MOST_PLACES: usize = 128;
 
 impl Process {
-    /// A change is told, with the version that it makes: 207 where that is known and says otherwise, then 206 where it isn't the next.
+    /// A change is told, with the version that it makes: 208 where it is the join of another process of this silo, then 207 where the
+    /// version is known and says otherwise, then 206 where it isn't the next.
     pub fn told(&mut self, version: u64, change: Change) -> Step {
+        if self.is_anothers(&change) {
+            return Err(208);
+        }
         let current = u64::from(self.views.version);
         if version <= current {
             if !self.is_known(version as Version, &change) {
@@ -29,6 +33,14 @@ impl Process {
             self.is_dead = true;
         }
         Ok(())
+    }
+
+    /// Whether it is a join of this silo that doesn't carry just the token that this process was started with.
+    fn is_anothers(&self, change: &Change) -> bool {
+        match (change, &self.token) {
+            (Change::Join { silo, token, .. }, Some(own)) => *silo == self.name && *token != Some(own),
+            _ => false,
+        }
     }
 
     /// Whether the change made the version; a silo that is replaced dies by the join of another one.
@@ -52,7 +64,7 @@ impl Process {
 
     fn change(&mut self, change: Change) -> Step {
         match change {
-            Change::Join { silo, places } => self.join(silo, places),
+            Change::Join { silo, places, .. } => self.join(silo, places),
             Change::Leave { silo } => {
                 self.views.leave(silo)?;
                 self.made("leaving", silo);

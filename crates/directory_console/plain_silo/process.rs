@@ -27,6 +27,8 @@ pub struct Settings {
 pub struct Process {
     pub settings: Settings,
     pub name: Address,
+    /// What the join of this process has to carry, if it was started with a token.
+    pub token: Option<Vec<u8>>,
     /// The silo itself, once its join was told.
     pub me: Option<Silo>,
     pub views: Views,
@@ -58,10 +60,11 @@ impl Settings {
 
 impl Process {
     /// The process of a silo that was told nothing yet.
-    pub fn new(name: Address, settings: Settings) -> Process {
+    pub fn new(name: Address, token: Option<Vec<u8>>, settings: Settings) -> Process {
         Process {
             settings,
             name,
+            token,
             me: None,
             views: Views::default(),
             rings: Rings::default(),
@@ -112,6 +115,14 @@ impl Process {
             Asked::Nudge => self.nudge(),
             Asked::Ping { word } => {
                 self.out.word("pong ").text(word).word("\n");
+                Ok(())
+            }
+            Asked::Owner { grain } => {
+                self.tell_owner(grain);
+                Ok(())
+            }
+            Asked::Place { grain, policy } => {
+                self.tell_place(grain, policy);
                 Ok(())
             }
             Asked::Show => {

@@ -6,15 +6,21 @@ use crate::letters::{Letter, grain_word, read_letter};
 /// How many bytes a line may have, its end not counted.
 pub const LONGEST_LINE: usize = 16_777_216;
 
-/// A change of membership.
-pub enum Change {
-    Join { silo: Address, places: Vec<u32> },
+/// A change of membership. A join may carry the token that the process of its silo was started with.
+pub enum Change<'a> {
+    Join { silo: Address, token: Option<&'a [u8]>, places: Vec<u32> },
     Leave { silo: Address },
     Die { silo: Address },
 }
 
+/// How a place is chosen; a silo by itself can't choose the one that has the fewest activations.
+pub enum Policy {
+    PreferLocal,
+    HashBased,
+}
+
 pub enum Asked<'a> {
-    Told { version: u64, change: Change },
+    Told { version: u64, change: Change<'a> },
     See { version: u64 },
     Wake { grain: &'a [u8] },
     Close { grain: &'a [u8] },
@@ -24,6 +30,8 @@ pub enum Asked<'a> {
     Nudge,
     Receive(Letter<'a>),
     Ping { word: &'a [u8] },
+    Owner { grain: &'a [u8] },
+    Place { grain: &'a [u8], policy: Policy },
     Show,
     Dump,
 }
@@ -76,6 +84,11 @@ fn asked<'a>(name: &[u8], words: impl Iterator<Item = &'a [u8]>) -> Read<Asked<'
             let [word] = exactly(words)?;
             Asked::Ping { word }
         }
+        b"owner" => Asked::Owner { grain: only_grain(words)? },
+        b"place" => {
+            let [grain, policy] = exactly(words)?;
+            Asked::Place { grain: grain_word(grain)?, policy: policy_word(policy)? }
+        }
         b"joined" => joined(words)?,
         b"leaving" | b"dead" => {
             let [version, silo] = exactly(words)?;
@@ -92,9 +105,11 @@ fn joined<'a>(mut words: impl Iterator<Item = &'a [u8]>) -> Read<Asked<'a>> {
     let (version, silo) = (words.next().ok_or(922u16)?, words.next().ok_or(922u16)?);
     let version = number_word(version)?;
     let silo = Address::read(silo)?;
+    let mut words = words.peekable();
+    let token = words.peek().and_then(|word| word.strip_prefix(b"token="));
     let place = |word: &[u8]| number(word, u32::MAX.into()).map(|place| place as u32).ok_or(923);
-    let places = words.map(place).collect::<Read<Vec<u32>>>()?;
-    Ok(Asked::Told { version, change: Change::Join { silo, places } })
+    let places = words.skip(token.iter().count()).map(place).collect::<Read<Vec<u32>>>()?;
+    Ok(Asked::Told { version, change: Change::Join { silo, token, places } })
 }
 
 /// The words behind a name; 922 where there aren't just so many.
@@ -109,6 +124,14 @@ pub fn exactly<'a, const N: usize>(mut words: impl Iterator<Item = &'a [u8]>) ->
 fn only_grain<'a>(words: impl Iterator<Item = &'a [u8]>) -> Read<&'a [u8]> {
     let [grain] = exactly(words)?;
     grain_word(grain)
+}
+
+fn policy_word(word: &[u8]) -> Read<Policy> {
+    match word {
+        b"prefer_local" => Ok(Policy::PreferLocal),
+        b"hash_based" => Ok(Policy::HashBased),
+        _ => Err(926),
+    }
 }
 
 pub fn number_word(word: &[u8]) -> Read<u64> {

@@ -129,16 +129,15 @@ impl Process {
 
     /// A reply counts if it is of the version seen and a request of its kind is outstanding under its number; a retry counts if any is.
     pub fn take_reply(&mut self, version: u64, body: Body) {
-        if let Body::Retry { number } = body {
-            let is_outstanding = self.host.is_outstanding(number);
-            return self.delivered(if is_outstanding { "retry noted" } else { "retry ignored" });
+        if let Body::Retry { number, reason } = body {
+            return self.note(number, reason);
         }
         let is_of_seen = version == u64::from(self.seen);
         let (kind, counts) = match body {
             Body::Registered { number } => ("registered", is_of_seen && self.confirm(number)),
             Body::Taken { number, entry: (grain, by) } => ("taken", is_of_seen && self.yield_to(number, grain, by)),
-            Body::Removed { number } => ("removed", is_of_seen && self.end(number)),
-            Body::Absent { number } => ("absent", is_of_seen && self.end(number)),
+            Body::Removed { number } => ("removed", is_of_seen && self.end(number, " removed\n")),
+            Body::Absent { number } => ("absent", is_of_seen && self.end(number, " absent\n")),
             Body::Found { number, entry: (grain, by) } => ("found", is_of_seen && self.found(number, grain, by)),
             Body::Nothing { number } => ("nothing", is_of_seen && self.found_nothing(number)),
             _ => return,
@@ -148,9 +147,15 @@ impl Process {
         }
     }
 
+    /// What waits under the number waits on, and its grain and the reason are told.
+    fn note(&mut self, number: u64, reason: &[u8]) {
+        let Some(grain) = self.host.asked_about(number) else { return self.delivered("retry ignored") };
+        self.out.word("delivered retry noted ").text(grain).word(" ").text(reason).word("\n");
+    }
+
     fn confirm(&mut self, number: u64) -> bool {
         let Some(held) = self.host.confirm(number) else { return false };
-        self.out.about("firm", held.activation, &held.grain).word("\n");
+        self.out.about("firm", held.activation, &held.grain).word(" at ").number(self.seen).word("\n");
         true
     }
 
@@ -162,9 +167,9 @@ impl Process {
         true
     }
 
-    fn end(&mut self, number: u64) -> bool {
+    fn end(&mut self, number: u64, how: &str) -> bool {
         let Some(held) = self.host.end(number, Phase::Closing) else { return false };
-        self.out.about("ended", held.activation, &held.grain).word("\n");
+        self.out.about("ended", held.activation, &held.grain).word(how);
         true
     }
 

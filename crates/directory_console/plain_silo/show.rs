@@ -1,9 +1,11 @@
-//! What `show` and `dump` print.
+//! What `show`, `dump`, `owner` and `place` print.
 
 use crate::host::Phase;
 use crate::output::Output;
 use crate::pieces::{Piece, State, sort};
+use crate::identities::Address;
 use crate::process::Process;
+use crate::reading::Policy;
 use crate::views::Status;
 
 fn phase_word(phase: Phase) -> &'static str {
@@ -48,6 +50,37 @@ impl Process {
             };
             out.word("\n");
         }
+    }
+
+    /// The point that owns the grain's hash by the view seen: its silo and its index.
+    pub fn tell_owner(&mut self, grain: &[u8]) {
+        self.out.word("owner ").text(grain);
+        match self.ring.owning_point(self.settings.hash(grain)) {
+            Some(point) => self.out.word(" ").address(self.views.row(point.silo).address).word(" ").number(point.index),
+            None => self.out.word(" none"),
+        };
+        self.out.word("\n");
+    }
+
+    pub fn tell_place(&mut self, grain: &[u8], policy: Policy) {
+        let place = self.place(grain, policy);
+        self.out.word("place ").text(grain).word(" ");
+        match place {
+            Some(silo) => self.out.address(silo),
+            None => self.out.word("none"),
+        };
+        self.out.word("\n");
+    }
+
+    /// Where the silo would place a grain by the view seen: with itself, if that is preferred and it is Active; or by the grain's hash at
+    /// one of the Active silos, which stand by address.
+    fn place(&self, grain: &[u8], policy: Policy) -> Option<Address> {
+        if matches!(policy, Policy::PreferLocal) && self.is_active() {
+            return Some(self.name);
+        }
+        let count = self.views.active(self.seen).count();
+        let index = (self.settings.hash(grain) as usize).checked_rem(count)?;
+        self.views.active(self.seen).nth(index).map(|silo| self.views.row(silo).address)
     }
 
     /// JSON without spaces, the members of each object in the order of their names.

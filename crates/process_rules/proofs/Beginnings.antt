@@ -1,5 +1,5 @@
 -- What is written on lines is a beginning of what is written where more lines come.
-use Rattle.std.proofs.Common.{◌≡◌, ℕ, Bool, true, false, List, [], ◌∷◌, ◌++◌, refl, ap, sym, ◌∙◌, append_assoc}
+use Rattle.std.proofs.Common.{◌≡◌, ℕ, Bool, true, false, List, [], ◌∷◌, ◌++◌, Option, refl, ap, sym, ◌∙◌, append_assoc}
 use Rattle.std.specs.Prelude.{◌==◌}
 use Rattle.texts.specs.Printed.{text_of_lines}
 use Rattle.texts.specs.Words.{line_feed, pieces_at, with_byte}
@@ -47,25 +47,26 @@ after_line_begins : (it : Answered) (less more : SiloValue → List ℕ) → ((s
 after_line_begins it less more begins =
     onto_begins (text_of_lines it.lines) (unless_ended it.ends less it.silo) (unless_ended it.ends more it.silo) (unless_ended_begins it.ends less more it.silo (begins it.silo))
 
-lines_begin : (lines : List (List ℕ)) (last : List ℕ) (rest : List (List ℕ)) (s : SiloValue) → Begins (written_on (lines ++ [] ∷ []) s) (written_on (lines ++ last ∷ rest) s)
-unfolding written_on unended_fault
-lines_begin [] last rest s = (written_on (last ∷ rest) s, refl)
-lines_begin (line ∷ []) last rest s =
-    after_line_begins (answered_to (said line s) s) (written_on ([] ∷ [])) (written_on (last ∷ rest)) (λ t. lines_begin [] last rest t)
-lines_begin (line ∷ next ∷ lines) last rest s =
-    after_line_begins (answered_to (said line s) s) (written_on (next ∷ (lines ++ [] ∷ []))) (written_on (next ∷ (lines ++ last ∷ rest))) (λ t. lines_begin (next ∷ lines) last rest t)
+module _ (token : Option (List ℕ)) where
+  lines_begin : (lines : List (List ℕ)) (last : List ℕ) (rest : List (List ℕ)) (s : SiloValue) → Begins (written_on token (lines ++ [] ∷ []) s) (written_on token (lines ++ last ∷ rest) s)
+  unfolding written_on unended_fault
+  lines_begin [] last rest s = (written_on token (last ∷ rest) s, refl)
+  lines_begin (line ∷ []) last rest s =
+      after_line_begins (answered_to token (said line s) s) (written_on token ([] ∷ [])) (written_on token (last ∷ rest)) (λ t. lines_begin [] last rest t)
+  lines_begin (line ∷ next ∷ lines) last rest s =
+      after_line_begins (answered_to token (said line s) s) (written_on token (next ∷ (lines ++ [] ∷ []))) (written_on token (next ∷ (lines ++ last ∷ rest))) (λ t. lines_begin (next ∷ lines) last rest t)
 
-cut_begins : (settings : Settings) (silo : Silo) (front more : List ℕ) (last : List ℕ) (rest : List (List ℕ)) → pieces_at line_feed more ≡ last ∷ rest
-    → Begins (written settings silo (front ++ line_feed ∷ [])) (written settings silo (front ++ line_feed ∷ more))
-cut_begins settings silo front more last rest is =
-    let start = first_silo settings silo in
-    let begins = lines_begin (pieces_at line_feed front) last rest start in
-    let less : written settings silo (front ++ line_feed ∷ []) ≡ written_on (pieces_at line_feed front ++ [] ∷ []) start =
-    ap (λ (pieces : List (List ℕ)). written_on pieces start) (cut front []) in
-    let whole : written settings silo (front ++ line_feed ∷ more) ≡ written_on (pieces_at line_feed front ++ last ∷ rest) start =
-    ap (λ (pieces : List (List ℕ)). written_on pieces start) (cut front more ∙ ap (λ (pieces : List (List ℕ)). pieces_at line_feed front ++ pieces) is) in
-    (begins.0, whole ∙ begins.1 ∙ ap (λ (text : List ℕ). text ++ begins.0) (sym less))
+  cut_begins : (settings : Settings) (silo : Silo) (front more : List ℕ) (last : List ℕ) (rest : List (List ℕ)) → pieces_at line_feed more ≡ last ∷ rest
+      → Begins (written settings silo token (front ++ line_feed ∷ [])) (written settings silo token (front ++ line_feed ∷ more))
+  cut_begins settings silo front more last rest is =
+      let start = first_silo settings silo in
+      let begins = lines_begin (pieces_at line_feed front) last rest start in
+      let less : written settings silo token (front ++ line_feed ∷ []) ≡ written_on token (pieces_at line_feed front ++ [] ∷ []) start =
+      ap (λ (pieces : List (List ℕ)). written_on token pieces start) (cut front []) in
+      let whole : written settings silo token (front ++ line_feed ∷ more) ≡ written_on token (pieces_at line_feed front ++ last ∷ rest) start =
+      ap (λ (pieces : List (List ℕ)). written_on token pieces start) (cut front more ∙ ap (λ (pieces : List (List ℕ)). pieces_at line_feed front ++ pieces) is) in
+      (begins.0, whole ∙ begins.1 ∙ ap (λ (text : List ℕ). text ++ begins.0) (sym less))
 
-pub beginning_begins : (settings : Settings) (silo : Silo) (front more : List ℕ)
-    → Begins (written settings silo (front ++ line_feed ∷ [])) (written settings silo (front ++ line_feed ∷ more))
-beginning_begins settings silo front more = let has = has_piece more in cut_begins settings silo front more has.0 has.1 has.2
+  pub beginning_begins : (settings : Settings) (silo : Silo) (front more : List ℕ)
+      → Begins (written settings silo token (front ++ line_feed ∷ [])) (written settings silo token (front ++ line_feed ∷ more))
+  beginning_begins settings silo front more = let has = has_piece more in cut_begins settings silo front more has.0 has.1 has.2

@@ -1,5 +1,5 @@
 -- A letter's line is answered as that letter.
-use Rattle.std.proofs.Common.{arith, ◌≡◌, ℕ, ◌<◌, ◌≤◌, ◌-◌, Bool, true, false, List, ◌∷◌, Option, Some, Result, Ok, refl, ap, ◌∙◌, length, take}
+use Rattle.std.proofs.Common.{arith, ◌≡◌, ℕ, ◌<◌, ◌≤◌, ◌-◌, Bool, true, false, List, ◌∷◌, Option, Some, None, Result, Ok, refl, ap, ◌∙◌, length, take}
 use Rattle.std.specs.Prelude.{◌==◌, cond, nat_lt, slice_index}
 use Rattle.std.specs.List.{list_all}
 use Rattle.std.specs.Io.BufRead.{ends_with_byte, strip_last}
@@ -16,7 +16,7 @@ use Rattle.process_rules.specs.ReadLine.{Asked, Receive, longest_line, read_silo
 use Rattle.process_rules.specs.Told.{IsNumber, IsTold}
 use Rattle.process_rules.proofs.LineWords.{line_is_text}
 use Rattle.process_rules.proofs.LinesAgain.{line_again}
-use Rattle.process_rules.specs.Answer.{answered}
+use Rattle.process_rules.specs.Answer.{Answered, answered, answered_as}
 use Rattle.process_rules.specs.Output.{answered_to, said, after_line, written_on}
 
 -- a line of text has no carriage return to drop
@@ -38,7 +38,14 @@ letter_said letter s is fits =
     ap (read_silo_line s.node.settings.hashing) (stripped (letter_line letter) (line_is_text IsNumber IsRange s.node.settings.hashing letter is))
     ∙ line_again s.node.settings.hashing letter is fits
 
-pub letter_received : (letter : Letter) (next : List ℕ) (lines : List (List ℕ)) (s : SiloValue) → IsTold s.node.settings.hashing letter → length (letter_line letter) ≤ longest_line
-    → written_on (letter_line letter ∷ next ∷ lines) s ≡ after_line (answered (Receive letter) s) (written_on (next ∷ lines))
+received_as : (token : Option (List ℕ)) (letter : Letter) (s : SiloValue) → answered_as token (Receive letter) s ≡ answered (Receive letter) s
+unfolding answered_as
+received_as None letter s = refl
+received_as (Some token) letter s = refl
+
+pub letter_received : (token : Option (List ℕ)) (letter : Letter) (next : List ℕ) (lines : List (List ℕ)) (s : SiloValue) → IsTold s.node.settings.hashing letter → length (letter_line letter) ≤ longest_line
+    → written_on token (letter_line letter ∷ next ∷ lines) s ≡ after_line (answered (Receive letter) s) (written_on token (next ∷ lines))
 unfolding written_on
-letter_received letter next lines s is fits = ap (λ (read : Result (Option Asked) ℕ). after_line (answered_to read s) (written_on (next ∷ lines))) (letter_said letter s is fits)
+letter_received token letter next lines s is fits =
+    ap (λ (read : Result (Option Asked) ℕ). after_line (answered_to token read s) (written_on token (next ∷ lines))) (letter_said letter s is fits)
+    ∙ ap (λ (it : Answered). after_line it (written_on token (next ∷ lines))) (received_as token letter s)

@@ -13,4 +13,5 @@ pub mod LinesInRange
 mod Beginnings
 mod Lines
 mod Letters
-mod StaysWhole
+pub mod StaysWhole
+pub mod Joins

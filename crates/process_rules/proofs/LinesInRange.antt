@@ -1,6 +1,6 @@
 -- Whatever a line asks for is in its range.
 use Rattle.std.proofs.Common.{arith, ◌≡◌, ℕ, ◌<◌, Bool, true, false, List, [], ◌∷◌, Option, Some, None, Result, Ok, Err, refl, subst, length}
-use Rattle.std.specs.Prelude.{All, IfOk, bytes_eq, cond, nat_le, nat_lt}
+use Rattle.std.specs.Prelude.{⊤, All, IfOk, bytes_eq, cond, nat_le, nat_lt}
 use Rattle.std.specs.List.{list_all}
 use Rattle.std.specs.Map.{lookup}
 use Rattle.std.proofs.lemmas.Bool.{leb-true}
@@ -14,7 +14,7 @@ use Rattle.ring_range.specs.Range.{circle}
 use Rattle.hash_ring.specs.declared.hashing.Hashing.{Hashing}
 use Rattle.script_rules.specs.Script.{silo_word, grain_word, number_word, number_or_fault, hash_word, places_in, is_text, is_remark, ◌>>=◌}
 use Rattle.process_rules.specs.ReadLetter.{read_letter}
-use Rattle.process_rules.specs.ReadLine.{Asked, Joined, Leaving, Dead, See, Wake, Close, Offer, Find, Forget, Nudge, Receive, Show, Dump, Grammar, no_word, a_word, a_join, a_version_and_a_silo, a_version, a_grain, a_grain_and_a_silo, a_letter, commands, longest_line, asked_if_known, asked_of_words, read_silo_line}
+use Rattle.process_rules.specs.ReadLine.{Asked, Joined, Leaving, Dead, See, Wake, Close, Offer, Find, Forget, Nudge, Receive, Owner, Place, Show, Dump, Grammar, no_word, a_word, token_in, behind_token, a_join, a_version_and_a_silo, a_version, a_grain, a_grain_and_a_silo, own_policy_word, a_grain_and_a_policy, a_letter, commands, longest_line, asked_if_known, asked_of_words, read_silo_line}
 use Rattle.process_rules.specs.Told.{IsNumber, IsTold}
 use Rattle.process_rules.specs.InRange.{IsInRange}
 use Rattle.process_rules.proofs.LettersAgain.{was_told}
@@ -89,8 +89,9 @@ module _ (hashing : Hashing) where
   join_asks : Asks a_join
   join_asks [] = tt
   join_asks (one ∷ []) = tt
-  join_asks (version ∷ silo ∷ places) =
-      three_in IsNumber IsSilo (All IsHash) (IsInRange hashing) Joined (number_word version) (silo_word silo) (places_in places) (λ v s p first second third. (first, second, third)) (number_in version) (silo_in silo) (all_in places)
+  join_asks (version ∷ silo ∷ words) =
+      three_in IsNumber IsSilo (All IsHash) (IsInRange hashing) (λ v s p. Joined v s (token_in words) p) (number_word version) (silo_word silo) (places_in (behind_token words))
+      (λ v s p first second third. (first, second, third)) (number_in version) (silo_in silo) (all_in (behind_token words))
 
   change_asks : (of : ℕ → Silo → Asked) → ((version : ℕ) (silo : Silo) → IsNumber version → IsSilo silo → IsInRange hashing (of version silo)) → Asks (a_version_and_a_silo of)
   change_asks of makes [] = tt
@@ -113,6 +114,13 @@ module _ (hashing : Hashing) where
   offer_asks (one ∷ []) = tt
   offer_asks (grain ∷ silo ∷ []) = two_in IsGrain IsSilo (IsInRange hashing) Offer (grain_word grain) (silo_word silo) (λ g s first second. (first, second)) (grain_in grain) (silo_in silo)
   offer_asks (one ∷ two ∷ three ∷ words) = tt
+
+  policy_asks : Asks a_grain_and_a_policy
+  policy_asks [] = tt
+  policy_asks (one ∷ []) = tt
+  policy_asks (grain ∷ policy ∷ []) =
+      two_in IsGrain (λ p. ⊤) (IsInRange hashing) Place (grain_word grain) (own_policy_word policy) (λ g p first second. first) (grain_in grain) (of_given (λ p. ⊤) (own_policy_word policy) (λ p given. tt))
+  policy_asks (one ∷ two ∷ three ∷ words) = tt
 
   letter_asks : Asks (a_letter hashing)
   letter_asks words = one_in (IsTold hashing) (IsInRange hashing) Receive (read_letter hashing words) (λ l is. is) (of_given (IsTold hashing) (read_letter hashing words) (λ l given. (was_told hashing words l given).told))
@@ -140,7 +148,7 @@ module _ (hashing : Hashing) where
                       grain_asks Find (λ g is. is),
                       (
                         grain_asks Forget (λ g is. is),
-                        (none_asks Nudge tt, (letter_asks, (word_asks, (none_asks Show tt, (none_asks Dump tt, tt))))),
+                        (none_asks Nudge tt, (letter_asks, (word_asks, (grain_asks Owner (λ g is. is), (policy_asks, (none_asks Show tt, (none_asks Dump tt, tt))))))),
                       ),
                     ),
                   ),

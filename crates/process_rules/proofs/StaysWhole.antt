@@ -7,7 +7,7 @@ use Rattle.membership_view.specs.declared.status.Status.TheVariants as status
 use Rattle.directory_rules.specs.declared.effect.Effect.{Effect}
 use Rattle.texts.specs.Words.{sentence}
 use Rattle.directory_rules.specs.declared.outcome.Happening.TheVariants.{Saw, Did}
-use Rattle.script_rules.specs.Lines.{happening_words}
+use Rattle.script_rules.specs.Lines.{happening_words, refusal_line}
 use Rattle.directory_rules.specs.Input.{Input, Wakes, Closes, Finds, Forgets, Nudges, Offers}
 use Rattle.directory_rules.specs.Letter.{Letter}
 use Rattle.directory_rules.specs.Step.{Stepped}
@@ -18,12 +18,12 @@ use Rattle.silo_rules.specs.NodeInputs.{IsNoSight}
 use Rattle.silo_rules.specs.Told.{Heard, told}
 use Rattle.silo_rules.specs.Whole.{IsWhole}
 use Rattle.silo_rules.proofs.Lawful.{stays_whole}
-use Rattle.process_rules.specs.ReadLine.{Asked, Joined, Leaving, Dead, See, Wake, Close, Offer, Find, Forget, Nudge, Receive, Ping, Show, Dump}
+use Rattle.process_rules.specs.ReadLine.{Asked, Joined, Leaving, Dead, See, Wake, Close, Offer, Find, Forget, Nudge, Receive, Ping, Owner, Place, Show, Dump}
 use Rattle.process_rules.specs.Happened.{news_words, received_words}
-use Rattle.process_rules.specs.Answer.{Answered, printing, unless_dead, heard, told_so, stepped, seen_so, done_so, answered}
+use Rattle.process_rules.specs.Answer.{Answered, printing, unless_dead, heard, told_so, stepped, seen_so, done_so, is_anothers_join, answered, answered_as}
 use Rattle.process_rules.specs.Output.{answered_to}
 
-silo_kept : (own : Option Status) (it : Answered) → it.silo ≡ (unless_dead own it).silo
+pub silo_kept : (own : Option Status) (it : Answered) → it.silo ≡ (unless_dead own it).silo
 silo_kept None it = refl
 silo_kept (Some status.Active) it = refl
 silo_kept (Some status.Leaving) it = refl
@@ -48,13 +48,13 @@ seen_whole version s whole = step_whole (λ effect. happening_words (Saw s.node.
 done_whole : (input : Input) (s : SiloValue) → IsNoSight input → IsWhole s → IsWhole (done_so input s).silo
 done_whole input s other whole = step_whole (λ effect. happening_words (Did s.node.host.silo effect)) s (does s input) whole (λ it is. stays_whole.does_so s input it other whole is)
 
-received_by : (letter : Letter) (s : SiloValue) (own : Bool) → IsWhole s → IsWhole (cond own (stepped (received_words s.node.host letter) (receives s letter) s) (printing [] s)).silo
-received_by letter s true whole = step_whole (received_words s.node.host letter) s (receives s letter) whole (λ it is. stays_whole.receives_so s letter it whole is)
+received_by : (letter : Letter) (s : SiloValue) (own : Bool) → IsWhole s → IsWhole (cond own (stepped (received_words s.node.host s.node.view.version letter) (receives s letter) s) (printing [] s)).silo
+received_by letter s true whole = step_whole (received_words s.node.host s.node.view.version letter) s (receives s letter) whole (λ it is. stays_whole.receives_so s letter it whole is)
 received_by letter s false whole = whole
 
 answered_whole : (asked : Asked) (s : SiloValue) → IsWhole s → IsWhole (answered asked s).silo
 unfolding answered
-answered_whole (Joined version silo places) s whole = told_whole version (Join silo places) s whole
+answered_whole (Joined version silo token places) s whole = told_whole version (Join silo places) s whole
 answered_whole (Leaving version silo) s whole = told_whole version (Leave silo) s whole
 answered_whole (Dead version silo) s whole = told_whole version (Die silo) s whole
 answered_whole (See version) s whole = seen_whole version s whole
@@ -66,10 +66,21 @@ answered_whole (Forget grain) s whole = done_whole (Forgets grain) s tt whole
 answered_whole Nudge s whole = done_whole Nudges s tt whole
 answered_whole (Receive letter) s whole = received_by letter s (silo_eq letter.to s.node.host.silo) whole
 answered_whole (Ping word) s whole = whole
+answered_whole (Owner grain) s whole = whole
+answered_whole (Place grain policy) s whole = whole
 answered_whole Show s whole = whole
 answered_whole Dump s whole = whole
 
-pub line_whole : (read : Result (Option Asked) ℕ) (s : SiloValue) → IsWhole s → IsWhole (answered_to read s).silo
-line_whole (Ok None) s whole = whole
-line_whole (Ok (Some asked)) s whole = answered_whole asked s whole
-line_whole (Err fault) s whole = whole
+unless_anothers : (anothers : Bool) (lines : List (List ℕ)) (it : Answered) (s : SiloValue) → IsWhole s → IsWhole it.silo → IsWhole (cond anothers (printing lines s) it).silo
+unless_anothers true lines it s whole after = whole
+unless_anothers false lines it s whole after = after
+
+answered_as_whole : (token : Option (List ℕ)) (asked : Asked) (s : SiloValue) → IsWhole s → IsWhole (answered_as token asked s).silo
+unfolding answered_as
+answered_as_whole token asked s whole =
+    unless_anothers (is_anothers_join token asked s.node.host.silo) (refusal_line 208 ∷ []) (answered asked s) s whole (answered_whole asked s whole)
+
+pub line_whole : (token : Option (List ℕ)) (read : Result (Option Asked) ℕ) (s : SiloValue) → IsWhole s → IsWhole (answered_to token read s).silo
+line_whole token (Ok None) s whole = whole
+line_whole token (Ok (Some asked)) s whole = answered_as_whole token asked s whole
+line_whole token (Err fault) s whole = whole

@@ -1,7 +1,7 @@
 -- What a silo's process answers to what a line asks for: the lines that it prints, and the silo after it.
-use Rattle.std.specs.Prelude.{ℕ, Bool, true, false, List, [], ◌∷◌, ◌++◌, map, codes, if◌then◌else◌, Option, Some, Result, Ok, Err}
+use Rattle.std.specs.Prelude.{ℕ, Bool, true, false, ◌&&◌, not, List, [], ◌∷◌, ◌++◌, map, codes, bytes_eq, if◌then◌else◌, Option, Some, None, Result, Ok, Err}
 use Rattle.texts.specs.Words.{sentence}
-use Rattle.silo_address.specs.Silo.{silo_eq}
+use Rattle.silo_address.specs.Silo.{Silo, silo_eq}
 use Rattle.membership_view.specs.declared.status.Status.{Status}
 use Rattle.membership_view.specs.declared.status.Status.TheVariants as status
 use Rattle.directory_rules.specs.declared.effect.Effect.{Effect}
@@ -16,9 +16,9 @@ use Rattle.silo_rules.specs.Steps.{does, sees, receives}
 use Rattle.silo_rules.specs.Told.{Heard, told}
 use Rattle.script_rules.specs.Lines.{happening_words, refusal_line}
 use Rattle.process_rules.specs.LetterText.{letter_line}
-use Rattle.process_rules.specs.ReadLine.{Asked, Joined, Leaving, Dead, See, Wake, Close, Offer, Find, Forget, Nudge, Receive, Ping, Show, Dump}
+use Rattle.process_rules.specs.ReadLine.{Asked, Joined, Leaving, Dead, See, Wake, Close, Offer, Find, Forget, Nudge, Receive, Ping, Owner, Place, Show, Dump}
 use Rattle.process_rules.specs.Happened.{news_words, received_words}
-use Rattle.process_rules.specs.Show.{show_lines, dump_line}
+use Rattle.process_rules.specs.Show.{show_lines, dump_line, grain_owner_line, grain_place_line}
 
 -- what is printed, the silo after it, and whether the process ends there
 pub record Answered : Type 0 where
@@ -65,11 +65,24 @@ done_so input s = stepped (λ effect. happening_words (Did s.node.host.silo effe
 -- a letter comes; nothing is said of one to another silo
 abbrev pub received_so : Letter → SiloValue → Answered
 received_so letter s =
-    if silo_eq letter.to s.node.host.silo then stepped (received_words s.node.host letter) (receives s letter) s else printing [] s
+    if silo_eq letter.to s.node.host.silo then stepped (received_words s.node.host s.node.view.version letter) (receives s letter) s else printing [] s
+
+-- ---- Whose join a line tells. A process that was started with a token joins by the line that carries that token, and by no other.
+
+-- whether the join carries the token
+abbrev pub carries : (stated : Option (List ℕ)) → (token : List ℕ) → Bool
+carries None token = false
+carries (Some stated) token = bytes_eq stated token
+
+-- whether it is the join of this process's silo, but another process's, by the token that this one was started with
+abbrev pub is_anothers_join : (token : Option (List ℕ)) → Asked → (own : Silo) → Bool
+is_anothers_join None asked own = false
+is_anothers_join (Some token) (Joined version silo stated places) own = silo_eq silo own && not (carries stated token)
+is_anothers_join (Some token) other own = false
 
 -- ---- What a line asks for.
 unfoldable pub answered : Asked → SiloValue → Answered
-answered (Joined version silo places) s = told_so version (Join silo places) s
+answered (Joined version silo token places) s = told_so version (Join silo places) s
 answered (Leaving version silo) s = told_so version (Leave silo) s
 answered (Dead version silo) s = told_so version (Die silo) s
 answered (See version) s = seen_so version s
@@ -81,5 +94,11 @@ answered (Forget grain) s = done_so (Forgets grain) s
 answered Nudge s = done_so Nudges s
 answered (Receive letter) s = received_so letter s
 answered (Ping word) s = printing (sentence (codes "pong" ∷ word ∷ []) ∷ []) s
+answered (Owner grain) s = printing (grain_owner_line s grain ∷ []) s
+answered (Place grain policy) s = printing (grain_place_line s grain policy ∷ []) s
 answered Show s = printing (show_lines s) s
 answered Dump s = printing (dump_line s ∷ []) s
+
+-- by a process that was started with that token, or with none: another's join is refused by 208, and changes nothing
+unfoldable pub answered_as : (token : Option (List ℕ)) → Asked → SiloValue → Answered
+answered_as token asked s = if is_anothers_join token asked s.node.host.silo then printing (refusal_line 208 ∷ []) s else answered asked s

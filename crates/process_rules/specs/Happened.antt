@@ -19,6 +19,7 @@ use Rattle.directory_rules.specs.Letter.{Letter, Body, Reply_letter, Offer_lette
 use Rattle.silo_rules.specs.declared.news.News.{News}
 use Rattle.silo_rules.specs.declared.news.News.TheVariants.{Known, Made, Replaced}
 use Rattle.directory_rules.specs.Membership.{Change, Join, Leave, Die}
+use Rattle.directory_rules.specs.Answer.{why_number}
 use Rattle.script_rules.specs.Lines.{kind_word, effect_words, entry_words, happening_words}
 
 -- ---- A change of membership.
@@ -65,27 +66,32 @@ sought_words (Some grain) = grain_text grain ∷ []
 abbrev pub sought_grain : Host → (number : ℕ) → List (List ℕ)
 sought_grain host number = sought_words (lookup (is_at (nat_cmp number)) host.finds)
 
--- what a reply tells that counts, by what waited under its number; a retry leaves all as it was
-abbrev pub counted_words : Host → (number : ℕ) → Reply → (delivered : List (List ℕ)) → List (List ℕ)
-counted_words host number (reply.Registered entry) delivered = codes "firm" ∷ own_words host (asking_under host number)
-counted_words host number (reply.Taken entry) delivered = codes "taken" ∷ (own_grain (asking_under host number) ++ codes "by" ∷ activation_text entry.activation ∷ [])
-counted_words host number reply.Removed delivered = codes "ended" ∷ own_words host (closing_under host number)
-counted_words host number reply.Absent delivered = codes "ended" ∷ own_words host (closing_under host number)
-counted_words host number (reply.Found entry) delivered = codes "found" ∷ entry_words entry
-counted_words host number reply.Nothing delivered = codes "nothing" ∷ sought_grain host number
-counted_words host number (reply.Retry why) delivered = delivered
+-- the grain of what waits under that number: no two requests have one number
+abbrev pub waiting_grain : Host → (number : ℕ) → List (List ℕ)
+waiting_grain host number = own_grain (asking_under host number) ++ (own_grain (closing_under host number) ++ sought_grain host number)
+
+-- what a reply tells that counts, by what waited under its number: that an activation is firm, with the version that the silo has seen;
+-- how one ended; or that the grain's request waits on, and why
+abbrev pub counted_words : Host → (seen number : ℕ) → Reply → (delivered : List (List ℕ)) → List (List ℕ)
+counted_words host seen number (reply.Registered entry) delivered = codes "firm" ∷ (own_words host (asking_under host number) ++ codes "at" ∷ decimal seen ∷ [])
+counted_words host seen number (reply.Taken entry) delivered = codes "taken" ∷ (own_grain (asking_under host number) ++ codes "by" ∷ activation_text entry.activation ∷ [])
+counted_words host seen number reply.Removed delivered = codes "ended" ∷ (own_words host (closing_under host number) ++ codes "removed" ∷ [])
+counted_words host seen number reply.Absent delivered = codes "ended" ∷ (own_words host (closing_under host number) ++ codes "absent" ∷ [])
+counted_words host seen number (reply.Found entry) delivered = codes "found" ∷ entry_words entry
+counted_words host seen number reply.Nothing delivered = codes "nothing" ∷ sought_grain host number
+counted_words host seen number (reply.Retry why) delivered = delivered ++ (waiting_grain host number ++ decimal (why_number why) ∷ [])
 
 -- what a letter tells that counts, by its body
-abbrev pub body_words : Body → Host → Effect → (delivered : List (List ℕ)) → List (List ℕ)
-body_words (Reply_letter number reply) host effect delivered = counted_words host number reply delivered
-body_words (Offer_letter entry) host effect delivered = happening_words (Did host.silo effect)
-body_words other host effect delivered = delivered
+abbrev pub body_words : Body → Host → (seen : ℕ) → Effect → (delivered : List (List ℕ)) → List (List ℕ)
+body_words (Reply_letter number reply) host seen effect delivered = counted_words host seen number reply delivered
+body_words (Offer_letter entry) host seen effect delivered = happening_words (Did host.silo effect)
+body_words other host seen effect delivered = delivered
 
 abbrev pub is_ignored : Effect → Bool
 is_ignored effect.Ignored = true
 is_ignored other = false
 
--- what came of a letter, by the host as it was when the letter came
-abbrev pub received_words : Host → Letter → Effect → List (List ℕ)
-received_words host letter effect =
-    if is_ignored effect then delivered_words letter effect else body_words letter.body host effect (delivered_words letter effect)
+-- what came of a letter, by the host as it was when the letter came, and the version that its silo had seen
+abbrev pub received_words : Host → (seen : ℕ) → Letter → Effect → List (List ℕ)
+received_words host seen letter effect =
+    if is_ignored effect then delivered_words letter effect else body_words letter.body host seen effect (delivered_words letter effect)

@@ -4,12 +4,12 @@ use Rattle.silo_address.specs.Silo.{IsSilo}
 use Rattle.silo_address.specs.Grain.{IsGrain}
 use Rattle.ring_range.specs.Range.{circle}
 use Rattle.hash_ring.specs.declared.hashing.Hashing.{Hashing}
-use Rattle.process_rules.specs.ReadLine.{Asked, Joined, Leaving, Dead, See, Wake, Close, Offer, Find, Forget, Nudge, Receive, Ping, Show, Dump}
+use Rattle.process_rules.specs.ReadLine.{Asked, Joined, Leaving, Dead, See, Wake, Close, Offer, Find, Forget, Nudge, Receive, Ping, Owner, Place, Show, Dump}
 use Rattle.process_rules.specs.Told.{IsNumber, IsTold}
 
 -- versions are below 2^64, silos and grains are such, places are hashes, and a letter is one that a line can tell
 abbrev pub IsInRange : Hashing → Asked → Type 0
-IsInRange hashing (Joined version silo places) = IsNumber version × IsSilo silo × All (λ place. place < circle) places
+IsInRange hashing (Joined version silo token places) = IsNumber version × IsSilo silo × All (λ place. place < circle) places
 IsInRange hashing (Leaving version silo) = IsNumber version × IsSilo silo
 IsInRange hashing (Dead version silo) = IsNumber version × IsSilo silo
 IsInRange hashing (See version) = IsNumber version
@@ -21,5 +21,7 @@ IsInRange hashing (Forget grain) = IsGrain grain
 IsInRange hashing Nudge = ⊤
 IsInRange hashing (Receive letter) = IsTold hashing letter
 IsInRange hashing (Ping word) = ⊤
+IsInRange hashing (Owner grain) = IsGrain grain
+IsInRange hashing (Place grain policy) = IsGrain grain
 IsInRange hashing Show = ⊤
 IsInRange hashing Dump = ⊤

@@ -8,17 +8,17 @@ use Rattle.silo_address.specs.Silo.{Silo}
 use Rattle.directory_rules.specs.Settings.{Settings}
 use Rattle.silo_rules.specs.SiloValue.{SiloValue, first_silo}
 use Rattle.process_rules.specs.ReadLine.{Asked, read_silo_line, unended_fault}
-use Rattle.process_rules.specs.Answer.{Answered, printing, answered}
+use Rattle.process_rules.specs.Answer.{Answered, printing, answered_as}
 
 -- the line that tells a fault
 abbrev pub fault_line : (fault : ℕ) → List ℕ
 fault_line fault = sentence (codes "fault" ∷ decimal fault ∷ [])
 
 -- what is answered to a line: nothing where it says nothing; a faulty one changes nothing
-abbrev pub answered_to : Result (Option Asked) ℕ → SiloValue → Answered
-answered_to (Ok None) s = printing [] s
-answered_to (Ok (Some asked)) s = answered asked s
-answered_to (Err fault) s = printing (fault_line fault ∷ []) s
+abbrev pub answered_to : (token : Option (List ℕ)) → Result (Option Asked) ℕ → SiloValue → Answered
+answered_to token (Ok None) s = printing [] s
+answered_to token (Ok (Some asked)) s = answered_as token asked s
+answered_to token (Err fault) s = printing (fault_line fault ∷ []) s
 
 -- what a line says that a line feed ended; a carriage return before that is dropped
 abbrev pub said : List ℕ → SiloValue → Result (Option Asked) ℕ
@@ -39,15 +39,15 @@ after_last None = []
 after_last (Some fault) = text_of_lines (fault_line fault ∷ [])
 
 -- what is written on lines: each but the last was ended by a line feed
-unfoldable pub written_on : List (List ℕ) → SiloValue → List ℕ
-written_on [] s = []
-written_on (last ∷ []) s = after_last (unended_fault last)
-written_on (line ∷ next ∷ lines) s = after_line (answered_to (said line s) s) (written_on (next ∷ lines))
+unfoldable pub written_on : (token : Option (List ℕ)) → List (List ℕ) → SiloValue → List ℕ
+written_on token [] s = []
+written_on token (last ∷ []) s = after_last (unended_fault last)
+written_on token (line ∷ next ∷ lines) s = after_line (answered_to token (said line s) s) (written_on token (next ∷ lines))
 
 -- what is written on all that is read, by a silo that was told nothing yet
-abbrev pub written : Settings → Silo → List ℕ → List ℕ
-written settings silo bytes = written_on (pieces_at line_feed bytes) (first_silo settings silo)
+abbrev pub written : Settings → Silo → (token : Option (List ℕ)) → List ℕ → List ℕ
+written settings silo token bytes = written_on token (pieces_at line_feed bytes) (first_silo settings silo)
 
 -- the output of a silo's process: its status is 0, whether what it reads ends or the silo is dead
-abbrev pub silo_output : Settings → Silo → List ℕ → Output
-silo_output settings silo bytes = record { text = written settings silo bytes; status = 0 }
+abbrev pub silo_output : Settings → Silo → (token : Option (List ℕ)) → List ℕ → Output
+silo_output settings silo token bytes = record { text = written settings silo token bytes; status = 0 }

@@ -1,20 +1,23 @@
 -- What a line of a silo's process asks for, or the number of its first fault. It is a function of the line alone: what a letter to
 -- another silo says is read as well.
-use Rattle.std.specs.Prelude.{ℕ, nat_lt, List, [], ◌∷◌, length, codes, bytes_eq, if◌then◌else◌, Option, Some, None, Result, Ok, Err}
+use Rattle.std.specs.Prelude.{ℕ, nat_lt, Bool, List, [], ◌∷◌, length, take, drop, codes, bytes_eq, if◌then◌else◌, Option, Some, None, Result, Ok, Err}
 use Rattle.std.specs.List.{list_all}
 use Rattle.std.specs.Map.{lookup}
 use Rattle.texts.specs.Words.{words_in}
 use Rattle.silo_address.specs.Silo.{Silo}
 use Rattle.silo_address.specs.Grain.{Grain}
 use Rattle.hash_ring.specs.declared.hashing.Hashing.{Hashing}
+use Rattle.directory_rules.specs.declared.policy.Policy.{Policy}
+use Rattle.directory_rules.specs.declared.policy.Policy.TheVariants.{LeastHeld}
 use Rattle.directory_rules.specs.Letter.{Letter}
-use Rattle.script_rules.specs.Script.{silo_word, grain_word, number_word, places_in, is_text, is_remark, ◌>>=◌}
+use Rattle.script_rules.specs.Script.{silo_word, grain_word, number_word, places_in, policy_word, is_text, is_remark, ◌>>=◌}
 use Rattle.process_rules.specs.ReadLetter.{read_letter}
 
 -- what a line may ask for
 pub data Asked : Type 0 where
-  -- the silo is told a change of membership, and the version that it makes; a silo joins with the places stated for it
-  Joined : (version : ℕ) → Silo → (places : List ℕ) → Asked
+  -- the silo is told a change of membership, and the version that it makes; a silo joins with the places stated for it, and perhaps
+  -- with the token that its process was started with
+  Joined : (version : ℕ) → Silo → (token : Option (List ℕ)) → (places : List ℕ) → Asked
   Leaving : (version : ℕ) → Silo → Asked
   Dead : (version : ℕ) → Silo → Asked
   -- it is to take a step of its own
@@ -29,6 +32,8 @@ pub data Asked : Type 0 where
   Receive : Letter → Asked
   -- what is asked of it changes nothing
   Ping : (word : List ℕ) → Asked
+  Owner : Grain → Asked
+  Place : Grain → Policy → Asked
   Show : Asked
   Dump : Asked
 
@@ -47,13 +52,31 @@ abbrev pub a_word : Grammar
 a_word (word ∷ []) = Ok (Ping word)
 a_word words = Err 922
 
--- a version, a silo, and any number of places
+-- what stands before a token
+abbrev pub before_token : List ℕ
+before_token = codes "token="
+
+-- whether the word tells a token
+abbrev pub is_token_word : List ℕ → Bool
+is_token_word word = bytes_eq (take (length before_token) word) before_token
+
+-- the token that the first of the words tells, if it tells one
+abbrev pub token_in : List (List ℕ) → Option (List ℕ)
+token_in [] = None
+token_in (word ∷ words) = if is_token_word word then Some (drop (length before_token) word) else None
+
+-- the words behind it
+abbrev pub behind_token : List (List ℕ) → List (List ℕ)
+behind_token [] = []
+behind_token (word ∷ words) = if is_token_word word then words else word ∷ words
+
+-- a version, a silo, perhaps a token, and any number of places
 abbrev pub a_join : Grammar
-a_join (version ∷ silo ∷ places) = do
+a_join (version ∷ silo ∷ words) = do
   version ← number_word version
   silo ← silo_word silo
-  places ← places_in places
-  Ok (Joined version silo places)
+  places ← places_in (behind_token words)
+  Ok (Joined version silo (token_in words) places)
 a_join words = Err 922
 
 -- a version and a silo
@@ -86,6 +109,23 @@ a_grain_and_a_silo (grain ∷ silo ∷ []) = do
   Ok (Offer grain silo)
 a_grain_and_a_silo words = Err 922
 
+-- a policy that a silo can follow by itself: 926 where it is `least_held`, since a silo knows of no other how many it has
+abbrev pub if_by_itself : Policy → Result Policy ℕ
+if_by_itself LeastHeld = Err 926
+if_by_itself policy = Ok policy
+
+-- the name of such a policy: 926
+abbrev pub own_policy_word : List ℕ → Result Policy ℕ
+own_policy_word word = policy_word word >>= if_by_itself
+
+-- a grain and a policy
+abbrev pub a_grain_and_a_policy : Grammar
+a_grain_and_a_policy (grain ∷ policy ∷ []) = do
+  grain ← grain_word grain
+  policy ← own_policy_word policy
+  Ok (Place grain policy)
+a_grain_and_a_policy words = Err 922
+
 -- the words of a letter
 abbrev pub a_letter : Hashing → Grammar
 a_letter hashing words = do
@@ -107,6 +147,8 @@ commands hashing =
     ∷ (codes "nudge", no_word Nudge)
     ∷ (codes "letter", a_letter hashing)
     ∷ (codes "ping", a_word)
+    ∷ (codes "owner", a_grain Owner)
+    ∷ (codes "place", a_grain_and_a_policy)
     ∷ (codes "show", no_word Show)
     ∷ (codes "dump", no_word Dump)
     ∷ []

@@ -1,16 +1,21 @@
--- What `show` and `dump` print of one silo.
+-- What `show`, `dump`, `owner` and `place` print of one silo.
 use Rattle.std.specs.Prelude.{ℕ, List, [], ◌∷◌, ◌++◌, map, length, codes, Option, Some, None}
 use Rattle.std.specs.Fmt.{decimal}
 use Rattle.texts.specs.Words.{sentence}
 use Rattle.silo_address.specs.SiloText.{silo_text}
+use Rattle.silo_address.specs.Grain.{Grain, grain_text}
 use Rattle.membership_view.specs.declared.status.Status.{Status}
 use Rattle.ring_range.specs.Text.{range_text}
+use Rattle.hash_ring.specs.Hash.{hash_grain}
+use Rattle.hash_ring.specs.Owner.{owner_of}
+use Rattle.directory_rules.specs.declared.policy.Policy.{Policy}
+use Rattle.directory_rules.specs.Placement.{silo_for}
 use Rattle.directory_rules.specs.declared.piece_state.PieceState.{PieceState}
 use Rattle.directory_rules.specs.declared.piece_state.PieceState.TheVariants as state
 use Rattle.directory_rules.specs.Piece.{Piece}
 use Rattle.directory_rules.specs.Table.{Table}
 use Rattle.silo_rules.specs.SiloValue.{SiloValue, own_status}
-use Rattle.script_rules.specs.Show.{status_word, seen_words, held_lines}
+use Rattle.script_rules.specs.Show.{status_word, seen_words, held_lines, owner_words, place_words}
 use Rattle.dump_rules.specs.Dump.{dump_node, node_json}
 
 -- what the silo is by the last change that it was told
@@ -38,3 +43,14 @@ show_lines s =
 -- the line of `dump`: the silo's object in a dump
 unfoldable pub dump_line : SiloValue → List ℕ
 dump_line s = node_json (dump_node s.node.host.silo s.node)
+
+-- ---- By the view that the silo has seen.
+
+-- the line of `owner`: the point that owns the grain's hash
+unfoldable pub grain_owner_line : SiloValue → Grain → List ℕ
+grain_owner_line s grain = sentence (codes "owner" ∷ grain_text grain ∷ owner_words (owner_of s.node.ring.points (hash_grain s.node.settings.hashing grain)))
+
+-- the line of `place`: where this silo would place the grain
+unfoldable pub grain_place_line : SiloValue → Grain → Policy → List ℕ
+grain_place_line s grain policy =
+    sentence (codes "place" ∷ grain_text grain ∷ place_words (silo_for policy s.node.view s.node.host.silo (hash_grain s.node.settings.hashing grain) []))

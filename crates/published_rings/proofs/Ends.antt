@@ -1,40 +1,54 @@
 -- What a publisher and a reader know after a step.
-use Rattle.std.proofs.Common.{◌≡◌, ℕ, ◌+◌, ◌≤◌, List, [], ◌∷◌, ◌++◌, length, take, drop, refl, sym, ap, ◌∙◌, append_assoc, length-append, Bool, true, false}
+use Rattle.std.proofs.Common.{◌≡◌, ℕ, ◌+◌, ◌≤◌, List, [], ◌∷◌, ◌++◌, length, take, drop, refl, sym, ap, ◌∙◌, append_assoc, length-append, Bool, true, false, Result, Ok, Err}
+use Rattle.std.specs.Prelude.{MatchResult}
 use Rattle.std.specs.List.{fold}
 use Rattle.std.proofs.lemmas.List.Sums.{fold-append}
 use Rattle.std.proofs.lemmas.List.{take-append-drop, length-take-le}
 use Rattle.std.proofs.Math.Seq.{take-append_seam, take-length}
 use Rattle.hash_ring.specs.Ring.{RingValue}
-use Rattle.published_rings.specs.Shown.{ShownValue}
+use Rattle.published_rings.specs.Shown.{Publication, ShownValue, NextValue, showing}
 use Rattle.published_rings.specs.Rule.{Begins, Looks, Adds}
+use Rattle.published_rings.specs.declared.rule.Known.{Known}
 use Rattle.published_rings.specs.Ends.{PublisherValue, after_publishing}
 use Rattle.published_rings.proofs.Steps.{whole}
 
--- of what was to be shown one after another, the last is shown
-pub shown_last : (shown : ShownValue) (log pending : List ShownValue) (last next : ShownValue) → log ≡ pending ++ last ∷ [] → next ≡ fold (λ s o. o) shown log → next ≡ last
+-- of what was to be shown one after another, the last is shown, and of the same publication
+shown_fold : (shown : ShownValue) (log : List NextValue) → (fold showing shown log).of ≡ shown.of
+shown_fold shown [] = refl
+shown_fold shown (next ∷ log) = shown_fold (showing shown next) log
+
+pub shown_last : (shown : ShownValue) (log pending : List NextValue) (last : NextValue) (next : ShownValue) → log ≡ pending ++ last ∷ [] → next ≡ fold showing shown log → next ≡ showing shown last
 shown_last shown log pending last next is got =
-    let absorb : ShownValue → ShownValue → ShownValue = λ s o. o in
-    let folded : fold absorb shown log ≡ last = ap (λ l. fold absorb shown l) is ∙ fold-append absorb shown pending (last ∷ []) in
-    got ∙ folded
+    let folded : fold showing shown log ≡ showing (fold showing shown pending) last = ap (λ l. fold showing shown l) is ∙ fold-append showing shown pending (last ∷ []) in
+    got ∙ folded ∙ ap (λ (of : Publication). record (showing shown last) { of = of }) (shown_fold shown pending)
+
+-- the next ring is shown, or what was shown before
+pub shown_so : {A E : Type 0} (r : Result A E) (shown now : ShownValue) (log pending : List NextValue) (last : NextValue) (P Q : Type 0) → log ≡ pending ++ last ∷ [] → MatchResult r (λ _. (now ≡ fold showing shown log) × P) (λ _. (now ≡ shown) × Q)
+    → MatchResult r (λ _. now ≡ showing shown last) (λ _. now ≡ shown)
+shown_so (Ok a) shown now log pending last P Q is h = shown_last shown log pending last now is h.0
+shown_so (Err e) shown now log pending last P Q is h = h.0
 
 -- what a publisher that has published one more ring had published before it
-published_before : (seen now : List RingValue) (x y : ShownValue) → x.before ≤ length seen → y.before ≡ x.before + 1 → Adds seen x y now → take y.before now ≡ take x.before seen ++ x.ring ∷ []
-published_before seen now x y within counted added =
-    let first = take x.before seen ++ x.ring ∷ [] in
-    let long : length first ≡ y.before = length-append (take x.before seen) (x.ring ∷ []) ∙ ap (λ n. n + 1) (length-take-le x.before seen within) ∙ sym counted in
-    ap (λ l. take y.before l) (added ∙ sym (append_assoc (take x.before seen) (x.ring ∷ []) (y.ring ∷ []))) ∙ ap (λ n. take n (first ++ y.ring ∷ [])) (sym long)
+published_before : (known now : Known) (x y : ShownValue) → x.before ≤ length known.seen → y.before ≡ x.before + 1 → Adds known x y now → take y.before now.seen ≡ take x.before known.seen ++ x.ring ∷ []
+published_before known now x y within counted added =
+    let first = take x.before known.seen ++ x.ring ∷ [] in
+    let long : length first ≡ y.before = length-append (take x.before known.seen) (x.ring ∷ []) ∙ ap (λ n. n + 1) (length-take-le x.before known.seen within) ∙ sym counted in
+    ap (λ (k : Known). take y.before k.seen) added
+    ∙ ap (λ l. take y.before l) (sym (append_assoc (take x.before known.seen) (x.ring ∷ []) (y.ring ∷ []))) ∙ ap (λ n. take n (first ++ y.ring ∷ [])) (sym long)
     ∙ take-append_seam first (y.ring ∷ [])
 
-abbrev publisher_of : List RingValue → ShownValue → ℕ → PublisherValue
-publisher_of seen shown left = record { earlier = take shown.before seen; last = shown.ring; left = left }
+abbrev publisher_of : Known → ShownValue → ℕ → PublisherValue
+publisher_of known shown left = record { of = shown.of; earlier = take shown.before known.seen; last = shown.ring; left = left }
 
 -- the publisher that has published one more ring
-pub published_more : (seen now : List RingValue) (x y shown : ShownValue) (ring : RingValue) (left : ℕ) → x.before ≤ length seen → y.before ≡ x.before + 1 → y.ring ≡ ring → shown ≡ y → Adds seen x y now
-    → publisher_of now shown left ≡ after_publishing (publisher_of seen x left) ring
-published_more seen now x y shown ring left within counted its is added =
-    let earlier : take shown.before now ≡ take x.before seen ++ x.ring ∷ [] = ap (λ s. take s.before now) is ∙ published_before seen now x y within counted added in
+pub published_more : (known now : Known) (x : ShownValue) (next : NextValue) (shown : ShownValue) (ring : RingValue) (left : ℕ) → x.before ≤ length known.seen → next.before ≡ x.before + 1 → next.ring ≡ ring → shown ≡ showing x next → Adds known x (showing x next) now
+    → publisher_of now shown left ≡ after_publishing (publisher_of known x left) ring
+published_more known now x next shown ring left within counted its is added =
+    let y = showing x next in
+    let of : shown.of ≡ x.of = ap (λ s. s.of) is in
+    let earlier : take shown.before now.seen ≡ take x.before known.seen ++ x.ring ∷ [] = ap (λ s. take s.before now.seen) is ∙ published_before known now x y within counted added in
     let last : shown.ring ≡ ring = ap (λ s. s.ring) is ∙ its in
-    λ i. record { earlier = earlier i; last = last i; left = left }
+    λ i. record { of = of i; earlier = earlier i; last = last i; left = left }
 
 -- what begins with a list begins with each beginning of it
 begins_shorter : (seen now : List RingValue) (n : ℕ) → Begins seen now → Begins (take n seen) now
@@ -47,10 +61,10 @@ take-whole earlier shown counted =
     ap (λ n. take n (whole earlier shown)) long ∙ take-length (whole earlier shown)
 
 -- a reader that looked has seen how the list begins of which it knew a beginning
-pub begins_looked : (seen now : List RingValue) (shown : ShownValue) (n before : ℕ) → Looks seen shown shown now → before ≡ shown.before → Begins (take n seen) (take (before + 1) now)
-begins_looked seen now shown n before h is =
-    let all : take (before + 1) now ≡ now = ap (λ k. take (k + 1) now) is ∙ (ap (λ l. take (shown.before + 1) l) h.whole ∙ (take-whole h.earlier shown h.counted ∙ sym h.whole)) in
-    let b = begins_shorter seen now n h.begins in
+pub begins_looked : (known now : Known) (shown : ShownValue) (n before : ℕ) → Looks known shown shown now → before ≡ shown.before → Begins (take n known.seen) (take (before + 1) now.seen)
+begins_looked known now shown n before h is =
+    let all : take (before + 1) now.seen ≡ now.seen = ap (λ k. take (k + 1) now.seen) is ∙ (ap (λ l. take (shown.before + 1) l) h.whole ∙ (take-whole h.earlier shown h.counted ∙ sym h.whole)) in
+    let b = begins_shorter known.seen now.seen n h.begins in
     (b.0, all ∙ b.1)
 
 -- a test that isn't false

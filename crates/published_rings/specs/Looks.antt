@@ -1,10 +1,10 @@
 -- What a reader makes of a look.
-use Rattle.std.specs.Prelude.{◌≡◌, ℕ, ◌≤◌, List, Option, Some, None}
+use Rattle.std.specs.Prelude.{◌≡◌, ℕ, ◌≤◌, Option, Some, None}
 use Rattle.hash_ring.specs.Owner.{owner_of}
-use Rattle.hash_ring.specs.Ring.{RingValue}
 use Rattle.published_rings.specs.declared.route.Route.{Route}
+use Rattle.published_rings.specs.declared.rule.Known.{Known}
 use Rattle.published_rings.specs.Shown.{ShownValue}
-use Rattle.published_rings.specs.Rule.{Begins, Looks}
+use Rattle.published_rings.specs.Rule.{Begins, StaysOf, Looks}
 
 -- how many rings came before the one that is shown, and the route of a hash by it, which isn't older than was told
 pub record IsAnswer (shown : ShownValue) (told hash : ℕ) (answer : ℕ × Route) : Type 0 where
@@ -13,7 +13,7 @@ pub record IsAnswer (shown : ShownValue) (told hash : ℕ) (answer : ℕ × Rout
   pub owner : answer.1.owner ≡ owner_of shown.ring.points hash
   pub not_older : told ≤ answer.1.version
 
--- with an answer, one looked at the ring that it is by; without one, as much or more was seen
-abbrev pub IsLook : List RingValue → List RingValue → ℕ → ℕ → Option (ℕ × Route) → Type 0
-IsLook seen now told hash None = Begins seen now
-IsLook seen now told hash (Some answer) = (shown : ShownValue) × Looks seen shown shown now × IsAnswer shown told hash answer
+-- with an answer, one looked at the ring that it is by; without one, as much or more was seen, of the same publication
+abbrev pub IsLook : Known → Known → ℕ → ℕ → Option (ℕ × Route) → Type 0
+IsLook known now told hash None = Begins known.seen now.seen × StaysOf known now
+IsLook known now told hash (Some answer) = (shown : ShownValue) × Looks known shown shown now × IsAnswer shown told hash answer

@@ -2,6 +2,7 @@
 #![tactic(auto)]
 
 mod error;
+mod origin;
 mod publisher;
 mod reader;
 mod route;

@@ -1,12 +1,13 @@
-ghost use Rattle.std.specs.Prelude.{◌≡◌, ◌≢◌, ◌↔◌, ◌⊎◌, ◌+◌, ◌-◌, ◌<◌, ◌≤◌, [], vec_len, vec_capacity, IsTrue, IfOk, IfErr, OnOk, OnErr, IsErrOf, MatchResult, length, false};
-ghost use Rattle.left_right.specs.Sides.{view as seen_at};
+ghost use Rattle.std.specs.Prelude.{◌≡◌, ◌≢◌, ◌↔◌, ◌⊎◌, ◌+◌, ◌-◌, ◌<◌, ◌≤◌, All, Some, vec_len, vec_capacity, IsTrue, IfOk, IfErr, OnOk, OnErr, IsErrOf, MatchResult, length, false};
+ghost use Rattle.left_right.specs.Sides.{view as known_at};
 ghost use Rattle.hash_ring.specs.Ring.{IsRingBy, are_added, ring_of};
-ghost use Rattle.published_rings.specs.Ends.{after_publishing};
+ghost use Rattle.published_rings.specs.Ends.{after_publishing, first_publisher, first_reader};
 ghost use Rattle.published_rings.specs.Rule.{Adds};
-ghost use Rattle.published_rings.specs.Shown.{IsOfView};
+ghost use Rattle.published_rings.specs.Shown.{IsOfView, ShownValue, showing};
+ghost use Rattle.published_rings.specs.declared.rule.Known.{Known};
 
-use crate::rule::{Add, RingReader, RingWriter};
-use crate::shown::Shown;
+use crate::rule::{Add, Hears, Open, RingReader, RingWriter, Tells};
+use crate::shown::{Next, Shown};
 use crate::{RouteError, RouteReader, Told};
 use core::mem::replace_with;
 use hash_ring::{Places, Ring, RingError};
@@ -26,15 +27,18 @@ pub struct Publisher {
 }
 
 impl Model for Publisher {
-    ghost use Rattle.std.specs.Prelude.{◌≤◌, length, take, vec_len};
-    ghost use Rattle.left_right.specs.Sides.{view as seen_at};
+    ghost use Rattle.std.specs.Prelude.{◌≡◌, ◌≤◌, All, Some, length, take, vec_len};
+    ghost use Rattle.left_right.specs.Sides.{view as known_at};
     ghost use Rattle.published_rings.specs.Ends.{PublisherValue};
+    ghost use Rattle.published_rings.specs.Shown.{ShownValue};
+    ghost use Rattle.published_rings.specs.declared.rule.Known.{Known};
 
     ghost Value = { PublisherValue };
 
-    ghost view = { λ p. record { earlier = take p.writer.desk.shown.value.before (seen_at p.writer.desk.place); last = p.writer.desk.shown.value.ring; left = vec_len p.readers } };
+    ghost view = { λ p. record { of = p.writer.desk.shown.value.of; earlier = take p.writer.desk.shown.value.before (known_at p.writer.desk.place).seen; last = p.writer.desk.shown.value.ring; left = vec_len p.readers } };
 
-    ghost invariant = { λ p. p.writer.desk.shown.value.before ≤ length (seen_at p.writer.desk.place) };
+    // It knows the rings before the last one, and its readers know that they are of its publication.
+    ghost invariant = { λ p. (p.writer.desk.shown.value.before ≤ length (known_at p.writer.desk.place).seen) × All (λ reader. (known_at {T = ShownValue} {V = Known} reader.place).of ≡ Some p.writer.desk.shown.value.of) p.readers.items };
 }
 
 impl Publisher {
@@ -49,16 +53,16 @@ impl Publisher {
     ) -> Result<Publisher, RouteError>
         requires some { 0 < readers }
         requires most { readers ≤ MOST_READERS }
-        ensures made { IfOk result (λ publisher. publisher ≡ record { earlier = []; last = ring_of view.now places.now; left = readers }) }
+        ensures made { IfOk result (λ publisher. publisher ≡ first_publisher publisher.of (ring_of view.now places.now) readers) }
         ensures missing { IsErrOf result RouteError.PointsMissing ↔ (are_added view.now places.now ≡ false) }
         ensures only { IfErr result (λ refusal. (refusal ≡ RouteError.PointsMissing) ⊎ (refusal ≡ RouteError.NoReader) ⊎ (refusal ≡ RouteError.OutOfMemory)) }
     {
-        let ring = Ring::anew(alloc, view, places)?;
-        let mut made = Vec::with_capacity(alloc, readers)?;
-        let first = Shown::first(alloc, ring)?;
-        let second = first.again()?;
-        let writer = Writer::new(alloc, first, second, readers)?;
-        if make_readers(&writer, &mut made, readers).is_err() {
+        let mut writer = open(rt, alloc, view, places, readers)?;
+        let Ok(mut made) = Vec::with_capacity(alloc, readers) else {
+            writer.take(rt);
+            return Err(RouteError::OutOfMemory);
+        };
+        if make_readers(&mut writer, &mut made, readers).is_err() {
             writer.take(rt);
             return Err(RouteError::NoReader);
         }
@@ -77,14 +81,14 @@ impl Publisher {
 
     /// Hands out a reader that wasn't handed out yet. Refused by 952 where none is left.
     pub fn reader(&mut self) -> Result<RouteReader, RouteError>
-        ensures given { IfOk result (λ reader. reader ≡ record { seen = []; told = 0 }) }
+        ensures given { IfOk result (λ reader. reader ≡ first_reader self.old.of) }
         ensures fewer { OnOk result (self.old ≡ record self.new { left = self.new.left + 1 }) }
         ensures none { IsErrOf result RouteError.NoReader ↔ (self.old.left ≡ 0) }
         ensures only { IfErr result (λ refusal. refusal ≡ RouteError.NoReader) }
         ensures unchanged { OnErr result (self.new ≡ self.old) }
     {
         match self.readers.pop() {
-            Some(reader) => Ok(RouteReader::new(reader)),
+            Some(reader) => Ok(RouteReader::new(reader, self.writer.published().origin())),
             None => Err(RouteError::NoReader),
         }
     }
@@ -156,19 +160,61 @@ impl Publisher {
     }
 }
 
-// Makes that many readers, or fails.
+// Shows the ring of a view in a new publication.
+fn open<R: Wait>(
+    rt: &R,
+    alloc: Global,
+    view: &View,
+    places: &Places,
+    readers: usize,
+) -> Result<RingWriter, RouteError>
+    requires some { 0 < readers }
+    requires most { readers ≤ MOST_READERS }
+    ensures shown { IfOk result (λ writer. (writer.desk.shown.value.before ≡ 0) × (writer.desk.shown.value.ring ≡ ring_of view.now places.now)) }
+    ensures knows { IfOk result (λ writer. (known_at writer.desk.place).of ≡ Some writer.desk.shown.value.of) }
+    ensures missing { IsErrOf result RouteError.PointsMissing ↔ (are_added view.now places.now ≡ false) }
+    ensures only { IfErr result (λ refusal. (refusal ≡ RouteError.PointsMissing) ⊎ (refusal ≡ RouteError.OutOfMemory)) }
+{
+    let ring = Ring::anew(alloc, view, places)?;
+    let (first, second) = Shown::pair(alloc, ring)?;
+    let writer = Writer::new(alloc, first, second, readers)?;
+    let (writer, opened) = writer.publish_as::<Open, R>(rt);
+    if opened.is_err() {
+        writer.take(rt);
+        return Err(RouteError::OutOfMemory);
+    }
+    Ok(writer)
+}
+
+// Makes that many readers of the writer's publication, or fails.
 fn make_readers(
-    writer: &RingWriter,
+    writer: &mut RingWriter,
     readers: &mut Vec<RingReader>,
     count: usize,
 ) -> Result<(), AllocError>
-    requires { vec_len readers.old + count ≤ vec_capacity readers.old }
-    ensures { OnOk result (vec_len readers.new ≡ vec_len readers.old + count) }
+    requires known { (known_at writer.old.desk.place).of ≡ Some writer.old.desk.shown.value.of }
+    requires before { All (λ reader. (known_at {T = ShownValue} {V = Known} reader.place).of ≡ Some writer.old.desk.shown.value.of) readers.old.items }
+    requires room { vec_len readers.old + count ≤ vec_capacity readers.old }
+    ensures own { All (λ reader. (known_at {T = ShownValue} {V = Known} reader.place).of ≡ Some writer.new.desk.shown.value.of) readers.new.items }
+    ensures made { OnOk result (vec_len readers.new ≡ vec_len readers.old + count) }
+    ensures shown { writer.new.desk.shown.value ≡ writer.old.desk.shown.value }
+    ensures knows { known_at writer.new.desk.place ≡ known_at writer.old.desk.place }
 {
     for _made in 0..count {
-        readers.push_reserved(writer.factory().reader()?);
+        readers.push_reserved(make_reader(writer)?);
     }
     Ok(())
+}
+
+// Makes a reader, which knows what the writer knows, or fails.
+fn make_reader(writer: &mut RingWriter) -> Result<RingReader, AllocError>
+    ensures told { IfOk result (λ reader. known_at reader.place ≡ known_at writer.old.desk.place) }
+    ensures shown { writer.new.desk.shown.value ≡ writer.old.desk.shown.value }
+    ensures knows { known_at writer.new.desk.place ≡ known_at writer.old.desk.place }
+{
+    let mut reader = writer.factory().reader()?;
+    reader.learn::<Hears>(writer.tell::<Tells>());
+    Ok(reader)
 }
 
 // The ring of a view that is newer than that of the last ring.
@@ -193,13 +239,13 @@ fn ring_after(alloc: Global, last: &Ring, view: &View, places: &Places) -> Resul
 }
 
 // Shows readers one more ring. Where memory runs out, they see what they saw.
-fn show<R: Wait>(writer: RingWriter, given: (&R, Shown)) -> (RingWriter, Result<(), AllocError>)
-    requires seen { writer.desk.shown.value.before ≤ length (seen_at writer.desk.place) }
+fn show<R: Wait>(writer: RingWriter, given: (&R, Next)) -> (RingWriter, Result<(), AllocError>)
+    requires seen { writer.desk.shown.value.before ≤ length (known_at writer.desk.place).seen }
     requires newer { writer.desk.shown.value.ring.version < given.1.ring.version }
     requires counted { given.1.before ≡ writer.desk.shown.value.before + 1 }
     requires made { IsOfView given.1.ring }
-    ensures shown { MatchResult result.1 (λ _. result.0.desk.shown.value ≡ given.entry.1) (λ _. result.0.desk.shown.value ≡ writer.desk.shown.value) }
-    ensures seen { MatchResult result.1 (λ _. Adds (seen_at writer.desk.place) writer.desk.shown.value given.entry.1 (seen_at result.0.desk.place)) (λ _. seen_at result.0.desk.place ≡ seen_at writer.desk.place) }
+    ensures shown { MatchResult result.1 (λ _. result.0.desk.shown.value ≡ showing writer.desk.shown.value given.entry.1) (λ _. result.0.desk.shown.value ≡ writer.desk.shown.value) }
+    ensures seen { MatchResult result.1 (λ _. Adds (known_at writer.desk.place) writer.desk.shown.value (showing writer.desk.shown.value given.entry.1) (known_at result.0.desk.place)) (λ _. known_at result.0.desk.place ≡ known_at writer.desk.place) }
 {
     let (rt, next) = given;
     let mut writer = writer;

@@ -1,10 +1,11 @@
-ghost use Rattle.std.specs.Prelude.{◌≡◌, ◌≤◌, [], All, IfOk, IfErr, OnErr, IfSome, max};
+ghost use Rattle.std.specs.Prelude.{◌≡◌, ◌≤◌, All, IfOk, IfErr, OnErr, IfSome, Some, max};
 ghost use Rattle.left_right.specs.Sides.{view};
 ghost use Rattle.hash_ring.specs.Owner.{owner_of};
-ghost use Rattle.published_rings.specs.Ends.{IsRouteOf};
+ghost use Rattle.published_rings.specs.Ends.{IsRouteOf, first_reader};
 ghost use Rattle.published_rings.specs.Looks.{IsAnswer, IsLook};
 ghost use Rattle.published_rings.specs.Rule.{Begins};
 
+use crate::origin::Origin;
 use crate::rule::{Look, RingReader};
 use crate::shown::Shown;
 use crate::{Route, RouteError, Told};
@@ -15,30 +16,33 @@ use std::marker::Model;
 #[derive(Drop)]
 pub struct RouteReader {
     reader: RingReader,
+    of: Origin,
     /// How many rings were published before the newest one that it routed by, if it did.
     newest: Option<u64>,
     told: u64,
 }
 
 impl Model for RouteReader {
-    ghost use Rattle.std.specs.Prelude.{◌≤◌, length, take};
-    ghost use Rattle.left_right.specs.Sides.{view as seen_at};
+    ghost use Rattle.std.specs.Prelude.{◌≡◌, ◌≤◌, length, take, Some};
+    ghost use Rattle.left_right.specs.Sides.{view as known_at};
     ghost use Rattle.published_rings.specs.Ends.{ReaderValue, count_up_to};
 
     ghost Value = { ReaderValue };
 
-    ghost view = { λ r. record { seen = take (count_up_to r.newest) (seen_at r.reader.place); told = r.told } };
+    ghost view = { λ r. record { of = r.of; seen = take (count_up_to r.newest) (known_at r.reader.place).seen; told = r.told } };
 
-    ghost invariant = { λ r. count_up_to r.newest ≤ length (seen_at r.reader.place) };
+    ghost invariant = { λ r. (count_up_to r.newest ≤ length (known_at r.reader.place).seen) × ((known_at r.reader.place).of ≡ Some r.of) };
 }
 
 impl RouteReader {
-    // A reader that has seen nothing, and was told of nothing.
-    pub(crate) fn new(reader: RingReader) -> RouteReader
-        ensures { result ≡ record { seen = []; told = 0 } }
+    // A reader of that publication that has seen nothing, and was told of nothing.
+    pub(crate) fn new(reader: RingReader, of: Origin) -> RouteReader
+        requires { (view reader.place).of ≡ Some of }
+        ensures { result ≡ first_reader of }
     {
         RouteReader {
             reader,
+            of,
             newest: None,
             told: 0,
         }
@@ -59,6 +63,7 @@ impl RouteReader {
         ensures not_below_seen { IfOk result (λ route. All (λ ring. ring.version ≤ route.version) self.new.seen) }
         ensures not_below_told { IfOk result (λ route. self.old.told ≤ route.version) }
         ensures kept { Begins self.old.seen self.new.seen }
+        ensures of { self.new.of ≡ self.old.of }
         ensures told { self.new.told ≡ self.old.told }
         ensures refused { IfErr result (λ refusal. refusal ≡ RouteError.NotLetIn) }
         ensures unchanged { OnErr result (self.new ≡ self.old) }

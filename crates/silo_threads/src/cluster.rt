@@ -1,5 +1,6 @@
 ghost use Rattle.std.specs.Prelude.{◌≡◌, ◌+◌, ◌⊎◌, ◌↔◌, ◌<◌, ◌≤◌, [], IfErr, IfOk, IsErrOf, IsTrue, None, OnErr, OnOk, true};
 ghost use Rattle.directory_rules.specs.Happens.{least_deliverable};
+ghost use Rattle.published_rings.specs.Ends.{first_reader};
 ghost use Rattle.silo_threads.specs.Cluster.{first_cluster};
 
 use crate::publication::newest;
@@ -62,7 +63,7 @@ impl<L: Ledger + Names, G: Gate + Drop> Cluster<L, G> {
         requires names { tokens.1 ≡ L.names }
         requires some { 0 < readers }
         requires most { readers ≤ 64 }
-        ensures made { IfOk result (λ made. made.0 ≡ first_cluster settings readers) }
+        ensures made { IfOk result (λ made. made.0 ≡ first_cluster settings made.0.published.of readers) }
         ensures all { IfOk result (λ made. made.1.parts ≡ L.parts) }
         ensures none { IfOk result (λ made. made.1.amount ≡ 0) }
         ensures only { IfErr result (λ refusal. (refusal ≡ RouteError.NoReader) ⊎ (refusal ≡ RouteError.OutOfMemory)) }
@@ -87,7 +88,7 @@ impl<L: Ledger + Names, G: Gate + Drop> Cluster<L, G> {
 
     /// Hands out a reader of the rings that wasn't handed out yet. Refused by 952 where none is left.
     pub fn reader(&mut self) -> Result<RouteReader, RouteError>
-        ensures given { IfOk result (λ reader. reader ≡ record { seen = []; told = 0 }) }
+        ensures given { IfOk result (λ reader. reader ≡ first_reader self.old.published.of) }
         ensures fewer { OnOk result (self.old ≡ record self.new { published = record self.new.published { left = self.new.published.left + 1 } }) }
         ensures none { IsErrOf result RouteError.NoReader ↔ (self.old.published.left ≡ 0) }
         ensures only { IfErr result (λ refusal. refusal ≡ RouteError.NoReader) }

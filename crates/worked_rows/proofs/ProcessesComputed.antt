@@ -6,6 +6,8 @@ use Rattle.worked_rows.specs.SecondSilo as second
 use Rattle.worked_rows.specs.Recovery as recovering
 use Rattle.worked_rows.specs.MissingSnapshot as missing
 use Rattle.worked_rows.specs.Refused as refused
+use Rattle.worked_rows.specs.Tokens as tokens
+use Rattle.worked_rows.specs.Questions as questions
 use Rattle.worked_rows.specs.ProcessFaults as faults
 use Rattle.worked_rows.specs.Bytes as bytes
 use Rattle.worked_rows.proofs.ProcessOpened.{all_opened}
@@ -29,6 +31,18 @@ a_snapshot_missing = (record { ip = 10 ∷ 0 ∷ 0 ∷ 2 ∷ []; port = 1000; ge
 pub refused_changes : Writes refused.refused_changes
 unfolding all_opened
 refused_changes = (record { ip = 10 ∷ 0 ∷ 0 ∷ 1 ∷ []; port = 1000; generation = 1 }, refl, refl)
+
+pub a_token_carried : Writes tokens.a_token_carried
+unfolding all_opened
+a_token_carried = (record { ip = 10 ∷ 0 ∷ 0 ∷ 1 ∷ []; port = 1000; generation = 1 }, refl, refl)
+
+pub owners_and_places : Writes questions.owners_and_places
+unfolding all_opened
+owners_and_places = (record { ip = 10 ∷ 0 ∷ 0 ∷ 1 ∷ []; port = 1000; generation = 1 }, refl, refl)
+
+pub requests_waiting : Writes questions.requests_waiting
+unfolding all_opened
+requests_waiting = (record { ip = 10 ∷ 0 ∷ 0 ∷ 1 ∷ []; port = 1000; generation = 1 }, refl, refl)
 
 pub faulty_lines : Writes faults.faulty_lines
 unfolding all_opened

@@ -1,5 +1,5 @@
 -- Ends of lines, bytes that are no text, and an input that breaks off.
-use Rattle.std.specs.Prelude.{[], ◌∷◌, ◌++◌, codes}
+use Rattle.std.specs.Prelude.{[], ◌∷◌, ◌++◌, codes, None}
 use Rattle.texts.specs.Printed.{text_of_lines}
 use Rattle.worked_rows.specs.ProcessRow.{ProcessRow}
 
@@ -7,6 +7,7 @@ use Rattle.worked_rows.specs.ProcessRow.{ProcessRow}
 abbrev pub ends_of_lines : ProcessRow
 ends_of_lines = record {
   silo = codes "10.0.0.1:1000@1";
+  token = None;
   input = text_of_lines
       ((codes "ping one" ++ 13 ∷ [])
       ∷ (codes "ping two" ++ 13 ∷ 13 ∷ [])
@@ -23,10 +24,11 @@ ends_of_lines = record {
 abbrev pub broken_off : ProcessRow
 broken_off = record {
   silo = codes "10.0.0.1:1000@1";
+  token = None;
   input = text_of_lines (codes "ping one" ∷ []) ++ codes "ping two";
   text = text_of_lines (codes "pong one" ∷ codes "fault 931" ∷ []);
 }
 
 -- without a byte nothing is written
 abbrev pub no_bytes : ProcessRow
-no_bytes = record { silo = codes "10.0.0.1:1000@1"; input = []; text = [] }
+no_bytes = record { silo = codes "10.0.0.1:1000@1"; token = None; input = []; text = [] }

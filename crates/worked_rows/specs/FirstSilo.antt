@@ -1,11 +1,12 @@
 -- A silo that joins first, works, hands a grain over and takes a leaving one's range, and is replaced in the end.
-use Rattle.std.specs.Prelude.{[], ◌∷◌, codes}
+use Rattle.std.specs.Prelude.{[], ◌∷◌, codes, None}
 use Rattle.texts.specs.Printed.{text_of_lines}
 use Rattle.worked_rows.specs.ProcessRow.{ProcessRow}
 
 abbrev pub first_silo : ProcessRow
 first_silo = record {
   silo = codes "10.0.0.1:1000@1";
+  token = None;
   input = text_of_lines
       (codes "joined 1 10.0.0.1:1000@1 0"
       ∷ codes "joined 1 10.0.0.1:1000@1 0"
@@ -60,11 +61,11 @@ first_silo = record {
       ∷ codes "letter 10.0.0.1:1000@1 10.0.0.1:1000@1 2 register 1 user/ann#7 10.0.0.1:1000@1!1"
       ∷ codes "delivered register registered"
       ∷ codes "letter 10.0.0.1:1000@1 10.0.0.1:1000@1 2 registered 1 user/ann#7 10.0.0.1:1000@1!1"
-      ∷ codes "firm 10.0.0.1:1000@1!1 user/ann#7"
+      ∷ codes "firm 10.0.0.1:1000@1!1 user/ann#7 at 2"
       ∷ codes "delivered registered ignored"
       ∷ codes "started 10.0.0.1:1000@1!2 user/bob#3000000000"
       ∷ codes "letter 10.0.0.1:1000@1 10.0.0.2:1000@1 2 register 2 user/bob#3000000000 10.0.0.1:1000@1!2"
-      ∷ codes "firm 10.0.0.1:1000@1!2 user/bob#3000000000"
+      ∷ codes "firm 10.0.0.1:1000@1!2 user/bob#3000000000 at 2"
       ∷ codes "delivered register taken"
       ∷ codes "letter 10.0.0.1:1000@1 10.0.0.2:1000@1 2 taken 1 user/ann#7 10.0.0.1:1000@1!1"
       ∷ codes "delivered find found"
@@ -80,7 +81,7 @@ first_silo = record {
       ∷ codes "delivered deregister absent"
       ∷ codes "letter 10.0.0.1:1000@1 10.0.0.1:1000@1 2 absent 4"
       ∷ codes "delivered removed ignored"
-      ∷ codes "ended 10.0.0.1:1000@1!1 user/ann#7"
+      ∷ codes "ended 10.0.0.1:1000@1!1 user/ann#7 absent"
       ∷ codes "offered 10.0.0.1:1000@1!2 user/bob#3000000000 to 10.0.0.2:1000@1"
       ∷ codes "letter 10.0.0.1:1000@1 10.0.0.2:1000@1 2 offer user/bob#3000000000 10.0.0.1:1000@1!2"
       ∷ codes "view 3 leaving 10.0.0.2:1000@1"
@@ -96,7 +97,7 @@ first_silo = record {
       ∷ codes "letter 10.0.0.1:1000@1 10.0.0.2:1000@1 3 done 2147483648+2147483648"
       ∷ codes "delivered deregister absent"
       ∷ codes "letter 10.0.0.1:1000@1 10.0.0.1:1000@1 3 absent 6"
-      ∷ codes "ended 10.0.0.1:1000@1!2 user/bob#3000000000"
+      ∷ codes "ended 10.0.0.1:1000@1!2 user/bob#3000000000 absent"
       ∷ codes "view 4 joined 10.0.0.1:1000@2 dead 10.0.0.1:1000@1"
       ∷ codes "dead"
       ∷ []);

@@ -17,5 +17,7 @@ pub mod SecondSilo
 pub mod Recovery
 pub mod MissingSnapshot
 pub mod Refused
+pub mod Tokens
+pub mod Questions
 pub mod ProcessFaults
 pub mod Bytes

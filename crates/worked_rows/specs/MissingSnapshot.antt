@@ -1,11 +1,12 @@
 -- A silo whose range's snapshot is gone, and which recovers it.
-use Rattle.std.specs.Prelude.{[], ◌∷◌, codes}
+use Rattle.std.specs.Prelude.{[], ◌∷◌, codes, None}
 use Rattle.texts.specs.Printed.{text_of_lines}
 use Rattle.worked_rows.specs.ProcessRow.{ProcessRow}
 
 abbrev pub a_snapshot_missing : ProcessRow
 a_snapshot_missing = record {
   silo = codes "10.0.0.2:1000@1";
+  token = None;
   input = text_of_lines
       (codes "joined 1 10.0.0.1:1000@1 0"
       ∷ codes "joined 2 10.0.0.2:1000@1 2147483648"

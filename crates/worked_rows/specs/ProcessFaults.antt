@@ -1,11 +1,12 @@
 -- Lines with faults, each answered by its first; and lines that say nothing.
-use Rattle.std.specs.Prelude.{[], ◌∷◌, codes}
+use Rattle.std.specs.Prelude.{[], ◌∷◌, codes, None}
 use Rattle.texts.specs.Printed.{text_of_lines}
 use Rattle.worked_rows.specs.ProcessRow.{ProcessRow}
 
 abbrev pub faulty_lines : ProcessRow
 faulty_lines = record {
   silo = codes "10.0.0.1:1000@1";
+  token = None;
   input = text_of_lines
       (codes "hello"
       ∷ codes "see"
@@ -22,6 +23,18 @@ faulty_lines = record {
       ∷ codes "dead 1 10.0.0.x:1000@1"
       ∷ codes "leaving 1 10.0.0.1:0@1"
       ∷ codes "joined 1 10.0.0.1:1000@1 7 4294967296"
+      ∷ codes "joined 1 token=mine"
+      ∷ codes "joined 1 10.0.0.1:1000@1 token=mine here"
+      ∷ codes "joined 1 10.0.0.1:1000@1 token=mine token=mine"
+      ∷ codes "joined 1 10.0.0.1:1000@1 7 token=mine"
+      ∷ codes "joined 1 10.0.0.1:1000@1 token"
+      ∷ codes "owner"
+      ∷ codes "owner user"
+      ∷ codes "owner user/ann#7 here"
+      ∷ codes "place user/ann#7"
+      ∷ codes "place user hash"
+      ∷ codes "place user/ann#7 hash"
+      ∷ codes "place user/ann#7 least_held"
       ∷ codes "wake user"
       ∷ codes "offer user/ann#7"
       ∷ codes "offer user/ann#7 here"
@@ -68,6 +81,18 @@ faulty_lines = record {
       ∷ codes "fault 102"
       ∷ codes "fault 103"
       ∷ codes "fault 923"
+      ∷ codes "fault 101"
+      ∷ codes "fault 923"
+      ∷ codes "fault 923"
+      ∷ codes "fault 923"
+      ∷ codes "fault 923"
+      ∷ codes "fault 922"
+      ∷ codes "fault 111"
+      ∷ codes "fault 922"
+      ∷ codes "fault 922"
+      ∷ codes "fault 111"
+      ∷ codes "fault 926"
+      ∷ codes "fault 926"
       ∷ codes "fault 111"
       ∷ codes "fault 922"
       ∷ codes "fault 101"

@@ -1,11 +1,12 @@
 -- A silo that skips the version of its joining, and recovers.
-use Rattle.std.specs.Prelude.{[], ◌∷◌, codes}
+use Rattle.std.specs.Prelude.{[], ◌∷◌, codes, None}
 use Rattle.texts.specs.Printed.{text_of_lines}
 use Rattle.worked_rows.specs.ProcessRow.{ProcessRow}
 
 abbrev pub a_view_skipped : ProcessRow
 a_view_skipped = record {
   silo = codes "10.0.0.1:1000@1";
+  token = None;
   input = text_of_lines
       (codes "joined 1 10.0.0.1:1000@1 0"
       ∷ codes "joined 2 10.0.0.2:1000@1 2147483648"
@@ -37,7 +38,7 @@ a_view_skipped = record {
       ∷ codes "range 0+2147483648 recovering"
       ∷ codes "started 10.0.0.1:1000@1!1 user/eve#2147483650"
       ∷ codes "letter 10.0.0.1:1000@1 10.0.0.2:1000@1 2 register 1 user/eve#2147483650 10.0.0.1:1000@1!1"
-      ∷ codes "delivered retry noted"
+      ∷ codes "delivered retry noted user/eve#2147483650 601"
       ∷ codes "delivered retry ignored"
       ∷ codes "delivered report more"
       ∷ codes "delivered query report"

@@ -1,11 +1,12 @@
 -- Changes and commands that are refused: the lines behind them are answered as if they weren't there.
-use Rattle.std.specs.Prelude.{[], ◌∷◌, codes}
+use Rattle.std.specs.Prelude.{[], ◌∷◌, codes, None}
 use Rattle.texts.specs.Printed.{text_of_lines}
 use Rattle.worked_rows.specs.ProcessRow.{ProcessRow}
 
 abbrev pub refused_changes : ProcessRow
 refused_changes = record {
   silo = codes "10.0.0.1:1000@1";
+  token = None;
   input = text_of_lines
       (codes "joined 1 10.0.0.1:1000@1 0"
       ∷ codes "joined 1 10.0.0.1:1000@1 5"

@@ -1,11 +1,12 @@
 -- A silo that joins second, takes its range, works, leaves and dies.
-use Rattle.std.specs.Prelude.{[], ◌∷◌, codes}
+use Rattle.std.specs.Prelude.{[], ◌∷◌, codes, None}
 use Rattle.texts.specs.Printed.{text_of_lines}
 use Rattle.worked_rows.specs.ProcessRow.{ProcessRow}
 
 abbrev pub second_silo : ProcessRow
 second_silo = record {
   silo = codes "10.0.0.2:1000@1";
+  token = None;
   input = text_of_lines
       (codes "joined 1 10.0.0.1:1000@1 0"
       ∷ codes "wake user/ann#7"
@@ -78,7 +79,7 @@ second_silo = record {
       ∷ codes "letter 10.0.0.2:1000@1 10.0.0.2:1000@1 2 register 4 user/bob#3000000000 10.0.0.2:1000@1!2 10.0.0.1:1000@1!2"
       ∷ codes "delivered register registered"
       ∷ codes "letter 10.0.0.2:1000@1 10.0.0.2:1000@1 2 registered 4 user/bob#3000000000 10.0.0.2:1000@1!2"
-      ∷ codes "firm 10.0.0.2:1000@1!2 user/bob#3000000000"
+      ∷ codes "firm 10.0.0.2:1000@1!2 user/bob#3000000000 at 2"
       ∷ codes "version 2"
       ∷ codes "silo 10.0.0.2:1000@1 active seen 2 held 1"
       ∷ codes "held 10.0.0.2:1000@1!2 user/bob#3000000000 firm"

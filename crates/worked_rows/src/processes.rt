@@ -6,6 +6,8 @@ ghost use Rattle.worked_rows.specs.SecondSilo as second;
 ghost use Rattle.worked_rows.specs.Recovery as recovering;
 ghost use Rattle.worked_rows.specs.MissingSnapshot as missing;
 ghost use Rattle.worked_rows.specs.Refused as refused;
+ghost use Rattle.worked_rows.specs.Tokens as tokens;
+ghost use Rattle.worked_rows.specs.Questions as questions;
 ghost use Rattle.worked_rows.specs.ProcessFaults as faults;
 ghost use Rattle.worked_rows.specs.Bytes as bytes;
 
@@ -37,6 +39,24 @@ pub fn a_snapshot_missing()
 #[tactic(auto, using(crate::proofs::ProcessesComputed::refused_changes))]
 pub fn refused_changes()
     ensures { Writes refused.refused_changes }
+{}
+
+/// A process that was started with a token is told of its silo's join by a line that carries it, and of all else by any.
+#[tactic(auto, using(crate::proofs::ProcessesComputed::a_token_carried))]
+pub fn a_token_carried()
+    ensures { Writes tokens.a_token_carried }
+{}
+
+/// A silo says who owns a grain, and where it would place it, by the view that it has seen.
+#[tactic(auto, using(crate::proofs::ProcessesComputed::owners_and_places))]
+pub fn owners_and_places()
+    ensures { Writes questions.owners_and_places }
+{}
+
+/// A retry names the grain whose request waits on, and the reason; an end says how it came.
+#[tactic(auto, using(crate::proofs::ProcessesComputed::requests_waiting))]
+pub fn requests_waiting()
+    ensures { Writes questions.requests_waiting }
 {}
 
 /// Each line with a fault is answered by its first one, and the next is read.

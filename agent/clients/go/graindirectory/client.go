@@ -42,6 +42,7 @@ type Work struct {
 	Grain, Activation string
 	Token             uint64
 	Ends              <-chan struct{} // closed when the work is to end
+	Ended             string          // once it has ended by Deactivate or Migrate: removed, or absent where the directory had it here no more
 	client            *Client
 }
 
@@ -114,14 +115,18 @@ func (w *Work) May() bool {
 // Deactivate says that the work has ended.
 func (w *Work) Deactivate() error { return w.end("deactivate " + w.Grain) }
 
-// Migrate says that the work has ended here; it goes on at another silo, where an application serves. `any` chooses one.
+// Migrate says that the work has ended here; it goes on at another silo, where an application serves. `any` chooses one. Where Ended is `removed`
+// afterwards, that may be yet to come, or never: who wants the grain activates it.
 func (w *Work) Migrate(silo string) error { return w.end("migrate " + w.Grain + " " + silo) }
 
 // end ends a work. Where the agent refuses, all is as it was.
 func (w *Work) end(question string) error {
 	w.client.set(w, false)
-	_, err := w.client.Ask(question)
+	words, err := w.client.Ask(question)
 	w.client.set(w, err != nil && err != ErrLost)
+	if err == nil {
+		w.Ended = words[len(words)-1] // ended GRAIN removed|absent
+	}
 	return err
 }
 

@@ -141,9 +141,9 @@ func TestLeaving(t *testing.T) {
 	ended := make(chan error, 1)
 	go func() { ended <- work.Migrate("any") }()
 	a.hears("2 migrate user/ann any")
-	a.says("2 ended user/ann")
-	if err := <-ended; err != nil || work.May() {
-		t.Error(err)
+	a.says("2 ended user/ann absent")
+	if err := <-ended; err != nil || work.May() || work.Ended != "absent" {
+		t.Error(err, work.Ended)
 	}
 	later := a.firm(client, 3, time.Minute) // one that was granted just then ends at once
 	<-later.Ends
@@ -153,7 +153,7 @@ func TestLeaving(t *testing.T) {
 func TestRefusedEnd(t *testing.T) {
 	a, client := connect(t, nil)
 	work := a.firm(client, 1, time.Minute)
-	for tag, answer := range []string{"refused 807 the other silo isn't active", "ended user/ann"} {
+	for tag, answer := range []string{"refused 807 the other silo isn't active", "ended user/ann removed"} {
 		ended := make(chan error, 1)
 		go func() { ended <- work.Migrate("any") }()
 		a.hears(fmt.Sprintf("%d migrate user/ann any", tag+2))
@@ -161,8 +161,8 @@ func TestRefusedEnd(t *testing.T) {
 			t.Error("it goes on while its end is asked for")
 		}
 		a.says("%d %s", tag+2, answer)
-		if err := <-ended; (err != nil) != (tag == 0) || work.May() != (tag == 0) {
-			t.Errorf("%s: %v", answer, err)
+		if err := <-ended; (err != nil) != (tag == 0) || work.May() != (tag == 0) || (work.Ended == "") != (tag == 0) {
+			t.Errorf("%s: %v %s", answer, err, work.Ended)
 		}
 	}
 }

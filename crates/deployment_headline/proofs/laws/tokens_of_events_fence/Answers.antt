@@ -1,0 +1,5 @@
+use Rattle.deployment_headline.proofs.TokensFence.{tokens_of_events_fence}
+use Rattle.deployment_headline.proofs.laws.tokens_of_events_fence.Goals as goal
+
+pub returns : goal.returns
+returns c = tokens_of_events_fence

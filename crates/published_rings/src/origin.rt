@@ -1,0 +1,73 @@
+//! Which publication something is of. What is shown and the ends that see it are told apart by it, in proofs alone.
+ghost use Rattle.std.specs.Prelude.{◌≡◌};
+
+use std::marker::Model;
+use std::snapshot::Snapshot;
+use std::sync::OnceLock;
+
+/// What makes a publication: one of two locks, which nobody ever takes. No two locks have one name, and none can be copied, so a
+/// publication has two marks and never a third: each of the two copies of what it shows keeps one.
+#[derive(Drop)]
+pub(crate) struct Mark {
+    lock: OnceLock<()>,
+    second: bool,
+    both: Snapshot<(OnceLock<()>, OnceLock<()>)>,
+}
+
+impl Model for Mark {
+    ghost use Rattle.std.specs.Prelude.{◌≡◌};
+    ghost use Rattle.published_rings.specs.Shown.{Publication, lock_of};
+
+    ghost Value = { Publication };
+
+    ghost view = { λ m. (m.both.value.0.id, m.both.value.1.id) };
+
+    ghost invariant = { λ m. m.lock.id ≡ lock_of m.second (m.both.value.0.id, m.both.value.1.id) };
+}
+
+impl Mark {
+    // The two marks of a new publication.
+    pub(crate) fn pair() -> (Mark, Mark)
+        ensures { result.0 ≡ result.1 }
+    {
+        let locks = (OnceLock::new(), OnceLock::new());
+        let both = Snapshot::of(&locks);
+        let same = Snapshot::of(&locks);
+        let (lock, other) = locks;
+        let first = Mark {
+            lock,
+            second: false,
+            both,
+        };
+        let second = Mark {
+            lock: other,
+            second: true,
+            both: same,
+        };
+        (first, second)
+    }
+}
+
+/// The publication that a mark is of, as clauses see it. It has no bytes.
+#[derive(Drop)]
+pub(crate) struct Origin {
+    mark: Snapshot<Mark>,
+}
+
+impl Model for Origin {
+    ghost use Rattle.published_rings.specs.Shown.{Publication};
+
+    ghost Value = { Publication };
+
+    ghost view = { λ o. o.mark.value };
+}
+
+impl Origin {
+    pub(crate) fn of(mark: &Mark) -> Origin
+        ensures { result ≡ mark.now }
+    {
+        Origin {
+            mark: Snapshot::of(mark),
+        }
+    }
+}
