@@ -4,18 +4,18 @@ use Rattle.std.specs.Prelude.{true, false, is_some, All, Option, Some, None, Res
 use Rattle.std.specs.Option.{option_map}
 use Rattle.std.specs.Map.{lookup}
 use Rattle.std.specs.BTreeMap.{is_at}
-use Rattle.std.proofs.lemmas.List.Elements.{All-nil, All-cons, All-append}
+use Rattle.std.proofs.lemmas.List.Elements.{All-cons, All-head, All-tail, All-append}
 use Rattle.silo_address.specs.Silo.{Silo, silo_cmp}
 use Rattle.silo_address.specs.Grain.{Grain}
 use Rattle.silo_address.specs.declared.ActivationId.{ActivationId}
-use Rattle.membership_view.specs.Views.{ViewsValue, view_at, status_at}
+use Rattle.membership_view.specs.Views.{view_at, status_at}
 use Rattle.directory_rules.specs.Membership.{is_dead_in}
 use Rattle.directory_rules.specs.Settings.{Settings, AreSettings}
 use Rattle.directory_rules.specs.Node.{Node}
 use Rattle.directory_rules.specs.Event.{Event, IsEvent}
 use Rattle.directory_rules.specs.World.{World, Posted, Accepted}
 use Rattle.directory_rules.specs.Happens.{node_of, happens}
-use Rattle.directory_rules.specs.Laws.{is_live, ArePeopled}
+use Rattle.directory_rules.specs.Laws.{ArePeopled}
 use Rattle.directory_rules.specs.PlainMachine.{Life, Plain, PlainStep, Nothing_changes, IsPlainStep, plain_of, plain_step_of}
 use Rattle.directory_rules.specs.Run.{run, world_after}
 use Rattle.directory_rules.proofs.Peopled.{peopled_after}
@@ -25,18 +25,19 @@ use Rattle.directory_headline.proofs.Runs as rule
 use Rattle.directory_headline.proofs.Runs.{world_by}
 use Rattle.directory_headline.proofs.Statuses.{dead_not_live}
 use Rattle.directory_headline.proofs.Theorems.{plain_after}
-use Rattle.deployment_headline.specs.Deployment.{Deployment, first_deployment, process_of}
+use Rattle.deployment_headline.specs.Deployment.{Deployment, first_deployment}
 use Rattle.deployment_headline.specs.Limits.{with_room, node_with_room, process_with_room, deployment_with_room}
 use Rattle.deployment_headline.specs.Steps.{Step, IsStep, after, after_all, deployed}
 use Rattle.deployment_headline.specs.Theorems.{nodes_of, world_of}
 use Rattle.deployment_headline.specs.Tokens.{IsHeld, IsFirm, NeverFall, PassDeaths, TokensOfEventsFence, TokensOfProcessesFence}
-use Rattle.deployment_headline.proofs.Lists.{over, over-over, lookup-over}
+use Rattle.deployment_headline.proofs.Lists.{over-over, lookup-over}
 use Rattle.deployment_headline.proofs.Roomy.{deployed_same}
 use Rattle.deployment_headline.proofs.Runs.{Makes, run_on, settings_stay, written_grow, makes, made_so, sound_after, has_settings, one_more, steps_are_plain}
-use Rattle.deployment_headline.proofs.Sound.{Sound, sound_first, its_process, keeps}
+use Rattle.deployment_headline.proofs.Sound.{Sound, sound_first, its_process}
 use Rattle.deployment_headline.proofs.StepEvents.{moves}
 use Rattle.deployment_headline.proofs.TokensRise.{Moves, rise}
 use Rattle.deployment_headline.proofs.TokensRule as events
+use Rattle.deployment_headline.proofs.TokensRule.{first_ones, last_ones}
 use Rattle.deployment_headline.proofs.Worlds as made
 use Rattle.deployment_headline.proofs.Worlds.{its_node, make, IsOneEvent}
 
@@ -51,11 +52,12 @@ no_node (Some node) is = absurd (cc is)
 dead_has_none : (world : World) → ArePeopled world.views world.nodes → (silo : Silo) → is_dead_in (view_at world.views world.views.version) silo ≡ true → node_of world silo ≡ None
 dead_has_none world peopled silo dead = no_node (node_of world silo) (peopled.live silo ∙ dead_not_live (status_at world.views world.views.version silo) dead)
 
-events_move : (settings : Settings) → AreSettings settings → Moves Event IsEvent (world_by settings)
+events_move : (settings : Settings) → AreSettings settings → Moves Event (All IsEvent) (world_by settings)
 events_move settings are = record {
-  plain = λ before event all named.
+  begins = first_ones Event IsEvent;
+  plain = λ before event all.
       let f = world_by settings before in
-      let its = by before all event named (happens f event) refl in
+      let its = by before (first_ones Event IsEvent before (event ∷ []) all) event (All-head IsEvent event [] (last_ones Event IsEvent before (event ∷ []) all)) (happens f event) refl in
       (its.0, subst (λ g. IsPlainStep (plain_of f) its.0 (plain_of g)) (sym (rule.one_more settings before event)) its.1);
   gone = λ before silo all. dead_has_none (world_by settings before) (facts_hold settings before are all).peopled silo;
 }
@@ -69,7 +71,7 @@ pub tokens_of_events_fence : TokensOfEventsFence
 tokens_of_events_fence settings are =
     let never_fall = events.never_fall settings are in
     let pass_deaths = events.pass_deaths settings are in
-    record { never_fall = never_fall; pass_deaths = pass_deaths; rise = rise Event IsEvent (world_by settings) (events_move settings are) never_fall pass_deaths }
+    record { never_fall = never_fall; pass_deaths = pass_deaths; rise = rise Event (All IsEvent) (world_by settings) (events_move settings are) never_fall pass_deaths }
 
 -- ---- deployments
 after_all_append : (d : Deployment) (xs ys : List Step) → after_all d (xs ++ ys) ≡ after_all (after_all d xs) ys
@@ -139,9 +141,6 @@ module _ (settings : Settings) (are : AreSettings settings) (most letters : ℕ)
   version_there : (steps : List Step) → (R steps).membership.views.version ≡ (D steps).membership.views.version
   version_there steps = ap (λ (d : Deployment). d.membership.views.version) (same steps)
 
-  written_there : (steps : List Step) → (R steps).written ≡ (D steps).written
-  written_there steps = ap (λ (d : Deployment). d.written) (same steps)
-
   append : (xs ys : List Step) → after_all (R xs) ys ≡ R (xs ++ ys)
   append xs ys = sym (after_all_append (first_deployment roomy) xs ys)
 
@@ -169,7 +168,7 @@ module _ (settings : Settings) (are : AreSettings settings) (most letters : ℕ)
       let longer = grown before more in
       let x = start before all (omega (room, arith)) (omega (longer, space, arith)) in
       let y = on before more x.count x.letters x.has rest (omega (x.few, room, arith)) space in
-      events.never_fall roomy roomy_are x.events y.events grain a b u v x.named y.named
+      events.never_fall roomy roomy_are x.events y.events grain a b u v (All-append IsEvent x.events y.events x.named y.named)
       (subst (λ f. IsFirm f grain a u) (sym x.is) (held_there before x.count x.letters grain a _ u firm))
       (subst (λ f. IsFirm f grain b v) (sym (run_on (make (first_deployment roomy) 0 []) (make (R before) x.count x.letters) (make (R (before ++ more)) y.count y.letters) x.events y.events x.is y.is))
       (held_there (before ++ more) y.count y.letters grain b _ v later))
@@ -215,38 +214,40 @@ module _ (settings : Settings) (are : AreSettings settings) (most letters : ℕ)
           ap (world_by roomy) (sym (append_assoc xs (its.event ∷ []) ys))
           ∙ run_on (make (first_deployment roomy) 0 []) (make (R now) next then) (make (R (now ++ more)) last end) (xs ++ its.event ∷ []) ys makes_it ends in
           let both =
-          events.pass_deaths roomy roomy_are xs ys its.event grain a b u v named its.named names
+          events.pass_deaths roomy roomy_are xs ys its.event grain a b u v (All-append IsEvent xs (its.event ∷ ys) named (All-cons IsEvent its.event ys its.named names))
           (subst (λ w. IsFirm w grain a u) (sym is) (held_there before count mail grain a _ u firm))
           (ap (λ w. node_of w a.silo) makes_it ∙ none_there now a.silo gone)
           (subst (λ w. IsFirm w grain b v) (sym whole) (held_there (now ++ more) last end grain b _ v later)) in
           subst (λ n. (u < n) × (n ≤ v)) (ap (λ (w : World). w.views.version) makes_it ∙ version_there now) both
 
-never_fall : (settings : Settings) → AreSettings settings → NeverFall Step IsStep (λ steps. world_of (deployed settings steps))
+never_fall : (settings : Settings) → AreSettings settings → NeverFall Step (All IsStep) (λ steps. world_of (deployed settings steps))
 unfolding roomy
-never_fall settings are before more grain a b u v all rest firm later =
+never_fall settings are before more grain a b u v named firm later =
     let steps = before ++ more in
     let most = suc (length steps) in
     let letters = suc (length (deployed settings steps).written) in
     let long = length-append before more in
     let space : length (deployed (with_room most letters settings) steps).written ≤ letters = subst (λ l. length l ≤ letters) (sym (ap (λ (d : Deployment). d.written) (deployed_same most letters settings steps))) (omega arith) in
-    fall settings are most letters (omega arith) (omega arith) before more (omega (long, arith)) space all rest grain a b u v firm later
+    fall settings are most letters (omega arith) (omega arith) before more (omega (long, arith)) space (first_ones Step IsStep before more named) (last_ones Step IsStep before more named) grain a b u v firm later
 
-pass_deaths : (settings : Settings) → AreSettings settings → PassDeaths Step IsStep (λ steps. world_of (deployed settings steps))
+pass_deaths : (settings : Settings) → AreSettings settings → PassDeaths Step (All IsStep) (λ steps. world_of (deployed settings steps))
 unfolding roomy
-pass_deaths settings are before more death grain a b u v all one rest firm gone later =
+pass_deaths settings are before more death grain a b u v named firm gone later =
+    let others = last_ones Step IsStep before (death ∷ more) named in
     let steps = (before ++ death ∷ []) ++ more in
     let most = suc (length steps) in
     let letters = suc (length (deployed settings steps).written) in
     let long = length-append (before ++ death ∷ []) more in
     let short = length-append before (death ∷ []) in
     let space : length (deployed (with_room most letters settings) steps).written ≤ letters = subst (λ l. length l ≤ letters) (sym (ap (λ (d : Deployment). d.written) (deployed_same most letters settings steps))) (omega arith) in
-    pass settings are most letters (omega arith) (omega arith) before more death (omega (long, short, arith)) space all one rest grain a b u v firm gone
+    pass settings are most letters (omega arith) (omega arith) before more death (omega (long, short, arith)) space (first_ones Step IsStep before (death ∷ more) named) (All-head IsStep death more others) (All-tail IsStep death more others) grain a b u v firm gone
     (subst (λ l. IsFirm (world_of (deployed settings l)) grain b v) (sym (append_assoc before (death ∷ []) more)) later)
 
-steps_move : (settings : Settings) → AreSettings settings → Moves Step IsStep (λ steps. world_of (deployed settings steps))
+pub steps_move : (settings : Settings) → AreSettings settings → Moves Step (All IsStep) (λ steps. world_of (deployed settings steps))
 steps_move settings are = record {
-  plain = λ before step all named.
-      let its = steps_are_plain settings before are all step named in
+  begins = first_ones Step IsStep;
+  plain = λ before step all.
+      let its = steps_are_plain settings before are (first_ones Step IsStep before (step ∷ []) all) step (All-head IsStep step [] (last_ones Step IsStep before (step ∷ []) all)) in
       (its.0, subst (λ d. IsPlainStep (plain_of (world_of (deployed settings before))) its.0 (plain_of (world_of d))) (sym (one_more (first_deployment settings) before step)) its.1);
   gone = λ before silo all dead.
       let d = deployed settings before in
@@ -261,4 +262,4 @@ pub tokens_of_processes_fence : TokensOfProcessesFence
 tokens_of_processes_fence settings are =
     let fall = never_fall settings are in
     let pass = pass_deaths settings are in
-    record { never_fall = fall; pass_deaths = pass; rise = rise Step IsStep (λ steps. world_of (deployed settings steps)) (steps_move settings are) fall pass }
+    record { never_fall = fall; pass_deaths = pass; rise = rise Step (All IsStep) (λ steps. world_of (deployed settings steps)) (steps_move settings are) fall pass }

@@ -1,20 +1,20 @@
 -- What is kept of a grain from a moment on at which an activation of it is firm: whatever is firm later is so on a silo that has seen no
 -- less than some version u.
-use Rattle.std.proofs.Common.{◌≡◌, ◌≢◌, ◌⊎◌, ◌<◌, ◌≤◌, ℕ, suc, Bool, true, false, cond, Option, Some, None, List, [], ◌∷◌, inl, inr, sym, refl, ap, ◌∙◌, subst, arith}
+use Rattle.std.proofs.Common.{◌≡◌, ◌≢◌, ◌⊎◌, ◌<◌, ◌≤◌, ℕ, suc, true, false, cond, Option, Some, None, List, [], ◌∷◌, inl, inr, sym, refl, ap, ◌∙◌, subst, arith}
 use Rattle.silo_address.specs.Silo.{Silo}
 use Rattle.silo_address.specs.Grain.{Grain}
 use Rattle.silo_address.specs.declared.activation.ActivationId.{ActivationId}
 use Rattle.directory_protocol.specs.Change.{put, put_at, put_grain, where_true}
 use Rattle.directory_protocol.specs.Setting.{Setting}
 use Rattle.directory_protocol.specs.Letters.{activation_on, Registered, Purpose, Register, Deregister, Request, named, Reply, Snapshot, Report, Offer, Sent}
-use Rattle.directory_protocol.specs.World.{World, Held, Asking, Firm, Closing, count_of, outstanding, renumbered, previous_of, is_closing, surviving}
-use Rattle.directory_protocol.specs.Actions.{Action, New_view, See, Start, Close, Offer_away, Renew, Find, Serve, Confirm, Leave, Tell, Install, Recover, Sight, Service, Settling, Counts, IsAnswered, Allowed, MaySee, MayStart, MayClose, MayRenew, MayServe, MayConfirm, MayInstall, MayRecover}
+use Rattle.directory_protocol.specs.World.{World, Held, Asking, Firm, Closing, count_of, outstanding, renumbered, previous_of, is_closing}
+use Rattle.directory_protocol.specs.Actions.{Action, New_view, See, Start, Close, Offer_away, Renew, Find, Serve, Confirm, Leave, Tell, Install, Recover, Sight, Service, Settling, Counts, IsAnswered, Allowed, MaySee, MayStart, MayClose, MayRenew, MayServe, MayInstall, MayRecover}
 use Rattle.directory_protocol.specs.Effects.{kept_entries, asked, replied, reported, after, run, AllAllowed}
 use Rattle.directory_protocol.specs.Notices.{IsGivenUp}
 use Rattle.directory_protocol.proofs.All.{Kept, kept_after}
-use Rattle.directory_protocol.proofs.Changes.{on_bool, bool_cases, put_all, put_at_all, put_grain_same, put_grain_other, grain_cases, sent_all}
+use Rattle.directory_protocol.proofs.Changes.{on_bool, bool_cases, put_at_all, put_grain_same, put_grain_other, grain_cases, sent_all}
 use Rattle.directory_protocol.proofs.Counted.{counts_seen, counts_turn}
-use Rattle.directory_protocol.proofs.Numbers.{renumbered_count, renumbered_number, asking_number, closing_number, firm_number}
+use Rattle.directory_protocol.proofs.Numbers.{renumbered_number, asking_number, closing_number, firm_number}
 use Rattle.directory_protocol.proofs.Risen.{surviving_stays}
 use Rattle.directory_protocol.proofs.Settlings.{install_level, recover_below}
 use Rattle.directory_protocol.proofs.Sights.{later_sight, sight_level}

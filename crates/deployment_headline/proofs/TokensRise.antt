@@ -1,8 +1,7 @@
 -- Of two activations that became firm: what follows for their tokens from what is promised of any two moments.
-use Rattle.std.proofs.Common.{arith, ◌≡◌, ◌≢◌, ℕ, ◌<◌, ◌≤◌, ◌⊎◌, Bool, true, false, List, [], ◌∷◌, ◌++◌, inl, inr, refl, sym, ap, subst, ◌∙◌, append_assoc, append-nil}
-use Rattle.std.specs.Prelude.{All, Option, Some, None, option_and_then}
+use Rattle.std.proofs.Common.{arith, ◌≡◌, ◌≢◌, ℕ, ◌<◌, ◌≤◌, ◌⊎◌, true, false, List, [], ◌∷◌, ◌++◌, inl, inr, refl, sym, ap, subst, ◌∙◌, append_assoc, append-nil}
+use Rattle.std.specs.Prelude.{Option, Some, None, option_and_then}
 use Rattle.std.proofs.lemmas.Bool.{cases_order}
-use Rattle.std.proofs.lemmas.List.Elements.{All-nil, All-cons, All-head, All-tail, All-append}
 use Rattle.silo_address.specs.Silo.{Silo}
 use Rattle.silo_address.specs.Grain.{Grain}
 use Rattle.silo_address.specs.declared.ActivationId.{ActivationId}
@@ -13,7 +12,7 @@ use Rattle.directory_rules.specs.Node.{Node}
 use Rattle.directory_rules.specs.World.{World}
 use Rattle.directory_rules.specs.Happens.{node_of}
 use Rattle.directory_rules.specs.PlainMachine.{Life, Is_asking, Is_firm, Is_closing, life_on, Plain, PlainStep, Change_view, Begin, Make_firm, Yield, Begin_closing, End, Nothing_changes, IsPlainStep, plain_of}
-use Rattle.deployment_headline.specs.Tokens.{IsHeld, IsFirm, IsClosing, BecomesFirm, WasClosing, NeverFall, PassDeaths, Rise}
+use Rattle.deployment_headline.specs.Tokens.{IsHeld, IsFirm, IsClosing, WasClosing, NeverFall, PassDeaths, Rise}
 
 -- ---- a step of the plain machine
 abbrev IsThere : Silo → Grain → Silo → Grain → Type 0
@@ -100,140 +99,125 @@ held_so world grain a life lives = by (node_of world a.silo) refl lives
     by (Some node) is lives = (node.view.version, record { node = node; there = is; held = lives; version = refl })
 
 -- what is asked of worlds: each happening is a step of the plain machine, and who is Dead has no node
-pub record Moves (H : Type 0) (IsOne : H → Type 0) (after : List H → World) : Type 0 where
-  pub plain : (before : List H) (one : H) → All IsOne before → IsOne one → (kind : PlainStep) × IsPlainStep (plain_of (after before)) kind (plain_of (after (before ++ one ∷ [])))
-  pub gone : (before : List H) (silo : Silo) → All IsOne before → is_dead_in (view_at (after before).views (after before).views.version) silo ≡ true → node_of (after before) silo ≡ None
+pub record Moves (H : Type 0) (May : List H → Type 0) (after : List H → World) : Type 0 where
+  -- what may happen may begin to happen
+  pub begins : (before more : List H) → May (before ++ more) → May before
+  pub plain : (before : List H) (one : H) → May (before ++ one ∷ []) → (kind : PlainStep) × IsPlainStep (plain_of (after before)) kind (plain_of (after (before ++ one ∷ [])))
+  pub gone : (before : List H) (silo : Silo) → May before → is_dead_in (view_at (after before).views (after before).views.version) silo ≡ true → node_of (after before) silo ≡ None
 
-module _ (H : Type 0) (IsOne : H → Type 0) (after : List H → World) (moves : Moves H IsOne after) (grain : Grain) (a : ActivationId) where
-  -- its silo died while it was firm
-  record Died (before between : List H) : Type 0 where
-    first : List H
-    death : H
-    rest : List H
-    is : between ≡ first ++ death ∷ rest
-    seen : ℕ
-    firm : IsFirm (after (before ++ first)) grain a seen
-    gone : node_of (after (before ++ (first ++ death ∷ []))) a.silo ≡ None
-
-  abbrev Becomes : (before between : List H) → Type 0
-  Becomes before between = ((seen : ℕ) × IsFirm (after (before ++ between)) grain a seen) ⊎ (WasClosing H after before between grain a ⊎ Died before between)
-
+module _ (H : Type 0) (May : List H → Type 0) (after : List H → World) (moves : Moves H May after) where
   one_more : (before : List H) (one : H) (rest : List H) → (before ++ one ∷ []) ++ rest ≡ before ++ one ∷ rest
   one_more before one rest = append_assoc before (one ∷ []) rest
 
-  -- from the moment after one happening
-  later : (before : List H) (one : H) (rest : List H) → Becomes (before ++ one ∷ []) rest → Becomes before (one ∷ rest)
-  later before one rest (inl firm) = inl (firm.0, subst (λ l. IsFirm (after l) grain a firm.0) (one_more before one rest) firm.1)
-  later before one rest (inr (inl its)) =
-      inr (inl (record {
-        first = one ∷ its.first;
-        rest = its.rest;
-        is = ap (λ l. one ∷ l) its.is;
-        seen = its.seen;
-        closing = subst (λ l. IsClosing (after l) grain a its.seen) (one_more before one its.first) its.closing;
-      }))
-  later before one rest (inr (inr its)) =
-      inr (inr (record {
-        first = one ∷ its.first;
-        death = its.death;
-        rest = its.rest;
-        is = ap (λ l. one ∷ l) its.is;
-        seen = its.seen;
-        firm = subst (λ l. IsFirm (after l) grain a its.seen) (one_more before one its.first) its.firm;
-        gone = subst (λ l. node_of (after l) a.silo ≡ None) (one_more before one (its.first ++ its.death ∷ [])) its.gone;
-      }))
+  module _ (grain : Grain) (a : ActivationId) where
+    -- its silo died while it was firm
+    record Died (before between : List H) : Type 0 where
+      first : List H
+      death : H
+      rest : List H
+      is : between ≡ first ++ death ∷ rest
+      seen : ℕ
+      firm : IsFirm (after (before ++ first)) grain a seen
+      gone : node_of (after (before ++ (first ++ death ∷ []))) a.silo ≡ None
 
-  becomes : (before between : List H) → All IsOne before → All IsOne between → (seen : ℕ) → IsFirm (after before) grain a seen → Becomes before between
-  becomes before [] all more seen firm = inl (seen, subst (λ l. IsFirm (after l) grain a seen) (sym (append-nil before)) firm)
-  becomes before (one ∷ rest) all more seen firm =
-      let is_one = All-head IsOne one rest more in
-      let now : All IsOne (before ++ one ∷ []) = All-append IsOne before (one ∷ []) all (All-cons IsOne one [] is_one (All-nil IsOne)) in
-      let step = moves.plain before one all is_one in
-      by now (λ saw firm. becomes (before ++ one ∷ []) rest now (All-tail IsOne one rest more) saw firm)
-      (goes_on (plain_of (after before)) (plain_of (after (before ++ one ∷ []))) a.silo grain a.count step.0 step.1 (lives_so (after before) grain a (Is_firm a.count) seen firm))
-    where
-      by : All IsOne (before ++ one ∷ []) → ((saw : ℕ) → IsFirm (after (before ++ one ∷ [])) grain a saw → Becomes (before ++ one ∷ []) rest)
-          → GoesOn (plain_of (after before)) (plain_of (after (before ++ one ∷ []))) a.silo grain a.count → Becomes before (one ∷ rest)
-      by now then (inl lives) = let its = held_so (after (before ++ one ∷ [])) grain a (Is_firm a.count) lives in later before one rest (then its.0 its.1)
-      by now then (inr (inl lives)) =
-          let its = held_so (after (before ++ one ∷ [])) grain a (Is_closing a.count) lives in
-          inr (inl (record { first = one ∷ []; rest = rest; is = refl; seen = its.0; closing = its.1 }))
-      by now then (inr (inr dead)) =
-          inr (inr (record {
-            first = [];
-            death = one;
-            rest = rest;
-            is = refl;
-            seen = seen;
-            firm = subst (λ l. IsFirm (after l) grain a seen) (sym (append-nil before)) firm;
-            gone = moves.gone (before ++ one ∷ []) a.silo now dead;
-          }))
+    abbrev Becomes : (before between : List H) → Type 0
+    Becomes before between = ((seen : ℕ) × IsFirm (after (before ++ between)) grain a seen) ⊎ (WasClosing H after before between grain a ⊎ Died before between)
 
--- ---- parts of a list
-first_ones : (H : Type 0) (P : H → Type 0) (xs ys : List H) → All P (xs ++ ys) → All P xs
-first_ones H P [] ys all = All-nil P
-first_ones H P (x ∷ xs) ys all = All-cons P x xs (All-head P x (xs ++ ys) all) (first_ones H P xs ys (All-tail P x (xs ++ ys) all))
+    -- from the moment after one happening
+    later : (before : List H) (one : H) (rest : List H) → Becomes (before ++ one ∷ []) rest → Becomes before (one ∷ rest)
+    later before one rest (inl firm) = inl (firm.0, subst (λ l. IsFirm (after l) grain a firm.0) (one_more before one rest) firm.1)
+    later before one rest (inr (inl its)) =
+        inr (inl (record {
+          first = one ∷ its.first;
+          rest = its.rest;
+          is = ap (λ l. one ∷ l) its.is;
+          seen = its.seen;
+          closing = subst (λ l. IsClosing (after l) grain a its.seen) (one_more before one its.first) its.closing;
+        }))
+    later before one rest (inr (inr its)) =
+        inr (inr (record {
+          first = one ∷ its.first;
+          death = its.death;
+          rest = its.rest;
+          is = ap (λ l. one ∷ l) its.is;
+          seen = its.seen;
+          firm = subst (λ l. IsFirm (after l) grain a its.seen) (one_more before one its.first) its.firm;
+          gone = subst (λ l. node_of (after l) a.silo ≡ None) (one_more before one (its.first ++ its.death ∷ [])) its.gone;
+        }))
 
-last_ones : (H : Type 0) (P : H → Type 0) (xs ys : List H) → All P (xs ++ ys) → All P ys
-last_ones H P [] ys all = all
-last_ones H P (x ∷ xs) ys all = last_ones H P xs ys (All-tail P x (xs ++ ys) all)
+    becomes : (before between : List H) → May (before ++ between) → (seen : ℕ) → IsFirm (after before) grain a seen → Becomes before between
+    becomes before [] may seen firm = inl (seen, subst (λ l. IsFirm (after l) grain a seen) (sym (append-nil before)) firm)
+    becomes before (one ∷ rest) may seen firm =
+        let on : May ((before ++ one ∷ []) ++ rest) = subst May (sym (one_more before one rest)) may in
+        let now : May (before ++ one ∷ []) = moves.begins (before ++ one ∷ []) rest on in
+        let step = moves.plain before one now in
+        by now (λ saw firm. becomes (before ++ one ∷ []) rest on saw firm)
+        (goes_on (plain_of (after before)) (plain_of (after (before ++ one ∷ []))) a.silo grain a.count step.0 step.1 (lives_so (after before) grain a (Is_firm a.count) seen firm))
+      where
+        by : May (before ++ one ∷ []) → ((saw : ℕ) → IsFirm (after (before ++ one ∷ [])) grain a saw → Becomes (before ++ one ∷ []) rest)
+            → GoesOn (plain_of (after before)) (plain_of (after (before ++ one ∷ []))) a.silo grain a.count → Becomes before (one ∷ rest)
+        by now then (inl lives) = let its = held_so (after (before ++ one ∷ [])) grain a (Is_firm a.count) lives in later before one rest (then its.0 its.1)
+        by now then (inr (inl lives)) =
+            let its = held_so (after (before ++ one ∷ [])) grain a (Is_closing a.count) lives in
+            inr (inl (record { first = one ∷ []; rest = rest; is = refl; seen = its.0; closing = its.1 }))
+        by now then (inr (inr dead)) =
+            inr (inr (record {
+              first = [];
+              death = one;
+              rest = rest;
+              is = refl;
+              seen = seen;
+              firm = subst (λ l. IsFirm (after l) grain a seen) (sym (append-nil before)) firm;
+              gone = moves.gone (before ++ one ∷ []) a.silo now dead;
+            }))
 
--- ---- two that became firm
-module _ (H : Type 0) (IsOne : H → Type 0) (after : List H → World) (moves : Moves H IsOne after) (never_fall : NeverFall H IsOne after) (pass_deaths : PassDeaths H IsOne after) where
-  pub rise : Rise H IsOne after
-  rise before between one later grain a b u v all is_one more is_later x y =
-      by (becomes H IsOne after moves grain a (before ++ one ∷ []) between begun more u x.firm)
-    where
-      begun : All IsOne (before ++ one ∷ [])
-      begun = All-append IsOne before (one ∷ []) all (All-cons IsOne one [] is_one (All-nil IsOne))
+  -- ---- two that became firm
+  module _ (never_fall : NeverFall H May after) (pass_deaths : PassDeaths H May after) where
+    pub rise : Rise H May after
+    rise before between one later grain a b u v may x y =
+        by (becomes grain a (before ++ one ∷ []) between (subst May (sym (one_more before one between)) (moves.begins (before ++ one ∷ between) (later ∷ []) may)) u x.firm)
+      where
+        -- after the first one, what was in between, and the second one
+        same : (before ++ one ∷ []) ++ (between ++ later ∷ []) ≡ (before ++ one ∷ between) ++ later ∷ []
+        same = append_assoc before (one ∷ []) (between ++ later ∷ []) ∙ sym (append_assoc before (one ∷ between) (later ∷ []))
 
-      last : All IsOne (later ∷ [])
-      last = All-cons IsOne later [] is_later (All-nil IsOne)
+        may_on : May ((before ++ one ∷ []) ++ (between ++ later ∷ []))
+        may_on = subst May (sym same) may
 
-      before_later : All IsOne (before ++ one ∷ between)
-      before_later = All-append IsOne before (one ∷ between) all (All-cons IsOne one between is_one more)
+        no_lower : u ≤ v
+        no_lower = never_fall (before ++ one ∷ []) (between ++ later ∷ []) grain a b u v may_on x.firm (subst (λ l. IsFirm (after l) grain b v) (sym same) y.firm)
 
-      -- after the first one, what was in between, and the second one
-      same : (before ++ one ∷ []) ++ (between ++ later ∷ []) ≡ (before ++ one ∷ between) ++ later ∷ []
-      same = append_assoc before (one ∷ []) (between ++ later ∷ []) ∙ sym (append_assoc before (one ∷ between) (later ∷ []))
+        -- it can't be firm still
+        not_firm : (seen : ℕ) → IsFirm (after ((before ++ one ∷ []) ++ between)) grain a seen → ⊥
+        not_firm seen firm =
+            let step = moves.plain (before ++ one ∷ between) later may in
+            let was : IsFirm (after (before ++ one ∷ between)) grain a seen = subst (λ l. IsFirm (after l) grain a seen) (one_more before one between) firm in
+            alone (plain_of (after (before ++ one ∷ between))) (plain_of (after ((before ++ one ∷ between) ++ later ∷ []))) b.silo grain b.count step.0 step.1
+            (λ lives. let its = held_so (after (before ++ one ∷ between)) grain b (Is_firm b.count) lives in y.not_before its.0 its.1)
+            (lives_so (after ((before ++ one ∷ between) ++ later ∷ [])) grain b (Is_firm b.count) v y.firm)
+            a.silo a.count (lives_so (after (before ++ one ∷ between)) grain a (Is_firm a.count) seen was)
 
-      no_lower : u ≤ v
-      no_lower = never_fall (before ++ one ∷ []) (between ++ later ∷ []) grain a b u v begun (All-append IsOne between (later ∷ []) more last) x.firm (subst (λ l. IsFirm (after l) grain b v) (sym same) y.firm)
+        after_death : Died grain a (before ++ one ∷ []) between → u < v
+        after_death its =
+            let parts : between ≡ its.first ++ (its.death ∷ its.rest) = its.is in
+            let start = before ++ one ∷ [] in
+            let until : (start ++ its.first) ++ (its.death ∷ its.rest) ≡ start ++ between = append_assoc start its.first (its.death ∷ its.rest) ∙ ap (λ l. start ++ l) (sym parts) in
+            let whole : (start ++ its.first) ++ its.death ∷ (its.rest ++ later ∷ []) ≡ (before ++ one ∷ between) ++ later ∷ [] =
+            sym (append_assoc (start ++ its.first) (its.death ∷ its.rest) (later ∷ [])) ∙ ap (λ l. l ++ later ∷ []) (until ∙ one_more before one between) in
+            let all : May ((start ++ its.first) ++ its.death ∷ (its.rest ++ later ∷ [])) = subst May (sym whole) may in
+            let low : u ≤ its.seen = never_fall start its.first grain a a u its.seen (moves.begins (start ++ its.first) (its.death ∷ (its.rest ++ later ∷ [])) all) x.firm its.firm in
+            let high =
+            pass_deaths (start ++ its.first) (its.rest ++ later ∷ []) its.death grain a b its.seen v all its.firm
+            (subst (λ l. node_of (after l) a.silo ≡ None) (sym (append_assoc start its.first (its.death ∷ []))) its.gone)
+            (subst (λ l. IsFirm (after l) grain b v) (sym whole) y.firm) in
+            omega (arith, low, high.0, high.1)
 
-      -- it can't be firm still
-      not_firm : (seen : ℕ) → IsFirm (after ((before ++ one ∷ []) ++ between)) grain a seen → ⊥
-      not_firm seen firm =
-          let step = moves.plain (before ++ one ∷ between) later before_later is_later in
-          let was : IsFirm (after (before ++ one ∷ between)) grain a seen = subst (λ l. IsFirm (after l) grain a seen) (append_assoc before (one ∷ []) between) firm in
-          alone (plain_of (after (before ++ one ∷ between))) (plain_of (after ((before ++ one ∷ between) ++ later ∷ []))) b.silo grain b.count step.0 step.1
-          (λ lives. let its = held_so (after (before ++ one ∷ between)) grain b (Is_firm b.count) lives in y.not_before its.0 its.1)
-          (lives_so (after ((before ++ one ∷ between) ++ later ∷ [])) grain b (Is_firm b.count) v y.firm)
-          a.silo a.count (lives_so (after (before ++ one ∷ between)) grain a (Is_firm a.count) seen was)
-
-      after_death : Died H IsOne after moves grain a (before ++ one ∷ []) between → u < v
-      after_death its =
-          let parts : between ≡ its.first ++ (its.death ∷ its.rest) = its.is in
-          let ones : All IsOne (its.first ++ its.death ∷ its.rest) = subst (All IsOne) parts more in
-          let early : All IsOne its.first = first_ones H IsOne its.first (its.death ∷ its.rest) ones in
-          let late : All IsOne (its.death ∷ its.rest) = last_ones H IsOne its.first (its.death ∷ its.rest) ones in
-          let low : u ≤ its.seen = never_fall (before ++ one ∷ []) its.first grain a a u its.seen begun early x.firm its.firm in
-          let whole : ((before ++ one ∷ []) ++ its.first) ++ its.death ∷ (its.rest ++ later ∷ []) ≡ (before ++ one ∷ between) ++ later ∷ [] =
-          append_assoc (before ++ one ∷ []) its.first (its.death ∷ (its.rest ++ later ∷ []))
-          ∙ ap (λ l. (before ++ one ∷ []) ++ l) (sym (append_assoc its.first (its.death ∷ its.rest) (later ∷ [])))
-          ∙ ap (λ l. (before ++ one ∷ []) ++ (l ++ later ∷ [])) (sym parts) ∙ same in
-          let high =
-          pass_deaths ((before ++ one ∷ []) ++ its.first) (its.rest ++ later ∷ []) its.death grain a b its.seen v (All-append IsOne (before ++ one ∷ []) its.first begun early) (All-head IsOne its.death its.rest late)
-          (All-append IsOne its.rest (later ∷ []) (All-tail IsOne its.death its.rest late) last) its.firm
-          (subst (λ l. node_of (after l) a.silo ≡ None) (sym (append_assoc (before ++ one ∷ []) its.first (its.death ∷ []))) its.gone)
-          (subst (λ l. IsFirm (after l) grain b v) (sym whole) y.firm) in
-          omega (arith, low, high.0, high.1)
-
-      by : Becomes H IsOne after moves grain a (before ++ one ∷ []) between → (u < v) ⊎ ((u ≡ v) × WasClosing H after (before ++ one ∷ []) between grain a)
-      by (inl firm) = absurd (not_firm firm.0 firm.1)
-      by (inr (inl closing)) =
-          elim (cases_order u v) [
-            | inl equal ↦ inr (equal, closing)
-            | inr (inl less) ↦ inl less
-            | inr (inr more) ↦ (let low = no_lower in absurd (omega (arith, low, more)))
-          ]
-      by (inr (inr died)) = inl (after_death died)
+        by : Becomes grain a (before ++ one ∷ []) between → (u < v) ⊎ ((u ≡ v) × WasClosing H after (before ++ one ∷ []) between grain a)
+        by (inl firm) = absurd (not_firm firm.0 firm.1)
+        by (inr (inl closing)) =
+            elim (cases_order u v) [
+              | inl equal ↦ inr (equal, closing)
+              | inr (inl less) ↦ inl less
+              | inr (inr more) ↦ (let low = no_lower in absurd (omega (arith, low, more)))
+            ]
+        by (inr (inr died)) = inl (after_death died)

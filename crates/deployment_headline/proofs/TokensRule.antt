@@ -1,9 +1,9 @@
 -- What tokens promise of worlds that events make, but for what follows of two that became firm.
-use Rattle.std.proofs.Common.{arith, ◌≡◌, ℕ, suc, ◌+◌, ◌<◌, ◌≤◌, ◌⊎◌, List, [], ◌∷◌, ◌++◌, inl, inr, refl, sym, ap, subst, ◌∙◌, true≢false, append_assoc}
+use Rattle.std.proofs.Common.{arith, ◌≡◌, ℕ, suc, ◌<◌, ◌≤◌, ◌⊎◌, List, [], ◌∷◌, ◌++◌, inl, inr, refl, sym, ap, subst, ◌∙◌, true≢false, append_assoc}
 use Rattle.std.specs.Prelude.{true, false, is_some, All, Option, Some, None}
 use Rattle.std.specs.Option.{option_map}
 use Rattle.std.proofs.lemmas.Bool.{cases_order}
-use Rattle.std.proofs.lemmas.List.Elements.{All-nil, All-cons, All-append}
+use Rattle.std.proofs.lemmas.List.Elements.{All-nil, All-cons, All-head, All-tail, All-append}
 use Rattle.silo_address.specs.Silo.{Silo}
 use Rattle.silo_address.specs.Grain.{Grain}
 use Rattle.silo_address.specs.declared.ActivationId.{ActivationId}
@@ -14,7 +14,7 @@ use Rattle.directory_protocol.specs.World as protocol
 use Rattle.directory_protocol.specs.Actions.{Action, New_view}
 use Rattle.directory_protocol.specs.Effects as acting
 use Rattle.directory_protocol.specs.Safety.{IsReached}
-use Rattle.directory_protocol.proofs.All.{Kept, kept_reached, kept_after}
+use Rattle.directory_protocol.proofs.All.{Kept, kept_reached}
 use Rattle.directory_protocol.proofs.Changes.{bool_cases, not_both}
 use Rattle.directory_protocol.proofs.Runs.{holds_where_reached, reached_run, reached_after}
 use Rattle.directory_rules.specs.declared.held.Held.{Held}
@@ -198,21 +198,31 @@ module _ (settings : Settings) (are : AreSettings settings) (m : Setting) where
       (firm_there m last is last_facts (acting.run m leads.actions (acting.after m w New_view)) ends leads.shown grain b v later) in
       subst (λ n. (u < n) × (n ≤ v)) dies.shown.now both
 
-pub never_fall : (settings : Settings) → AreSettings settings → NeverFall Event IsEvent (world_by settings)
-never_fall settings are before more grain a b u v all rest firm later =
+-- ---- parts of a list
+pub first_ones : (H : Type 0) (P : H → Type 0) (xs ys : List H) → All P (xs ++ ys) → All P xs
+first_ones H P [] ys all = All-nil P
+first_ones H P (x ∷ xs) ys all = All-cons P x xs (All-head P x (xs ++ ys) all) (first_ones H P xs ys (All-tail P x (xs ++ ys) all))
+
+pub last_ones : (H : Type 0) (P : H → Type 0) (xs ys : List H) → All P (xs ++ ys) → All P ys
+last_ones H P [] ys all = all
+last_ones H P (x ∷ xs) ys all = last_ones H P xs ys (All-tail P x (xs ++ ys) all)
+
+pub never_fall : (settings : Settings) → AreSettings settings → NeverFall Event (All IsEvent) (world_by settings)
+never_fall settings are before more grain a b u v named firm later =
     let same = after_append (first_world settings) before more in
-    let named = All-append IsEvent before more all rest in
     let last = world_by settings (before ++ more) in
     let whole = (facts_hold settings (before ++ more) are named).peopled.whole in
-    falls settings are (setting_of last whole) before more all rest (subst (IsSettingOf (setting_of last whole)) same (is_setting_of last whole)) grain a b u v firm
+    falls settings are (setting_of last whole) before more (first_ones Event IsEvent before more named) (last_ones Event IsEvent before more named)
+    (subst (IsSettingOf (setting_of last whole)) same (is_setting_of last whole)) grain a b u v firm
     (subst (λ f. IsFirm f grain b v) same later)
 
-pub pass_deaths : (settings : Settings) → AreSettings settings → PassDeaths Event IsEvent (world_by settings)
-pass_deaths settings are before more event grain a b u v all one rest firm gone later =
+pub pass_deaths : (settings : Settings) → AreSettings settings → PassDeaths Event (All IsEvent) (world_by settings)
+pass_deaths settings are before more event grain a b u v named firm gone later =
     let now = before ++ event ∷ [] in
     let same : world_by settings (before ++ event ∷ more) ≡ (run (world_by settings now) more).world = ap (world_by settings) (sym (append_assoc before (event ∷ []) more)) ∙ after_append (first_world settings) now more in
-    let named = All-append IsEvent before (event ∷ more) all (All-cons IsEvent event more one rest) in
     let last = world_by settings (before ++ event ∷ more) in
     let whole = (facts_hold settings (before ++ event ∷ more) are named).peopled.whole in
-    pass settings are (setting_of last whole) before more event all one rest (subst (IsSettingOf (setting_of last whole)) same (is_setting_of last whole)) grain a b u v firm gone
+    let rest = last_ones Event IsEvent before (event ∷ more) named in
+    pass settings are (setting_of last whole) before more event (first_ones Event IsEvent before (event ∷ more) named) (All-head IsEvent event more rest) (All-tail IsEvent event more rest)
+    (subst (IsSettingOf (setting_of last whole)) same (is_setting_of last whole)) grain a b u v firm gone
     (subst (λ f. IsFirm f grain b v) same later)

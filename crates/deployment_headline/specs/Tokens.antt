@@ -26,7 +26,7 @@ IsFirm world grain a seen = IsHeld world grain a (Is_firm a.count) seen
 abbrev pub IsClosing : World → Grain → ActivationId → (seen : ℕ) → Type 0
 IsClosing world grain a seen = IsHeld world grain a (Is_closing a.count) seen
 
--- What follows is said of things that happen one after the other, and of the world after each list of them.
+-- What follows is said of things that happen one after the other: of which lists of them may happen, and of the world after each.
 
 -- it wasn't firm before the last one and is firm after it, by a silo that has seen its token
 pub record BecomesFirm (H : Type 0) (after : List H → World) (before : List H) (last : H) (grain : Grain) (a : ActivationId) (token : ℕ) : Type 0 where
@@ -42,33 +42,32 @@ pub record WasClosing (H : Type 0) (after : List H → World) (before between : 
   pub closing : IsClosing (after (before ++ first)) grain a seen
 
 -- a silo that has a grain firm has seen no less than any that had it firm before
-abbrev pub NeverFall : (H : Type 0) → (H → Type 0) → (List H → World) → Type 0
-NeverFall H IsOne after =
-    (before more : List H) (grain : Grain) (a b : ActivationId) (u v : ℕ) → All IsOne before → All IsOne more → IsFirm (after before) grain a u
-    → IsFirm (after (before ++ more)) grain b v → u ≤ v
+abbrev pub NeverFall : (H : Type 0) → (May : List H → Type 0) → (after : List H → World) → Type 0
+NeverFall H May after =
+    (before more : List H) (grain : Grain) (a b : ActivationId) (u v : ℕ) → May (before ++ more) → IsFirm (after before) grain a u → IsFirm (after (before ++ more)) grain b v → u ≤ v
 
 -- where the silo of one died while that was firm, it has seen the version of this death, and so more than the dead silo ever saw
-abbrev pub PassDeaths : (H : Type 0) → (H → Type 0) → (List H → World) → Type 0
-PassDeaths H IsOne after =
-    (before more : List H) (death : H) (grain : Grain) (a b : ActivationId) (u v : ℕ) → All IsOne before → IsOne death → All IsOne more → IsFirm (after before) grain a u
+abbrev pub PassDeaths : (H : Type 0) → (May : List H → Type 0) → (after : List H → World) → Type 0
+PassDeaths H May after =
+    (before more : List H) (death : H) (grain : Grain) (a b : ActivationId) (u v : ℕ) → May (before ++ death ∷ more) → IsFirm (after before) grain a u
     → node_of (after (before ++ death ∷ [])) a.silo ≡ None → IsFirm (after (before ++ death ∷ more)) grain b v
     → (u < (after (before ++ death ∷ [])).views.version) × ((after (before ++ death ∷ [])).views.version ≤ v)
 
 -- so of two that became firm the later one has the higher token, or the same one after the earlier one was closing
-abbrev pub Rise : (H : Type 0) → (H → Type 0) → (List H → World) → Type 0
-Rise H IsOne after =
-    (before between : List H) (one later : H) (grain : Grain) (a b : ActivationId) (u v : ℕ) → All IsOne before → IsOne one → All IsOne between → IsOne later
+abbrev pub Rise : (H : Type 0) → (May : List H → Type 0) → (after : List H → World) → Type 0
+Rise H May after =
+    (before between : List H) (one later : H) (grain : Grain) (a b : ActivationId) (u v : ℕ) → May ((before ++ one ∷ between) ++ later ∷ [])
     → BecomesFirm H after before one grain a u → BecomesFirm H after (before ++ one ∷ between) later grain b v
     → (u < v) ⊎ ((u ≡ v) × WasClosing H after (before ++ one ∷ []) between grain a)
 
-pub record TokensFence (H : Type 0) (IsOne : H → Type 0) (after : List H → World) : Type 0 where
-  pub never_fall : NeverFall H IsOne after
-  pub pass_deaths : PassDeaths H IsOne after
-  pub rise : Rise H IsOne after
+pub record TokensFence (H : Type 0) (May : List H → Type 0) (after : List H → World) : Type 0 where
+  pub never_fall : NeverFall H May after
+  pub pass_deaths : PassDeaths H May after
+  pub rise : Rise H May after
 
 -- so it is of the rule, and of silos that are processes of their own
 abbrev pub TokensOfEventsFence : Type 0
-TokensOfEventsFence = (settings : Settings) → AreSettings settings → TokensFence Event IsEvent (λ events. (run_from_start settings events).world)
+TokensOfEventsFence = (settings : Settings) → AreSettings settings → TokensFence Event (All IsEvent) (λ events. (run_from_start settings events).world)
 
 abbrev pub TokensOfProcessesFence : Type 0
-TokensOfProcessesFence = (settings : Settings) → AreSettings settings → TokensFence Step IsStep (λ steps. world_of (deployed settings steps))
+TokensOfProcessesFence = (settings : Settings) → AreSettings settings → TokensFence Step (All IsStep) (λ steps. world_of (deployed settings steps))

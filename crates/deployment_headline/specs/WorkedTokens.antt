@@ -7,7 +7,7 @@ use Rattle.directory_rules.specs.Worked.{silo_a, silo_b, grain_a}
 use Rattle.silo_rules.specs.Membership.{Join, Die}
 use Rattle.deployment_headline.specs.Deployment.{Deployment, process_of}
 use Rattle.deployment_headline.specs.Steps.{Step, Decide, Tell, See, Wake, Close, Receive, deployed}
-use Rattle.deployment_headline.specs.Worked.{worked_settings, opening, joining, handing}
+use Rattle.deployment_headline.specs.Worked.{worked_settings, opening}
 
 -- the firm activations, each with its silo, its count, and the version that the silo has seen
 abbrev pub all_firm : Deployment → List (Silo × ℕ × ℕ)

@@ -1,5 +1,5 @@
 -- The deployment that a cluster follows, step by step.
-use Rattle.std.proofs.Common.{◌≡◌, ℕ, Bool, true, false, List, [], ◌∷◌, ◌++◌, Option, Some, None, Result, Ok, Err, refl, sym, ap, ◌∙◌, subst}
+use Rattle.std.proofs.Common.{arith, ◌≡◌, ℕ, suc, ◌+◌, ◌≤◌, Bool, true, false, List, [], ◌∷◌, ◌++◌, length, length-append, append_assoc, append-nil, Option, Some, None, Result, Ok, Err, refl, sym, ap, ◌∙◌, subst}
 use Rattle.std.specs.Prelude.{cond, All, Contains, IfSome}
 use Rattle.std.specs.Option.{option_map}
 use Rattle.std.specs.BTreeMap.{is_at, insert_entry}
@@ -73,6 +73,16 @@ pub record Follows (c : Cluster) : Type 0 where
   pub live : All (Says c.settings.hashing letters) c.processes
   pub dead : All (Says c.settings.hashing letters) c.dead
 
+-- and the one that a later cluster follows: it goes on from there by so many steps at most
+pub record FollowsOn (c : Cluster) (f : Follows c) (most : ℕ) (next : Cluster) : Type 0 where
+  pub follows : Follows next
+  pub more : List deployment.Step
+  pub is : follows.steps ≡ f.steps ++ more
+  pub few : length more ≤ most
+
+stays : (c : Cluster) (f : Follows c) (most : ℕ) → FollowsOn c f most c
+stays c f most = record { follows = f; more = []; is = sym (append-nil f.steps); few = omega arith }
+
 pub its_letters : (c : Cluster) (f : Follows c) (letter : Letter) → IsWritten c letter → Contains f.letters letter
 its_letters c f letter is =
     let says = all_flat (SaysOnly c.settings.hashing f.letters) (λ (e : Silo × Process). e.1.wrote) (everyone c) (All-append (Says c.settings.hashing f.letters) c.processes c.dead f.live f.dead) in
@@ -123,12 +133,12 @@ abbrev pub WrittenReadAsThemselves : Type 0
 WrittenReadAsThemselves = (settings : Settings) (steps : List deployment.Step) → AreSettings settings → All deployment.IsStep steps → All (ReadsAsItself settings.hashing) (deployment.deployed settings steps).written
 
 module _ (themselves : WrittenReadAsThemselves) where
-  live_reads : (c : Cluster) → Follows c → (silo : Silo) (line : List ℕ) → IsSilo silo → IfSome (process_at silo c.processes) (λ p. IfAsks (said line p.silo) (MayAsk c p.silo))
-      → Follows (record c { processes = reading silo line c.processes })
+  live_reads : (c : Cluster) (f : Follows c) (silo : Silo) (line : List ℕ) → IsSilo silo → IfSome (process_at silo c.processes) (λ p. IfAsks (said line p.silo) (MayAsk c p.silo))
+      → FollowsOn c f 1 (record c { processes = reading silo line c.processes })
   live_reads c f silo line is_silo = by (process_at silo c.processes) refl
     where
       goes : (p : Process) → process_at silo c.processes ≡ Some p → IfAsks (said line p.silo) (MayAsk c p.silo)
-          → Follows (with_next c silo (having_read line (answered_to (said line p.silo) p.silo) p))
+          → FollowsOn c f 1 (with_next c silo (having_read line (answered_to (said line p.silo) p.silo) p))
       goes p there may =
           let hashing = c.settings.hashing in
           let it = answered_to (said line p.silo) p.silo in
@@ -140,30 +150,35 @@ module _ (themselves : WrittenReadAsThemselves) where
           let read_so : All (ReadsAsItself hashing) m.letters =
           all_behind (ReadsAsItself hashing) f.letters m.letters (subst (λ (d : Deployment). All (ReadsAsItself hashing) d.written) same_so (themselves c.settings (f.steps ++ m.steps) f.are named)) in
           record {
-            are = f.are;
-            steps = f.steps ++ m.steps;
-            named = named;
-            letters = f.letters ++ m.letters;
-            same = same_so;
-            live = put_keeps (Says hashing (f.letters ++ m.letters)) silo next c.processes (each_says hashing f.letters m.letters c.processes f.live)
-                (All-append (SaysOnly hashing (f.letters ++ m.letters)) p.wrote it.lines
-                (more_says hashing f.letters m.letters p.wrote (its_own (Says hashing f.letters) silo p c.processes f.live there))
-                (new_says hashing f.letters m.letters it.lines (m.says hashing read_so)));
-            dead = each_says hashing f.letters m.letters c.dead f.dead;
+            follows = record {
+              are = f.are;
+              steps = f.steps ++ m.steps;
+              named = named;
+              letters = f.letters ++ m.letters;
+              same = same_so;
+              live = put_keeps (Says hashing (f.letters ++ m.letters)) silo next c.processes (each_says hashing f.letters m.letters c.processes f.live)
+                  (All-append (SaysOnly hashing (f.letters ++ m.letters)) p.wrote it.lines
+                  (more_says hashing f.letters m.letters p.wrote (its_own (Says hashing f.letters) silo p c.processes f.live there))
+                  (new_says hashing f.letters m.letters it.lines (m.says hashing read_so)));
+              dead = each_says hashing f.letters m.letters c.dead f.dead;
+            };
+            more = m.steps;
+            is = refl;
+            few = m.few;
           }
 
       by_end : (p : Process) (ended : Bool) → process_at silo c.processes ≡ Some p → IfAsks (said line p.silo) (MayAsk c p.silo)
-          → Follows (record c { processes = insert_entry silo_cmp c.processes silo (cond ended p (having_read line (answered_to (said line p.silo) p.silo) p)) })
+          → FollowsOn c f 1 (record c { processes = insert_entry silo_cmp c.processes silo (cond ended p (having_read line (answered_to (said line p.silo) p.silo) p)) })
       by_end p true there may =
-          subst (λ l. Follows (record c { processes = l }))
-          (sym (put_again silo_cmp silo_cmp_total silo p c.processes (subst (IsStrictlySortedBy silo_cmp) (keys_over its_silo c.processes) (its_sound c f).sorted) there)) f
+          subst (λ l. FollowsOn c f 1 (record c { processes = l }))
+          (sym (put_again silo_cmp silo_cmp_total silo p c.processes (subst (IsStrictlySortedBy silo_cmp) (keys_over its_silo c.processes) (its_sound c f).sorted) there)) (stays c f 1)
       by_end p false there may = goes p there may
 
-      by : (o : Option Process) → process_at silo c.processes ≡ o → IfSome o (λ p. IfAsks (said line p.silo) (MayAsk c p.silo)) → Follows (record c { processes = read_by o silo line c.processes })
-      by None there may = f
+      by : (o : Option Process) → process_at silo c.processes ≡ o → IfSome o (λ p. IfAsks (said line p.silo) (MayAsk c p.silo)) → FollowsOn c f 1 (record c { processes = read_by o silo line c.processes })
+      by None there may = stays c f 1
       by (Some p) there may = by_end p p.ended there may
 
-  dead_reads : (c : Cluster) → Follows c → (silo : Silo) (line : List ℕ) → IfSome (process_at silo c.dead) (λ p. IfAsks (said line p.silo) (MayAskDead p.silo)) → Follows (record c { dead = reading silo line c.dead })
+  dead_reads : (c : Cluster) (f : Follows c) (silo : Silo) (line : List ℕ) → IfSome (process_at silo c.dead) (λ p. IfAsks (said line p.silo) (MayAskDead p.silo)) → FollowsOn c f 0 (record c { dead = reading silo line c.dead })
   dead_reads c f silo line = by (process_at silo c.dead) refl
     where
       wrote_so : (p : Process) (ended : Bool) → process_at silo c.dead ≡ Some p → IfAsks (said line p.silo) (MayAskDead p.silo)
@@ -174,45 +189,75 @@ module _ (themselves : WrittenReadAsThemselves) where
           All-append (SaysOnly c.settings.hashing f.letters) p.wrote lines (its_own (Says c.settings.hashing f.letters) silo p c.dead f.dead there)
           (silent_says c.settings.hashing f.letters lines (dead_lines c.settings.hashing (said line p.silo) p.silo may))
 
-      by : (o : Option Process) → process_at silo c.dead ≡ o → IfSome o (λ p. IfAsks (said line p.silo) (MayAskDead p.silo)) → Follows (record c { dead = read_by o silo line c.dead })
-      by None there may = f
+      by : (o : Option Process) → process_at silo c.dead ≡ o → IfSome o (λ p. IfAsks (said line p.silo) (MayAskDead p.silo)) → FollowsOn c f 0 (record c { dead = read_by o silo line c.dead })
+      by None there may = stays c f 0
       by (Some p) there may = record {
-        are = f.are;
-        steps = f.steps;
-        named = f.named;
-        letters = f.letters;
-        same = f.same;
-        live = f.live;
-        dead = put_keeps (Says c.settings.hashing f.letters) silo (reads line p) c.dead f.dead (wrote_so p p.ended there may);
+        follows = record {
+          are = f.are;
+          steps = f.steps;
+          named = f.named;
+          letters = f.letters;
+          same = f.same;
+          live = f.live;
+          dead = put_keeps (Says c.settings.hashing f.letters) silo (reads line p) c.dead f.dead (wrote_so p p.ended there may);
+        };
+        more = [];
+        is = sym (append-nil f.steps);
+        few = omega arith;
       }
 
-  decides : (c : Cluster) → Follows c → (change : Change) → deployment.IsChange change → (r : Result Membership ℕ) → changed c.settings c.membership change ≡ r → Follows (decided r c change)
+  decides : (c : Cluster) (f : Follows c) (change : Change) → deployment.IsChange change → (r : Result Membership ℕ) → changed c.settings c.membership change ≡ r → FollowsOn c f 1 (decided r c change)
   unfolding deployment.after deployment.after_all
-  decides c f change named (Err number) is = f
+  decides c f change named (Err number) is = stays c f 1
   decides c f change named (Ok m) is =
       let hashing = c.settings.hashing in
       let old = dying c.membership change in
       record {
-        are = f.are;
-        steps = f.steps ++ deployment.Decide change ∷ [];
-        named = All-append deployment.IsStep f.steps (deployment.Decide change ∷ []) f.named (All-cons deployment.IsStep (deployment.Decide change) [] named (All-nil deployment.IsStep));
-        letters = f.letters;
-        same = after_more (first_deployment c.settings) f.steps (deployment.Decide change ∷ [])
-            ∙ ap (λ d. deployment.after d (deployment.Decide change)) f.same
-            ∙ decided_to c f.letters change (Ok m) is;
-        live = started_keeps (Says hashing f.letters) c.settings change (without old c.processes) (λ silo. All-nil (SaysOnly hashing f.letters)) (without_keeps (Says hashing f.letters) old c.processes f.live);
-        dead = dying_keeps (Says hashing f.letters) old c.processes c.dead f.live f.dead;
+        follows = record {
+          are = f.are;
+          steps = f.steps ++ deployment.Decide change ∷ [];
+          named = All-append deployment.IsStep f.steps (deployment.Decide change ∷ []) f.named (All-cons deployment.IsStep (deployment.Decide change) [] named (All-nil deployment.IsStep));
+          letters = f.letters;
+          same = after_more (first_deployment c.settings) f.steps (deployment.Decide change ∷ [])
+              ∙ ap (λ d. deployment.after d (deployment.Decide change)) f.same
+              ∙ decided_to c f.letters change (Ok m) is;
+          live = started_keeps (Says hashing f.letters) c.settings change (without old c.processes) (λ silo. All-nil (SaysOnly hashing f.letters)) (without_keeps (Says hashing f.letters) old c.processes f.live);
+          dead = dying_keeps (Says hashing f.letters) old c.processes c.dead f.live f.dead;
+        };
+        more = deployment.Decide change ∷ [];
+        is = refl;
+        few = omega arith;
       }
 
-  follows_on : (c : Cluster) → Follows c → (step : Step) → May c step → Follows (after c step)
+  -- one after the other
+  go_on : (c middle next : Cluster) (f : Follows c) (some others : ℕ) → (x : FollowsOn c f some middle) → FollowsOn middle x.follows others next → FollowsOn c f (some + others) next
+  go_on c middle next f some others x y = record {
+    follows = y.follows;
+    more = x.more ++ y.more;
+    is = y.is ∙ ap (λ l. l ++ y.more) x.is ∙ append_assoc f.steps x.more y.more;
+    few = omega (arith, length-append x.more y.more, x.few, y.few);
+  }
+
+  pub follows_on : (c : Cluster) (f : Follows c) (step : Step) → May c step → FollowsOn c f 1 (after c step)
   unfolding after May
   follows_on c f (Decide change) may = decides c f change may (changed c.settings c.membership change) refl
-  follows_on c f (Read silo line) may = dead_reads (record c { processes = reading silo line c.processes }) (live_reads c f silo line may.0 may.2) silo line may.3
+  follows_on c f (Read silo line) may =
+      let x = live_reads c f silo line may.0 may.2 in
+      go_on c (record c { processes = reading silo line c.processes }) (record c { processes = reading silo line c.processes; dead = reading silo line c.dead }) f 1 0 x
+      (dead_reads (record c { processes = reading silo line c.processes }) x.follows silo line may.3)
+
+  pub follows_so : (c : Cluster) (f : Follows c) (steps : List Step) → MayAll c steps → FollowsOn c f (length steps) (after_all c steps)
+  unfolding after_all MayAll
+  follows_so c f [] may = stays c f 0
+  follows_so c f (step ∷ steps) may =
+      let x = follows_on c f step may.0 in
+      subst (λ n. FollowsOn c f n (after_all (after c step) steps)) one_more (go_on c (after c step) (after_all (after c step) steps) f 1 (length steps) x (follows_so (after c step) x.follows steps may.1))
+    where
+      one_more : 1 + length steps ≡ suc (length steps)
+      one_more = omega arith
 
   pub follows_all : (c : Cluster) → Follows c → (steps : List Step) → MayAll c steps → Follows (after_all c steps)
-  unfolding after_all MayAll
-  follows_all c f [] may = f
-  follows_all c f (step ∷ steps) may = follows_all (after c step) (follows_on c f step may.0) steps may.1
+  follows_all c f steps may = (follows_so c f steps may).follows
 
   pub follows_first : (settings : Settings) → AreSettings settings → Follows (first_cluster settings)
   unfolding deployment.after_all

@@ -21,3 +21,4 @@ mod Firm
 mod Started
 mod FirmStays
 mod Worked
+mod TokensOfLines

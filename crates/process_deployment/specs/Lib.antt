@@ -7,3 +7,4 @@ pub mod Worked
 pub mod Wrong
 pub mod Firm
 pub mod Started
+pub mod Tokens

@@ -1,6 +1,7 @@
 //! The laws. All but the last one hold after any steps of a cluster of processes: lines come late, again, in another order, astray, faulty, or never.
 ghost use Rattle.process_deployment.specs.Firm.{FirmStays, LinesTellFirm};
 ghost use Rattle.process_deployment.specs.Started.{StartsAreRuns};
+ghost use Rattle.process_deployment.specs.Tokens.{TokensOfLinesFence};
 ghost use Rattle.process_deployment.specs.Theorems.{ClustersAreDeployments, LinesArePlain, LinesKeepOneFirm, LinesKeepTheHeadline, LivingGoOn, ProcessesWriteTheirOutput};
 ghost use Rattle.process_deployment.specs.Worked.{WorkedCluster};
 
@@ -33,6 +34,11 @@ pub fn lines_tell_firm()
 /// What is firm stays firm at every step of a cluster, but where its application asks for its end, or its silo dies.
 pub fn firm_stays()
     ensures { FirmStays }
+{}
+
+/// The version that a silo has seen when its process tells `firm` is a fencing token, as it is of a deployment.
+pub fn tokens_of_lines_fence()
+    ensures { TokensOfLinesFence }
 {}
 
 /// A process ends only where its silo is Dead by the changes decided.
