@@ -4,12 +4,12 @@ use Rattle.std.specs.Prelude.{true, All}
 use Rattle.silo_address.specs.Grain.{Grain}
 use Rattle.silo_address.specs.declared.ActivationId.{ActivationId}
 use Rattle.membership_view.specs.Views.{view_at}
-use Rattle.directory_rules.specs.Membership.{is_dead_in}
+use Rattle.directory_rules.specs.Members.{is_dead_in}
 use Rattle.directory_rules.specs.Settings.{Settings, AreSettings}
 use Rattle.directory_rules.specs.World.{World}
 use Rattle.directory_rules.specs.Happens.{node_of}
 use Rattle.directory_rules.specs.PlainMachine.{IsPlainStep, plain_of}
-use Rattle.silo_rules.specs.Membership.{Change, Membership, changed}
+use Rattle.directory_rules.specs.Membership.{Change, Membership, changed}
 use Rattle.deployment_headline.specs.Steps as deployment
 use Rattle.deployment_headline.specs.Theorems as deployment_theorems
 use Rattle.deployment_headline.specs.Tokens.{IsFirm, NeverFall, PassDeaths}
