@@ -25,7 +25,7 @@ pub use command::Command;
 pub use error::{ReadError, ScriptFault};
 pub use event_lines::{push_effect, push_happening, write_fault, write_outcome, write_refusal};
 pub use line::end_line;
-pub use lines::{first_line, without_return};
+pub use lines::without_return;
 pub use places::places_in;
 pub use question_lines::{write_letter, write_owner, write_place};
 pub use read::{is_remark, is_text, read_command};
