@@ -7,7 +7,7 @@ use Rattle.membership_view.specs.declared.status.Status.{Status}
 use Rattle.membership_view.specs.declared.status.Status.TheVariants.{Active, Leaving, Dead}
 use Rattle.membership_view.specs.Views.{ViewsValue}
 use Rattle.membership_view.specs.Changes.{occupant, after_join, die_from}
-use Rattle.membership_view.proofs.Entries.{sorted-nil}
+use Rattle.texts.proofs.Entries.{sorted-nil}
 use Rattle.hash_ring.specs.Places.{PlacesValue}
 use Rattle.directory_rules.specs.Settings.{Settings, AreSettings}
 use Rattle.directory_rules.specs.Letter.{Letter}
