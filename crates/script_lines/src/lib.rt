@@ -28,7 +28,7 @@ pub use line::end_line;
 pub use lines::without_return;
 pub use places::places_in;
 pub use question_lines::{write_letter, write_owner, write_place};
-pub use read::{is_remark, is_text, read_command};
+pub use read::{LONGEST_LINE, is_remark, is_text, read_command};
 pub use show_lines::{write_held, write_no_owner, write_range, write_silo, write_version};
 pub use tables::{kind_word, status_word};
 pub use words::{only_three_words, only_two_words, only_word, split_word};
