@@ -15,7 +15,12 @@ fn asked_by(alloc: Global, line: &[u8]) -> &'static str {
 
 fn name_of(asked: &Asked<'_>) -> &'static str {
     match asked {
-        Asked::Joined { .. } => "joined",
+        Asked::Joined { token: None, .. } => "joined",
+        Asked::Joined {
+            token: Some(token),
+            ..
+        } if *token == b"a=b".as_slice() => "joined with a=b",
+        Asked::Joined { .. } => "joined with another",
         Asked::Leaving { .. } => "leaving",
         Asked::Dead { .. } => "dead",
         Asked::See { .. } => "see",
@@ -27,6 +32,8 @@ fn name_of(asked: &Asked<'_>) -> &'static str {
         Asked::Nudge => "nudge",
         Asked::Receive(_) => "letter",
         Asked::Ping(_) => "ping",
+        Asked::Owner { .. } => "owner",
+        Asked::Place { .. } => "place",
         Asked::Show => "show",
         Asked::Dump => "dump",
     }
@@ -46,12 +53,15 @@ fn unended_number(line: &[u8]) -> Option<u16> {
     }
 }
 
-const LINES: [(&str, &str); 21] = [
+const LINES: [(&str, &str); 27] = [
     ("joined 1 10.0.0.1:1000@1", "joined"),
     (
         "joined 18446744073709551615 10.0.0.1:1000@1 0 7 4294967295",
         "joined",
     ),
+    ("joined 1 10.0.0.1:1000@1 token=a=b", "joined with a=b"),
+    ("joined 1 10.0.0.1:1000@1  token=a=b 0 7", "joined with a=b"),
+    ("joined 1 10.0.0.1:1000@1 token=", "joined with another"),
     ("leaving 3 10.0.0.2:1000@1", "leaving"),
     ("dead 4 10.0.0.2:1000@1", "dead"),
     ("see 2", "see"),
@@ -70,6 +80,9 @@ const LINES: [(&str, &str); 21] = [
         "letter",
     ),
     ("ping joined", "ping"),
+    ("owner user/ann#7", "owner"),
+    ("place user/ann#7 prefer_local", "place"),
+    ("place user/ann#7 hash_based", "place"),
     ("show", "show"),
     ("  dump  ", "dump"),
     ("", "nothing"),
@@ -87,7 +100,7 @@ fn commands(rt: HostRuntime) {
     }
 }
 
-const FAULTS: [(&str, u16); 30] = [
+const FAULTS: [(&str, u16); 39] = [
     ("see\t1", 925),
     ("hello\u{7f}", 925),
     ("ping caf\u{e9}", 925),
@@ -109,6 +122,9 @@ const FAULTS: [(&str, u16); 30] = [
     ("nudge 10.0.0.1:1000@1", 922),
     ("letter x x x", 922),
     ("ping", 922),
+    ("owner", 922),
+    ("owner user/ann 10.0.0.1:1000@1", 922),
+    ("place user/ann", 922),
     ("show all", 922),
     ("dump all", 922),
     ("letter x x x greet", 927),
@@ -116,6 +132,12 @@ const FAULTS: [(&str, u16); 30] = [
     ("joined x here 4294967296", 923),
     ("joined 1 here x", 101),
     ("joined 1 10.0.0.1:1000@1 0 4294967296", 923),
+    ("joined 1 10.0.0.1:1000@1 0 token=a", 923),
+    ("joined 1 10.0.0.1:1000@1 token=a token=b", 923),
+    ("owner ann", 111),
+    ("place ann least_held", 111),
+    ("place user/ann least_held", 926),
+    ("place user/ann local", 926),
     ("wake ann", 111),
     ("offer user/ann here", 101),
 ];

@@ -1,11 +1,12 @@
 -- How what the code was asked for is what the rule was asked for.
+use Rattle.std.specs.Option.{option_copied}
 use Rattle.process_rules.specs.ReadLine as rule
 use Rattle.process_lines.specs.declared.asked.Asked.{Asked}
-use Rattle.process_lines.specs.declared.asked.Asked.TheVariants.{Joined, Leaving, Dead, See, Wake, Close, Offer, Find, Forget, Nudge, Receive, Ping, Show, Dump}
+use Rattle.process_lines.specs.declared.asked.Asked.TheVariants.{Joined, Leaving, Dead, See, Wake, Close, Offer, Find, Forget, Nudge, Receive, Ping, Owner, Place, Show, Dump}
 
 -- what is asked for, in the rule's words
 abbrev pub asked_of : Asked → rule.Asked
-asked_of (Joined version silo places) = rule.Joined version silo places.items
+asked_of (Joined version silo token places) = rule.Joined version silo (option_copied token) places.items
 asked_of (Leaving version silo) = rule.Leaving version silo
 asked_of (Dead version silo) = rule.Dead version silo
 asked_of (See version) = rule.See version
@@ -17,5 +18,7 @@ asked_of (Forget grain) = rule.Forget grain
 asked_of Nudge = rule.Nudge
 asked_of (Receive letter) = rule.Receive letter
 asked_of (Ping word) = rule.Ping word.now
+asked_of (Owner grain) = rule.Owner grain
+asked_of (Place grain policy) = rule.Place grain policy
 asked_of Show = rule.Show
 asked_of Dump = rule.Dump

@@ -2,7 +2,7 @@
 use Rattle.std.specs.Prelude.{ℕ}
 use Rattle.silo_address.specs.Numbers.{silo_error_number, grain_error_number}
 use Rattle.process_lines.specs.declared.fault.LineFault.{LineFault}
-use Rattle.process_lines.specs.declared.fault.LineFault.TheVariants.{LineTooLong, Unended, NotText, UnknownCommand, WordCount, Kind, Silo, Grain, Activation, Range, Digest, NotANumber}
+use Rattle.process_lines.specs.declared.fault.LineFault.TheVariants.{LineTooLong, Unended, NotText, UnknownCommand, WordCount, Kind, Silo, Grain, Policy, Activation, Range, Digest, NotANumber}
 
 -- the stated number of a fault
 abbrev pub line_fault_number : LineFault → ℕ
@@ -14,6 +14,7 @@ line_fault_number WordCount = 922
 line_fault_number Kind = 927
 line_fault_number (Silo fault) = silo_error_number fault
 line_fault_number (Grain fault) = grain_error_number fault
+line_fault_number Policy = 926
 line_fault_number Activation = 929
 line_fault_number Range = 928
 line_fault_number Digest = 930

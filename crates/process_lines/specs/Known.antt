@@ -27,6 +27,8 @@ step_commands =
 abbrev pub question_commands : List (List ℕ × Grammar)
 question_commands =
     (codes "ping", grammar_of name.Ping)
+    ∷ (codes "owner", grammar_of name.Owner)
+    ∷ (codes "place", grammar_of name.Place)
     ∷ (codes "show", grammar_of name.Show)
     ∷ (codes "dump", grammar_of name.Dump)
     ∷ []

@@ -5,7 +5,7 @@ use Rattle.process_rules.specs.ReadLine.{Asked, Joined, Receive}
 
 -- what is asked for has a list that isn't empty: it is a join with places, or a letter that tells entries
 abbrev pub HasList : Asked → Type 0
-HasList (Joined version silo (place ∷ places)) = ⊤
+HasList (Joined version silo token (place ∷ places)) = ⊤
 HasList (Receive letter) = TellsEntries letter.body
 HasList other = ⊥
 

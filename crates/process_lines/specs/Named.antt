@@ -14,5 +14,7 @@ grammar_of name.Find = rule.a_grain rule.Find
 grammar_of name.Forget = rule.a_grain rule.Forget
 grammar_of name.Nudge = rule.no_word rule.Nudge
 grammar_of name.Ping = rule.a_word
+grammar_of name.Owner = rule.a_grain rule.Owner
+grammar_of name.Place = rule.a_grain_and_a_policy
 grammar_of name.Show = rule.no_word rule.Show
 grammar_of name.Dump = rule.no_word rule.Dump

@@ -1,13 +1,16 @@
 use directory_letters::Letter;
+use directory_rules::Policy;
 use silo_address::{GrainId, SiloAddress};
 
 /// What a line of a silo's process asks for (`docs/RULES.md#lines-of-a-silos-process`).
 #[derive(Drop)]
 pub enum Asked<'a> {
-    /// The silo is told that this one joined, with the places stated for it, and the version that it made.
+    /// The silo is told that this one joined, with the places stated for it, and the version that it made. A token stands in the line: it
+    /// says which process is meant.
     Joined {
         version: u64,
         silo: SiloAddress,
+        token: Option<&'a [u8]>,
         places: Vec<u32>,
     },
     /// The silo is told that this one began to leave, and the version that it made.
@@ -51,6 +54,15 @@ pub enum Asked<'a> {
     Receive(Letter),
     /// An answer is asked for, with the word, which stands in the line.
     Ping(&'a [u8]),
+    /// The point that owns a grain's hash is printed.
+    Owner {
+        grain: GrainId,
+    },
+    /// The silo on which an activation of a grain would begin is printed.
+    Place {
+        grain: GrainId,
+        policy: Policy,
+    },
     /// What the silo has is printed.
     Show,
     /// The silo's part of a dump is printed.

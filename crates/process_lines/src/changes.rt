@@ -1,7 +1,8 @@
 //! Changes of membership that a silo is told.
 
 ghost use Rattle.std.specs.Map.{lookup};
-ghost use Rattle.std.specs.Prelude.{◌≡◌, ℕ, IsErrOf, Some, bytes_eq, option_map};
+ghost use Rattle.std.specs.Option.{option_copied};
+ghost use Rattle.std.specs.Prelude.{◌≡◌, ℕ, IsErrOf, Some, None, bytes_eq, drop, if◌then◌else◌, length, option_map};
 ghost use Rattle.silo_address.specs.Silo.{Silo};
 ghost use Rattle.texts.specs.Words.{words_in};
 ghost use Rattle.script_rules.specs.Script.{places_in};
@@ -32,7 +33,7 @@ pub(crate) fn change_name(name: &[u8]) -> Option<CommandName>
     None
 }
 
-/// A version, a silo, and any number of places.
+/// A version, a silo, perhaps a token, and any number of places.
 pub(crate) fn joined(alloc: Global, words: &[u8]) -> Result<Asked<'_>, LineError>
     ensures reads { Reads asked_of result (rule.a_join (words_in words.now)) }
     ensures memory { IsErrOf result LineError.OutOfMemory → WordsNeedMemory (rule.a_join (words_in words.now)) }
@@ -40,17 +41,40 @@ pub(crate) fn joined(alloc: Global, words: &[u8]) -> Result<Asked<'_>, LineError
     let Some((version, behind)) = split_word(words) else {
         return Err(LineError::Fault(LineFault::WordCount));
     };
-    let Some((silo, places)) = split_word(behind) else {
+    let Some((silo, behind)) = split_word(behind) else {
         return Err(LineError::Fault(LineFault::WordCount));
     };
     let version = number_word(version)?;
     let silo = silo_word(silo)?;
+    let (token, places) = split_token(behind);
     let places = places_of(alloc, places)?;
     Ok(Asked::Joined {
         version,
         silo,
+        token,
         places,
     })
+}
+
+/// The token that the first of the words tells, if it tells one, and the words behind it.
+fn split_token(words: &[u8]) -> (Option<&[u8]>, &[u8])
+    ensures token { option_copied result.0 ≡ rule.token_in (words_in words.now) }
+    ensures behind { words_in result.1.now ≡ rule.behind_token (words_in words.now) }
+{
+    let Some((first, behind)) = split_word(words) else {
+        return (None, words);
+    };
+    match token_of(first) {
+        Some(token) => (Some(token), behind),
+        None => (None, words),
+    }
+}
+
+/// The token that the word tells, if it tells one.
+fn token_of(word: &[u8]) -> Option<&[u8]>
+    ensures { option_copied result ≡ (if rule.is_token_word word.now then Some (drop (length rule.before_token) word.now) else None) }
+{
+    word.strip_prefix(b"token=".as_slice())
 }
 
 /// The places of a join.

@@ -7,7 +7,7 @@ use thiserror::Error;
 
 /// What each command is written as.
 const COMMANDS: &str =
-    "joined VERSION SILO PLACE.., leaving VERSION SILO, dead VERSION SILO, see VERSION, wake GRAIN, close GRAIN, offer GRAIN SILO, find GRAIN, forget GRAIN, nudge, letter FROM TO VERSION KIND and what its kind says, ping WORD, show or dump";
+    "joined VERSION SILO [token=TOKEN] PLACE.., leaving VERSION SILO, dead VERSION SILO, see VERSION, wake GRAIN, close GRAIN, offer GRAIN SILO, find GRAIN, forget GRAIN, nudge, letter FROM TO VERSION KIND and what its kind says, ping WORD, owner GRAIN, place GRAIN POLICY, show or dump";
 
 /// The fault of a line: the first that it has, in the order of `docs/RULES.md#lines-of-a-silos-process`.
 #[derive(Clone, Copy, Debug, PartialEq, Eq, Error)]
@@ -36,6 +36,9 @@ pub enum LineFault {
     /// A word should name a grain.
     #[error("{0}")]
     Grain(GrainError),
+    /// A word should name a policy that a silo can follow by itself: it doesn't know how many activations others hold.
+    #[error("a policy is prefer_local or hash_based")]
+    Policy,
     /// A word should name an activation, and has no exclamation mark.
     #[error("an activation is written SILO!COUNT")]
     Activation,
@@ -51,7 +54,7 @@ pub enum LineFault {
 }
 
 impl LineFault {
-    /// The number by which users know the fault: 921 to 925, 927 to 931, 101 to 103 of a silo, 111 to 113 of a grain.
+    /// The number by which users know the fault: 921 to 931, 101 to 103 of a silo, 111 to 113 of a grain.
     pub fn number(self) -> u16
         ensures { result ≡ line_fault_number self }
     {
@@ -64,6 +67,7 @@ impl LineFault {
             LineFault::Kind => 927,
             LineFault::Silo(fault) => fault.number(),
             LineFault::Grain(fault) => fault.number(),
+            LineFault::Policy => 926,
             LineFault::Activation => 929,
             LineFault::Range => 928,
             LineFault::Digest => 930,

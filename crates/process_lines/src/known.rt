@@ -13,7 +13,7 @@ ghost use Rattle.process_lines.specs.Named.{grammar_of};
 
 use crate::changes::{change_name, dead, joined, leaving};
 use crate::names::CommandName;
-use crate::questions::{dump, ping, question_name, show};
+use crate::questions::{dump, owner, ping, place, question_name, show};
 use crate::steps::{close, find, forget, nudge, offer, see, step_name, wake};
 use crate::{Asked, LineError, LineFault, read_letter};
 use hash_ring::Hashing;
@@ -77,6 +77,8 @@ fn behind(name: CommandName, words: &[u8]) -> Result<Asked<'_>, LineFault>
         CommandName::Forget => forget(words),
         CommandName::Nudge => nudge(words),
         CommandName::Ping => ping(words),
+        CommandName::Owner => owner(words),
+        CommandName::Place => place(words),
         CommandName::Show => show(words),
         CommandName::Dump => dump(words),
     }

@@ -13,6 +13,8 @@ pub(crate) enum CommandName {
     Forget,
     Nudge,
     Ping,
+    Owner,
+    Place,
     Show,
     Dump,
 }

@@ -10,9 +10,10 @@ ghost use Rattle.process_lines.specs.Known.{question_commands};
 ghost use Rattle.process_lines.specs.Named.{grammar_of};
 
 use crate::names::CommandName;
-use crate::steps::no_word;
-use crate::{Asked, LineFault};
-use script_lines::only_word;
+use crate::steps::{a_grain, no_word};
+use crate::words::own_policy_word;
+use crate::{Asked, LineFault, grain_word};
+use script_lines::{only_two_words, only_word};
 
 /// The question of that name.
 pub(crate) fn question_name(name: &[u8]) -> Option<CommandName>
@@ -20,6 +21,12 @@ pub(crate) fn question_name(name: &[u8]) -> Option<CommandName>
 {
     if name == b"ping".as_slice() {
         return Some(CommandName::Ping);
+    }
+    if name == b"owner".as_slice() {
+        return Some(CommandName::Owner);
+    }
+    if name == b"place".as_slice() {
+        return Some(CommandName::Place);
     }
     if name == b"show".as_slice() {
         return Some(CommandName::Show);
@@ -38,6 +45,25 @@ pub(crate) fn ping(words: &[u8]) -> Result<Asked<'_>, LineFault>
         Some(word) => Ok(Asked::Ping(word)),
         None => Err(LineFault::WordCount),
     }
+}
+
+pub(crate) fn owner(words: &[u8]) -> Result<Asked<'_>, LineFault>
+    ensures { told asked_of result ≡ rule.a_grain rule.Owner (words_in words.now) }
+{
+    let grain = a_grain(words)?;
+    Ok(Asked::Owner { grain })
+}
+
+/// A grain and a policy.
+pub(crate) fn place(words: &[u8]) -> Result<Asked<'_>, LineFault>
+    ensures { told asked_of result ≡ rule.a_grain_and_a_policy (words_in words.now) }
+{
+    let Some((grain, policy)) = only_two_words(words) else {
+        return Err(LineFault::WordCount);
+    };
+    let grain = grain_word(grain)?;
+    let policy = own_policy_word(policy)?;
+    Ok(Asked::Place { grain, policy })
 }
 
 pub(crate) fn show(words: &[u8]) -> Result<Asked<'_>, LineFault>

@@ -102,7 +102,7 @@ pub(crate) fn nudge(words: &[u8]) -> Result<Asked<'_>, LineFault>
 }
 
 /// A grain.
-fn a_grain(words: &[u8]) -> Result<GrainId, LineFault>
+pub(crate) fn a_grain(words: &[u8]) -> Result<GrainId, LineFault>
     ensures { (of : Grain → rule.Asked) → told of result ≡ rule.a_grain of (words_in words.now) }
 {
     match only_word(words) {

@@ -5,10 +5,12 @@ ghost use Rattle.hex.specs.Hex.{encode_lower};
 ghost use Rattle.texts.specs.Words.{words_in};
 ghost use Rattle.script_rules.specs.Script as script;
 ghost use Rattle.process_rules.specs.ReadLetter as rule;
+ghost use Rattle.process_rules.specs.ReadLine.{own_policy_word};
 ghost use Rattle.process_lines.specs.Fronts.{four_copied, four_in, four_of, only_four_words};
 ghost use Rattle.process_lines.specs.ReadAs.{told};
 
 use crate::LineFault;
+use directory_rules::Policy;
 use hex::{FromHex, encode_to_slice};
 use ring_range::RingRange;
 use script_lines::{only_three_words, split_word};
@@ -80,6 +82,19 @@ pub fn number_word(word: &[u8]) -> Result<u64, LineFault>
         Ok(number) => Ok(number),
         Err(_) => Err(LineFault::NotANumber),
     }
+}
+
+/// Reads the name of a policy that a silo can follow by itself.
+pub(crate) fn own_policy_word(word: &[u8]) -> Result<Policy, LineFault>
+    ensures { told (λ policy. policy) result ≡ own_policy_word word.now }
+{
+    if word == b"prefer_local".as_slice() {
+        return Ok(Policy::PreferLocal);
+    }
+    if word == b"hash_based".as_slice() {
+        return Ok(Policy::HashBased);
+    }
+    Err(LineFault::Policy)
 }
 
 /// Reads an activation.
