@@ -80,12 +80,12 @@ change_refused version change excused outcome s new number before after refuses 
     subst (λ (o : Result Heard ℕ). IsAnswered (heard o version change s) before new after false) (sym by.1) (refusal_answered before s new after by.0 same by.2)
 
 -- ---- letters
-own_letter : (letter : Letter) (s : SiloValue) (own : Bool) → own ≡ true → cond own (stepped (received_words s.node.host letter) (receives s letter) s) (printing [] s) ≡ stepped (received_words s.node.host letter) (receives s letter) s
+own_letter : (letter : Letter) (s : SiloValue) (own : Bool) → own ≡ true → cond own (stepped (received_words s.node.host s.node.view.version letter) (receives s letter) s) (printing [] s) ≡ stepped (received_words s.node.host s.node.view.version letter) (receives s letter) s
 own_letter letter s true is = refl
 own_letter letter s false is = absurd (cc)
 
 pub letter_answered : (letter : Letter) (s new : SiloValue) (before after : List ℕ) → silo_eq letter.to s.node.host.silo ≡ true
-    → IsAnswered (stepped (received_words s.node.host letter) (receives s letter) s) before new after false → IsAnswered (received_so letter s) before new after false
+    → IsAnswered (stepped (received_words s.node.host s.node.view.version letter) (receives s letter) s) before new after false → IsAnswered (received_so letter s) before new after false
 letter_answered letter s new before after own answered =
     subst (λ (a : Answered). IsAnswered a before new after false) (sym (own_letter letter s (silo_eq letter.to s.node.host.silo) own)) answered
 

@@ -14,7 +14,7 @@ use Rattle.script_rules.specs.Lines.{happening_words}
 use Rattle.script_lines.proofs.SomeWords.{happening_has_words}
 use Rattle.process_rules.specs.Happened.{body_words, delivered_words, is_ignored, received_words}
 use Rattle.process_answers.specs.declared.telling.Telling.{Telling}
-use Rattle.process_answers.specs.declared.telling.Telling.TheVariants.{Firm, Taken, Ended, Found, Nothing, Offered, Delivered}
+use Rattle.process_answers.specs.declared.telling.Telling.TheVariants.{Firm, Taken, Removed, Absent, Found, Nothing, Waits, Offered, Delivered}
 use Rattle.process_answers.specs.Telling.{received_telling, telling_words, that_it_came}
 
 -- the grain of the activation that waited
@@ -26,23 +26,25 @@ grain_of_entry host (Some e) entry is = ap (λ (found : Option Entry). option_ma
 by_ignored : (ignored : Bool) (came told words : List (List ℕ)) → told ≡ words → cond ignored came told ≡ cond ignored came words
 by_ignored ignored came told words same = ap (cond ignored came) same
 
-pub received_is : (telling : Telling) (host : Host) (letter : Letter) (effect : Effect)
-    → ((e : Effect) (delivered : List (List ℕ)) → telling_words telling host.silo e delivered ≡ body_words letter.body host e delivered)
-    → received_telling telling host.silo (kind_of letter.body) effect ≡ received_words host letter effect
-received_is telling host letter effect tells =
+pub received_is : (telling : Telling) (host : Host) (seen : ℕ) (letter : Letter) (effect : Effect)
+    → ((e : Effect) (delivered : List (List ℕ)) → telling_words telling host.silo e delivered ≡ body_words letter.body host seen e delivered)
+    → received_telling telling host.silo (kind_of letter.body) effect ≡ received_words host seen letter effect
+received_is telling host seen letter effect tells =
     by_ignored (is_ignored effect) (that_it_came (kind_of letter.body) effect) (telling_words telling host.silo effect (that_it_came (kind_of letter.body) effect))
-    (body_words letter.body host effect (delivered_words letter effect)) (tells effect (that_it_came (kind_of letter.body) effect))
+    (body_words letter.body host seen effect (delivered_words letter effect)) (tells effect (that_it_came (kind_of letter.body) effect))
 
 -- and it has words
 did_has_words : (silo : Silo) (effect : Effect) → 0 < length (happening_words (Did silo effect))
 did_has_words silo effect = subst (λ (ws : List (List ℕ)). 0 < length ws) (append-nil (happening_words (Did silo effect))) (happening_has_words (Did silo effect) [])
 
 telling_has_words : (telling : Telling) (silo : Silo) (sort : LetterKind) (effect : Effect) → 0 < length (telling_words telling silo effect (that_it_came sort effect))
-telling_has_words (Firm entry) silo sort effect = omega arith
+telling_has_words (Firm entry seen) silo sort effect = omega arith
 telling_has_words (Taken grain by) silo sort effect = omega arith
-telling_has_words (Ended entry) silo sort effect = omega arith
+telling_has_words (Removed entry) silo sort effect = omega arith
+telling_has_words (Absent entry) silo sort effect = omega arith
 telling_has_words (Found entry) silo sort effect = omega arith
 telling_has_words (Nothing grain) silo sort effect = omega arith
+telling_has_words (Waits waiting why) silo sort effect = omega arith
 telling_has_words Offered silo sort effect = did_has_words silo effect
 telling_has_words Delivered silo sort effect = omega arith
 

@@ -1,7 +1,6 @@
 -- Lines written behind what stood there.
 use Rattle.std.proofs.Common.{◌≡◌, ℕ, ◌+◌, ◌<◌, ◌≤◌, ◌++◌, List, [], ◌∷◌, Result, Ok, Err, length, get_or, take, map, ap, sym, ◌∙◌, append_assoc, append-nil, take_all, subst}
 use Rattle.std.specs.Result.{OnErr, OnOk}
-use Rattle.std.specs.Prelude.{flat_map}
 use Rattle.std.proofs.lemmas.List.{map-append, take_more}
 use Rattle.std.proofs.lemmas.List.Concat.{flat_map-append}
 use Rattle.texts.specs.Printed.{text_of_lines}

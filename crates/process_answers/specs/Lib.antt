@@ -6,3 +6,5 @@ pub mod Telling
 pub mod LineAnswers
 pub mod ProcessSettings
 pub mod TooLong
+pub mod JoinToken
+pub mod JoinTokenFields

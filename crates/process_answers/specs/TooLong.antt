@@ -11,7 +11,7 @@ use Rattle.silo_rules.specs.SiloValue.{SiloValue}
 use Rattle.process_rules.specs.ReadLine.{Asked, longest_line, read_silo_line, unended_fault}
 use Rattle.process_rules.specs.Output.{after_last, answered_to, said}
 use Rattle.line_loop.specs.TooLong.{length-strip_last}
-use Rattle.process_answers.specs.LineAnswers.{AnswersLine, PlaysLine, most_begun}
+use Rattle.process_answers.specs.LineAnswers.{PlaysLine, PlaysOne, most_begun}
 
 too_long_to_read : (hashing : Hashing) (line : List ℕ) → longest_line < length line → read_silo_line hashing line ≡ Err 924
 unfolding read_silo_line
@@ -32,18 +32,23 @@ none_of None is = refl
 none_of (Some stop) is = absurd (true≢false is)
 
 -- so it plays as its first bytes do
-pub plays_as_it_begins : {S : Type 0} (old new : SiloValue) (line more text : List ℕ) (ended : Bool) (stop : Option S) → most_begun < length line → PlaysLine old line true text stop new → PlaysLine old (line ++ more) ended text stop new
-plays_as_it_begins old new line more text true stop long plays =
+line_plays_as_it_begins : {S : Type 0} (token : Option (List ℕ)) (old new : SiloValue) (line more text : List ℕ) (ended : Bool) (stop : Option S) → most_begun < length line
+    → PlaysLine token old line true text stop new → PlaysLine token old (line ++ more) ended text stop new
+line_plays_as_it_begins token old new line more text true stop long plays =
     let same : said line old ≡ said (line ++ more) old = said_too_long line old long ∙ sym (said_too_long (line ++ more) old (omega (arith, long, length-append line more))) in
     record {
-      silo = plays.silo ∙ ap (λ (read : Result (Option Asked) ℕ). (answered_to read old).silo) same;
-      text = plays.text ∙ ap (λ (read : Result (Option Asked) ℕ). text_of_lines (answered_to read old).lines) same;
-      stops = plays.stops ∙ ap (λ (read : Result (Option Asked) ℕ). (answered_to read old).ends) same;
+      silo = plays.silo ∙ ap (λ (read : Result (Option Asked) ℕ). (answered_to token read old).silo) same;
+      text = plays.text ∙ ap (λ (read : Result (Option Asked) ℕ). text_of_lines (answered_to token read old).lines) same;
+      stops = plays.stops ∙ ap (λ (read : Result (Option Asked) ℕ). (answered_to token read old).ends) same;
     }
-plays_as_it_begins old new line more text false stop long plays =
+line_plays_as_it_begins token old new line more text false stop long plays =
     let is = said_too_long line old long in (
-      plays.silo ∙ ap (λ (read : Result (Option Asked) ℕ). (answered_to read old).silo) is,
-      plays.text ∙ (ap (λ (read : Result (Option Asked) ℕ). text_of_lines (answered_to read old).lines) is
+      plays.silo ∙ ap (λ (read : Result (Option Asked) ℕ). (answered_to token read old).silo) is,
+      plays.text ∙ (ap (λ (read : Result (Option Asked) ℕ). text_of_lines (answered_to token read old).lines) is
           ∙ ap after_last (sym (unended_too_long (line ++ more) (omega (arith, long, length-append line more))))),
-      none_of stop (plays.stops ∙ ap (λ (read : Result (Option Asked) ℕ). (answered_to read old).ends) is),
+      none_of stop (plays.stops ∙ ap (λ (read : Result (Option Asked) ℕ). (answered_to token read old).ends) is),
     )
+
+pub plays_as_it_begins : {S : Type 0} (token kept : Option (List ℕ)) (old new : SiloValue) (line more text : List ℕ) (ended : Bool) (stop : Option S) → most_begun < length line
+    → PlaysOne token old line true text stop kept new → PlaysOne token old (line ++ more) ended text stop kept new
+plays_as_it_begins token kept old new line more text ended stop long plays = (line_plays_as_it_begins token old new line more text ended stop long plays.0, plays.1)

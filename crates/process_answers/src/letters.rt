@@ -36,7 +36,8 @@ pub(crate) fn answer_letter(
     if letter.to() != address {
         return Ok(false);
     }
-    let telling = Telling::of_letter(silo.node().host(), letter.body());
+    let seen = silo.node().view().version();
+    let telling = Telling::of_letter(silo.node().host(), seen, letter.body());
     match silo.receive(letter) {
         Ok(answer) => {
             write_received(out, &address, letter.kind(), &telling, &answer.effect)?;

@@ -6,14 +6,18 @@ mod answering;
 mod changes;
 mod dump;
 mod fault;
+mod join_token;
+mod joins;
 mod letters;
 mod lines;
 mod player;
+mod questions;
 mod settings;
 mod show;
 mod steps;
 mod telling;
 
 pub use answering::answer;
+pub use join_token::JoinToken;
 pub use player::{Dead, Player};
 pub use settings::process_settings;

@@ -4,11 +4,11 @@ ghost use Rattle.std.specs.Prelude.{◌≡◌, ◌++◌, IfOk, OnErr, OnOk};
 ghost use Rattle.std.proofs.Common.{arith};
 ghost use Rattle.process_rules.specs.ReadLine as rule;
 ghost use Rattle.process_rules.specs.Output.{after_last};
-ghost use Rattle.process_answers.specs.LineAnswers.{AnswersLine, PlaysLine, most_begun, most_read};
+ghost use Rattle.process_answers.specs.LineAnswers.{AnswersLine, PlaysOne, most_begun, most_read};
 ghost use Rattle.process_answers.specs.TooLong.{plays_as_it_begins};
 
-use crate::answer;
 use crate::fault::write_fault;
+use crate::{JoinToken, answer};
 use directory_silo::Silo;
 use line_loop::LinePlayer;
 use process_lines::{LineError, read_line, unended_fault};
@@ -19,6 +19,8 @@ use std::alloc::{AllocError, Global};
 #[derive(Drop)]
 pub struct Player {
     pub silo: Silo,
+    /// The token that the process was started with, if it was started with one.
+    pub token: Option<JoinToken>,
 }
 
 /// The silo is dead by a line, whose answer is the last.
@@ -35,13 +37,14 @@ impl Player {
         line: &[u8],
         out: &mut Vec<u8>,
     ) -> Result<bool, AllocError>
-        ensures answered { IfOk result (λ ends. AnswersLine self.old.silo line.now out.old.items self.new.silo out.new.items ends) }
+        ensures answered { IfOk result (λ ends. AnswersLine self.old.token self.old.silo line.now out.old.items self.new.silo out.new.items ends) }
         ensures unwritten { OnErr result (out.new.items ≡ out.old.items) }
+        ensures token { self.new.token ≡ self.old.token }
     {
         let hashing = self.silo.node().settings().hashing();
         match read_line(alloc, hashing, without_return(line)) {
             Ok(None) => Ok(false),
-            Ok(Some(asked)) => answer(alloc, &mut self.silo, asked, out),
+            Ok(Some(asked)) => answer(alloc, &self.token, &mut self.silo, asked, out),
             Err(LineError::Fault(fault)) => {
                 write_fault(out, fault.number())?;
                 Ok(false)
@@ -54,13 +57,13 @@ impl Player {
 impl LinePlayer for Player {
     type Stop = Dead;
 
-    ghost plays = { λ old _ line ended text stop new. PlaysLine old.silo line ended text stop new.silo };
+    ghost plays = { λ old _ line ended text stop new. PlaysOne old.token old.silo line ended text stop new.token new.silo };
 
     ghost MOST_KEPT = { most_begun };
 
     ghost MOST_READ = { most_read };
 
-    ghost too_long = { λ old new _. plays_as_it_begins old.silo new.silo };
+    ghost too_long = { λ old new _. plays_as_it_begins old.token new.token old.silo new.silo };
 
     ghost countable = { Prim.omega arith };
 

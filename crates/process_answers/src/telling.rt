@@ -3,23 +3,26 @@
 #![tactic(auto, using(script_lines::proofs::WrittenPieces::word_by_word))]
 
 ghost use Rattle.std.specs.Prelude.{◌≡◌, ◌++◌, [], ◌∷◌, List, ℕ, OnOk, codes};
+ghost use Rattle.std.specs.Fmt.{decimal};
 ghost use Rattle.std.specs.Option.{option_map};
 ghost use Rattle.silo_address.specs.Silo.{Silo};
 ghost use Rattle.silo_address.specs.ActivationText.{activation_text};
 ghost use Rattle.directory_rules.specs.declared.effect.Effect.{Effect};
 ghost use Rattle.directory_rules.specs.declared.outcome.Happening.TheVariants.{Did};
+ghost use Rattle.directory_rules.specs.Answer.{why_number};
 ghost use Rattle.directory_rules.specs.Host.{asking_under, closing_under, entry_of};
 ghost use Rattle.directory_letters.specs.LetterModel.{body_of};
 ghost use Rattle.script_rules.specs.Lines.{effect_words, entry_words, happening_words, kind_word};
 ghost use Rattle.script_lines.specs.Spaced.{spaced, BeginsWith};
-ghost use Rattle.process_rules.specs.Happened.{body_words, counted_words, is_ignored, sought_words};
-ghost use Rattle.process_answers.specs.Telling.{entry_if_any, received_telling, telling_words};
+ghost use Rattle.process_rules.specs.Happened.{body_words, counted_words, is_ignored, sought_words, waiting_grain};
+ghost use Rattle.process_answers.specs.Telling.{entry_if_any, received_telling, telling_words, that_it_came, waiting_words};
 
 use directory_letters::Body;
-use directory_rules::{Effect, Happening, LetterKind, Reply};
+use directory_rules::{Effect, Happening, LetterKind, Reply, Why};
 use host_activations::{Host, entry_on};
 use script_lines::{
-    kind_word, push_activation, push_effect, push_entry, push_grain, push_happening, push_word,
+    kind_word, push_activation, push_effect, push_entry, push_grain, push_happening, push_named,
+    push_number, push_word,
 };
 use silo_address::{ActivationId, Entry, GrainId, SiloAddress};
 use std::alloc::AllocError;
@@ -27,32 +30,51 @@ use std::alloc::AllocError;
 /// What a letter that counts tells the application: a reply, by what waited under its number.
 #[derive(Drop)]
 pub(crate) enum Telling {
-    /// The activation that asked to be entered is firm.
-    Firm(Option<Entry>),
+    /// The activation that asked to be entered is firm, at the version that the silo has seen.
+    Firm {
+        entry: Option<Entry>,
+        seen: u64,
+    },
     /// The activation that asked has ended: this other one has the grain.
     Taken {
         grain: Option<GrainId>,
         by: ActivationId,
     },
-    /// The activation that asked to be taken out has ended.
-    Ended(Option<Entry>),
+    /// The activation that asked to be taken out has ended, and was entered.
+    Removed(Option<Entry>),
+    /// It has ended, and wasn't entered.
+    Absent(Option<Entry>),
     /// The grain that was searched for has this entry.
     Found(Entry),
     /// The grain that was searched for has none.
     Nothing(Option<GrainId>),
+    /// The request of a grain waits on, for that reason.
+    Waits {
+        waiting: Waiting,
+        why: Why,
+    },
     /// What the effect tells of a step of the silo's own: an offer began an activation.
     Offered,
     /// No more than that it came.
     Delivered,
 }
 
+/// The grain whose request has a number: of an activation that asks to be entered, of one that asks to be taken out, or one that is
+/// searched for.
+#[derive(Drop)]
+pub(crate) struct Waiting {
+    asking: Option<GrainId>,
+    closing: Option<GrainId>,
+    sought: Option<GrainId>,
+}
+
 impl Telling {
-    /// What a letter tells if it counts, by the host as it is when the letter comes.
-    pub(crate) fn of_letter(host: &Host, body: &Body) -> Telling
-        ensures { (effect : Effect) (delivered : List (List ℕ)) → telling_words result host.now.silo effect delivered ≡ body_words (body_of body.now) host.now effect delivered }
+    /// What a letter tells if it counts, by the host as it is when the letter comes, and the version that its silo has seen.
+    pub(crate) fn of_letter(host: &Host, seen: u64, body: &Body) -> Telling
+        ensures { (effect : Effect) (delivered : List (List ℕ)) → telling_words result host.now.silo effect delivered ≡ body_words (body_of body.now) host.now seen effect delivered }
     {
         match body {
-            Body::Reply { number, reply } => Telling::of_reply(host, *number, reply),
+            Body::Reply { number, reply } => Telling::of_reply(host, seen, *number, reply),
             Body::Offer(_) => Telling::Offered,
             Body::Request(_)
             | Body::Ask { .. }
@@ -66,19 +88,26 @@ impl Telling {
         }
     }
 
-    fn of_reply(host: &Host, number: u64, reply: &Reply) -> Telling
-        ensures { (silo : Silo) (effect : Effect) (delivered : List (List ℕ)) → telling_words result silo effect delivered ≡ counted_words host.now number reply.now delivered }
+    fn of_reply(host: &Host, seen: u64, number: u64, reply: &Reply) -> Telling
+        ensures { (silo : Silo) (effect : Effect) (delivered : List (List ℕ)) → telling_words result silo effect delivered ≡ counted_words host.now seen number reply.now delivered }
     {
         match reply {
-            Reply::Registered(_) => Telling::Firm(asking_entry(host, number)),
+            Reply::Registered(_) => Telling::Firm {
+                entry: asking_entry(host, number),
+                seen,
+            },
             Reply::Taken(entry) => Telling::Taken {
                 grain: asking_grain(host, number),
                 by: entry.activation,
             },
-            Reply::Removed | Reply::Absent => Telling::Ended(closing_entry(host, number)),
+            Reply::Removed => Telling::Removed(closing_entry(host, number)),
+            Reply::Absent => Telling::Absent(closing_entry(host, number)),
             Reply::Found(entry) => Telling::Found(*entry),
             Reply::Nothing => Telling::Nothing(host.finding_under(number)),
-            Reply::Retry(_) => Telling::Delivered,
+            Reply::Retry(why) => Telling::Waits {
+                waiting: waiting_under(host, number),
+                why: *why,
+            },
         }
     }
 }
@@ -107,6 +136,25 @@ fn closing_entry(host: &Host, number: u64) -> Option<Entry>
     Some(entry_on(host.silo(), grain, &held))
 }
 
+// Its grain.
+fn closing_grain(host: &Host, number: u64) -> Option<GrainId>
+    ensures { result ≡ option_map (λ e. e.0) (closing_under host.now number) }
+{
+    let entry = closing_entry(host, number)?;
+    Some(entry.grain)
+}
+
+// The grain whose request has the number, whatever that asks.
+fn waiting_under(host: &Host, number: u64) -> Waiting
+    ensures { waiting_words result ≡ waiting_grain host.now number }
+{
+    Waiting {
+        asking: asking_grain(host, number),
+        closing: closing_grain(host, number),
+        sought: host.finding_under(number),
+    }
+}
+
 /// What came of a letter of that kind, in words: what it tells the application, or that it came, where it is ignored.
 pub(crate) fn push_received(
     out: &mut Vec<u8>,
@@ -122,11 +170,13 @@ pub(crate) fn push_received(
         return push_delivered(out, kind, effect);
     }
     match telling {
-        Telling::Firm(entry) => push_about(out, b"firm", entry),
+        Telling::Firm { entry, seen } => push_firm(out, entry, *seen),
         Telling::Taken { grain, by } => push_taken(out, grain, by),
-        Telling::Ended(entry) => push_about(out, b"ended", entry),
+        Telling::Removed(entry) => push_ended(out, entry, b"removed"),
+        Telling::Absent(entry) => push_ended(out, entry, b"absent"),
         Telling::Found(entry) => push_found(out, entry),
         Telling::Nothing(grain) => push_nothing(out, grain),
+        Telling::Waits { waiting, why } => push_waits(out, kind, effect, waiting, *why),
         Telling::Offered => push_did(out, silo, effect),
         Telling::Delivered => push_delivered(out, kind, effect),
     }
@@ -149,13 +199,52 @@ fn push_delivered(out: &mut Vec<u8>, kind: LetterKind, effect: &Effect) -> Resul
     Ok(())
 }
 
-// What happened to an activation.
-fn push_about(out: &mut Vec<u8>, word: &[u8], entry: &Option<Entry>) -> Result<(), AllocError>
-    ensures written { OnOk result (out.new.items ≡ out.old.items ++ spaced (word.now ∷ entry_if_any entry.now)) }
+// That a letter came by which a grain's request waits on, and why.
+fn push_waits(
+    out: &mut Vec<u8>,
+    kind: LetterKind,
+    effect: &Effect,
+    waiting: &Waiting,
+    why: Why,
+) -> Result<(), AllocError>
+    ensures written { OnOk result (out.new.items ≡ out.old.items ++ spaced (that_it_came kind effect.now ++ (waiting_words waiting.now ++ decimal (why_number why) ∷ []))) }
     ensures kept { BeginsWith out.old.items out.new.items }
 {
-    push_word(out, word)?;
+    push_delivered(out, kind, effect)?;
+    push_waiting(out, waiting)?;
+    push_number(out, u64::from(why.number()))?;
+    Ok(())
+}
+
+fn push_waiting(out: &mut Vec<u8>, waiting: &Waiting) -> Result<(), AllocError>
+    ensures written { OnOk result (out.new.items ≡ out.old.items ++ spaced (waiting_words waiting.now)) }
+    ensures kept { BeginsWith out.old.items out.new.items }
+{
+    push_grain_if_any(out, &waiting.asking)?;
+    push_grain_if_any(out, &waiting.closing)?;
+    push_grain_if_any(out, &waiting.sought)?;
+    Ok(())
+}
+
+// Which activation is firm, and at which version.
+fn push_firm(out: &mut Vec<u8>, entry: &Option<Entry>, seen: u64) -> Result<(), AllocError>
+    ensures written { OnOk result (out.new.items ≡ out.old.items ++ spaced (codes "firm" ∷ (entry_if_any entry.now ++ codes "at" ∷ decimal seen ∷ []))) }
+    ensures kept { BeginsWith out.old.items out.new.items }
+{
+    push_word(out, b"firm")?;
     push_entry_if_any(out, entry)?;
+    push_named(out, b"at", seen)?;
+    Ok(())
+}
+
+// Which activation has ended, and how.
+fn push_ended(out: &mut Vec<u8>, entry: &Option<Entry>, how: &[u8]) -> Result<(), AllocError>
+    ensures written { OnOk result (out.new.items ≡ out.old.items ++ spaced (codes "ended" ∷ (entry_if_any entry.now ++ how.now ∷ []))) }
+    ensures kept { BeginsWith out.old.items out.new.items }
+{
+    push_word(out, b"ended")?;
+    push_entry_if_any(out, entry)?;
+    push_word(out, how)?;
     Ok(())
 }
 
