@@ -9,7 +9,7 @@ TOP = Path(__file__).resolve().parent.parent
 TOKEN = re.compile(r'codes\s+"(?P<text>(?:[^"\\]|\\.)*)"|(?P<lines>text_of_lines)|(?P<byte>\d+)|(?P<none>\[\])|(?P<open>\()|(?P<close>\))|'
                    r'(?P<put>∷)|(?P<join>\+\+)|(?P<end>[;}])|\s+')
 ROW = re.compile(r"^abbrev pub (\w+) : ProcessRow\n\1 = record \{", re.M)
-FIELD = re.compile(r"\s*(\w+) = ")
+FIELD = re.compile(r"\s*(\w+) = (?:(None);|(?:Some\b)?)")
 
 
 class Bytes:
@@ -52,17 +52,20 @@ class Bytes:
 
 
 def rows():
-    """Each process: its name, the silo's address, what it reads, and what it writes."""
+    """Each process: its name, the words of its command line, what it reads, and what it writes."""
     for file in sorted((TOP / "crates/worked_rows/specs").glob("*.antt")):
         text = file.read_text()
         for row in ROW.finditer(text):
             at, fields = row.end(), {}
-            while len(fields) < 3:
+            while len(fields) < 4:
                 field = FIELD.match(text, at)
-                reader = Bytes(text, field.end())
-                fields[field[1]] = bytes(reader.whole())
-                at = reader.at
-            yield row[1], fields["silo"].decode(), fields["input"], fields["text"]
+                at, fields[field[1]] = field.end(), None
+                if not field[2]:
+                    reader = Bytes(text, at)
+                    fields[field[1]] = bytes(reader.whole())
+                    at = reader.at
+            token = [] if fields["token"] is None else ["--join", fields["token"].decode()]
+            yield row[1], ["silo", fields["silo"].decode(), "--hashing", "stated", *token], fields["input"], fields["text"]
 
 
 def build_plain(folder):

@@ -108,8 +108,12 @@ impl Host {
         self.ask(Request::Find { grain: grain.into(), hash })
     }
 
-    pub fn is_outstanding(&self, number: u64) -> bool {
-        self.requests.contains_key(&number)
+    /// The grain about which a request is outstanding under the number.
+    pub fn grain_under(&self, number: u64) -> Option<&Grain> {
+        self.requests.get(&number).map(|request| match request {
+            Request::Of(count) => &self.held[count].grain,
+            Request::Find { grain, .. } => grain,
+        })
     }
 
     /// The activation that is in the phase and has a request under the number.

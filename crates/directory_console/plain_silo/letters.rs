@@ -17,7 +17,7 @@ pub enum Body<'a> {
     Absent { number: u64 },
     Found { number: u64, entry: Told<'a> },
     Nothing { number: u64 },
-    Retry { number: u64 },
+    Retry { number: u64, reason: &'a [u8] },
     Ask { range: Span, page: u64 },
     Page(Page<'a>),
     Missing { range: Span },
@@ -159,7 +159,7 @@ fn retry<'a>(head: &Head, mut words: impl Iterator<Item = &'a [u8]>) -> Read<Par
     let head = head.read()?;
     let number = number_word(number)?;
     told.map(number_word).transpose()?;
-    Ok((head, Body::Retry { number }))
+    Ok((head, Body::Retry { number, reason }))
 }
 
 fn page<'a>(head: &Head, mut words: impl Iterator<Item = &'a [u8]>) -> Read<Parts<'a>> {

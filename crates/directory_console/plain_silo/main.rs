@@ -90,14 +90,15 @@ fn write_out(process: &mut Process, writer: &mut impl Write) -> io::Result<()> {
     writer.flush()
 }
 
-/// What the words choose, if they are known: `silo ADDR [--hashing sha256|stated] [--points N] [--cache N]`, the options before the
-/// address or behind it, each once at most.
-fn chosen(words: &[String]) -> Option<(Address, Settings)> {
-    let (mut hashing, mut points, mut cache, mut address) = (None, None, None, None);
+/// The process that the words choose, if they are known: `silo ADDR [--join TOKEN] [--hashing sha256|stated] [--points N] [--cache N]`, the
+/// options before the address or behind it, each once at most.
+fn chosen(words: &[String]) -> Option<Process> {
+    let (mut token, mut hashing, mut points, mut cache, mut address) = (None, None, None, None, None);
     let (first, words) = words.split_first()?;
-    let mut words = words.iter().flat_map(|word| word.splitn(2, '='));
+    let mut words = words.iter().flat_map(|word| word.splitn(if word.starts_with("--") { 2 } else { 1 }, '='));
     while let Some(word) = words.next() {
         let is_first = match word {
+            "--join" => token.replace(words.next()?).is_none(),
             "--hashing" => hashing.replace(words.next()?).is_none(),
             "--points" => points.replace(words.next()?).is_none(),
             "--cache" => cache.replace(words.next()?).is_none(),
@@ -113,16 +114,19 @@ fn chosen(words: &[String]) -> Option<(Address, Settings)> {
     let cache = number(cache, 1024).filter(|cache| (1..=65_536).contains(cache))?;
     let is_known = first == "silo" && ["sha256", "stated"].contains(&hashing);
     let settings = Settings { is_stated: hashing == "stated", points, cache: cache as usize };
-    Address::read(address?.as_bytes()).ok().filter(|_| is_known).map(|address| (address, settings))
+    let is_token = |token: &str| (1..=64).contains(&token.len()) && token.bytes().all(|byte| (33..=126).contains(&byte));
+    let is_known = is_known && token.is_none_or(is_token);
+    let token = token.map(|token| token.as_bytes().to_vec());
+    Address::read(address?.as_bytes()).ok().filter(|_| is_known).map(|address| Process::new(address, token, settings))
 }
 
 fn main() -> ExitCode {
     let words: Vec<String> = std::env::args().skip(1).collect();
-    let Some((address, settings)) = chosen(&words) else {
-        eprintln!("usage: silo ADDR [--hashing sha256|stated] [--points N] [--cache N]");
+    let Some(mut process) = chosen(&words) else {
+        eprintln!("usage: silo ADDR [--join TOKEN] [--hashing sha256|stated] [--points N] [--cache N]");
         return ExitCode::from(4);
     };
-    match play(&mut Process::new(address, settings)) {
+    match play(&mut process) {
         Ok(()) => ExitCode::SUCCESS,
         Err(error) => {
             eprintln!("{error}");

@@ -7,7 +7,7 @@ use crate::letters::{Body, Letter};
 use crate::mixer::Map;
 use crate::output::Output;
 use crate::pieces::{Pieces, Snapshot};
-use crate::reading::{Asked, read_line, unended_fault};
+use crate::reading::{Asked, Change, Policy, read_line, unended_fault};
 use crate::ring::{Ring, Rings};
 use crate::views::{Version, Views};
 use crate::words::{key_of, stated_hash};
@@ -27,6 +27,8 @@ pub struct Settings {
 pub struct Process {
     pub settings: Settings,
     pub name: Address,
+    /// What the process was started with, if it was: a join of the silo that doesn't carry it is another process's.
+    token: Option<Vec<u8>>,
     /// The silo itself, once its join was told.
     pub me: Option<Silo>,
     pub views: Views,
@@ -58,10 +60,11 @@ impl Settings {
 
 impl Process {
     /// The process of a silo that was told nothing yet.
-    pub fn new(name: Address, settings: Settings) -> Process {
+    pub fn new(name: Address, token: Option<Vec<u8>>, settings: Settings) -> Process {
         Process {
             settings,
             name,
+            token,
             me: None,
             views: Views::default(),
             rings: Rings::default(),
@@ -102,7 +105,8 @@ impl Process {
         match asked {
             Asked::Receive(letter) if letter.to == self.name => self.receive(letter),
             Asked::Receive(_) => Ok(()),
-            Asked::Told { version, change } => self.told(version, change),
+            Asked::Told { change, token, .. } if self.is_anothers(&change, token) => Err(208),
+            Asked::Told { version, change, .. } => self.told(version, change),
             Asked::See { version } => self.see(version),
             Asked::Wake { grain } => self.wake(grain),
             Asked::Close { grain } => self.close(grain),
@@ -114,6 +118,14 @@ impl Process {
                 self.out.word("pong ").text(word).word("\n");
                 Ok(())
             }
+            Asked::Owner { grain } => {
+                self.tell_owner(grain);
+                Ok(())
+            }
+            Asked::Place { grain, policy } => {
+                self.tell_place(grain, policy);
+                Ok(())
+            }
             Asked::Show => {
                 self.show();
                 Ok(())
@@ -123,6 +135,36 @@ impl Process {
                 Ok(())
             }
         }
+    }
+
+    fn is_anothers(&self, change: &Change, token: Option<&[u8]>) -> bool {
+        let is_own = matches!(change, Change::Join { silo, .. } if *silo == self.name);
+        is_own && self.token.is_some() && self.token.as_deref() != token
+    }
+
+    fn tell_owner(&mut self, grain: &[u8]) {
+        let point = self.ring.owning_point(self.settings.hash(grain));
+        self.out.word("owner ").text(grain).word(" ");
+        match point {
+            Some(point) => self.out.address(self.views.row(point.silo).address).word(" ").number(point.index),
+            None => self.out.word("none"),
+        };
+        self.out.word("\n");
+    }
+
+    /// Where this silo would begin an activation of the grain: here, if that is preferred and the silo is Active, and otherwise at the
+    /// hash modulo the number of Active silos, by address.
+    fn tell_place(&mut self, grain: &[u8], policy: Policy) {
+        let is_here = matches!(policy, Policy::PreferLocal) && self.is_active();
+        let active = self.views.active(self.seen).count();
+        let by_hash = (self.settings.hash(grain) as usize).checked_rem(active);
+        let silo = if is_here { self.me } else { by_hash.and_then(|index| self.views.active(self.seen).nth(index)) };
+        self.out.word("place ").text(grain).word(" ");
+        match silo {
+            Some(silo) => self.out.address(self.views.row(silo).address),
+            None => self.out.word("none"),
+        };
+        self.out.word("\n");
     }
 
     /// The silo itself; 901 until its join was told.

@@ -13,8 +13,15 @@ pub enum Change {
     Die { silo: Address },
 }
 
+/// By which a silo for a new activation is chosen.
+pub enum Policy {
+    PreferLocal,
+    HashBased,
+}
+
 pub enum Asked<'a> {
-    Told { version: u64, change: Change },
+    /// A join may carry a token.
+    Told { version: u64, change: Change, token: Option<&'a [u8]> },
     See { version: u64 },
     Wake { grain: &'a [u8] },
     Close { grain: &'a [u8] },
@@ -24,6 +31,8 @@ pub enum Asked<'a> {
     Nudge,
     Receive(Letter<'a>),
     Ping { word: &'a [u8] },
+    Owner { grain: &'a [u8] },
+    Place { grain: &'a [u8], policy: Policy },
     Show,
     Dump,
 }
@@ -76,25 +85,35 @@ fn asked<'a>(name: &[u8], words: impl Iterator<Item = &'a [u8]>) -> Read<Asked<'
             let [word] = exactly(words)?;
             Asked::Ping { word }
         }
+        b"owner" => Asked::Owner { grain: only_grain(words)? },
+        b"place" => {
+            let [grain, policy] = exactly(words)?;
+            Asked::Place { grain: grain_word(grain)?, policy: policy_word(policy)? }
+        }
         b"joined" => joined(words)?,
         b"leaving" | b"dead" => {
             let [version, silo] = exactly(words)?;
             let version = number_word(version)?;
             let silo = Address::read(silo)?;
             let change = if name == b"dead" { Change::Die { silo } } else { Change::Leave { silo } };
-            Asked::Told { version, change }
+            Asked::Told { version, change, token: None }
         }
         _ => return Err(921),
     })
 }
 
-fn joined<'a>(mut words: impl Iterator<Item = &'a [u8]>) -> Read<Asked<'a>> {
+fn joined<'a>(words: impl Iterator<Item = &'a [u8]>) -> Read<Asked<'a>> {
+    let mut words = words.peekable();
     let (version, silo) = (words.next().ok_or(922u16)?, words.next().ok_or(922u16)?);
     let version = number_word(version)?;
     let silo = Address::read(silo)?;
     let place = |word: &[u8]| number(word, u32::MAX.into()).map(|place| place as u32).ok_or(923);
+    let token = words.peek().and_then(|word| word.strip_prefix(b"token="));
+    if token.is_some() {
+        words.next();
+    }
     let places = words.map(place).collect::<Read<Vec<u32>>>()?;
-    Ok(Asked::Told { version, change: Change::Join { silo, places } })
+    Ok(Asked::Told { version, change: Change::Join { silo, places }, token })
 }
 
 /// The words behind a name; 922 where there aren't just so many.
@@ -104,6 +123,14 @@ pub fn exactly<'a, const N: usize>(mut words: impl Iterator<Item = &'a [u8]>) ->
         *word = words.next().ok_or(922u16)?;
     }
     if words.next().is_some() { Err(922) } else { Ok(those) }
+}
+
+fn policy_word(word: &[u8]) -> Read<Policy> {
+    match word {
+        b"prefer_local" => Ok(Policy::PreferLocal),
+        b"hash_based" => Ok(Policy::HashBased),
+        _ => Err(926),
+    }
 }
 
 fn only_grain<'a>(words: impl Iterator<Item = &'a [u8]>) -> Read<&'a [u8]> {

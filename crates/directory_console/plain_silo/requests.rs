@@ -129,16 +129,20 @@ impl Process {
 
     /// A reply counts if it is of the version seen and a request of its kind is outstanding under its number; a retry counts if any is.
     pub fn take_reply(&mut self, version: u64, body: Body) {
-        if let Body::Retry { number } = body {
-            let is_outstanding = self.host.is_outstanding(number);
-            return self.delivered(if is_outstanding { "retry noted" } else { "retry ignored" });
+        if let Body::Retry { number, reason } = body {
+            return match self.host.grain_under(number) {
+                Some(grain) => {
+                    self.out.word("delivered retry noted ").text(grain).word(" ").text(reason).word("\n");
+                }
+                None => self.delivered("retry ignored"),
+            };
         }
         let is_of_seen = version == u64::from(self.seen);
         let (kind, counts) = match body {
             Body::Registered { number } => ("registered", is_of_seen && self.confirm(number)),
             Body::Taken { number, entry: (grain, by) } => ("taken", is_of_seen && self.yield_to(number, grain, by)),
-            Body::Removed { number } => ("removed", is_of_seen && self.end(number)),
-            Body::Absent { number } => ("absent", is_of_seen && self.end(number)),
+            Body::Removed { number } => ("removed", is_of_seen && self.end(number, "removed")),
+            Body::Absent { number } => ("absent", is_of_seen && self.end(number, "absent")),
             Body::Found { number, entry: (grain, by) } => ("found", is_of_seen && self.found(number, grain, by)),
             Body::Nothing { number } => ("nothing", is_of_seen && self.found_nothing(number)),
             _ => return,
@@ -150,7 +154,7 @@ impl Process {
 
     fn confirm(&mut self, number: u64) -> bool {
         let Some(held) = self.host.confirm(number) else { return false };
-        self.out.about("firm", held.activation, &held.grain).word("\n");
+        self.out.about("firm", held.activation, &held.grain).word(" at ").number(self.seen).word("\n");
         true
     }
 
@@ -162,9 +166,9 @@ impl Process {
         true
     }
 
-    fn end(&mut self, number: u64) -> bool {
+    fn end(&mut self, number: u64, how: &str) -> bool {
         let Some(held) = self.host.end(number, Phase::Closing) else { return false };
-        self.out.about("ended", held.activation, &held.grain).word("\n");
+        self.out.about("ended", held.activation, &held.grain).word(" ").word(how).word("\n");
         true
     }
 
