@@ -15,13 +15,14 @@ use Rattle.clap.specs.declared.builder.value_parser.Reading.{Reading}
 use Rattle.clap.specs.declared.builder.value_parser.Reading.TheVariants as reading
 use Rattle.clap.specs.declared.builder.value_parser.ValueParser.TheVariants as parser
 use Rattle.clap.specs.declared.error.kind.ErrorKind.TheVariants as kind
-use Rattle.console_command.specs.ClapCommand.{NameList, address_rule, app, cache_rule, check_app, hashing_rule, player_app, points_rule, silo_app}
+use Rattle.console_command.specs.ClapCommand.{NameList, address_rule, app, cache_rule, check_app, hashing_rule, join_rule, player_app, points_rule, silo_app}
 use Rattle.silo_address.specs.Silo.{Silo}
 use Rattle.silo_address.specs.ReadSilo.{read_silo}
 use Rattle.silo_address.specs.declared.silo.SiloError.{SiloError}
-use Rattle.console_command.specs.CommandLine.{AreInRange, AreReadInRange, line_in, line_of, number_or_zero, options_in, process_of, silo_text_in}
+use Rattle.console_command.specs.CommandLine.{AreInRange, AreReadInRange, line_in, line_of, number_or_zero, options_in, process_of, silo_text_in, token_in}
 use Rattle.console_command.specs.declared.command_line.Options.{Options}
 use Rattle.console_command.specs.declared.command_line.Line.{Line}
+use Rattle.console_command.specs.declared.line_error.ProcessMistake.{ProcessMistake}
 use Rattle.console_command.proofs.Walks.{Every, Keeps, checks_pass, is_faulty, level_keeps, no_first, no_next, required_there}
 use Rattle.console_command.proofs.Stops.{StopsElsewhere, walk_stops}
 use Rattle.console_command.proofs.Numbers.{accepted_in_range}
@@ -174,8 +175,12 @@ address_keep : Keeps false HaveInRange placed_address
 address_keep values rows e all =
     kept_with (codes "ADDR") reading.AsWritten CommandLine _ (λ is. absurd (true≢false (sym is))) (λ is. absurd (true≢false (sym is))) _ (kept_without (codes "ADDR") rows all)
 
+join_keep : Keeps false HaveInRange (filled join_rule)
+join_keep values rows e all =
+    kept_with (codes "join") reading.AsWritten CommandLine _ (λ is. absurd (true≢false (sym is))) (λ is. absurd (true≢false (sym is))) _ (kept_without (codes "join") rows all)
+
 silo_keeps : (names : NameList) → Every (Keeps false HaveInRange) (silo_shape names).rules
-silo_keeps names = (address_keep, (hashing_keep names, (points_keep, (cache_keep, (help_keep, tt)))))
+silo_keeps names = (address_keep, (join_keep, (hashing_keep names, (points_keep, (cache_keep, (help_keep, tt))))))
 
 no_default : (id : Text) (rows : List Row) → rows ≡ cond (has_row id rows) rows rows
 no_default id rows = go (has_row id rows)
@@ -191,8 +196,10 @@ silo_rows names words e =
     let before = level_keeps (silo_shape names) HaveInRange (silo_keeps names) [] words false [] e (tt, tt) in
     let addressed = with_default walked placed_address in
     let kept : HaveInRange addressed = subst HaveInRange (no_default (codes "ADDR") walked) before in
-    let hashed = with_default addressed (filled (hashing_rule names)) in
-    let pointed = points_default hashed (hashing_default names addressed kept) in
+    let told = with_default addressed (filled join_rule) in
+    let still : HaveInRange told = subst HaveInRange (no_default (codes "join") addressed) kept in
+    let hashed = with_default told (filled (hashing_rule names)) in
+    let pointed = points_default hashed (hashing_default names told still) in
     let cached = cache_default (with_default hashed (filled points_rule)) pointed.0 pointed.1 in
     let same = help_default (with_default (with_default hashed (filled points_rule)) (filled cache_rule)) in
     (subst HaveInRange same cached.0, subst HaveBoth same cached.1)
@@ -207,9 +214,10 @@ silo_options names words e =
     (points.0, points.1, cache.0, cache.1)
 
 -- whatever names the silo
-process_in_range : (read : Result Silo SiloError) (options : Options) → AreInRange options → AreReadInRange (process_of read options)
-process_in_range (Ok silo) options fine = fine
-process_in_range (Err error) options fine = tt
+process_in_range : (read : Result Silo SiloError) (token : Result (Option (List ℕ)) ProcessMistake) (options : Options) → AreInRange options → AreReadInRange (process_of read token options)
+process_in_range (Ok silo) (Ok token) options fine = fine
+process_in_range (Ok silo) (Err mistake) options fine = tt
+process_in_range (Err error) token options fine = tt
 
 -- ---- the subcommand
 
@@ -233,14 +241,15 @@ command_entered names (Some p) elsewhere e enters =
     go false true c d h help none there = player_options (codes "threads") names p.1 none
     go false false false true h help none there = tt
     go false false true d h help none there =
-        process_in_range (read_silo (silo_text_in (rows_after (silo_shape names).rules [] p.1))) _ (silo_options names p.1 none)
+        let rows = rows_after (silo_shape names).rules [] p.1 in
+        process_in_range (read_silo (silo_text_in rows)) (token_in rows) _ (silo_options names p.1 none)
     go false false false false true help none there =
         let named : codes "help" ≡ p.0 = (bytes_eq-Decides (codes "help") p.0).0 help in
         let is_help : bytes_eq p.0 (codes "help") ≡ true = subst (λ name. bytes_eq name (codes "help") ≡ true) named refl in
         absurd (true≢false (sym is_help ∙ elsewhere))
     go false false false false false help none there = absurd (true≢false (sym there))
 
--- words in which clap finds no fault are a line, with numbers in their ranges, or name no silo
+-- words in which clap finds no fault are a line, with numbers in their ranges, or name no process
 pub accepted : (names : NameList) (words : List Text) → fault_of (app names) words ≡ [] → IsSomeAnd (line_of (app names) words) AreReadInRange
 accepted names words e =
     let command = built (app names) in
@@ -251,11 +260,11 @@ accepted names words e =
     (is_some (entered command stop)) refl (checks_pass command.top (names_of command) given (is_some (entered command stop)) (entered_fault command stop) e))
 
 -- the line of such words has them
-pub range_of_line : (o : Option (Result Line SiloError)) (read : Result Line SiloError) → o ≡ Some read → IsSomeAnd o AreReadInRange → AreReadInRange read
+pub range_of_line : (o : Option (Result Line ProcessMistake)) (read : Result Line ProcessMistake) → o ≡ Some read → IsSomeAnd o AreReadInRange → AreReadInRange read
 range_of_line None read is there = absurd there
 range_of_line (Some other) read is there = subst AreReadInRange (ap (λ o. unwrap_or o other) is) there
 
 -- so they are not without a line
-pub never_none : (o : Option (Result Line SiloError)) → o ≡ None → IsSomeAnd o AreReadInRange → ⊥
+pub never_none : (o : Option (Result Line ProcessMistake)) → o ≡ None → IsSomeAnd o AreReadInRange → ⊥
 never_none None is there = there
 never_none (Some read) is there = true≢false (ap is_some is)

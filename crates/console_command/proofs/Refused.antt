@@ -22,5 +22,5 @@ refused words names named e (error.Usage told) kinds refuses = (
     | inr among ↦ subst (λ (x : Error). IsAmong (kind_of x) (fault_of (app names) words)) (sym refuses.0) among
   ],
 )
-refused words names named e (error.NoSilo told) kinds refuses = absurd refuses
+refused words names named e (error.NoProcess told) kinds refuses = absurd refuses
 refused words names named e error.OutOfMemory kinds refuses = tt

@@ -58,10 +58,17 @@ check_app = new_app (codes "check")
 abbrev pub address_rule : Rule
 address_rule = record (new_rule (codes "ADDR")) { action = Some Set; required = true }
 
--- `silo ADDR [--hashing HASHING] [--points N] [--cache N]`
+-- `--join`: a text, which may be left out
+abbrev pub join_rule : Rule
+join_rule = record (new_rule (codes "join")) { long = Some (codes "join"); action = Some Set; value_names = 1 }
+
+-- `silo ADDR [--join TOKEN]`
+abbrev pub bare_silo_app : App
+bare_silo_app = with_rule (with_rule (new_app (codes "silo")) address_rule) join_rule
+
+-- `silo ADDR [--join TOKEN] [--hashing HASHING] [--points N] [--cache N]`
 abbrev pub silo_app : NameList → App
-silo_app names =
-    with_rule (with_rule (with_rule (with_rule (new_app (codes "silo")) address_rule) (hashing_rule names)) points_rule) cache_rule
+silo_app names = with_rule (with_rule (with_rule bare_silo_app (hashing_rule names)) points_rule) cache_rule
 
 -- the program's name, and that it tells its version; a subcommand has to follow
 abbrev pub bare_app : App

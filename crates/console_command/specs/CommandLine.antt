@@ -17,8 +17,11 @@ use Rattle.console_command.specs.declared.command_line.Line.{Line}
 use Rattle.silo_address.specs.Silo.{Silo as SiloValue}
 use Rattle.silo_address.specs.ReadSilo.{read_silo}
 use Rattle.silo_address.specs.declared.silo.SiloError.{SiloError}
+use Rattle.process_answers.specs.JoinToken.{read_token}
 use Rattle.console_command.specs.declared.command_line.Line.TheVariants.{Play, Threads, Check, Silo}
 use Rattle.console_command.specs.declared.command_line.Options.{Options}
+use Rattle.console_command.specs.declared.line_error.ProcessMistake.{ProcessMistake}
+use Rattle.console_command.specs.declared.line_error.ProcessMistake.TheVariants.{Address, Token}
 use Rattle.console_command.specs.declared.line_error.CommandLineError.{CommandLineError}
 use Rattle.console_command.specs.declared.line_error.CommandLineError.TheVariants as error
 use Rattle.console_command.specs.ClapCommand.{OfCommand}
@@ -51,21 +54,36 @@ options_in rows = record {
   cache = number_of (codes "cache") rows;
 }
 
--- the process of a silo, if it is one
-abbrev pub process_of : Result SiloValue SiloError → Options → Result Line SiloError
-process_of (Ok silo) options = Ok (Silo silo options)
-process_of (Err error) options = Err error
+-- the process of a silo with its token, if that is a silo, and then, if the token is one
+abbrev pub process_of : Result SiloValue SiloError → (token : Result (Option (List ℕ)) ProcessMistake) → Options → Result Line ProcessMistake
+process_of (Err error) token options = Err (Address error)
+process_of (Ok silo) (Err mistake) options = Err mistake
+process_of (Ok silo) (Ok token) options = Ok (Silo silo token options)
+
+-- a token that was read
+abbrev pub token_or_mistake : Option (List ℕ) → Result (Option (List ℕ)) ProcessMistake
+token_or_mistake None = Err Token
+token_or_mistake (Some token) = Ok (Some token)
+
+-- the token that a text tells, if there is a text
+abbrev pub token_told : Option Text → Result (Option (List ℕ)) ProcessMistake
+token_told None = Ok None
+token_told (Some text) = token_or_mistake (read_token text)
+
+-- the token that a process is started with, by the matches of a subcommand
+abbrev pub token_in : List Row → Result (Option (List ℕ)) ProcessMistake
+token_in rows = token_told (first_of (codes "join") rows)
 
 -- what should name the silo, by the matches of a subcommand; clap asks for it, so it is never left out
 abbrev pub silo_text_in : List Row → Text
 silo_text_in rows = unwrap_or (first_of (codes "ADDR") rows) []
 
 -- the process of the silo that the matches of a subcommand name
-abbrev pub silo_in : List Row → Result Line SiloError
-silo_in rows = process_of (read_silo (silo_text_in rows)) (options_in rows)
+abbrev pub silo_in : List Row → Result Line ProcessMistake
+silo_in rows = process_of (read_silo (silo_text_in rows)) (token_in rows) (options_in rows)
 
--- the line that a subcommand with its matches asks for, or why its silo is none: a row for each subcommand
-abbrev pub line_in : Text × List Row → Option (Result Line SiloError)
+-- the line that a subcommand with its matches asks for, or why its process is none: a row for each subcommand
+abbrev pub line_in : Text × List Row → Option (Result Line ProcessMistake)
 line_in (name, rows) =
     if bytes_eq name (codes "play") then Some (Ok (Play (options_in rows)))
     else if bytes_eq name (codes "threads") then Some (Ok (Threads (options_in rows)))
@@ -73,20 +91,20 @@ line_in (name, rows) =
     else if bytes_eq name (codes "silo") then Some (silo_in rows) else None
 
 -- the line that clap reads from the words
-abbrev pub line_of : App → List Text → Option (Result Line SiloError)
+abbrev pub line_of : App → List Text → Option (Result Line ProcessMistake)
 line_of command words = option_and_then line_in (subcommand_of command words)
 
 -- clap finds no fault in the words, and reads that from them; the words begin with the program's name
-abbrev pub Say : List Text → Result Line SiloError → Type 0
+abbrev pub Say : List Text → Result Line ProcessMistake → Type 0
 Say words read = OfCommand (λ command. (line_of command words ≡ Some read) × (fault_of command words ≡ []))
 
 -- they ask for that line
 abbrev pub AskFor : List Text → Line → Type 0
 AskFor words line = Say words (Ok line)
 
--- they ask for the process of a silo, and name it by a text that is none
-abbrev pub NameNoSilo : List Text → SiloError → Type 0
-NameNoSilo words error = Say words (Err error)
+-- they ask for the process of a silo, and name it by a text that is none, or give it a token that is none
+abbrev pub NameNoProcess : List Text → ProcessMistake → Type 0
+NameNoProcess words mistake = Say words (Err mistake)
 
 -- clap finds a fault of that kind in the words; a request for help or for the version is one
 abbrev pub HaveFault : List Text → ErrorKind → Type 0
@@ -96,11 +114,11 @@ HaveFault words kind = OfCommand (λ command. IsAmong kind (fault_of command wor
 abbrev pub AskToBeTold : List Text → Type 0
 AskToBeTold words = (kind : ErrorKind) × IsRequest kind × HaveFault words kind
 
--- an accepted line is what the words ask for; a refusal has one of their faults, or the silo that they name is none, or memory ran out
+-- an accepted line is what the words ask for; a refusal has one of their faults, or the process that they ask for is none, or memory ran out
 abbrev pub Reads : List Text → Result Line CommandLineError → Type 0
 Reads words (Ok line) = AskFor words line
 Reads words (Err (error.Usage e)) = HaveFault words (kind_of e)
-Reads words (Err (error.NoSilo e)) = NameNoSilo words e
+Reads words (Err (error.NoProcess mistake)) = NameNoProcess words mistake
 Reads words (Err error.OutOfMemory) = ⊤
 
 -- the points are as many as a silo may have, and the hints as many as a cache may keep
@@ -112,9 +130,9 @@ abbrev pub IsInRange : Line → Type 0
 IsInRange (Play options) = AreInRange options
 IsInRange (Threads options) = AreInRange options
 IsInRange Check = ⊤
-IsInRange (Silo silo options) = AreInRange options
+IsInRange (Silo silo token options) = AreInRange options
 
 -- so they are where a line is read
-abbrev pub AreReadInRange : Result Line SiloError → Type 0
+abbrev pub AreReadInRange : Result Line ProcessMistake → Type 0
 AreReadInRange (Ok line) = IsInRange line
-AreReadInRange (Err error) = ⊤
+AreReadInRange (Err mistake) = ⊤

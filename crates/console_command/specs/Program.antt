@@ -17,11 +17,11 @@ use Rattle.console_command.specs.SiloPlay.{AnswersInTurn, WritesAnswers}
 use Rattle.console_command.specs.Play.{lines_played}
 use Rattle.console_command.specs.Checks.{Checks}
 use Rattle.console_command.specs.declared.checked.Checked.{Checked}
-use Rattle.silo_address.specs.declared.silo.SiloError.{SiloError}
-use Rattle.console_command.specs.CommandLine.{AskFor, AskToBeTold, HaveFault, NameNoSilo}
+use Rattle.console_command.specs.CommandLine.{AskFor, AskToBeTold, HaveFault, NameNoProcess}
 use Rattle.console_command.specs.LineRefusal.{IsRequest}
 use Rattle.console_command.specs.declared.command_line.Line.TheVariants.{Play, Check, Silo}
 use Rattle.console_command.specs.declared.command_line.Options.{Options}
+use Rattle.console_command.specs.declared.line_error.ProcessMistake.{ProcessMistake}
 use Rattle.console_command.specs.declared.exit.Exit.{Exit}
 use Rattle.console_command.specs.declared.exit.Exit.TheVariants.{Played, Threaded, Checked as CheckedDump, Silo as SiloStopped, Answered, AnswerBroken, Refused, OutOfMemory}
 
@@ -44,9 +44,9 @@ abbrev pub chosen_process_settings : Options → Settings
 chosen_process_settings options = process_settings options.hashing options.points options.cache
 
 -- the source's lines are those of the silo's process, with those settings, and are answered
-abbrev pub PlaysSilo : SiloValue → Options → (old new : Streams) → Ended Dead → Type 0
-PlaysSilo silo options old new ended = IfSome old.rest (λ input.
-    WritesAnswers (chosen_process_settings options) silo input new.rest old.output new.output ended)
+abbrev pub PlaysSilo : SiloValue → (token : Option (List ℕ)) → Options → (old new : Streams) → Ended Dead → Type 0
+PlaysSilo silo token options old new ended = IfSome old.rest (λ input.
+    WritesAnswers (chosen_process_settings options) silo token input new.rest old.output new.output ended)
 
 -- the source's dump is judged
 abbrev pub ChecksDump : (old new : Streams) → Checked → Type 0
@@ -60,17 +60,17 @@ Prints old new = (new.rest ≡ old.rest) × ((text : List ℕ) × (0 < length te
 abbrev pub PrintsFront : (old new : Streams) → Type 0
 PrintsFront old new = (new.rest ≡ old.rest) × ((text : List ℕ) × (0 < length text) × WritesFront text old.output new.output)
 
--- the words are a mistake: clap finds a fault in them, or the silo that they name is none
+-- the words are a mistake: clap finds a fault in them, or the process that they ask for is none
 pub data AreMistaken (words : List Text) : Type 0 where
   by_fault : (kind : ErrorKind) → HaveFault words kind → (¬ (IsRequest kind)) → AreMistaken words
-  by_name : (error : SiloError) → NameNoSilo words error → AreMistaken words
+  by_process : (mistake : ProcessMistake) → NameNoProcess words mistake → AreMistaken words
 
 -- what the words ask for is done; where they are a mistake, or memory runs out, nothing is read and nothing written to the output
 abbrev pub Does : (words : List Text) → (old new : Streams) → Exit → Type 0
 Does words old new (Played ended) = (options : Options) × AskFor words (Play options) × Plays options old new ended
 Does words old new (Threaded ended) = ⊥
 Does words old new (CheckedDump checked) = AskFor words Check × ChecksDump old new checked
-Does words old new (SiloStopped ended) = (silo : SiloValue) × (options : Options) × AskFor words (Silo silo options) × PlaysSilo silo options old new ended
+Does words old new (SiloStopped ended) = (silo : SiloValue) × (token : Option (List ℕ)) × (options : Options) × AskFor words (Silo silo token options) × PlaysSilo silo token options old new ended
 Does words old new Answered = AskToBeTold words × Prints old new
 Does words old new AnswerBroken = AskToBeTold words × PrintsFront old new
 Does words old new Refused = AreMistaken words × (new ≡ old)
@@ -81,5 +81,5 @@ abbrev pub DoesInTurn : {R W : Type 0} → (reads : R → Option (List ℕ) → 
 DoesInTurn reads writes words old new (Played ended) =
     (options : Options) × AskFor words (Play options) × PlaysInTurn reads writes lines_played (first_world (chosen_settings options)) old new ended
 DoesInTurn reads writes words old new (SiloStopped ended) =
-    (silo : SiloValue) × (options : Options) × AskFor words (Silo silo options) × AnswersInTurn reads writes (first_silo (chosen_process_settings options) silo) old new ended
+    (silo : SiloValue) × (token : Option (List ℕ)) × (options : Options) × AskFor words (Silo silo token options) × AnswersInTurn reads writes token (first_silo (chosen_process_settings options) silo) old new ended
 DoesInTurn reads writes words old new other = ⊤

@@ -11,10 +11,10 @@ use Rattle.process_answers.specs.LineAnswers.{PrintsAnswer, PrintsLines, most_be
 use Rattle.process_answers.specs.declared.player.Dead.{Dead}
 
 -- the lines of a process are answered, and its output is written
-abbrev pub WritesAnswers : Settings → Silo → (input : List ℕ) → (rest begun written : Option (List ℕ)) → Ended Dead → Type 0
-WritesAnswers settings silo input rest begun written ended = WritesOutput (λ dead text. ⊤) 0 most_read (silo_output settings silo input) input rest begun written ended
+abbrev pub WritesAnswers : Settings → Silo → (token : Option (List ℕ)) → (input : List ℕ) → (rest begun written : Option (List ℕ)) → Ended Dead → Type 0
+WritesAnswers settings silo token input rest begun written ended = WritesOutput (λ dead text. ⊤) 0 most_read (silo_output settings silo token input) input rest begun written ended
 
 -- in turn: more is read only where all is written that is answered to the lines that were read whole, by which the process doesn't end; to
 -- one that is begun too, where it is too long
-abbrev pub AnswersInTurn : {R W : Type 0} → (reads : R → Option (List ℕ) → R → Type 0) → (writes : W → List ℕ → Option ℕ → W → Type 0) → SiloValue → (old new : R × W) → Ended Dead → Type 0
-AnswersInTurn reads writes silo old new ended = EndsInTurn reads writes most_begun most_read (PrintsLines silo) PrintsAnswer old new ended
+abbrev pub AnswersInTurn : {R W : Type 0} → (reads : R → Option (List ℕ) → R → Type 0) → (writes : W → List ℕ → Option ℕ → W → Type 0) → (token : Option (List ℕ)) → SiloValue → (old new : R × W) → Ended Dead → Type 0
+AnswersInTurn reads writes token silo old new ended = EndsInTurn reads writes most_begun most_read (PrintsLines token silo) PrintsAnswer old new ended

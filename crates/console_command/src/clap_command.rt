@@ -2,7 +2,7 @@ ghost use Rattle.std.specs.Prelude.{◌≡◌, IfOk, false};
 ghost use Rattle.clap.specs.Walk.{rule_of};
 ghost use Rattle.clap.specs.Simple.{app_of};
 ghost use Rattle.clap.specs.declared.builder.command.Command.TheViews.{out-Command};
-ghost use Rattle.console_command.specs.ClapCommand.{OfCommand, address_rule, check_app, option_rule, options_app, player_app, players_app, points_rule, cache_rule, hashing_rule, silo_app};
+ghost use Rattle.console_command.specs.ClapCommand.{OfCommand, address_rule, bare_silo_app, check_app, join_rule, option_rule, options_app, player_app, players_app, points_rule, cache_rule, hashing_rule, silo_app};
 
 use clap::builder::ValueParser;
 use clap::{Arg, ArgAction, Command, value_parser};
@@ -67,17 +67,26 @@ fn player<'a>(
         .arg(cache(alloc))
 }
 
-// `silo ADDR [--hashing HASHING] [--points N] [--cache N]`, which is a silo's process.
+// `silo ADDR [--join TOKEN] [--hashing HASHING] [--points N] [--cache N]`, which is a silo's process.
 fn silo<'a>(alloc: Global, hashings: &'a [&'a str]) -> Result<Command<'a>, AllocError>
     ensures app { IfOk result (λ c. app_of c ≡ silo_app hashings.entry) }
+    ensures local { IfOk result (λ c. (out-Command c).has_globals ≡ false) }
+{
+    bare_silo(alloc)?
+        .arg(hashing(alloc, hashings))?
+        .arg(points(alloc))?
+        .arg(cache(alloc))
+}
+
+// The same, without the options that a player has too.
+fn bare_silo<'a>(alloc: Global) -> Result<Command<'a>, AllocError>
+    ensures app { IfOk result (λ c. app_of c ≡ bare_silo_app) }
     ensures local { IfOk result (λ c. (out-Command c).has_globals ≡ false) }
 {
     Command::new(alloc, "silo")
         .about(SILO)
         .arg(address(alloc))?
-        .arg(hashing(alloc, hashings))?
-        .arg(points(alloc))?
-        .arg(cache(alloc))
+        .arg(join(alloc))
 }
 
 fn address<'a>(alloc: Global) -> Arg<'a>
@@ -88,6 +97,19 @@ fn address<'a>(alloc: Global) -> Arg<'a>
         .required(true)
         .action(ArgAction::Set)
         .help("The silo: a.b.c.d:port@generation")
+}
+
+fn join<'a>(alloc: Global) -> Arg<'a>
+    ensures rule { rule_of result ≡ join_rule }
+    ensures local { result.global ≡ false }
+{
+    Arg::new(alloc, "join")
+        .long("join")
+        .value_name("TOKEN")
+        .action(ArgAction::Set)
+        .help(
+            "Join by the line that carries this token, and by no other: 1 to 64 visible ASCII bytes",
+        )
 }
 
 // `check`.

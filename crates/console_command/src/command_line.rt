@@ -1,16 +1,17 @@
-ghost use Rattle.std.specs.Prelude.{◌≡◌, IfOk, map, option_and_then};
+ghost use Rattle.std.specs.Prelude.{◌≡◌, IfOk, Ok, Some, map, option_and_then};
 ghost use Rattle.clap.specs.Matches.{found_of};
 ghost use Rattle.clap.specs.Walk.{rows_of};
 ghost use Rattle.clap.specs.Simple.{subcommand_rows_of};
-ghost use Rattle.console_command.specs.CommandLine.{IsInRange, Reads, hashing_named, hashing_of, line_in, number_of, options_in, silo_in, silo_text_in};
+ghost use Rattle.console_command.specs.CommandLine.{IsInRange, Reads, hashing_named, hashing_of, line_in, number_of, options_in, process_of, silo_in, silo_text_in, token_in, token_told};
 ghost use Rattle.console_command.specs.LineRefusal.{Refuses};
 
-use crate::CommandLineError;
 use crate::clap_command::grain_directory;
+use crate::{CommandLineError, ProcessMistake};
 use clap::ArgMatches;
 use clap::error::ErrorKind;
 use hash_ring::Hashing;
-use silo_address::{SiloAddress, SiloError};
+use process_answers::JoinToken;
+use silo_address::SiloAddress;
 use std::alloc::Global;
 use std::convert::AsStr;
 
@@ -23,8 +24,12 @@ pub enum Line {
     Threads(Options),
     /// Judge the dump that comes on standard input.
     Check,
-    /// Be the process of that silo, whose lines come on standard input.
-    Silo(SiloAddress, Options),
+    /// Be the process of that silo, which is started with that token, if there is one, and whose lines come on standard input.
+    Silo {
+        silo: SiloAddress,
+        token: Option<JoinToken>,
+        options: Options,
+    },
 }
 
 /// What the options of a command choose for its cluster, or its silo.
@@ -41,7 +46,7 @@ pub struct Options {
 /// Reads a command line: its words as the system gives them, the program's name first.
 ///
 /// The error is what clap says of the words, be it a mistake, or the help or the version that they ask for; or why the address of a
-/// silo is none; or that memory ran out.
+/// silo is none, or that a token is none; or that memory ran out.
 pub fn read_line<S: AsStr>(alloc: Global, words: &[S]) -> Result<Line, CommandLineError>
     ensures reads { Reads (map S.text words.entry.now) result }
     ensures in_range { IfOk result IsInRange }
@@ -50,7 +55,7 @@ pub fn read_line<S: AsStr>(alloc: Global, words: &[S]) -> Result<Line, CommandLi
     match command.try_get_matches_from(words) {
         Ok(matches) => match line_in(&matches) {
             Some(Ok(line)) => Ok(line),
-            Some(Err(error)) => Err(CommandLineError::NoSilo(error)),
+            Some(Err(mistake)) => Err(CommandLineError::NoProcess(mistake)),
             None => unreachable!(),
         },
         Err(error) => Err(refusal(error)),
@@ -67,8 +72,8 @@ fn refusal(error: clap::Error) -> CommandLineError
     }
 }
 
-// The line that the matches ask for, or why its silo is none: a row for each subcommand.
-fn line_in(matches: &ArgMatches<'_>) -> Option<Result<Line, SiloError>>
+// The line that the matches ask for, or why its process is none: a row for each subcommand.
+fn line_in(matches: &ArgMatches<'_>) -> Option<Result<Line, ProcessMistake>>
     ensures { result ≡ option_and_then line_in (subcommand_rows_of matches.now) }
 {
     let (name, settings) = matches.subcommand()?;
@@ -82,12 +87,45 @@ fn line_in(matches: &ArgMatches<'_>) -> Option<Result<Line, SiloError>>
 }
 
 // The process of the silo that the matches name.
-fn silo_in(settings: &ArgMatches<'_>) -> Result<Line, SiloError>
+fn silo_in(settings: &ArgMatches<'_>) -> Result<Line, ProcessMistake>
     ensures { result ≡ silo_in (rows_of (found_of settings.now)) }
 {
     match SiloAddress::parse(silo_text_in(settings).as_bytes()) {
-        Ok(silo) => Ok(Line::Silo(silo, options_in(settings))),
-        Err(error) => Err(error),
+        Ok(silo) => process_of(silo, settings),
+        Err(error) => Err(ProcessMistake::Address(error)),
+    }
+}
+
+// The process of that silo.
+fn process_of(silo: SiloAddress, settings: &ArgMatches<'_>) -> Result<Line, ProcessMistake>
+    ensures { result ≡ process_of (Ok silo) (token_in (rows_of (found_of settings.now))) (options_in (rows_of (found_of settings.now))) }
+{
+    match token_in(settings) {
+        Ok(token) => Ok(Line::Silo {
+            silo,
+            token,
+            options: options_in(settings),
+        }),
+        Err(mistake) => Err(mistake),
+    }
+}
+
+// The token that the process is started with, if it is started with one.
+fn token_in(settings: &ArgMatches<'_>) -> Result<Option<JoinToken>, ProcessMistake>
+    ensures { result ≡ token_in (rows_of (found_of settings.now)) }
+{
+    match settings.get_str("join") {
+        Some(text) => token_told(text),
+        None => Ok(None),
+    }
+}
+
+fn token_told(text: &str) -> Result<Option<JoinToken>, ProcessMistake>
+    ensures { result ≡ token_told (Some text.now) }
+{
+    match JoinToken::parse(text.as_bytes()) {
+        Some(token) => Ok(Some(token)),
+        None => Err(ProcessMistake::Token),
     }
 }
 

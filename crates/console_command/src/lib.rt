@@ -28,7 +28,7 @@ pub use command_line::{Line, Options, read_line};
 pub use dump::tell_verdict;
 pub use exit::Exit;
 pub use judgement::judge;
-pub use line_error::CommandLineError;
+pub use line_error::{CommandLineError, ProcessMistake};
 pub use program::{Run, end_threads, run_without_words, run_words};
 pub use shown::show;
 pub use silo_play::play_new_silo;

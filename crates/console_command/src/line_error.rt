@@ -7,15 +7,26 @@ use silo_address::SiloError;
 use std::alloc::AllocError;
 use thiserror::Error;
 
+/// Why the process of a silo is not one that can be started.
+#[derive(Clone, Copy, Debug, PartialEq, Eq, Error)]
+pub enum ProcessMistake {
+    /// What should name its silo doesn't.
+    #[error("ADDR is no silo: {0}")]
+    Address(SiloError),
+    /// What should be its token isn't.
+    #[error("TOKEN is no token: it has 1 to 64 bytes, all of them visible ASCII")]
+    Token,
+}
+
 /// Why a command line is not carried out.
 #[derive(Debug, Drop, Error)]
 pub enum CommandLineError {
     /// The words ask for help or for the version, or are not a line of the program; the text is for the user.
     #[error("{0}")]
     Usage(clap::Error),
-    /// What should name the silo whose process is asked for doesn't.
-    #[error("error: ADDR is no silo: {0}\n")]
-    NoSilo(SiloError),
+    /// The words ask for the process of a silo, and say wrongly which.
+    #[error("error: {0}\n")]
+    NoProcess(ProcessMistake),
     /// Memory ran out.
     #[error("out of memory")]
     OutOfMemory,
@@ -31,7 +42,7 @@ impl CommandLineError {
                 error.kind(),
                 ErrorKind::DisplayHelp | ErrorKind::DisplayVersion
             ),
-            CommandLineError::NoSilo(_) | CommandLineError::OutOfMemory => false,
+            CommandLineError::NoProcess(_) | CommandLineError::OutOfMemory => false,
         }
     }
 }

@@ -24,7 +24,7 @@ use crate::{
 };
 use directory_rules::Settings;
 use line_loop::{Ended, LineFault, Sink, Source, send};
-use process_answers::Dead;
+use process_answers::{Dead, JoinToken};
 use silo_address::SiloAddress;
 use std::alloc::Global;
 use std::convert::AsStr;
@@ -99,8 +99,12 @@ fn run_line<R: Source, W: Sink, E: Sink>(
             tell_check(checked, errors);
             Run::Ended(Exit::Checked(checked))
         }
-        Line::Silo(silo, options) => {
-            let ended = play_silo(alloc, silo, options, source, output);
+        Line::Silo {
+            silo,
+            token,
+            options,
+        } => {
+            let ended = play_silo(alloc, silo, token, options, source, output);
             tell_silo(ended, errors);
             Run::Ended(Exit::Silo(ended))
         }
@@ -143,23 +147,24 @@ fn play<R: Source, W: Sink>(
 fn play_silo<R: Source, W: Sink>(
     alloc: Global,
     silo: SiloAddress,
+    token: Option<JoinToken>,
     options: Options,
     source: &mut R,
     output: &mut W,
 ) -> Ended<Dead>
     requires { AreInRange options }
-    ensures plays { PlaysSilo silo options
+    ensures plays { PlaysSilo silo token options
         (record { rest = R.remaining source.old; output = W.contents output.old })
         (record { rest = R.remaining source.new; output = W.contents output.new }) result }
     ensures calls { MakesCalls R.reads W.writes (source.old, output.old) (source.new, output.new) result }
-    ensures in_turn { AnswersInTurn R.reads W.writes (first_silo (chosen_process_settings options) silo) (source.old, output.old) (source.new, output.new) result }
+    ensures in_turn { AnswersInTurn R.reads W.writes token (first_silo (chosen_process_settings options) silo) (source.old, output.old) (source.new, output.new) result }
 {
     let Options {
         hashing,
         points,
         cache,
     } = options;
-    match play_new_silo(alloc, silo, hashing, points, cache, source, output) {
+    match play_new_silo(alloc, silo, token, hashing, points, cache, source, output) {
         Some(answered) => answered,
         None => unreachable!(),
     }

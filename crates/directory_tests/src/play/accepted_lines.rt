@@ -1,6 +1,7 @@
 use clap::error::ErrorKind;
 use console_command::{CommandLineError, Line, Options, read_line};
 use hash_ring::Hashing;
+use process_answers::JoinToken;
 use silo_address::SiloAddress;
 use std::alloc::Global;
 
@@ -12,12 +13,12 @@ const fn options(hashing: Hashing, points: usize, cache: usize) -> Options {
     }
 }
 
-// What a line reads as, or of which kind its refusal is; that of a silo that is none is a value's.
+// What a line reads as, or of which kind its refusal is; that of a process that is none is a value's.
 fn answer(alloc: Global, words: &[&str]) -> Result<Line, ErrorKind> {
     match read_line(alloc, words) {
         Ok(line) => Ok(line),
         Err(CommandLineError::Usage(error)) => Err(error.kind()),
-        Err(CommandLineError::NoSilo(_)) => Err(ErrorKind::InvalidValue),
+        Err(CommandLineError::NoProcess(_)) => Err(ErrorKind::InvalidValue),
         Err(CommandLineError::OutOfMemory) => Err(ErrorKind::OutOfMemory),
     }
 }
@@ -105,14 +106,44 @@ fn lines_of_a_silo(rt: HostRuntime) {
     let chosen = options(Hashing::Stated, 30, 6);
     let before = ["g", "silo", text, "--hashing=stated", "--cache", "6"];
     let behind = ["g", "silo", "--hashing=stated", "--cache", "6", text];
-    assert!(rt; answer(rt.alloc(), &before) == Ok(Line::Silo(silo, chosen)));
-    assert!(rt; answer(rt.alloc(), &behind) == Ok(Line::Silo(silo, chosen)));
+    let line = Line::Silo {
+        silo,
+        token: None,
+        options: chosen,
+    };
+    assert!(rt; answer(rt.alloc(), &before) == Ok(line));
+    assert!(rt; answer(rt.alloc(), &behind) == Ok(line));
 }
 
-const REFUSED: [(&'static [&'static str], ErrorKind); 47] = [
+// So does its token, of 1 to 64 bytes.
+#[test]
+fn lines_of_a_silo_with_a_token(rt: HostRuntime) {
+    let text = "10.0.0.1:1000@1";
+    let longest = "0123456789abcdef0123456789abcdef0123456789abcdef0123456789abcde~";
+    let line = Line::Silo {
+        silo: SiloAddress::parse(text.as_bytes()).expect(&rt, "a silo"),
+        token: JoinToken::parse(longest.as_bytes()),
+        options: options(Hashing::Sha256, 30, 1024),
+    };
+    assert!(rt; answer(rt.alloc(), &["g", "silo", "--join", longest, text]) == Ok(line));
+    let longer = "0123456789abcdef0123456789abcdef0123456789abcdef0123456789abcdef0";
+    let refused = Err(ErrorKind::InvalidValue);
+    assert!(rt; answer(rt.alloc(), &["g", "silo", text, "--join", longer]) == refused);
+}
+
+const REFUSED: [(&'static [&'static str], ErrorKind); 50] = [
     (&["g", "silo"], ErrorKind::MissingRequiredArgument),
     (&["g", "silo", "10.0.0.1"], ErrorKind::InvalidValue),
     (&["g", "silo", ""], ErrorKind::InvalidValue),
+    (
+        &["g", "silo", "10.0.0.1:1000@1", "--join="],
+        ErrorKind::InvalidValue,
+    ),
+    (
+        &["g", "silo", "10.0.0.1:1000@1", "--join", "a b"],
+        ErrorKind::InvalidValue,
+    ),
+    (&["g", "play", "--join", "a"], ErrorKind::UnknownArgument),
     (
         &["g", "silo", "10.0.0.1:1000@1", "10.0.0.2:1000@1"],
         ErrorKind::UnknownArgument,
@@ -228,6 +259,7 @@ Arguments:
   <ADDR>  The silo: a.b.c.d:port@generation
 
 Options:
+      --join <TOKEN>       Join by the line that carries this token, and by no other: 1 to 64 visible ASCII bytes
       --hashing <HASHING>  How points and grains are hashed: by their texts, or as the script states [default: sha256] [possible values: sha256, stated]
       --points <POINTS>    How many points a silo has under sha256, from 1 to 128 [default: 30]
       --cache <CACHE>      How many hints a silo's cache keeps, from 1 to 65536 [default: 1024]
