@@ -11,9 +11,11 @@ use Rattle.process_answers.specs.ProcessSettings.{process_settings}
 use Rattle.silo_library.specs.declared.status.CallStatus.{CallStatus}
 use Rattle.silo_library.specs.declared.status.CallStatus.TheVariants as status
 
--- a silo, what it answered to the last line, and whether it answers no more
+-- a silo, the token that its process was started with, if it was started with one, what it answered to the last line, and whether it
+-- answers no more
 pub record OpenSiloValue : Type 0 where
   pub silo : SiloValue
+  pub token : Option (List ℕ)
   pub answer : List ℕ
   pub ended : Bool
 
@@ -28,9 +30,9 @@ hashing_of (suc (suc more)) = None
 abbrev pub AreInRange : (points cache : ℕ) → Type 0
 AreInRange points cache = (1 ≤ points) × (points ≤ 128) × (cache ≤ 65536)
 
--- the silo with these settings, which was told nothing yet, and answered nothing
+-- the silo with these settings, which was told nothing yet, and answered nothing, of a process without a token
 abbrev pub first_open : Settings → Silo → OpenSiloValue
-first_open settings silo = record { silo = first_silo settings silo; answer = []; ended = false }
+first_open settings silo = record { silo = first_silo settings silo; token = None; answer = []; ended = false }
 
 -- an address and settings open that silo
 pub record Opens (address : List ℕ) (hashing points cache : ℕ) (it : OpenSiloValue) : Type 0 where
@@ -52,8 +54,8 @@ RefusesToOpen address hashing points cache other = ⊥
 -- ---- Answering.
 -- a line makes this of an open silo, which tells so by its status
 abbrev pub Answers : (old : OpenSiloValue) (line : List ℕ) (new : OpenSiloValue) → CallStatus → Type 0
-Answers old line new status.GoesOn = (old.ended ≡ false) × AnswersLine old.silo line [] new.silo new.answer false × (new.ended ≡ false)
-Answers old line new status.Dead = (old.ended ≡ false) × AnswersLine old.silo line [] new.silo new.answer true × (new.ended ≡ true)
+Answers old line new status.GoesOn = (old.ended ≡ false) × AnswersLine old.token old.silo line [] new.silo new.answer false × (new.token ≡ old.token) × (new.ended ≡ false)
+Answers old line new status.Dead = (old.ended ≡ false) × AnswersLine old.token old.silo line [] new.silo new.answer true × (new.token ≡ old.token) × (new.ended ≡ true)
 Answers old line new status.OutOfMemory = (old.ended ≡ false) × (new.answer ≡ []) × (new.ended ≡ true)
 Answers old line new status.Ended = (old.ended ≡ true) × (new ≡ record old { answer = [] })
 Answers old line new other = ⊥

@@ -26,7 +26,7 @@ impl Model for OpenSilo {
 
     ghost Value = { OpenSiloValue };
 
-    ghost view = { λ it. record { silo = it.player.silo; answer = it.answer.items; ended = it.ended } };
+    ghost view = { λ it. record { silo = it.player.silo; token = it.player.token; answer = it.answer.items; ended = it.ended } };
 }
 
 impl OpenSilo {
@@ -142,7 +142,7 @@ fn first(alloc: Global, settings: Settings, silo: SiloAddress) -> Result<Box<Ope
         alloc,
         OpenSilo {
             alloc,
-            player: Player { silo },
+            player: Player { silo, token: None },
             answer: Vec::new(alloc),
             ended: false,
         },
