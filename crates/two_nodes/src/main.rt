@@ -3,6 +3,8 @@
 #![tactic(auto)]
 
 mod pair;
+mod server;
+mod threads;
 
 use anyhow::{Context, Result};
 use directory_silo::LetterKind;
@@ -17,7 +19,8 @@ fn main(rt: HostRuntime) -> Result<()> {
     take_over(&rt, &mut pair)?;
     look_up(&rt, &mut pair)?;
     migrate(&rt, &mut pair)?;
-    hand_back(&rt, &mut pair)
+    hand_back(&rt, &mut pair)?;
+    threads::run(&rt, rt.alloc())
 }
 
 // Grains start on the first silo, and the second one takes over its part of them.
