@@ -106,13 +106,13 @@ fn lines_of_a_silo(rt: HostRuntime) {
     let chosen = options(Hashing::Stated, 30, 6);
     let before = ["g", "silo", text, "--hashing=stated", "--cache", "6"];
     let behind = ["g", "silo", "--hashing=stated", "--cache", "6", text];
-    let line = Line::Silo {
+    let wanted = Ok(Line::Silo {
         silo,
         token: None,
         options: chosen,
-    };
-    assert!(rt; answer(rt.alloc(), &before) == Ok(line));
-    assert!(rt; answer(rt.alloc(), &behind) == Ok(line));
+    });
+    assert!(rt; answer(rt.alloc(), &before) == wanted);
+    assert!(rt; answer(rt.alloc(), &behind) == wanted);
 }
 
 // So does its token, of 1 to 64 bytes.
