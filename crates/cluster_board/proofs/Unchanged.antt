@@ -8,13 +8,14 @@ use Rattle.std.specs.BTreeMap.{is_at}
 use Rattle.silo_address.specs.Silo.{Silo, silo_cmp}
 use Rattle.silo_address.proofs.Order.{silo_cmp_total, silo_cmp_exact}
 use Rattle.membership_view.proofs.Entries.{lookup-insert_entry}
-use Rattle.directory_rules.specs.Event.{Event, Join, Leave, Kill, See, Wake, Close, Find, Forget, Deliver, Lose, Nudge, Offer}
+use Rattle.directory_rules.specs.Membership.{is_seeable}
+use Rattle.directory_rules.specs.Event.{Event, Join, Leave, Kill, See, Do, Deliver, Lose}
 use Rattle.directory_rules.specs.declared.outcome.Happening.{Happening}
-use Rattle.directory_rules.specs.Input.{Input, Wakes, Closes, Finds, Forgets, Nudges, Offers, Receives, step}
+use Rattle.directory_rules.specs.Input.{Input, Does, Receives, step, sight_of}
 use Rattle.directory_rules.specs.Letter.{Letter}
 use Rattle.directory_rules.specs.Node.{Node}
 use Rattle.directory_rules.specs.Step.{Stepped}
-use Rattle.directory_rules.specs.World.{World, Accepted}
+use Rattle.directory_rules.specs.World.{World, Accepted, membership_of}
 use Rattle.directory_rules.specs.Mail.{has_room_for, letter_of, with_delivered}
 use Rattle.directory_rules.specs.Happens as rule
 use Rattle.cluster_board.specs.Changed.{MayChange}
@@ -66,7 +67,7 @@ seen_by (Ok stepped) world silo other version differ = taken world silo other _ 
 sees_at : (node : Option Node) (world : World) (silo other : Silo) (version : ℕ) → (other ≡ silo → ⊥) → Stays world other (rule.sees_at node world silo version)
 sees_at None world silo other version differ = tt
 sees_at (Some node) world silo other version differ =
-    unless world other _ 903 _ (unless world other (rule.is_seeable world silo version) 904 _ (seen_by (step node (rule.sight_of world version)) world silo other version differ))
+    unless world other _ 903 _ (unless world other (is_seeable (membership_of world) silo version) 904 _ (seen_by (step node (sight_of (membership_of world) version)) world silo other version differ))
 
 delivered_by : (result : Result Stepped ℕ) (world : World) (number : ℕ) (letter : Letter) (other : Silo) → (other ≡ letter.to → ⊥) → Stays world other (rule.delivered_by result world number letter)
 delivered_by (Err refusal) world number letter other differ = tt
@@ -86,14 +87,9 @@ attempted world (Join silo places) other away = absurd (away tt)
 attempted world (Leave silo) other away = absurd (away tt)
 attempted world (Kill silo) other away = absurd (away tt)
 attempted world (See silo version) other away = sees_at (rule.node_of world silo) world silo other version away
-attempted world (Wake silo grain) other away = does world silo other (Wakes grain) away
-attempted world (Close silo grain) other away = does world silo other (Closes grain) away
-attempted world (Find silo grain) other away = does world silo other (Finds grain) away
-attempted world (Forget silo grain) other away = does world silo other (Forgets grain) away
+attempted world (Do silo step) other away = does world silo other (Does step) away
 attempted world (Deliver number) other away = delivers (letter_of world number) world number other refl away
 attempted world (Lose number) other away = when world other (is_some (letter_of world number)) 905 _ refl
-attempted world (Nudge silo) other away = does world silo other Nudges away
-attempted world (Offer silo grain to) other away = does world silo other (Offers grain to) away
 
 -- an accepted event leaves a node that it may not change
 pub happened : (world : World) (event : Event) (other : Silo) → (MayChange world event other → ⊥) → Stays world other (rule.happens world event)

@@ -1,7 +1,7 @@
 -- Whose node an event may change.
 use Rattle.std.specs.Prelude.{◌≡◌, ℕ, Some}
 use Rattle.silo_address.specs.Silo.{Silo}
-use Rattle.directory_rules.specs.Event.{Event, Join, Leave, Kill, See, Wake, Close, Find, Forget, Deliver, Lose, Nudge, Offer}
+use Rattle.directory_rules.specs.Event.{Event, Join, Leave, Kill, See, Do, Deliver, Lose}
 use Rattle.directory_rules.specs.Letter.{Letter}
 use Rattle.directory_rules.specs.World.{World}
 use Rattle.directory_rules.specs.Mail.{letter_of}
@@ -18,11 +18,6 @@ MayChange world (Join silo places) other = Unit {0}
 MayChange world (Leave silo) other = Unit {0}
 MayChange world (Kill silo) other = Unit {0}
 MayChange world (See silo version) other = other ≡ silo
-MayChange world (Wake silo grain) other = other ≡ silo
-MayChange world (Close silo grain) other = other ≡ silo
-MayChange world (Find silo grain) other = other ≡ silo
-MayChange world (Forget silo grain) other = other ≡ silo
+MayChange world (Do silo step) other = other ≡ silo
 MayChange world (Deliver number) other = IsReceiver world number other
 MayChange world (Lose number) other = ⊥
-MayChange world (Nudge silo) other = other ≡ silo
-MayChange world (Offer silo grain to) other = other ≡ silo

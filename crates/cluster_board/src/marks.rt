@@ -66,13 +66,7 @@ pub(crate) fn forget_by<N: Names>(
 {
     match event {
         Event::Join { .. } | Event::Leave { .. } | Event::Kill { .. } => marked.clear(),
-        Event::See { silo, .. }
-        | Event::Wake { silo, .. }
-        | Event::Close { silo, .. }
-        | Event::Find { silo, .. }
-        | Event::Forget { silo, .. }
-        | Event::Nudge { silo }
-        | Event::Offer { silo, .. } => forget(marked, silo),
+        Event::See { silo, .. } | Event::Do { silo, .. } => forget(marked, silo),
         Event::Deliver { number } => forget_receiver(marked, world, *number),
         Event::Lose { .. } => {}
     }

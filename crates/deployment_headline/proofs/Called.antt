@@ -5,8 +5,8 @@ use Rattle.silo_address.specs.Silo.{Silo, silo_cmp}
 use Rattle.silo_address.proofs.Order.{silo_cmp_total, silo_cmp_exact}
 use Rattle.membership_view.specs.Changes.{occupant}
 use Rattle.directory_facts.proofs.Lookups.{found_put}
-use Rattle.directory_rules.specs.Input.{Wakes, Closes, Finds, Forgets, Nudges, Offers}
-use Rattle.silo_rules.specs.Membership.{Join, Membership, changed}
+use Rattle.directory_rules.specs.Input.{Does}
+use Rattle.directory_rules.specs.Membership.{Join, Membership, changed}
 use Rattle.silo_rules.specs.SiloValue.{SiloValue, first_silo}
 use Rattle.deployment_headline.specs.Deployment.{Deployment, process_of}
 use Rattle.deployment_headline.specs.Steps.{Decide, without, decided, tells, tells_at, sees_at, does_at, delivers, receives_at, after}
@@ -17,12 +17,7 @@ unfolding after
 takes_its_steps d silo s there = record {
   tells = λ index change found. ap (λ o. tells_at o d silo index) there ∙ ap (λ o. tells o d silo s index) found;
   sees_so = λ version. ap (λ o. sees_at o d silo version) there;
-  wakes = λ grain. ap (λ o. does_at o d silo (Wakes grain)) there;
-  closes = λ grain. ap (λ o. does_at o d silo (Closes grain)) there;
-  finds = λ grain. ap (λ o. does_at o d silo (Finds grain)) there;
-  forgets = λ grain. ap (λ o. does_at o d silo (Forgets grain)) there;
-  nudges = ap (λ o. does_at o d silo Nudges) there;
-  offers = λ grain to. ap (λ o. does_at o d silo (Offers grain to)) there;
+  asks = λ step. ap (λ o. does_at o d silo (Does step)) there;
   receives_so = λ index letter found. ap (λ o. receives_at o d silo index) there ∙ ap (λ o. delivers o d silo s) found;
 }
 

@@ -21,8 +21,8 @@ use Rattle.directory_rules.specs.Sight.{is_next, pieces_after, sealed, shelf_aft
 use Rattle.directory_rules.specs.Node.{Node}
 use Rattle.directory_rules.specs.Step.{Stepped, see, having_seen, new_gatherings, new_recoveries}
 use Rattle.directory_rules.proofs.Cases.{on_bool}
-use Rattle.silo_rules.specs.Membership.{Change, Membership, changed}
-use Rattle.silo_rules.specs.Steps.{is_seeable}
+use Rattle.directory_rules.specs.Membership.{Change, Membership, changed, is_seeable}
+
 use Rattle.silo_rules.proofs.Lawful.{row_known}
 use Rattle.silo_rules.proofs.Whole.{Are, made, accepts}
 

@@ -11,14 +11,14 @@ use Rattle.directory_rules.specs.declared.effect.Effect.TheVariants.{Ignored}
 use Rattle.directory_rules.specs.Settings.{Settings}
 use Rattle.directory_rules.specs.Letter.{Letter}
 use Rattle.directory_rules.specs.Step.{Stepped, silently}
-use Rattle.directory_rules.specs.Input.{Input, Wakes, Closes, Finds, Forgets, Nudges, Offers, Receives, step}
-use Rattle.silo_rules.specs.Membership.{Change, Join, Leave, Die, Membership, joined, changed, replaced_by}
+use Rattle.directory_rules.specs.Input.{Input, Does, Receives, step, sight_of}
+use Rattle.directory_rules.specs.Membership.{Change, Join, Leave, Die, Membership, joined, changed, replaced_by, is_seeable}
 use Rattle.silo_rules.specs.SiloValue.{SiloValue, first_silo}
-use Rattle.silo_rules.specs.Steps.{barred, unless_barred, is_seeable, sight_of, sees, does, receives}
+use Rattle.silo_rules.specs.Steps.{barred, unless_barred, sees, does, receives}
 use Rattle.silo_rules.specs.Steps as alone
 use Rattle.silo_rules.specs.Told.{Heard, heard_by, told_again, told}
 use Rattle.deployment_headline.specs.Deployment.{Deployment, first_deployment, process_of}
-use Rattle.deployment_headline.specs.Steps.{Step, Decide, Tell, See, Wake, Close, Find, Forget, Nudge, Offer, Receive, without, processes_after, decided, heard, took, tells, tells_at, does_at, comes, sees_at, delivers, receives_at, after, after_all, deployed}
+use Rattle.deployment_headline.specs.Steps.{Step, Decide, Tell, See, Do, Receive, without, processes_after, decided, heard, took, tells, tells_at, does_at, comes, sees_at, delivers, receives_at, after, after_all, deployed}
 use Rattle.deployment_headline.specs.Limits.{with_room, process_with_room, deployment_with_room}
 use Rattle.deployment_headline.proofs.Lists.{over, lookup-over, insert-over, remove-over}
 use Rattle.deployment_headline.proofs.Limits.{result_with_room, steps_same}
@@ -138,12 +138,7 @@ module _ (events letters : ℕ) where
   after_same d (Decide c) = ap (λ r. decided r (R d) c) (changed_same d.settings d.membership c) ∙ decided_same d c (changed d.settings d.membership c)
   after_same d (Tell silo index) = ap (λ o. tells_at o (R d) silo index) (process_there d silo) ∙ tells_at_same d silo index (process_of d silo)
   after_same d (See silo version) = ap (λ o. sees_at o (R d) silo version) (process_there d silo) ∙ sees_at_same d silo version (process_of d silo)
-  after_same d (Wake silo grain) = comes_same d silo (Wakes grain)
-  after_same d (Close silo grain) = comes_same d silo (Closes grain)
-  after_same d (Find silo grain) = comes_same d silo (Finds grain)
-  after_same d (Forget silo grain) = comes_same d silo (Forgets grain)
-  after_same d (Nudge silo) = comes_same d silo Nudges
-  after_same d (Offer silo grain to) = comes_same d silo (Offers grain to)
+  after_same d (Do silo step) = comes_same d silo (Does step)
   after_same d (Receive silo index) = ap (λ o. receives_at o (R d) silo index) (process_there d silo) ∙ receives_at_same d silo index (process_of d silo)
 
   after_all_same : (d : Deployment) (steps : List Step) → after_all (R d) steps ≡ R (after_all d steps)

@@ -25,7 +25,7 @@ use Rattle.directory_rules.specs.PlainMachine.{life_on, Plain, PlainStep, Nothin
 use Rattle.directory_facts.proofs.Lawful.{letters_are_own}
 use Rattle.directory_facts.proofs.SeenRings.{seen_keep}
 use Rattle.directory_headline.proofs.Theorems.{headline_after, plain_after}
-use Rattle.silo_rules.specs.Membership.{Change, Membership, first_membership, changed, replaced_by}
+use Rattle.directory_rules.specs.Membership.{Change, Membership, first_membership, changed, replaced_by}
 use Rattle.silo_rules.specs.Told.{heard_by, news_of, told, told_again}
 use Rattle.silo_rules.proofs.Whole.{Are}
 use Rattle.deployment_headline.specs.Deployment.{Deployment, first_deployment}

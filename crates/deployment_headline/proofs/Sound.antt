@@ -15,19 +15,19 @@ use Rattle.directory_rules.specs.declared.effect.Effect.TheVariants.{Ignored}
 use Rattle.directory_rules.specs.Settings.{Settings}
 use Rattle.directory_rules.specs.Letter.{Letter}
 use Rattle.directory_rules.specs.Step.{Stepped, silently}
-use Rattle.directory_rules.specs.Input.{Input, Wakes, Closes, Finds, Forgets, Nudges, Offers, Receives, step}
+use Rattle.directory_rules.specs.Input.{Input, Does, Receives, step, sight_of}
 use Rattle.directory_rules.proofs.Removed.{sorted_removed}
 use Rattle.directory_facts.proofs.Entries.{all_put, all_removed, found_so, same_key}
 use Rattle.silo_rules.specs.declared.news.News.TheVariants.{Known}
 use Rattle.silo_rules.specs.Known.{is_known}
-use Rattle.silo_rules.specs.Membership.{Change, Join, Leave, Die, Membership, first_membership, changed, replaced_by}
+use Rattle.directory_rules.specs.Membership.{Change, Join, Leave, Die, Membership, first_membership, changed, replaced_by, is_seeable}
 use Rattle.silo_rules.specs.SiloValue.{SiloValue, first_silo}
-use Rattle.silo_rules.specs.Steps.{barred, unless_barred, is_seeable, sight_of, seen, sees, does, receives}
+use Rattle.silo_rules.specs.Steps.{barred, unless_barred, seen, sees, does, receives}
 use Rattle.silo_rules.specs.Told.{Heard, heard_by, told}
 use Rattle.silo_rules.proofs.Own.{StaysOwn, stays_own}
 use Rattle.silo_rules.proofs.Whole.{Are, made}
 use Rattle.deployment_headline.specs.Deployment.{Deployment, first_deployment, process_of}
-use Rattle.deployment_headline.specs.Steps.{Step, Decide, Tell, See, Wake, Close, Find, Forget, Nudge, Offer, Receive, without, processes_after, decided, heard, took, tells, tells_at, does_at, sees_at, delivers, receives_at, after}
+use Rattle.deployment_headline.specs.Steps.{Step, Decide, Tell, See, Do, Receive, without, processes_after, decided, heard, took, tells, tells_at, does_at, sees_at, delivers, receives_at, after}
 use Rattle.deployment_headline.proofs.Lists.{rest_begins}
 use Rattle.deployment_headline.proofs.Memberships.{Leads, leads_on, one_higher}
 use Rattle.deployment_headline.proofs.StepEvents.{IsTold, IsProcess, IsProcessIn}
@@ -229,10 +229,5 @@ module _ (d : Deployment) (sound : Sound d) where
   keeps (Decide c) = decided_keeps c (changed d.settings d.membership c) refl
   keeps (Tell silo index) = tells_at_keeps silo index (process_of d silo) refl
   keeps (See silo version) = sees_keeps silo version (process_of d silo) refl
-  keeps (Wake silo grain) = does_keeps silo (Wakes grain) (process_of d silo) refl
-  keeps (Close silo grain) = does_keeps silo (Closes grain) (process_of d silo) refl
-  keeps (Find silo grain) = does_keeps silo (Finds grain) (process_of d silo) refl
-  keeps (Forget silo grain) = does_keeps silo (Forgets grain) (process_of d silo) refl
-  keeps (Nudge silo) = does_keeps silo Nudges (process_of d silo) refl
-  keeps (Offer silo grain to) = does_keeps silo (Offers grain to) (process_of d silo) refl
+  keeps (Do silo step) = does_keeps silo (Does step) (process_of d silo) refl
   keeps (Receive silo index) = receives_keeps silo index (process_of d silo) refl

@@ -22,16 +22,18 @@ use Rattle.directory_rules.specs.Event as event
 use Rattle.directory_rules.specs.declared.outcome.Happening.TheVariants as happening
 use Rattle.directory_rules.specs.Event.{Event, IsEvent}
 use Rattle.directory_rules.specs.Step.{Stepped, silently}
-use Rattle.directory_rules.specs.Input.{Input, Wakes, Closes, Finds, Forgets, Nudges, Offers, Receives, step}
-use Rattle.directory_rules.specs.World.{Posted, World}
+use Rattle.directory_rules.specs.Input.{Input, Does, Receives, step, sight_of}
+use Rattle.directory_rules.specs.World.{Accepted, Posted, World, membership_of}
+use Rattle.directory_rules.specs.Members.{is_known_dead}
 use Rattle.directory_rules.specs.Happens as rule
-use Rattle.silo_rules.specs.Membership.{Change, Join, Leave, Die, Membership, placed, joined, with_places, with_views, changed}
+use Rattle.directory_rules.proofs.Decided.{died}
+use Rattle.directory_rules.specs.Membership.{Change, Join, Leave, Die, Membership, with_views, changed, is_seeable, barred_by}
 use Rattle.silo_rules.specs.SiloValue.{SiloValue, first_silo, own_status}
-use Rattle.silo_rules.specs.Steps.{barred_by, unless_barred, is_seeable, sight_of, seen, does}
+use Rattle.silo_rules.specs.Steps.{unless_barred, seen, does}
 use Rattle.silo_rules.specs.Told.{Heard, told}
 use Rattle.silo_rules.proofs.Whole.{Are}
 use Rattle.deployment_headline.specs.Deployment.{Deployment, process_of}
-use Rattle.deployment_headline.specs.Steps.{Step, Decide, Tell, See, Wake, Close, Find, Forget, Nudge, Offer, Receive, IsStep, without, decided, heard, took, tells, tells_at, does_at, sees_at, delivers, receives_at, after}
+use Rattle.deployment_headline.specs.Steps.{Step, Decide, Tell, See, Do, Receive, IsStep, without, decided, heard, took, tells, tells_at, does_at, sees_at, delivers, receives_at, after}
 use Rattle.deployment_headline.proofs.Lists.{over, insert-over, remove-over, set_same, put_same}
 use Rattle.deployment_headline.proofs.Memberships.{Leads, leads_to, same_sight, still_seeable}
 use Rattle.deployment_headline.proofs.Worlds.{its_node, its_letter, make, HasWritten, node_there, letter_there, Moves, stays, goes, steps}
@@ -97,8 +99,8 @@ module _ (d : Deployment) (accepted : ℕ) (mail : List (ℕ × Posted)) (has : 
       let sight = sym (same_sight s.node m d.membership version to.0 still.0) ∙ is in
       steps d accepted mail mail (event.See silo version) silo s (happening.Saw silo version stepped.effect) stepped named room fits has
       (ap (λ o. rule.sees_at o w silo version) (has_process silo s there)
-      ∙ ap (λ b. cond (not b) (Err 903) (cond (not (rule.is_seeable w silo version)) (Err 904) (rule.seen_by (step s.node (rule.sight_of w version)) w silo version))) newer
-      ∙ ap (λ b. cond (not b) (Err 904) (rule.seen_by (step s.node (rule.sight_of w version)) w silo version)) still.1
+      ∙ ap (λ b. cond (not b) (Err 903) (cond (not (is_seeable (membership_of w) silo version)) (Err 904) (rule.seen_by (step s.node (sight_of (membership_of w) version)) w silo version))) newer
+      ∙ ap (λ b. cond (not b) (Err 904) (rule.seen_by (step s.node (sight_of (membership_of w) version)) w silo version)) still.1
       ∙ ap (λ r. rule.seen_by r w silo version) sight)
 
   abbrev seen_to : (silo : Silo) (version : ℕ) (s : SiloValue) (newer seeable : Bool) → Deployment
@@ -190,28 +192,29 @@ module _ (d : Deployment) (accepted : ℕ) (mail : List (ℕ × Posted)) (has : 
       ap (λ nodes. record w { accepted = accepted + 1; views = views; places = places; nodes = insert_entry silo_cmp nodes silo (new_node d.settings silo) }) (remove-over its_node (is_at (silo_cmp old)) d.processes)
       ∙ ap (λ nodes. record w { accepted = accepted + 1; views = views; places = places; nodes = nodes }) (insert-over its_node silo_cmp (without (Some old) d.processes) silo (first_silo d.settings silo))
 
-  placed_so : (silo : Silo) (stated : List ℕ) → IsEvent (event.Join silo stated) → (views : ViewsValue) (o : Result PlacesValue ℕ) → rule.attempted w (event.Join silo stated) ≡ rule.joined o views w silo
-      → Moves d (decided (with_places o views) d (Join silo stated)) accepted mail
-  placed_so silo stated named views (Err number) is = none
-  placed_so silo stated named views (Ok places) is =
-      goes d _ accepted mail mail (event.Join silo stated) _ _ named room is (joining silo (change.occupant silo d.membership.views.rows) views places) has
-
-  joins_so : (silo : Silo) (stated : List ℕ) → IsEvent (event.Join silo stated) → (o : Result ViewsValue ℕ) → rule.attempted w (event.Join silo stated) ≡ rule.join_viewed o w silo stated
-      → Moves d (decided (joined o d.settings d.membership.places silo stated) d (Join silo stated)) accepted mail
+  joins_so : (silo : Silo) (stated : List ℕ) → IsEvent (event.Join silo stated) → (o : Result Membership ℕ) → rule.attempted w (event.Join silo stated) ≡ rule.changed_by o w (Join silo stated)
+      → Moves d (decided o d (Join silo stated)) accepted mail
   joins_so silo stated named (Err number) is = none
-  joins_so silo stated named (Ok views) is = placed_so silo stated named views (placed d.settings d.membership.places silo stated) is
+  joins_so silo stated named (Ok m) is =
+      goes d _ accepted mail mail (event.Join silo stated) _ _ named room is (joining silo (change.occupant silo d.membership.views.rows) m.views m.places) has
 
-  leaves_so : (silo : Silo) → IsSilo silo → (o : Option Status) → rule.attempted w (event.Leave silo) ≡ rule.leave_by o w silo
+  -- by the silo's status: in a world that of a Dead one is refused by 902
+  abbrev by_status : Option Status → Result Membership ℕ → Change → Result Accepted ℕ
+  by_status o made c = if is_known_dead o then Err 902 else rule.changed_by made w c
+
+  leaves_so : (silo : Silo) → IsSilo silo → (o : Option Status)
+      → rule.attempted w (event.Leave silo) ≡ by_status o (with_views (change.leave_from o d.membership.views silo) d.membership.places) (Leave silo)
       → Moves d (decided (with_views (change.leave_from o d.membership.views silo) d.membership.places) d (Leave silo)) accepted mail
   leaves_so silo named None is = none
   leaves_so silo named (Some Active) is = goes d _ accepted mail mail (event.Leave silo) _ _ named room is refl has
   leaves_so silo named (Some Leaving) is = none
   leaves_so silo named (Some Dead) is = none
 
-  dying : (silo : Silo) → (rule.died w silo).world ≡ record w { accepted = accepted + 1; views = change.with_death d.membership.views silo; nodes = over its_node (without (Some silo) d.processes) }
+  dying : (silo : Silo) → (died w silo).world ≡ record w { accepted = accepted + 1; views = change.with_death d.membership.views silo; nodes = over its_node (without (Some silo) d.processes) }
   dying silo = ap (λ nodes. record w { accepted = accepted + 1; views = change.with_death d.membership.views silo; nodes = nodes }) (remove-over its_node (is_at (silo_cmp silo)) d.processes)
 
-  dies_so : (silo : Silo) → IsSilo silo → (o : Option Status) → rule.attempted w (event.Kill silo) ≡ rule.kill_by o w silo
+  dies_so : (silo : Silo) → IsSilo silo → (o : Option Status)
+      → rule.attempted w (event.Kill silo) ≡ by_status o (with_views (change.die_from o d.membership.views silo) d.membership.places) (Die silo)
       → Moves d (decided (with_views (change.die_from o d.membership.views silo) d.membership.places) d (Die silo)) accepted mail
   dies_so silo named None is = none
   dies_so silo named (Some Active) is = goes d _ accepted mail mail (event.Kill silo) _ _ named room is (dying silo) has
@@ -219,7 +222,7 @@ module _ (d : Deployment) (accepted : ℕ) (mail : List (ℕ × Posted)) (has : 
   dies_so silo named (Some Dead) is = none
 
   decides_so : (c : Change) → IsStep (Decide c) → Moves d (decided (changed d.settings d.membership c) d c) accepted mail
-  decides_so (Join silo stated) named = joins_so silo stated named (change.after_join d.membership.views silo) refl
+  decides_so (Join silo stated) named = joins_so silo stated named (changed d.settings d.membership (Join silo stated)) refl
   decides_so (Leave silo) named = leaves_so silo named (status_at d.membership.views d.membership.views.version silo) refl
   decides_so (Die silo) named = dies_so silo named (status_at d.membership.views d.membership.views.version silo) refl
 
@@ -229,10 +232,5 @@ module _ (d : Deployment) (accepted : ℕ) (mail : List (ℕ × Posted)) (has : 
   moves sorted its (Decide c) named fits = decides_so c named
   moves sorted its (Tell silo index) named fits = tells_at_so sorted silo index (process_of d silo) refl
   moves sorted its (See silo version) named fits = sees_so silo named version (process_of d silo) refl (its silo) fits
-  moves sorted its (Wake silo grain) named fits = does_so (event.Wake silo grain) named silo (Wakes grain) (process_of d silo) refl refl fits
-  moves sorted its (Close silo grain) named fits = does_so (event.Close silo grain) named silo (Closes grain) (process_of d silo) refl refl fits
-  moves sorted its (Find silo grain) named fits = does_so (event.Find silo grain) named silo (Finds grain) (process_of d silo) refl refl fits
-  moves sorted its (Forget silo grain) named fits = does_so (event.Forget silo grain) named silo (Forgets grain) (process_of d silo) refl refl fits
-  moves sorted its (Nudge silo) named fits = does_so (event.Nudge silo) named silo Nudges (process_of d silo) refl refl fits
-  moves sorted its (Offer silo grain to) named fits = does_so (event.Offer silo grain to) named silo (Offers grain to) (process_of d silo) refl refl fits
+  moves sorted its (Do silo step) named fits = does_so (event.Do silo step) named silo (Does step) (process_of d silo) refl refl fits
   moves sorted its (Receive silo index) named fits = receives_so sorted silo index (process_of d silo) refl (its silo) fits

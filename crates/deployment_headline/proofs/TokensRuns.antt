@@ -27,8 +27,9 @@ use Rattle.directory_rules.specs.Settings.{Settings, AreSettings}
 use Rattle.directory_rules.specs.Node.{Node, new_node}
 use Rattle.directory_rules.specs.Step.{Stepped}
 use Rattle.directory_rules.specs.Event.{Event, IsEvent}
-use Rattle.directory_rules.specs.Input.{Input, Wakes, Closes, Finds, Forgets, Nudges, Offers, Receives, Sees, step}
-use Rattle.directory_rules.specs.World.{World, Posted, Accepted}
+use Rattle.directory_rules.specs.Input.{Input, Sees, Does, Receives, step, sight_of}
+use Rattle.directory_rules.specs.World.{World, Posted, Accepted, membership_of}
+use Rattle.directory_rules.proofs.Decided.{died}
 use Rattle.directory_rules.specs.Mail.{letter_of, with_delivered, with_lost}
 use Rattle.directory_rules.specs.Happens as rule
 use Rattle.directory_rules.specs.Run.{run, world_after}
@@ -113,12 +114,7 @@ was_absent silo views next step q none =
 -- a silo's own doing brings all that is asked
 own_brings : (m : Setting) (f : World) (w : protocol.World) (silo : Silo) (input : Input) → IsOwnInput input → Brings m f w silo input
 own_brings m f w silo (Sees before view places) own = absurd own
-own_brings m f w silo (Wakes grain) own = tt
-own_brings m f w silo (Closes grain) own = tt
-own_brings m f w silo (Finds grain) own = tt
-own_brings m f w silo (Forgets grain) own = tt
-own_brings m f w silo Nudges own = tt
-own_brings m f w silo (Offers grain to) own = tt
+own_brings m f w silo (Does step) own = tt
 own_brings m f w silo (Receives letter) own = absurd own
 
 module _ (m : Setting) (f : World) (setting : IsSettingOf m f) (facts : WorldFacts m.hash f) (carried : Carried m f) where
@@ -143,10 +139,10 @@ module _ (m : Setting) (f : World) (setting : IsSettingOf m f) (facts : WorldFac
         | inr apart ↦ sym (step.others q apart) ∙ none
       ]))
 
-  dying : (silo : Silo) → change.after f.views (change.Die silo) ≡ Ok (change.with_death f.views silo) → Passes m w f (rule.died f silo).world
+  dying : (silo : Silo) → change.after f.views (change.Die silo) ≡ Ok (change.with_death f.views silo) → Passes m w f (died f silo).world
   dying silo is =
       let next = change.with_death f.views silo in
-      let later = (rule.died f silo).world in
+      let later = (died f silo).world in
       let accepts : Accepts f.views (change.Die silo) next = record { whole = facts.peopled.whole; is = is } in
       let step : Dies silo (view_at f.views f.views.version) (view_at next next.version) = changes_are_steps f.views (change.Die silo) next accepts in
       next_view later (view_shown m w f later carried.shown (versions_rise f.views (change.Die silo) next accepts) refl
@@ -215,7 +211,7 @@ module _ (m : Setting) (f : World) (setting : IsSettingOf m f) (facts : WorldFac
     joins = λ silo given next added viewed placed. joining silo next added viewed _;
     leaves = λ silo is. leaving silo is;
     dies = λ silo is. dying silo is;
-    sees = λ silo version node stepped there sight is. stepping silo node (rule.sight_of f version) stepped there is sight;
+    sees = λ silo version node stepped there sight is. stepping silo node (sight_of (membership_of f) version) stepped there is sight;
     does = λ silo input node stepped own there is. stepping silo node input stepped there is (own_brings m f w silo input own);
     delivers = λ number letter node stepped found there is. delivering number letter node stepped found there is;
     loses = λ number. record { leads = leads_nowhere m w (rule.counted (with_lost f number)) (shown_lost m f w number carried.shown); how = inl refl };

@@ -2,16 +2,16 @@
 -- what it answers and leaves by these same functions of `silo_rules`.
 use Rattle.std.specs.Prelude.{◌≡◌, ℕ, ◌+◌, List, ◌++◌, Some, Ok, Err, slice_get}
 use Rattle.silo_address.specs.Silo.{Silo}
-use Rattle.silo_address.specs.Grain.{Grain}
-use Rattle.directory_rules.specs.Input.{Wakes, Closes, Finds, Forgets, Nudges, Offers}
+use Rattle.directory_rules.specs.Input.{Does}
 use Rattle.directory_rules.specs.Letter.{Letter}
+use Rattle.directory_rules.specs.declared.own_step.OwnStep.{OwnStep}
 use Rattle.directory_rules.specs.Step.{Stepped}
-use Rattle.silo_rules.specs.Membership.{Change, Join, Membership, changed}
+use Rattle.directory_rules.specs.Membership.{Change, Join, Membership, changed}
 use Rattle.silo_rules.specs.SiloValue.{SiloValue, first_silo}
 use Rattle.silo_rules.specs.Steps.{does, sees, receives}
 use Rattle.silo_rules.specs.Told.{Heard, told}
 use Rattle.deployment_headline.specs.Deployment.{Deployment, process_of}
-use Rattle.deployment_headline.specs.Steps.{Decide, Tell, See, Wake, Close, Find, Forget, Nudge, Offer, Receive, heard, took, after}
+use Rattle.deployment_headline.specs.Steps.{Decide, Tell, See, Do, Receive, heard, took, after}
 
 -- the steps by which a silo's process takes part in the deployment, beside the calls that make them
 pub record TakesItsSteps (d : Deployment) (silo : Silo) (s : SiloValue) : Type 0 where
@@ -20,12 +20,7 @@ pub record TakesItsSteps (d : Deployment) (silo : Silo) (s : SiloValue) : Type 0
   -- `see`
   pub sees_so : (version : ℕ) → after d (See silo version) ≡ took (sees s version) d silo s
   -- `wake`, `close`, `find`, `forget`, `nudge` and `offer`
-  pub wakes : (grain : Grain) → after d (Wake silo grain) ≡ took (does s (Wakes grain)) d silo s
-  pub closes : (grain : Grain) → after d (Close silo grain) ≡ took (does s (Closes grain)) d silo s
-  pub finds : (grain : Grain) → after d (Find silo grain) ≡ took (does s (Finds grain)) d silo s
-  pub forgets : (grain : Grain) → after d (Forget silo grain) ≡ took (does s (Forgets grain)) d silo s
-  pub nudges : after d (Nudge silo) ≡ took (does s Nudges) d silo s
-  pub offers : (grain : Grain) (to : Silo) → after d (Offer silo grain to) ≡ took (does s (Offers grain to)) d silo s
+  pub asks : (step : OwnStep) → after d (Do silo step) ≡ took (does s (Does step)) d silo s
   -- `receive`: any letter that was written
   pub receives_so : (index : ℕ) (letter : Letter) → slice_get d.written index ≡ Some letter → after d (Receive silo index) ≡ took (receives s letter) d silo s
 

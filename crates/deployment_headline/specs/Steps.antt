@@ -4,14 +4,15 @@ use Rattle.std.specs.List.{slice_get}
 use Rattle.std.specs.Map.{remove_entry}
 use Rattle.std.specs.BTreeMap.{is_at, insert_entry}
 use Rattle.silo_address.specs.Silo.{Silo, silo_cmp, IsSilo}
-use Rattle.silo_address.specs.Grain.{Grain, IsGrain}
 use Rattle.membership_view.specs.Changes.{occupant}
 use Rattle.ring_range.specs.Range.{circle}
 use Rattle.directory_rules.specs.Settings.{Settings}
 use Rattle.directory_rules.specs.Letter.{Letter}
 use Rattle.directory_rules.specs.Step.{Stepped}
-use Rattle.directory_rules.specs.Input.{Input, Wakes, Closes, Finds, Forgets, Nudges, Offers}
-use Rattle.silo_rules.specs.Membership.{Change, Join, Leave, Die, Membership, changed}
+use Rattle.directory_rules.specs.declared.own_step.OwnStep.{OwnStep}
+use Rattle.directory_rules.specs.OwnStep.{IsOwnStep}
+use Rattle.directory_rules.specs.Input.{Input, Does}
+use Rattle.directory_rules.specs.Membership.{Change, Join, Leave, Die, Membership, changed}
 use Rattle.silo_rules.specs.SiloValue.{SiloValue, first_silo}
 use Rattle.silo_rules.specs.Steps.{does, sees, receives}
 use Rattle.silo_rules.specs.Told.{Heard, told}
@@ -26,12 +27,7 @@ pub data Step : Type 0 where
   -- it sees a version
   See : Silo → (version : ℕ) → Step
   -- it does what its own application asks for
-  Wake : Silo → Grain → Step
-  Close : Silo → Grain → Step
-  Find : Silo → Grain → Step
-  Forget : Silo → Grain → Step
-  Nudge : Silo → Step
-  Offer : Silo → Grain → (to : Silo) → Step
+  Do : Silo → OwnStep → Step
   -- the letter that was written after so many others comes to a process, to its receiver or astray: for the first time or again, in
   -- any order
   Receive : Silo → (index : ℕ) → Step
@@ -47,12 +43,7 @@ abbrev pub IsStep : Step → Type 0
 IsStep (Decide change) = IsChange change
 IsStep (Tell silo index) = ⊤
 IsStep (See silo version) = IsSilo silo
-IsStep (Wake silo grain) = IsSilo silo × IsGrain grain
-IsStep (Close silo grain) = IsSilo silo × IsGrain grain
-IsStep (Find silo grain) = IsSilo silo × IsGrain grain
-IsStep (Forget silo grain) = IsSilo silo × IsGrain grain
-IsStep (Nudge silo) = IsSilo silo
-IsStep (Offer silo grain to) = IsSilo silo × IsGrain grain × IsSilo to
+IsStep (Do silo step) = IsSilo silo × IsOwnStep step
 IsStep (Receive silo index) = ⊤
 
 -- Changes.
@@ -126,12 +117,7 @@ unfoldable pub after : Deployment → Step → Deployment
 after d (Decide change) = decided (changed d.settings d.membership change) d change
 after d (Tell silo index) = tells_at (process_of d silo) d silo index
 after d (See silo version) = sees_at (process_of d silo) d silo version
-after d (Wake silo grain) = comes d silo (Wakes grain)
-after d (Close silo grain) = comes d silo (Closes grain)
-after d (Find silo grain) = comes d silo (Finds grain)
-after d (Forget silo grain) = comes d silo (Forgets grain)
-after d (Nudge silo) = comes d silo Nudges
-after d (Offer silo grain to) = comes d silo (Offers grain to)
+after d (Do silo step) = comes d silo (Does step)
 after d (Receive silo index) = receives_at (process_of d silo) d silo index
 
 -- after steps, in their order

@@ -14,7 +14,7 @@ use Rattle.directory_rules.specs.Run.{run_from_start}
 use Rattle.directory_rules.specs.Headline.{Headline}
 use Rattle.directory_rules.specs.PlainMachine.{PlainStep, IsPlainStep, plain_of}
 use Rattle.directory_facts.specs.Own.{IsOwnLetter}
-use Rattle.silo_rules.specs.Membership.{Change}
+use Rattle.directory_rules.specs.Membership.{Change}
 use Rattle.silo_rules.specs.SiloValue.{SiloValue}
 use Rattle.silo_rules.specs.Told.{Heard, told}
 use Rattle.deployment_headline.specs.Deployment.{Deployment, process_of}

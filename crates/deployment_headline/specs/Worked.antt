@@ -7,11 +7,12 @@ use Rattle.directory_rules.specs.declared.held.Phase.TheVariants.{Firm, Closing}
 use Rattle.directory_rules.specs.declared.piece_state.PieceState.{PieceState}
 use Rattle.directory_rules.specs.declared.piece_state.PieceState.TheVariants.{Settled, Awaiting, Recovering}
 use Rattle.directory_rules.specs.Settings.{Settings, directory_settings}
+use Rattle.directory_rules.specs.declared.own_step.OwnStep.TheVariants.{Wake, Offer}
 use Rattle.directory_rules.specs.Worked.{silo_a, silo_b, silo_c, grain_a}
-use Rattle.silo_rules.specs.Membership.{Join, Leave, Die}
+use Rattle.directory_rules.specs.Membership.{Join, Leave, Die}
 use Rattle.silo_rules.specs.SiloValue.{SiloValue}
 use Rattle.deployment_headline.specs.Deployment.{Deployment}
-use Rattle.deployment_headline.specs.Steps.{Step, Decide, Tell, See, Wake, Offer, Receive, deployed}
+use Rattle.deployment_headline.specs.Steps.{Step, Decide, Tell, See, Do, Receive, deployed}
 
 -- hashes are as the grains state them: that of the grain is 7
 abbrev pub worked_settings : Settings
@@ -31,7 +32,7 @@ all_told d = map (λ e. told_of e.1) d.processes
 abbrev pub opening : List Step
 opening =
     Decide (Join silo_a (0 ∷ [])) ∷ See silo_a 1 ∷ Tell silo_a 1 ∷ Tell silo_a 0 ∷ See silo_a 1 ∷ Receive silo_a 0 ∷ Receive silo_a 1
-    ∷ Wake silo_a grain_a ∷ Receive silo_a 2 ∷ Receive silo_a 3 ∷ Receive silo_a 3 ∷ []
+    ∷ Do silo_a (Wake grain_a) ∷ Receive silo_a 2 ∷ Receive silo_a 3 ∷ Receive silo_a 3 ∷ []
 
 -- a second silo gets the grain's hash: it awaits the first one's entries there
 abbrev pub joining : List Step
@@ -43,7 +44,7 @@ handing = Receive silo_b 4 ∷ Receive silo_a 4 ∷ Receive silo_b 5 ∷ Receive
 
 -- the activation migrates; its old one's close is never answered
 abbrev pub migrating : List Step
-migrating = Offer silo_a grain_a silo_b ∷ Receive silo_b 7 ∷ Receive silo_b 8 ∷ Receive silo_b 9 ∷ []
+migrating = Do silo_a (Offer grain_a silo_b) ∷ Receive silo_b 7 ∷ Receive silo_b 8 ∷ Receive silo_b 9 ∷ []
 
 -- the first silo dies; the second one recovers what that had owned
 abbrev pub recovering : List Step

@@ -3,10 +3,11 @@
 use Rattle.std.specs.Prelude.{◌≡◌, ℕ, List, [], ◌∷◌, ◌++◌, map, filter, flat_map, None}
 use Rattle.silo_address.specs.Silo.{Silo}
 use Rattle.directory_rules.specs.Host.{is_firm}
+use Rattle.directory_rules.specs.declared.own_step.OwnStep.TheVariants.{Wake, Close}
 use Rattle.directory_rules.specs.Worked.{silo_a, silo_b, grain_a}
-use Rattle.silo_rules.specs.Membership.{Join, Die}
+use Rattle.directory_rules.specs.Membership.{Join, Die}
 use Rattle.deployment_headline.specs.Deployment.{Deployment, process_of}
-use Rattle.deployment_headline.specs.Steps.{Step, Decide, Tell, See, Wake, Close, Receive, deployed}
+use Rattle.deployment_headline.specs.Steps.{Step, Decide, Tell, See, Do, Receive, deployed}
 use Rattle.deployment_headline.specs.Worked.{worked_settings, opening}
 
 -- the firm activations, each with its silo, its count, and the version that the silo has seen
@@ -15,7 +16,7 @@ all_firm d = flat_map (λ e. map (λ x. (e.0, x.1.count, e.1.node.view.version))
 
 -- the grain's activation is closed, and another begins where it was
 abbrev pub closing_and_again : List Step
-closing_and_again = Close silo_a grain_a ∷ Receive silo_a 4 ∷ Receive silo_a 5 ∷ Wake silo_a grain_a ∷ Receive silo_a 6 ∷ Receive silo_a 7 ∷ []
+closing_and_again = Do silo_a (Close grain_a) ∷ Receive silo_a 4 ∷ Receive silo_a 5 ∷ Do silo_a (Wake grain_a) ∷ Receive silo_a 6 ∷ Receive silo_a 7 ∷ []
 
 -- two silos join before either has seen a version; the second one, which owns the grain's hash, finds no snapshot, and recovers. The
 -- grain is activated on the first one
@@ -23,16 +24,16 @@ abbrev pub two_at_once : List Step
 two_at_once =
     Decide (Join silo_a (0 ∷ [])) ∷ Decide (Join silo_b (5 ∷ [])) ∷ Tell silo_a 0 ∷ Tell silo_a 1 ∷ Tell silo_b 0 ∷ Tell silo_b 1 ∷ See silo_a 2 ∷ See silo_b 2
     ∷ Receive silo_a 2 ∷ Receive silo_b 3 ∷ Receive silo_a 4 ∷ Receive silo_b 5 ∷ Receive silo_b 6 ∷ Receive silo_b 7
-    ∷ Wake silo_a grain_a ∷ Receive silo_b 8 ∷ Receive silo_a 9 ∷ []
+    ∷ Do silo_a (Wake grain_a) ∷ Receive silo_b 8 ∷ Receive silo_a 9 ∷ []
 
 -- it is closed and its entry removed; the second silo is woken for the grain and enters its own; the first one dies, closing still; and
 -- only then does the reply come
 abbrev pub dying_while_closing : List Step
-dying_while_closing = Close silo_a grain_a ∷ Receive silo_b 10 ∷ Wake silo_b grain_a ∷ Receive silo_b 12 ∷ Decide (Die silo_a) ∷ Receive silo_b 13 ∷ []
+dying_while_closing = Do silo_a (Close grain_a) ∷ Receive silo_b 10 ∷ Do silo_b (Wake grain_a) ∷ Receive silo_b 12 ∷ Decide (Die silo_a) ∷ Receive silo_b 13 ∷ []
 
 -- or it stays firm, and its silo dies: the second silo, which is woken for the grain, has to see that first
 abbrev pub dying_while_firm : List Step
-dying_while_firm = Wake silo_b grain_a ∷ Decide (Die silo_a) ∷ Tell silo_b 2 ∷ See silo_b 3 ∷ Receive silo_b 12 ∷ Receive silo_b 13 ∷ []
+dying_while_firm = Do silo_b (Wake grain_a) ∷ Decide (Die silo_a) ∷ Tell silo_b 2 ∷ See silo_b 3 ∷ Receive silo_b 12 ∷ Receive silo_b 13 ∷ []
 
 pub record WorkedTokens : Type 0 where
   pub opened : all_firm (deployed worked_settings opening) ≡ (silo_a, 1, 1) ∷ []

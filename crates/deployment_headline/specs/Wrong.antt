@@ -6,12 +6,13 @@ use Rattle.silo_address.specs.Grain.{Grain}
 use Rattle.directory_rules.specs.declared.reply.Reply.TheVariants as reply
 use Rattle.directory_rules.specs.Host.{held_of, is_firm}
 use Rattle.directory_rules.specs.Letter.{Letter, Reply_letter}
+use Rattle.directory_rules.specs.declared.own_step.OwnStep.TheVariants.{Wake}
 use Rattle.directory_rules.specs.Worked.{silo_a, silo_b, grain_a}
-use Rattle.silo_rules.specs.Membership.{Change, Join, Die}
+use Rattle.directory_rules.specs.Membership.{Change, Join, Die}
 use Rattle.silo_rules.specs.SiloValue.{SiloValue}
 use Rattle.silo_rules.specs.Told.{told}
 use Rattle.deployment_headline.specs.Deployment.{Deployment, process_of}
-use Rattle.deployment_headline.specs.Steps.{Decide, Tell, See, Wake, Receive, delivers, heard, after, after_all, deployed}
+use Rattle.deployment_headline.specs.Steps.{Decide, Tell, See, Do, Receive, delivers, heard, after, after_all, deployed}
 use Rattle.deployment_headline.specs.Worked.{worked_settings, opening, joining, handing}
 
 -- whether the silo has the grain firm
@@ -44,7 +45,7 @@ told_otherwise (Some s) d silo version change = heard (told s.node.settings s.me
 abbrev pub asking : Deployment
 asking =
     deployed worked_settings
-    (opening ++ Decide (Join silo_b (1000 ∷ [])) ∷ Tell silo_b 0 ∷ Tell silo_b 1 ∷ See silo_b 2 ∷ Wake silo_b grain_a ∷ [])
+    (opening ++ Decide (Join silo_b (1000 ∷ [])) ∷ Tell silo_b 0 ∷ Tell silo_b 1 ∷ See silo_b 2 ∷ Do silo_b (Wake grain_a) ∷ [])
 
 abbrev pub forged : Letter
 forged = record {
@@ -63,7 +64,7 @@ abbrev pub ADeadSiloGoesOn : Type 0
 ADeadSiloGoesOn =
     firm_at grain_a
     (after_all (dies_in_vain (deployed worked_settings (opening ++ joining ++ handing)) silo_a)
-    (Tell silo_b 2 ∷ See silo_b 3 ∷ Wake silo_b grain_a ∷ Receive silo_b 8 ∷ Receive silo_b 9 ∷ []))
+    (Tell silo_b 2 ∷ See silo_b 3 ∷ Do silo_b (Wake grain_a) ∷ Receive silo_b 8 ∷ Receive silo_b 9 ∷ []))
     ≡ silo_a ∷ silo_b ∷ []
 
 -- the second silo is told that the first change was its own join: it finds itself alone, and owns the grain's hash
@@ -73,5 +74,5 @@ TwoSequencesAreTold =
     (after_all
     (told_otherwise (process_of (deployed worked_settings (opening ++ Decide (Join silo_b (5 ∷ [])) ∷ [])) silo_b)
     (deployed worked_settings (opening ++ Decide (Join silo_b (5 ∷ [])) ∷ [])) silo_b 1 (Join silo_b (5 ∷ [])))
-    (See silo_b 1 ∷ Receive silo_b 4 ∷ Receive silo_b 5 ∷ Wake silo_b grain_a ∷ Receive silo_b 6 ∷ Receive silo_b 7 ∷ []))
+    (See silo_b 1 ∷ Receive silo_b 4 ∷ Receive silo_b 5 ∷ Do silo_b (Wake grain_a) ∷ Receive silo_b 6 ∷ Receive silo_b 7 ∷ []))
     ≡ silo_a ∷ silo_b ∷ []

@@ -11,7 +11,7 @@ use Rattle.directory_rules.specs.Node.{Node}
 use Rattle.directory_rules.specs.Sent.{gathering_of}
 use Rattle.directory_rules.specs.Snapshot.{page_count}
 use Rattle.directory_rules.proofs.Cases.{on_bool}
-use Rattle.silo_rules.specs.Membership.{Membership}
+use Rattle.directory_rules.specs.Membership.{Membership}
 use Rattle.progress_rules.specs.Waits.{Awaits}
 use Rattle.progress_rules.specs.Gathers.{AwaitsFrom}
 use Rattle.progress_rules.specs.Covered.{IsQueryFor, IsReportFor}

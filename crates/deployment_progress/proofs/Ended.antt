@@ -20,8 +20,9 @@ use Rattle.directory_rules.specs.Node.{Node}
 use Rattle.directory_rules.specs.Piece.{Piece}
 use Rattle.directory_rules.specs.Receive.{received, replying}
 use Rattle.directory_rules.specs.Sent.{letter_to, hash_of, request_of}
+use Rattle.directory_rules.specs.declared.own_step.OwnStep.TheVariants.{Nudge}
 use Rattle.directory_rules.specs.Step.{Stepped, silently}
-use Rattle.silo_rules.specs.Membership.{Membership}
+use Rattle.directory_rules.specs.Membership.{Membership}
 use Rattle.progress_rules.specs.Owed.{Owes}
 use Rattle.progress_rules.specs.Requests.{Ends}
 use Rattle.progress_rules.proofs.Answered.{ended}
@@ -34,7 +35,7 @@ use Rattle.progress_rules.proofs.SecondRound.{served_below}
 use Rattle.progress_rules.proofs.Two.{both_true}
 use Rattle.deployment_headline.specs.Deployment.{Deployment}
 use Rattle.deployment_headline.specs.Limits.{node_with_room}
-use Rattle.deployment_headline.specs.Steps.{Step, Nudge, Receive, IsStep, after, after_all, deployed}
+use Rattle.deployment_headline.specs.Steps.{Step, Do, Receive, IsStep, after, after_all, deployed}
 use Rattle.deployment_headline.proofs.Worlds.{its_node}
 use Rattle.deployment_progress.specs.Quiet.{DecidesNone}
 use Rattle.deployment_progress.specs.Exchanges.{IsAnswered, IsNudged}
@@ -180,7 +181,7 @@ module _ (d : Deployment) (r : IsAtRest d) (silo : Silo) (steps : List Step) (q 
 -- ---- after a nudge
 module _ (d : Deployment) (r : IsAtRest d) (silo : Silo) (steps : List Step) (q : IsQuiet steps) (n : IsNudged d silo steps) where
   abbrev d1 : Deployment
-  d1 = after d (Nudge silo)
+  d1 = after d (Do silo Nudge)
 
   abbrev first : Node
   first = n.process.node
@@ -205,19 +206,19 @@ module _ (d : Deployment) (r : IsAtRest d) (silo : Silo) (steps : List Step) (q 
   -- and so one above the last that was served
   low : (e : ℕ × Act) → Owes node1.host e → (owner : Silo) (own : Node) → node_at d1 owner ≡ Some own → last_served silo own.holding.served < e.0
   low e owes owner own at =
-      let was = was_there d (Nudge silo) d1 (quiet_moves d r (Nudge silo) tt) owner own at in
+      let was = was_there d (Do silo Nudge) d1 (quiet_moves d r (Do silo Nudge) tt) owner own at in
       let its = w d r in
       let below : last_served silo was.0.holding.served < first.host.next_number =
       served_below its.world its.rests owner silo (node_with_room its.events its.letters was.0) (node_with_room its.events its.letters first) (in_world d r owner was.0 was.1) (in_world d r silo first (first_there d r silo steps q n)) in
       let enough = free e owes in
-      elim (step_serves d r (Nudge silo) d1 r1 owner was.0 own was.1 at (quiet_moves d r (Nudge silo) tt) silo) [
+      elim (step_serves d r (Do silo Nudge) d1 r1 owner was.0 own was.1 at (quiet_moves d r (Do silo Nudge) tt) silo) [
         | inl same ↦ omega (arith, same, below, enough)
         | inr of ↦ absurd (no_letter of.0 of.2.letter of.1 of.2.is)
       ]
     where
-      no_letter : (input : Input) (letter : Letter) → IsBrought d (Nudge silo) owner input → input ≡ Receives letter → ⊥
+      no_letter : (input : Input) (letter : Letter) → IsBrought d (Do silo Nudge) owner input → input ≡ Receives letter → ⊥
       no_letter input letter brought is =
-          let its : IsBrought d (Nudge silo) owner (Receives letter) = subst (IsBrought d (Nudge silo) owner) is brought in
+          let its : IsBrought d (Do silo Nudge) owner (Receives letter) = subst (IsBrought d (Do silo Nudge) owner) is brought in
           let step_is = its.3 in
           cc (step_is)
 

@@ -8,14 +8,15 @@ use Rattle.directory_rules.specs.Host.{renewed}
 use Rattle.directory_rules.specs.Letter.{Letter, Ask_letter, Query_letter}
 use Rattle.directory_rules.specs.Node.{Node}
 use Rattle.directory_rules.specs.Sent.{letter_to, gathering_of, all_requests, all_wants}
+use Rattle.directory_rules.specs.declared.own_step.OwnStep.TheVariants.{Nudge}
 use Rattle.directory_rules.specs.Step.{Stepped}
-use Rattle.silo_rules.specs.Membership.{Membership}
+use Rattle.directory_rules.specs.Membership.{Membership}
 use Rattle.progress_rules.specs.Waits.{Recovers, Awaits}
 use Rattle.progress_rules.specs.Gathers.{AwaitsFrom}
 use Rattle.progress_rules.proofs.Gathers.{asked_again}
 use Rattle.progress_rules.proofs.Waits.{queried_again}
 use Rattle.deployment_headline.specs.Deployment.{Deployment}
-use Rattle.deployment_headline.specs.Steps.{Step, Nudge, after, after_all}
+use Rattle.deployment_headline.specs.Steps.{Step, Do, after, after_all}
 use Rattle.deployment_progress.specs.Exchanges.{IsAnswered, IsWant, IsNudged, IsExchange}
 use Rattle.deployment_progress.specs.Waits.{HasSettled, WaitsForLess}
 use Rattle.deployment_progress.proofs.Less.{waits_on}
@@ -34,7 +35,7 @@ module _ (d : Deployment) (r : IsAtRest d) (silo : Silo) (steps : List Step) (q 
   n = x.nudge
 
   abbrev d1 : Deployment
-  d1 = after d (Nudge silo)
+  d1 = after d (Do silo Nudge)
 
   abbrev first : Node
   first = n.process.node
@@ -54,7 +55,7 @@ module _ (d : Deployment) (r : IsAtRest d) (silo : Silo) (steps : List Step) (q 
   pub less1 : WaitsForLess first node1
   less1 =
       let came = nudge_taken d r silo steps q n in
-      subst (λ (n : Node). WaitsForLess n node1) came.2 (subst (λ (t : Stepped). WaitsForLess came.0.node t.node) came.1 (stepped_on d r silo (Nudge silo) d1 came.0).less)
+      subst (λ (n : Node). WaitsForLess n node1) came.2 (subst (λ (t : Stepped). WaitsForLess came.0.node t.node) came.1 (stepped_on d r silo (Do silo Nudge) d1 came.0).less)
 
   -- what the pieces want is written, and answered
   wants : (letter : Letter) → Contains (all_wants node1) letter → IsWant letter.body → (index : ℕ) × (slice_get d1.written index ≡ Some letter) × IsAnswered d1 silo n.rest index letter
@@ -136,7 +137,7 @@ module _ (d : Deployment) (r : IsAtRest d) (silo : Silo) (steps : List Step) (q 
         let to_last = to_end d1 r1 silo n.rest quiet_x it.0 letter a node1 there1 last at1 in
         let giving = giver_there d1 r1 silo node1 there1 range giver was.0 in
         let giving_then = later_so d1 r1 a.before before giver giving.0 giving.1 in
-        let shelf = still_at_most pages d1 r1 a.before before (step_at_most pages d r (Nudge silo) d1 (quiet_moves d r (Nudge silo) tt) shelves) giver giving_then.node giving_then.there in
+        let shelf = still_at_most pages d1 r1 a.before before (step_at_most pages d r (Do silo Nudge) d1 (quiet_moves d r (Do silo Nudge) tt) shelves) giver giving_then.node giving_then.there in
         let answered = to_last.pages range giver waits_last in
         let asking = (to_answer d1 r1 silo n.rest quiet_x it.0 letter a node1 there1).pages range giver answered.0 in
         let late = (asks.less.pages range giver asking.0).1 in

@@ -6,7 +6,7 @@ use Rattle.std.proofs.lemmas.List.Elements.{All-nil, All-cons, All-head, All-tai
 use Rattle.silo_address.specs.Silo.{Silo, silo_eq}
 use Rattle.silo_address.proofs.Same.{Decides-silo}
 use Rattle.directory_rules.specs.Settings.{Settings, AreSettings}
-use Rattle.directory_rules.specs.Input.{Input, Sees, Wakes, Closes, Finds, Forgets, Nudges, Offers, Receives}
+use Rattle.directory_rules.specs.Input.{Input, Sees, Does, Receives}
 use Rattle.directory_rules.specs.Letter.{Letter}
 use Rattle.directory_rules.specs.Node.{Node}
 use Rattle.directory_rules.specs.Happens.{node_of}
@@ -89,12 +89,7 @@ module _ (d : Deployment) (r : IsAtRest d) where
     never_dropped st (Receives letter) brought dropped =
         drops_none w.world w.rests (1 + brought.1) letter roomy (w.mail brought.1 letter brought.2) (ap (λ q. node_of w.world q) brought.0 ∙ in_world) (roomy_dropped w.events w.letters node (Receives letter) dropped)
     never_dropped st (Sees before view places) brought dropped = absurd brought
-    never_dropped st (Wakes grain) brought dropped = let is = dropped.is in cc (is)
-    never_dropped st (Closes grain) brought dropped = let is = dropped.is in cc (is)
-    never_dropped st (Finds grain) brought dropped = let is = dropped.is in cc (is)
-    never_dropped st (Forgets grain) brought dropped = let is = dropped.is in cc (is)
-    never_dropped st Nudges brought dropped = let is = dropped.is in cc (is)
-    never_dropped st (Offers grain to) brought dropped = let is = dropped.is in cc (is)
+    never_dropped st (Does step) brought dropped = let is = dropped.is in cc (is)
 
   -- ---- one step
   pub stepped_on : (silo : Silo) (st : Step) (next : Deployment) (m : HasMoved d st next silo) → GoesOn m.node m.stepped.node

@@ -5,12 +5,13 @@ use Rattle.std.specs.Option.{option_map}
 use Rattle.std.proofs.lemmas.List.Elements.{All-head}
 use Rattle.silo_address.specs.Silo.{Silo}
 use Rattle.directory_rules.specs.Host.{outstanding, has_numbers, renewed}
-use Rattle.directory_rules.specs.Input.{Nudges, step}
+use Rattle.directory_rules.specs.Input.{Does, step}
 use Rattle.directory_rules.specs.Node.{Node}
+use Rattle.directory_rules.specs.declared.own_step.OwnStep.TheVariants.{Nudge}
 use Rattle.directory_rules.specs.Step.{Stepped, having_nudged}
 use Rattle.progress_rules.proofs.Rounds.{nudge_is}
 use Rattle.deployment_headline.specs.Deployment.{Deployment}
-use Rattle.deployment_headline.specs.Steps.{Step, Nudge, IsStep, after, after_all, deployed}
+use Rattle.deployment_headline.specs.Steps.{Step, Do, IsStep, after, after_all, deployed}
 use Rattle.deployment_headline.proofs.Worlds.{its_node}
 use Rattle.deployment_progress.specs.Exchanges.{IsNudged, NudgesAreTaken}
 use Rattle.deployment_progress.proofs.Rest.{node_at, IsAtRest}
@@ -19,21 +20,21 @@ use Rattle.deployment_progress.proofs.Later.{IsQuiet, quiet_rest, starts_at_rest
 
 module _ (d : Deployment) (r : IsAtRest d) (silo : Silo) (steps : List Step) (q : IsQuiet steps) (n : IsNudged d silo steps) where
   abbrev nudged_to : Deployment
-  nudged_to = after d (Nudge silo)
+  nudged_to = after d (Do silo Nudge)
 
   abbrev first : Node
   first = n.process.node
 
-  quiet_all : IsQuiet (Nudge silo ∷ n.rest)
+  quiet_all : IsQuiet (Do silo Nudge ∷ n.rest)
   quiet_all = subst IsQuiet n.begins q
 
   pub quiet_after : IsQuiet n.rest
-  quiet_after = quiet_rest (Nudge silo) n.rest quiet_all
+  quiet_after = quiet_rest (Do silo Nudge) n.rest quiet_all
 
   pub nudged_rests : IsAtRest nudged_to
-  nudged_rests = rests_on d r (Nudge silo) (All-head IsStep (Nudge silo) n.rest quiet_all.named) tt
+  nudged_rests = rests_on d r (Do silo Nudge) (All-head IsStep (Do silo Nudge) n.rest quiet_all.named) tt
 
-  pub nudge_taken : (m : HasMoved d (Nudge silo) nudged_to silo) × (m.stepped ≡ n.nudged) × (m.node ≡ first) × (step first Nudges ≡ Ok n.nudged)
+  pub nudge_taken : (m : HasMoved d (Do silo Nudge) nudged_to silo) × (m.stepped ≡ n.nudged) × (m.node ≡ first) × (step first (Does Nudge) ≡ Ok n.nudged)
   nudge_taken = nudge_comes d r silo n.process n.nudged n.there n.is_nudged
 
   pub first_there : node_at d silo ≡ Some first
@@ -58,5 +59,5 @@ refused_so false stepped number is = cc (is)
 pub nudges_are_taken : NudgesAreTaken
 nudges_are_taken settings steps later are named seen named_later none silo s number there is =
     let d = deployed settings steps in
-    let taken : step s.node Nudges ≡ Err number = sym (does_is d (starts_at_rest settings steps are named seen) silo s there Nudges) ∙ is in
+    let taken : step s.node (Does Nudge) ≡ Err number = sym (does_is d (starts_at_rest settings steps are named seen) silo s there (Does Nudge)) ∙ is in
     refused_so (has_numbers s.node.settings s.node.host (length (outstanding s.node.host))) (having_nudged (record s.node { host = renewed s.node.host })) number taken

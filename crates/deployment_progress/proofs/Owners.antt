@@ -18,11 +18,12 @@ use Rattle.directory_rules.specs.Laws.{is_live}
 use Rattle.directory_rules.specs.Node.{Node}
 use Rattle.directory_rules.specs.Piece.{Piece}
 use Rattle.directory_rules.specs.Sent.{grain_of, hash_of, owner_by}
+use Rattle.directory_rules.specs.declared.own_step.OwnStep.TheVariants.{Nudge}
 use Rattle.directory_rules.specs.World.{current_ring}
 use Rattle.directory_facts.proofs.Entries.{found_so}
 use Rattle.directory_facts.proofs.Hashes.{grains_have_hashes}
 use Rattle.directory_headline.proofs.Settings.{owner_active}
-use Rattle.silo_rules.specs.Membership.{Membership}
+use Rattle.directory_rules.specs.Membership.{Membership}
 use Rattle.progress_rules.specs.Gathers.{AwaitsFrom}
 use Rattle.progress_rules.specs.Plan.{IsSettledPiece}
 use Rattle.progress_rules.specs.Waits.{Recovers}
@@ -33,7 +34,7 @@ use Rattle.progress_rules.proofs.RoundOfPieces.{settled_unless_waiting}
 use Rattle.progress_rules.proofs.Waits.{recovering_piece}
 use Rattle.deployment_headline.specs.Deployment.{Deployment, process_of}
 use Rattle.deployment_headline.specs.Limits.{node_with_room}
-use Rattle.deployment_headline.specs.Steps.{Step, Nudge, after, after_all, deployed}
+use Rattle.deployment_headline.specs.Steps.{Step, Do, after, after_all, deployed}
 use Rattle.deployment_progress.specs.Exchanges.{HaveAllSettled}
 use Rattle.deployment_progress.specs.Requests.{letter_of, IsAnsweredInTurn, IsServed, SettledRequestsEnd}
 use Rattle.deployment_progress.specs.Waits.{WaitsForLess}
@@ -132,17 +133,17 @@ module _ (d : Deployment) (r : IsAtRest d) (silo : Silo) (steps : List Step) (q 
 all_at_first : (d : Deployment) → HaveAllSettled d → AreAllSettled d
 all_at_first d all silo node there = let its = process_with (process_of d silo) node there in subst (λ (n : Node). All IsSettledPiece n.holding.pieces) its.2 (all silo its.0 its.1)
 
-settled_then : (d : Deployment) (r : IsAtRest d) (silo : Silo) → IsQuiet (Nudge silo ∷ []) → AreAllSettled d → AreAllSettled (after d (Nudge silo))
+settled_then : (d : Deployment) (r : IsAtRest d) (silo : Silo) → IsQuiet (Do silo Nudge ∷ []) → AreAllSettled d → AreAllSettled (after d (Do silo Nudge))
 unfolding after_all
-settled_then d r silo nudge all = still_settled d r (Nudge silo ∷ []) nudge all
+settled_then d r silo nudge all = still_settled d r (Do silo Nudge ∷ []) nudge all
 
 pub settled_requests_end : SettledRequestsEnd
 settled_requests_end settings steps later are named seen named_later none silo n t all turns =
     let d = deployed settings steps in
     let r = starts_at_rest settings steps are named seen in
     let q : IsQuiet later = record { named = named_later; none = none } in
-    let nudge : IsQuiet (Nudge silo ∷ []) = quiet_first (Nudge silo ∷ []) n.rest (subst IsQuiet n.begins q) in
+    let nudge : IsQuiet (Do silo Nudge ∷ []) = quiet_first (Do silo Nudge ∷ []) n.rest (subst IsQuiet n.begins q) in
     old_requests_end settings steps later are named seen named_later none silo n t
     (λ e owes.
     let turn = turns e owes in
-    is_served (after d (Nudge silo)) (nudged_rests d r silo later q n) silo n.rest (quiet_after d r silo later q n) n.nudged.node (nudged_there d r silo later q n) e turn.0 turn.1 (settled_then d r silo nudge (all_at_first d all)))
+    is_served (after d (Do silo Nudge)) (nudged_rests d r silo later q n) silo n.rest (quiet_after d r silo later q n) n.nudged.node (nudged_there d r silo later q n) e turn.0 turn.1 (settled_then d r silo nudge (all_at_first d all)))

@@ -3,9 +3,10 @@ use Rattle.std.proofs.Common.{arith, ◌≡◌, refl, ap, subst, ◌∙◌, ℕ,
 use Rattle.std.specs.Prelude.{All, slice_get, Some}
 use Rattle.std.proofs.lemmas.List.Elements.{All-nil, All-cons}
 use Rattle.silo_address.specs.Silo.{Silo}
+use Rattle.directory_rules.specs.declared.own_step.OwnStep.TheVariants.{Nudge}
 use Rattle.directory_rules.specs.Letter.{Letter}
 use Rattle.deployment_headline.specs.Deployment.{Deployment}
-use Rattle.deployment_headline.specs.Steps.{Step, Nudge, Receive, IsStep, after, after_all}
+use Rattle.deployment_headline.specs.Steps.{Step, Do, Receive, IsStep, after, after_all}
 use Rattle.deployment_progress.specs.Quiet.{DecidesNone}
 use Rattle.deployment_progress.specs.Exchanges.{IsAnswered, ExchangesCanBe}
 
@@ -49,11 +50,11 @@ has_answer d silo (x ∷ xs) index (suc k) letter found =
 
 pub exchanges_can_be : ExchangesCanBe
 exchanges_can_be d silo s nudged named there is =
-    let d1 = after d (Nudge silo) in
+    let d1 = after d (Do silo Nudge) in
     let rest = answering d1 silo d1.written 0 in (
-      Nudge silo ∷ rest,
-      All-cons IsStep (Nudge silo) rest named (all_come IsStep (λ to k. tt) d1 silo d1.written 0),
-      All-cons DecidesNone (Nudge silo) rest tt (all_come DecidesNone (λ to k. tt) d1 silo d1.written 0),
+      Do silo Nudge ∷ rest,
+      All-cons IsStep (Do silo Nudge) rest named (all_come IsStep (λ to k. tt) d1 silo d1.written 0),
+      All-cons DecidesNone (Do silo Nudge) rest tt (all_come DecidesNone (λ to k. tt) d1 silo d1.written 0),
       record {
         nudge = record { process = s; there = there; nudged = nudged; is_nudged = is; rest = rest; begins = refl };
         answered = λ index letter low found want.

@@ -15,22 +15,23 @@ use Rattle.membership_view.specs.declared.status.Status.TheVariants.{Active, Lea
 use Rattle.membership_view.specs.View.{ViewValue}
 use Rattle.membership_view.specs.Views.{ViewsValue, status_at, joining_version}
 use Rattle.directory_rules.specs.declared.effect.Effect.TheVariants.{Ignored}
-use Rattle.directory_rules.specs.Input.{Input, Sees, Wakes, Closes, Finds, Forgets, Nudges, Offers, Receives, step}
+use Rattle.directory_rules.specs.Input.{Input, Sees, Does, Receives, step, sight_of}
 use Rattle.directory_rules.specs.Laws.{is_live}
 use Rattle.directory_rules.specs.Letter.{Letter}
 use Rattle.directory_rules.specs.Node.{Node}
 use Rattle.directory_rules.specs.Receive.{received}
 use Rattle.directory_rules.specs.Step.{Stepped, silently}
+use Rattle.directory_rules.specs.declared.own_step.OwnStep.TheVariants.{Nudge}
 use Rattle.directory_rules.proofs.Cases.{on_bool}
 use Rattle.directory_facts.proofs.Lookups.{found_put, found_beside_put}
-use Rattle.silo_rules.specs.Membership.{Change, Membership}
+use Rattle.directory_rules.specs.Membership.{Change, Membership, barred_by, is_seeable}
 use Rattle.silo_rules.specs.SiloValue.{SiloValue, own_status}
-use Rattle.silo_rules.specs.Steps.{barred, barred_by, unless_barred, is_seeable, sight_of, seen, does}
+use Rattle.silo_rules.specs.Steps.{barred, unless_barred, seen, does}
 use Rattle.silo_rules.specs.Told.{Heard, told}
 use Rattle.progress_rules.proofs.Covered.{view_kept}
 use Rattle.deployment_headline.specs.Deployment.{Deployment, process_of}
 use Rattle.deployment_headline.specs.Limits.{node_with_room}
-use Rattle.deployment_headline.specs.Steps.{Step, Decide, Tell, See, Wake, Close, Find, Forget, Nudge, Offer, Receive, IsStep, heard, took, tells, tells_at, does_at, sees_at, delivers, receives_at, after, after_all}
+use Rattle.deployment_headline.specs.Steps.{Step, Decide, Tell, See, Do, Receive, IsStep, heard, took, tells, tells_at, does_at, sees_at, delivers, receives_at, after, after_all}
 use Rattle.deployment_headline.proofs.Memberships.{leads_to}
 use Rattle.deployment_headline.proofs.Runs.{one_more}
 use Rattle.deployment_headline.proofs.Sound.{its_process}
@@ -42,12 +43,7 @@ use Rattle.deployment_progress.proofs.Rest.{node_at, process_with, IsAtRest, its
 -- the input is no sight, and a letter was written, is the silo's, and comes by that step
 abbrev pub IsBrought : Deployment → Step → Silo → Input → Type 0
 IsBrought d st silo (Sees before view places) = ⊥
-IsBrought d st silo (Wakes grain) = ⊤
-IsBrought d st silo (Closes grain) = ⊤
-IsBrought d st silo (Finds grain) = ⊤
-IsBrought d st silo (Forgets grain) = ⊤
-IsBrought d st silo Nudges = ⊤
-IsBrought d st silo (Offers grain to) = ⊤
+IsBrought d st silo (Does step) = ⊤
 IsBrought d st silo (Receives letter) = (letter.to ≡ silo) × (index : ℕ) × (slice_get d.written index ≡ Some letter) × (st ≡ Receive silo index)
 
 pub record HasStayed (d next : Deployment) : Type 0 where
@@ -199,12 +195,7 @@ module _ (d : Deployment) where
     quiet_moves (Decide change) none = absurd none
     quiet_moves (Tell silo index) none = inl (tells_at_stays silo index (process_of d silo) refl)
     quiet_moves (See silo version) none = inl (sees_at_stays silo version (process_of d silo) refl)
-    quiet_moves (Wake silo grain) none = does_moves (Wake silo grain) silo (Wakes grain) tt (process_of d silo) refl
-    quiet_moves (Close silo grain) none = does_moves (Close silo grain) silo (Closes grain) tt (process_of d silo) refl
-    quiet_moves (Find silo grain) none = does_moves (Find silo grain) silo (Finds grain) tt (process_of d silo) refl
-    quiet_moves (Forget silo grain) none = does_moves (Forget silo grain) silo (Forgets grain) tt (process_of d silo) refl
-    quiet_moves (Nudge silo) none = does_moves (Nudge silo) silo Nudges tt (process_of d silo) refl
-    quiet_moves (Offer silo grain to) none = does_moves (Offer silo grain to) silo (Offers grain to) tt (process_of d silo) refl
+    quiet_moves (Do silo step) none = does_moves (Do silo step) silo (Does step) tt (process_of d silo) refl
     quiet_moves (Receive silo index) none = receives_moves silo index (process_of d silo) refl
 
     -- ---- a letter that comes to its receiver, and a nudge
@@ -218,12 +209,12 @@ module _ (d : Deployment) where
         subst (λ next. (m : HasMoved d (Receive letter.to index) next letter.to) × (m.stepped ≡ received s.node letter) × (m.node ≡ s.node)) (sym so)
         (took_moves (Receive letter.to index) letter.to s there (Receives letter) (refl, index, found, refl) (received s.node letter) refl, refl, refl)
 
-    pub nudge_comes : (silo : Silo) (s : SiloValue) (nudged : Stepped) → process_of d silo ≡ Some s → does s Nudges ≡ Ok nudged → (m : HasMoved d (Nudge silo) (after d (Nudge silo)) silo) × (m.stepped ≡ nudged) × (m.node ≡ s.node) × (step s.node Nudges ≡ Ok nudged)
+    pub nudge_comes : (silo : Silo) (s : SiloValue) (nudged : Stepped) → process_of d silo ≡ Some s → does s (Does Nudge) ≡ Ok nudged → (m : HasMoved d (Do silo Nudge) (after d (Do silo Nudge)) silo) × (m.stepped ≡ nudged) × (m.node ≡ s.node) × (step s.node (Does Nudge) ≡ Ok nudged)
     unfolding after
     nudge_comes silo s nudged there is =
-        let so : does_at (process_of d silo) d silo Nudges ≡ took (Ok nudged) d silo s = ap (λ o. does_at o d silo Nudges) there ∙ ap (λ x. took x d silo s) is in
-        let did : step s.node Nudges ≡ Ok nudged = sym (does_is silo s there Nudges) ∙ is in
-        subst (λ next. (m : HasMoved d (Nudge silo) next silo) × (m.stepped ≡ nudged) × (m.node ≡ s.node) × (step s.node Nudges ≡ Ok nudged)) (sym so) (took_moves (Nudge silo) silo s there Nudges tt nudged did, refl, refl, did)
+        let so : does_at (process_of d silo) d silo (Does Nudge) ≡ took (Ok nudged) d silo s = ap (λ o. does_at o d silo (Does Nudge)) there ∙ ap (λ x. took x d silo s) is in
+        let did : step s.node (Does Nudge) ≡ Ok nudged = sym (does_is silo s there (Does Nudge)) ∙ is in
+        subst (λ next. (m : HasMoved d (Do silo Nudge) next silo) × (m.stepped ≡ nudged) × (m.node ≡ s.node) × (step s.node (Does Nudge) ≡ Ok nudged)) (sym so) (took_moves (Do silo Nudge) silo s there (Does Nudge) tt nudged did, refl, refl, did)
 
     -- ---- and all have still seen the last change
     stays_seen : (silo : Silo) (node : Node) → node_at d silo ≡ Some node → node.view.version ≡ d.membership.views.version
@@ -233,12 +224,7 @@ module _ (d : Deployment) where
 
     pub view_stays : (st : Step) (node : Node) (silo : Silo) (input : Input) (stepped : Stepped) → IsBrought d st silo input → step node input ≡ Ok stepped → stepped.node.view ≡ node.view
     view_stays st node silo (Sees before view places) stepped brought is = absurd brought
-    view_stays st node silo (Wakes grain) stepped brought is = view_kept node (Wakes grain) stepped is
-    view_stays st node silo (Closes grain) stepped brought is = view_kept node (Closes grain) stepped is
-    view_stays st node silo (Finds grain) stepped brought is = view_kept node (Finds grain) stepped is
-    view_stays st node silo (Forgets grain) stepped brought is = view_kept node (Forgets grain) stepped is
-    view_stays st node silo Nudges stepped brought is = view_kept node Nudges stepped is
-    view_stays st node silo (Offers grain to) stepped brought is = view_kept node (Offers grain to) stepped is
+    view_stays st node silo (Does step) stepped brought is = view_kept node (Does step) stepped is
     view_stays st node silo (Receives letter) stepped brought is = view_kept node (Receives letter) stepped is
 
     still_all : (st : Step) (next : Deployment) → Moves d st next → HaveAllSeen next

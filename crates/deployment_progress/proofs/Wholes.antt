@@ -7,11 +7,11 @@ use Rattle.silo_address.specs.Silo.{Silo, silo_cmp}
 use Rattle.silo_address.proofs.Order.{silo_cmp_exact}
 use Rattle.membership_view.specs.Changes.{occupant}
 use Rattle.directory_rules.specs.Settings.{Settings, AreSettings}
-use Rattle.directory_rules.specs.Input.{Input, Wakes, Closes, Finds, Forgets, Nudges, Offers}
+use Rattle.directory_rules.specs.Input.{Input, Does}
 use Rattle.directory_rules.specs.Letter.{Letter}
 use Rattle.directory_rules.specs.Step.{Stepped}
 use Rattle.directory_facts.proofs.Entries.{all_put, all_removed, found_so}
-use Rattle.silo_rules.specs.Membership.{Change, Join, Leave, Die, Membership, changed}
+use Rattle.directory_rules.specs.Membership.{Change, Join, Leave, Die, Membership, changed}
 use Rattle.silo_rules.specs.NodeInputs.{IsNoSight}
 use Rattle.silo_rules.specs.SiloValue.{SiloValue, first_silo}
 use Rattle.silo_rules.specs.Steps.{does, sees, receives}
@@ -19,7 +19,7 @@ use Rattle.silo_rules.specs.Told.{Heard, told}
 use Rattle.silo_rules.specs.Whole.{IsWhole}
 use Rattle.silo_rules.proofs.Lawful.{stays_whole}
 use Rattle.deployment_headline.specs.Deployment.{Deployment, first_deployment, process_of}
-use Rattle.deployment_headline.specs.Steps.{Step, Decide, Tell, See, Wake, Close, Find, Forget, Nudge, Offer, Receive, without, processes_after, decided, heard, took, tells, tells_at, does_at, sees_at, delivers, receives_at, after, after_all}
+use Rattle.deployment_headline.specs.Steps.{Step, Decide, Tell, See, Do, Receive, without, processes_after, decided, heard, took, tells, tells_at, does_at, sees_at, delivers, receives_at, after, after_all}
 use Rattle.deployment_headline.proofs.Sound.{Sound, keeps}
 
 abbrev IsWholeAt : Silo × SiloValue → Type 0
@@ -88,12 +88,7 @@ module _ (d : Deployment) (are : AreSettings d.settings) (wholes : AreWholes d) 
   whole_after (Decide c) = decided_whole c (changed d.settings d.membership c)
   whole_after (Tell silo index) = tells_at_whole silo index (process_of d silo) refl
   whole_after (See silo version) = sees_at_whole silo version (process_of d silo) refl
-  whole_after (Wake silo grain) = does_at_whole silo (Wakes grain) tt (process_of d silo) refl
-  whole_after (Close silo grain) = does_at_whole silo (Closes grain) tt (process_of d silo) refl
-  whole_after (Find silo grain) = does_at_whole silo (Finds grain) tt (process_of d silo) refl
-  whole_after (Forget silo grain) = does_at_whole silo (Forgets grain) tt (process_of d silo) refl
-  whole_after (Nudge silo) = does_at_whole silo Nudges tt (process_of d silo) refl
-  whole_after (Offer silo grain to) = does_at_whole silo (Offers grain to) tt (process_of d silo) refl
+  whole_after (Do silo step) = does_at_whole silo (Does step) tt (process_of d silo) refl
   whole_after (Receive silo index) = receives_at_whole silo index (process_of d silo) refl
 
 pub wholes_after : (d : Deployment) → Sound d → AreSettings d.settings → AreWholes d → (steps : List Step) → AreWholes (after_all d steps)

@@ -11,16 +11,17 @@ use Rattle.ring_range.specs.Cut.{cut_parts}
 use Rattle.directory_rules.specs.declared.held.Phase.TheVariants.{Firm}
 use Rattle.directory_rules.specs.declared.piece_state.PieceState.TheVariants.{Settled, Awaiting}
 use Rattle.directory_rules.specs.Host.{outstanding, has_numbers, renewed}
-use Rattle.directory_rules.specs.Input.{Nudges, step}
+use Rattle.directory_rules.specs.Input.{Does, step}
 use Rattle.directory_rules.specs.Letter.{Letter}
 use Rattle.directory_rules.specs.Snapshot.{page_count}
 use Rattle.directory_rules.specs.Step.{Stepped, having_nudged}
+use Rattle.directory_rules.specs.declared.own_step.OwnStep.TheVariants.{Nudge}
 use Rattle.directory_rules.specs.Worked.{silo_a, silo_b}
 use Rattle.directory_facts.proofs.Entries.{found_so}
 use Rattle.silo_rules.specs.SiloValue.{SiloValue, first_silo}
 use Rattle.silo_rules.specs.Steps.{barred, unless_barred, does}
 use Rattle.deployment_headline.specs.Deployment.{process_of}
-use Rattle.deployment_headline.specs.Steps.{Nudge, Receive, after, after_all}
+use Rattle.deployment_headline.specs.Steps.{Do, Receive, after, after_all}
 use Rattle.deployment_headline.specs.Worked.{worked_settings, all_told}
 use Rattle.deployment_progress.specs.Exchanges.{IsAnswered, IsExchange}
 use Rattle.deployment_progress.specs.Worked.{worked, exchanging, WorkedExchange}
@@ -61,8 +62,8 @@ process_there = some_of (process_of worked silo_b) (first_silo worked_settings s
 abbrev pub nudged_of : SiloValue → Stepped
 nudged_of s = having_nudged (record s.node { host = renewed s.node.host })
 
-pub nudged_so : (s : SiloValue) → barred s ≡ None → has_numbers s.node.settings s.node.host (length (outstanding s.node.host)) ≡ true → does s Nudges ≡ Ok (nudged_of s)
-nudged_so s free numbers = ap (λ o. unless_barred o (step s.node Nudges)) free ∙ ap (λ b. cond {A = Result Stepped ℕ} (not b) (Err 805) (Ok (nudged_of s))) numbers
+pub nudged_so : (s : SiloValue) → barred s ≡ None → has_numbers s.node.settings s.node.host (length (outstanding s.node.host)) ≡ true → does s (Does Nudge) ≡ Ok (nudged_of s)
+nudged_so s free numbers = ap (λ o. unless_barred o (step s.node (Does Nudge))) free ∙ ap (λ b. cond {A = Result Stepped ℕ} (not b) (Err 805) (Ok (nudged_of s))) numbers
 
 process_free : barred process ≡ None
 unfolding process after after_all cut_parts stated_hash digits
@@ -72,7 +73,7 @@ process_numbers : has_numbers process.node.settings process.node.host (length (o
 unfolding process after after_all cut_parts stated_hash digits
 process_numbers = refl
 
-its_answer : (index : ℕ) (letter : Letter) → length worked.written ≤ index → slice_get (after worked (Nudge silo_b)).written index ≡ Some letter → IsAnswered (after worked (Nudge silo_b)) silo_b (Receive silo_a 5 ∷ Receive silo_b 6 ∷ []) index letter
+its_answer : (index : ℕ) (letter : Letter) → length worked.written ≤ index → slice_get (after worked (Do silo_b Nudge)).written index ≡ Some letter → IsAnswered (after worked (Do silo_b Nudge)) silo_b (Receive silo_a 5 ∷ Receive silo_b 6 ∷ []) index letter
 unfolding after after_all cut_parts stated_hash digits
 its_answer zero letter low found = absurd (omega (low, arith))
 its_answer (suc zero) letter low found = absurd (omega (low, arith))
@@ -82,7 +83,7 @@ its_answer (suc (suc (suc (suc zero)))) letter low found = absurd (omega (low, a
 its_answer (suc (suc (suc (suc (suc zero))))) letter low found =
     record { before = []; between = []; rest = []; is = ap (λ q. Receive q 5 ∷ Receive silo_b 6 ∷ []) (to found) }
   where
-    to : slice_get (after worked (Nudge silo_b)).written 5 ≡ Some letter → silo_a ≡ letter.to
+    to : slice_get (after worked (Do silo_b Nudge)).written 5 ≡ Some letter → silo_a ≡ letter.to
     to found = cc (found)
 its_answer (suc (suc (suc (suc (suc (suc k)))))) letter low found = absurd (cc (found))
 

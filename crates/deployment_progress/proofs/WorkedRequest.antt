@@ -17,6 +17,7 @@ use Rattle.directory_rules.specs.Laws.{requests_of}
 use Rattle.directory_rules.specs.Piece.{Piece}
 use Rattle.directory_rules.specs.Node.{Node}
 use Rattle.directory_rules.specs.Sent.{hash_of}
+use Rattle.directory_rules.specs.declared.own_step.OwnStep.TheVariants.{Nudge}
 use Rattle.directory_rules.specs.Worked.{silo_a, grain_a}
 use Rattle.directory_facts.proofs.Entries.{found_so}
 use Rattle.silo_rules.specs.SiloValue.{SiloValue, first_silo}
@@ -24,7 +25,7 @@ use Rattle.silo_rules.specs.Steps.{barred}
 use Rattle.progress_rules.specs.Owed.{Owes}
 use Rattle.progress_rules.proofs.Answered.{only_one}
 use Rattle.deployment_headline.specs.Deployment.{Deployment, process_of}
-use Rattle.deployment_headline.specs.Steps.{Step, Nudge, Receive, after, after_all}
+use Rattle.deployment_headline.specs.Steps.{Step, Do, Receive, after, after_all}
 use Rattle.deployment_headline.specs.Worked.{worked_settings, all_told}
 use Rattle.deployment_progress.specs.Exchanges.{IsNudged}
 use Rattle.deployment_progress.specs.Requests.{letter_of, IsServed}
@@ -64,7 +65,7 @@ abbrev node : Node
 node = (nudged_of process).node
 
 abbrev nudged : Deployment
-nudged = after asking (Nudge silo_a)
+nudged = after asking (Do silo_a Nudge)
 
 nudge : IsNudged asking silo_a replying
 nudge = record {

@@ -2,11 +2,12 @@
 use Rattle.std.specs.Prelude.{⊤, ◌≡◌, ℕ, ◌+◌, ◌<◌, ◌≤◌, List, [], ◌∷◌, ◌++◌, All, length, flat_map, Some, Ok, Err, slice_get}
 use Rattle.silo_address.specs.Silo.{Silo, IsSilo}
 use Rattle.ring_range.specs.Range.{Range}
-use Rattle.directory_rules.specs.Input.{Nudges}
+use Rattle.directory_rules.specs.Input.{Does}
 use Rattle.directory_rules.specs.Letter.{Letter, Body, Request_letter, Reply_letter, Ask_letter, Page_letter, Missing_letter, Done_letter, Query_letter, Report_letter, Behind_letter, Ahead_letter, Offer_letter}
 use Rattle.directory_rules.specs.Node.{Node}
 use Rattle.directory_rules.specs.Sent.{gathering_of}
 use Rattle.directory_rules.specs.Snapshot.{page_count}
+use Rattle.directory_rules.specs.declared.own_step.OwnStep.TheVariants.{Nudge}
 use Rattle.directory_rules.specs.Step.{Stepped}
 use Rattle.silo_rules.specs.SiloValue.{SiloValue}
 use Rattle.silo_rules.specs.Steps.{does}
@@ -14,7 +15,7 @@ use Rattle.progress_rules.specs.Plan.{IsSettledPiece}
 use Rattle.progress_rules.specs.Waits.{Recovers}
 use Rattle.progress_rules.specs.Gathers.{AwaitsFrom}
 use Rattle.deployment_headline.specs.Deployment.{Deployment, process_of}
-use Rattle.deployment_headline.specs.Steps.{Step, Nudge, Receive, IsStep, after, after_all}
+use Rattle.deployment_headline.specs.Steps.{Step, Do, Receive, IsStep, after, after_all}
 use Rattle.deployment_headline.specs.Theorems.{EachProcess}
 use Rattle.deployment_progress.specs.Quiet.{DecidesNone, WhileQuiet}
 use Rattle.deployment_progress.specs.Waits.{HasSettled}
@@ -46,22 +47,22 @@ pub record IsNudged (d : Deployment) (silo : Silo) (steps : List Step) : Type 0 
   pub process : SiloValue
   pub there : process_of d silo ≡ Some process
   pub nudged : Stepped
-  pub is_nudged : does process Nudges ≡ Ok nudged
+  pub is_nudged : does process (Does Nudge) ≡ Ok nudged
   pub rest : List Step
-  pub begins : steps ≡ Nudge silo ∷ rest
+  pub begins : steps ≡ Do silo Nudge ∷ rest
 
 -- in the quiet a nudge is refused only where the silo has no numbers left for its requests
 abbrev pub NudgesAreTaken : Type 0
-NudgesAreTaken = WhileQuiet (λ d later. (silo : Silo) (s : SiloValue) (number : ℕ) → process_of d silo ≡ Some s → does s Nudges ≡ Err number → number ≡ 805)
+NudgesAreTaken = WhileQuiet (λ d later. (silo : Silo) (s : SiloValue) (number : ℕ) → process_of d silo ≡ Some s → does s (Does Nudge) ≡ Err number → number ≡ 805)
 
 -- the steps begin with such a nudge, and each ask and query that it writes is answered in them
 pub record IsExchange (d : Deployment) (silo : Silo) (steps : List Step) : Type 0 where
   pub nudge : IsNudged d silo steps
-  pub answered : (index : ℕ) (letter : Letter) → length d.written ≤ index → slice_get (after d (Nudge silo)).written index ≡ Some letter → IsWant letter.body → IsAnswered (after d (Nudge silo)) silo nudge.rest index letter
+  pub answered : (index : ℕ) (letter : Letter) → length d.written ≤ index → slice_get (after d (Do silo Nudge)).written index ≡ Some letter → IsWant letter.body → IsAnswered (after d (Do silo Nudge)) silo nudge.rest index letter
 
 -- wherever a nudge isn't refused, some steps that decide no change are an exchange
 abbrev pub ExchangesCanBe : Type 0
-ExchangesCanBe = (d : Deployment) (silo : Silo) (s : SiloValue) (nudged : Stepped) → IsSilo silo → process_of d silo ≡ Some s → does s Nudges ≡ Ok nudged
+ExchangesCanBe = (d : Deployment) (silo : Silo) (s : SiloValue) (nudged : Stepped) → IsSilo silo → process_of d silo ≡ Some s → does s (Does Nudge) ≡ Ok nudged
     → (steps : List Step) × All IsStep steps × All DecidesNone steps × IsExchange d silo steps
 
 -- from the one node to the other each range gets on: one that recovered is settled, and one that awaits a snapshot still has a page more

@@ -2,7 +2,7 @@
 use Rattle.std.specs.Prelude.{⊤, ◌≡◌, List, All}
 use Rattle.directory_rules.specs.Settings.{Settings, AreSettings}
 use Rattle.deployment_headline.specs.Deployment.{Deployment}
-use Rattle.deployment_headline.specs.Steps.{Step, Decide, Tell, See, Wake, Close, Find, Forget, Nudge, Offer, Receive, IsStep, deployed}
+use Rattle.deployment_headline.specs.Steps.{Step, Decide, Tell, See, Do, Receive, IsStep, deployed}
 use Rattle.deployment_headline.specs.Theorems.{EachProcess}
 
 -- the step decides no change
@@ -10,12 +10,7 @@ abbrev pub DecidesNone : Step → Type 0
 DecidesNone (Decide change) = ⊥
 DecidesNone (Tell silo index) = ⊤
 DecidesNone (See silo version) = ⊤
-DecidesNone (Wake silo grain) = ⊤
-DecidesNone (Close silo grain) = ⊤
-DecidesNone (Find silo grain) = ⊤
-DecidesNone (Forget silo grain) = ⊤
-DecidesNone (Nudge silo) = ⊤
-DecidesNone (Offer silo grain to) = ⊤
+DecidesNone (Do silo step) = ⊤
 DecidesNone (Receive silo index) = ⊤
 
 -- each process has seen the last change that was decided

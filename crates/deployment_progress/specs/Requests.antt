@@ -9,11 +9,12 @@ use Rattle.directory_rules.specs.Answer.{is_numbered, piece_with}
 use Rattle.directory_rules.specs.Letter.{Letter, Request_letter}
 use Rattle.directory_rules.specs.Node.{Node}
 use Rattle.directory_rules.specs.Piece.{Piece}
+use Rattle.directory_rules.specs.declared.own_step.OwnStep.TheVariants.{Nudge}
 use Rattle.directory_rules.specs.Sent.{letter_to, hash_of, request_of, owner_by}
 use Rattle.silo_rules.specs.SiloValue.{SiloValue}
 use Rattle.progress_rules.specs.Owed.{Owes}
 use Rattle.deployment_headline.specs.Deployment.{Deployment, process_of}
-use Rattle.deployment_headline.specs.Steps.{Step, Nudge, Receive, after, after_all}
+use Rattle.deployment_headline.specs.Steps.{Step, Do, Receive, after, after_all}
 use Rattle.deployment_progress.specs.Quiet.{WhileQuiet}
 use Rattle.deployment_progress.specs.Exchanges.{IsAnswered, IsNudged, HaveAllSettled}
 
@@ -48,17 +49,17 @@ pub record IsServed (d : Deployment) (silo : Silo) (node : Node) (steps : List S
 -- a request that was outstanding at the nudge and is served then is outstanding no more
 abbrev pub RequestsEnd : Type 0
 RequestsEnd = WhileQuiet (λ d steps. (silo : Silo) (n : IsNudged d silo steps) (t : SiloValue) (e : ℕ × Act)
-    → Owes n.nudged.node.host e → IsServed (after d (Nudge silo)) silo n.nudged.node n.rest e → process_of (after_all d steps) silo ≡ Some t → ¬ Owes t.node.host e)
+    → Owes n.nudged.node.host e → IsServed (after d (Do silo Nudge)) silo n.nudged.node n.rest e → process_of (after_all d steps) silo ≡ Some t → ¬ Owes t.node.host e)
 
 -- so where each of them is, what is outstanding then was asked later: its number is one of those that were free at the nudge
 abbrev pub OldRequestsEnd : Type 0
 OldRequestsEnd = WhileQuiet (λ d steps. (silo : Silo) (n : IsNudged d silo steps) (t : SiloValue)
-    → ((e : ℕ × Act) → Owes n.nudged.node.host e → IsServed (after d (Nudge silo)) silo n.nudged.node n.rest e) → process_of (after_all d steps) silo ≡ Some t
+    → ((e : ℕ × Act) → Owes n.nudged.node.host e → IsServed (after d (Do silo Nudge)) silo n.nudged.node n.rest e) → process_of (after_all d steps) silo ≡ Some t
     → (e : ℕ × Act) → Owes t.node.host e → n.nudged.node.host.next_number ≤ e.0)
 
 -- where all ranges of all silos are settled it is enough that each letter comes in its turn to the owner of its hash, and the reply comes back
 abbrev pub SettledRequestsEnd : Type 0
 SettledRequestsEnd = WhileQuiet (λ d steps. (silo : Silo) (n : IsNudged d silo steps) (t : SiloValue) → HaveAllSettled d
     → ((e : ℕ × Act) → Owes n.nudged.node.host e
-    → (turn : IsAnsweredInTurn (after d (Nudge silo)) silo n.nudged.node n.rest e) × (owner_by n.nudged.node (hash_of n.nudged.node e.1) ≡ Some turn.owner))
+    → (turn : IsAnsweredInTurn (after d (Do silo Nudge)) silo n.nudged.node n.rest e) × (owner_by n.nudged.node (hash_of n.nudged.node e.1) ≡ Some turn.owner))
     → process_of (after_all d steps) silo ≡ Some t → (e : ℕ × Act) → Owes t.node.host e → n.nudged.node.host.next_number ≤ e.0)

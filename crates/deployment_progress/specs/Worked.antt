@@ -4,11 +4,12 @@ use Rattle.std.specs.Prelude.{◌≡◌, ℕ, List, [], ◌∷◌, ◌++◌}
 use Rattle.directory_rules.specs.declared.act.Act.{Act}
 use Rattle.directory_rules.specs.declared.held.Phase.TheVariants.{Asking, Firm}
 use Rattle.directory_rules.specs.declared.piece_state.PieceState.TheVariants.{Settled, Awaiting}
+use Rattle.directory_rules.specs.declared.own_step.OwnStep.TheVariants.{Wake, Nudge}
 use Rattle.directory_rules.specs.Worked.{silo_a, silo_b, grain_a}
-use Rattle.silo_rules.specs.Membership.{Join}
+use Rattle.directory_rules.specs.Membership.{Join}
 use Rattle.progress_rules.specs.Owed.{Owes}
 use Rattle.deployment_headline.specs.Deployment.{Deployment}
-use Rattle.deployment_headline.specs.Steps.{Step, Decide, Tell, See, Wake, Nudge, Receive, after, after_all, deployed}
+use Rattle.deployment_headline.specs.Steps.{Step, Decide, Tell, See, Do, Receive, after, after_all, deployed}
 use Rattle.deployment_headline.specs.Worked.{worked_settings, all_told, opening, joining}
 use Rattle.deployment_progress.specs.Quiet.{HaveAllSeen}
 use Rattle.deployment_progress.specs.Exchanges.{IsNudged, IsExchange, HaveAtMost}
@@ -19,7 +20,7 @@ worked = deployed worked_settings (opening ++ joining)
 
 -- the ask that the nudge writes comes, and then the page; the silo asked once before, and that letter never comes
 abbrev pub exchanging : List Step
-exchanging = Nudge silo_b ∷ Receive silo_a 5 ∷ Receive silo_b 6 ∷ []
+exchanging = Do silo_b Nudge ∷ Receive silo_a 5 ∷ Receive silo_b 6 ∷ []
 
 -- so there are deployments of which the laws tell, and exchanges in them
 pub record WorkedExchange : Type 0 where
@@ -31,15 +32,15 @@ pub record WorkedExchange : Type 0 where
 
 -- a silo by itself, whose activation asks to be entered
 abbrev pub asking : Deployment
-asking = deployed worked_settings (Decide (Join silo_a (0 ∷ [])) ∷ Tell silo_a 0 ∷ See silo_a 1 ∷ Receive silo_a 0 ∷ Receive silo_a 1 ∷ Wake silo_a grain_a ∷ [])
+asking = deployed worked_settings (Decide (Join silo_a (0 ∷ [])) ∷ Tell silo_a 0 ∷ See silo_a 1 ∷ Receive silo_a 0 ∷ Receive silo_a 1 ∷ Do silo_a (Wake grain_a) ∷ [])
 
 -- the request that the nudge writes comes, and then the reply; the first one never comes
 abbrev pub replying : List Step
-replying = Nudge silo_a ∷ Receive silo_a 3 ∷ Receive silo_a 4 ∷ []
+replying = Do silo_a Nudge ∷ Receive silo_a 3 ∷ Receive silo_a 4 ∷ []
 
 pub record WorkedRequest : Type 0 where
   pub seen : HaveAllSeen asking
   pub asks : all_told asking ≡ (1, 1, Asking 1 ∷ [], (Settled, 0) ∷ []) ∷ []
   pub nudge : IsNudged asking silo_a replying
-  pub served : (e : ℕ × Act) → Owes nudge.nudged.node.host e → IsServed (after asking (Nudge silo_a)) silo_a nudge.nudged.node nudge.rest e
+  pub served : (e : ℕ × Act) → Owes nudge.nudged.node.host e → IsServed (after asking (Do silo_a Nudge)) silo_a nudge.nudged.node nudge.rest e
   pub firm : all_told (after_all asking replying) ≡ (1, 1, Firm ∷ [], (Settled, 1) ∷ []) ∷ []

@@ -5,6 +5,7 @@ use Rattle.std.proofs.lemmas.Bool.Decides.{nat_tests}
 use Rattle.std.specs.Option.{option_or}
 use Rattle.std.proofs.lemmas.Bool.{le-ltb, lt-ltb}
 use Rattle.silo_address.specs.Silo.{Silo}
+use Rattle.directory_rules.specs.Membership.{is_seeable}
 use Rattle.directory_rules.specs.Event.{Event}
 use Rattle.directory_rules.specs.declared.outcome.Happening.{Happening}
 use Rattle.directory_rules.specs.declared.outcome.Happening.TheVariants.{Delivered, Did, Saw}
@@ -12,10 +13,10 @@ use Rattle.directory_rules.specs.declared.outcome.Span.{Span}
 use Rattle.directory_rules.specs.Letter.{Letter, kind_of}
 use Rattle.directory_rules.specs.Node.{Node}
 use Rattle.directory_rules.specs.Step.{Stepped}
-use Rattle.directory_rules.specs.World.{World, Accepted}
+use Rattle.directory_rules.specs.World.{World, Accepted, membership_of}
 use Rattle.directory_rules.specs.Mail.{has_room_for, letter_of, span_of, with_delivered}
-use Rattle.directory_rules.specs.Input.{Input, step}
-use Rattle.directory_rules.specs.Happens.{attempted, deliver, delivers, delivers_to, does, does_at, done_by, happens, is_seeable, node_of, seen_by, sees, sees_at, sight_of, taken}
+use Rattle.directory_rules.specs.Input.{Input, step, sight_of}
+use Rattle.directory_rules.specs.Happens.{attempted, deliver, delivers, delivers_to, does, does_at, done_by, happens, node_of, seen_by, sees, sees_at, taken}
 use Rattle.directory_rules.specs.Receive.{received}
 use Rattle.directory_rules.specs.declared.Effect.{Effect}
 use Rattle.directory_node.specs.Follows.{RefusesBy}
@@ -43,12 +44,12 @@ pub does_so : (world : World) (silo : Silo) (input : Input) (node : Node) (stepp
     → does world silo input ≡ taken world silo (Did silo stepped.effect) stepped
 does_so world silo input node stepped there is = ap (λ n. does_at n world silo input) there ∙ ap (λ o. done_by o world silo) is
 
-pub sees_so : (world : World) (silo : Silo) (version : ℕ) (node : Node) (stepped : Stepped) → node_of world silo ≡ Some node → node.view.version < version → is_seeable world silo version ≡ true
-    → step node (sight_of world version) ≡ Ok stepped → sees world silo version ≡ taken world silo (Saw silo version stepped.effect) stepped
+pub sees_so : (world : World) (silo : Silo) (version : ℕ) (node : Node) (stepped : Stepped) → node_of world silo ≡ Some node → node.view.version < version → is_seeable (membership_of world) silo version ≡ true
+    → step node (sight_of (membership_of world) version) ≡ Ok stepped → sees world silo version ≡ taken world silo (Saw silo version stepped.effect) stepped
 sees_so world silo version node stepped there newer seeable is =
-    let sight = seen_by (step node (sight_of world version)) world silo version in
+    let sight = seen_by (step node (sight_of (membership_of world) version)) world silo version in
     ap (λ n. sees_at n world silo version) there
-    ∙ ap (λ b. cond (not b) (Err 903) (cond (not (is_seeable world silo version)) (Err 904) sight)) (lt-ltb node.view.version version newer)
+    ∙ ap (λ b. cond (not b) (Err 903) (cond (not (is_seeable (membership_of world) silo version)) (Err 904) sight)) (lt-ltb node.view.version version newer)
     ∙ ap (λ b. cond (not b) (Err 904) sight) seeable
     ∙ ap (λ o. seen_by o world silo version) is
 

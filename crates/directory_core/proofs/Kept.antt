@@ -11,13 +11,14 @@ use Rattle.membership_view.specs.declared.Status.{Status}
 use Rattle.membership_view.proofs.Searches.{occupant_law}
 use Rattle.membership_view.proofs.Changes.{changes_are_steps}
 use Rattle.hash_ring.specs.Places.{PlacesValue, after_add, has_points, is_added, is_point_count, places_for, with_silo}
+use Rattle.directory_rules.proofs.Decided.{died}
 use Rattle.directory_rules.specs.Laws.{ArePeopled, is_live}
 use Rattle.directory_rules.specs.Letter.{Letter}
 use Rattle.directory_rules.specs.Node.{Node, new_node}
 use Rattle.directory_rules.specs.declared.outcome.Happening.TheVariants.{Died}
 use Rattle.directory_rules.specs.World.{World, Accepted}
 use Rattle.directory_rules.specs.Mail.{with_delivered, with_lost}
-use Rattle.directory_rules.specs.Happens.{after_joining, counted, died}
+use Rattle.directory_rules.specs.Happens.{after_joining, counted}
 use Rattle.letter_mail.specs.Mail.{MailValue, with_posted, with_stale}
 use Rattle.letter_mail.specs.Mail.{with_lost as lost_mail}
 use Rattle.directory_core.specs.Join.{nodes_without, with_admitted}

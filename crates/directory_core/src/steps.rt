@@ -1,6 +1,7 @@
 ghost use Rattle.std.specs.Prelude.{◌≡◌, ◌<◌, ◌+◌, nat_le, true, IfErr, IsOk, IsSome, OnOk, OnErr, Some};
 ghost use Rattle.directory_rules.specs.Happens.{absent_number, counted, deliver, does, lose, node_of, taken};
-ghost use Rattle.directory_rules.specs.Input.{Nudges};
+ghost use Rattle.directory_rules.specs.Input.{Does};
+ghost use Rattle.directory_rules.specs.declared.own_step.OwnStep.TheVariants.{Nudge};
 ghost use Rattle.directory_rules.specs.Letter.{Letter as LetterValue};
 ghost use Rattle.directory_rules.specs.Mail.{has_room_for, letter_of, span_of, with_delivered, with_lost};
 ghost use Rattle.directory_rules.specs.Node.{Node as NodeValue};
@@ -19,7 +20,7 @@ use crate::post::{carry_out_at, receive_at};
 use crate::{EventRefusal, World};
 use directory_letters::Letter;
 use directory_node::{Change, Input, Plan, StepRefusal};
-use directory_rules::{Happening, Outcome, Span};
+use directory_rules::{Happening, Outcome, OwnStep, Span};
 use silo_address::SiloAddress;
 use std::alloc::AllocError;
 
@@ -57,15 +58,15 @@ impl World {
     #[inline(never)]
     pub(crate) fn nudges(&mut self, silo: &SiloAddress) -> Result<Outcome, EventRefusal>
         requires room { self.old.accepted < self.old.settings.events }
-        requires leaves { LeavesWorld (does self.old silo.now Nudges) }
-        ensures told { Follows (accepted_as self.new) event_refusal_number IsOkOrFull (does self.old silo.now Nudges) result }
+        requires leaves { LeavesWorld (does self.old silo.now (Does Nudge)) }
+        ensures told { Follows (accepted_as self.new) event_refusal_number IsOkOrFull (does self.old silo.now (Does Nudge)) result }
         ensures numbered { IfErr result IsNumberedUnlessMemory }
         ensures unchanged { OnErr result (self.new ≡ self.old) }
     {
         let Some(node) = self.node(silo) else {
             return Err(self.absent(silo));
         };
-        let plan = match node.plan(self.alloc, &Input::Nudges) {
+        let plan = match node.plan(self.alloc, &Input::Does(&OwnStep::Nudge)) {
             Ok(plan) => plan,
             Err(refusal) => return Err(EventRefusal::of_node(refusal)),
         };

@@ -12,9 +12,9 @@ use Rattle.hash_ring.specs.Places.{PlacesValue, after_add}
 use Rattle.directory_rules.specs.Settings.{Settings}
 use Rattle.directory_rules.specs.Letter.{Letter}
 use Rattle.directory_rules.specs.Node.{Node, new_node}
-use Rattle.directory_rules.specs.Event.{Event, Join, Wake, Close, Find, Forget, Nudge, Offer}
+use Rattle.directory_rules.specs.Event.{Event, Join, Do}
 use Rattle.directory_rules.specs.Step.{Stepped}
-use Rattle.directory_rules.specs.Input.{Input, Sees, Wakes, Closes, Finds, Forgets, Nudges, Offers, Receives, step}
+use Rattle.directory_rules.specs.Input.{Input, Sees, Does, Receives, step}
 use Rattle.directory_rules.specs.World.{World, first_world}
 
 -- what is asked of the settings and of each event, and what is carried
@@ -37,12 +37,7 @@ pub record IsSight (views : ViewsValue) (places : PlacesValue) (silo : Silo) (be
 -- what is known of a silo's input
 abbrev pub Brings : Facts → Settings → ViewsValue → PlacesValue → Silo → Input → Type 0
 Brings F settings views places silo (Sees before view brought) = IsSight views places silo before view brought
-Brings F settings views places silo (Wakes grain) = F.named (Wake silo grain)
-Brings F settings views places silo (Closes grain) = F.named (Close silo grain)
-Brings F settings views places silo (Finds grain) = F.named (Find silo grain)
-Brings F settings views places silo (Forgets grain) = F.named (Forget silo grain)
-Brings F settings views places silo Nudges = F.named (Nudge silo)
-Brings F settings views places silo (Offers grain to) = F.named (Offer silo grain to)
+Brings F settings views places silo (Does step) = F.named (Do silo step)
 Brings F settings views places silo (Receives letter) = (letter.to ≡ silo) × F.letter settings letter
 
 -- before a step, and after it
@@ -124,12 +119,7 @@ beside G F k = record {
 brings_half : (G F : Facts) (settings : Settings) (views : ViewsValue) (places : PlacesValue) (silo : Silo) (input : Input) → Brings (Both G F) settings views places silo input
     → Brings G settings views places silo input × Brings F settings views places silo input
 brings_half G F settings views places silo (Sees before view brought) brings = (brings, brings)
-brings_half G F settings views places silo (Wakes grain) brings = brings
-brings_half G F settings views places silo (Closes grain) brings = brings
-brings_half G F settings views places silo (Finds grain) brings = brings
-brings_half G F settings views places silo (Forgets grain) brings = brings
-brings_half G F settings views places silo Nudges brings = brings
-brings_half G F settings views places silo (Offers grain to) brings = brings
+brings_half G F settings views places silo (Does step) brings = brings
 brings_half G F settings views places silo (Receives letter) brings = ((brings.0, brings.1.0), (brings.0, brings.1.1))
 
 all_both : (P Q : Letter → Type 0) (letters : List Letter) → All P letters → All Q letters → All (λ letter. P letter × Q letter) letters

@@ -37,7 +37,8 @@ use Rattle.directory_rules.specs.Step as at
 use Rattle.directory_rules.specs.Reply as re
 use Rattle.directory_rules.specs.Transfer as tr
 use Rattle.directory_rules.specs.Receive as rc
-use Rattle.directory_rules.specs.Input.{Input, Sees, Wakes, Closes, Finds, Forgets, Nudges, Offers, Receives, step}
+use Rattle.directory_rules.specs.declared.own_step.OwnStep.TheVariants.{Wake, Close, Find, Forget, Nudge, Offer}
+use Rattle.directory_rules.specs.Input.{Input, Sees, Does, Receives, step}
 use Rattle.directory_facts.proofs.Ways.{IsReply, HasPiece, IsPageTaken, IsReportTaken, Ways}
 
 -- ---- what tests say
@@ -111,43 +112,43 @@ module _ (node : Node) (P : Input → at.Stepped → Type 0) (w : Ways node P) w
       unless (P (Sees before view places)) (not (has_numbers node.settings node.host (length (outstanding node.host)))) 805 _ (λ numbers.
       w.sees before view places (ltb-true node.view.version view.version (is_so _ newer)) (is_so _ numbers)))
 
-  wake : (grain : Grain) → IfOk (at.wake node grain) (P (Wakes grain))
+  wake : (grain : Grain) → IfOk (at.wake node grain) (P (Does (Wake grain)))
   wake grain =
-      unless (P (Wakes grain)) (not (is_active_in node.view node.host.silo)) 804 _ (λ active.
-      unless (P (Wakes grain)) (is_some (held_of node.host grain)) 801 _ (λ free.
-      unless (P (Wakes grain)) (is_full_of_activations node.settings node.host) 806 _ (λ room.
-      unless (P (Wakes grain)) (not (has_numbers node.settings node.host 1 && has_count node.settings node.host)) 805 _ (λ left.
+      unless (P (Does (Wake grain))) (not (is_active_in node.view node.host.silo)) 804 _ (λ active.
+      unless (P (Does (Wake grain))) (is_some (held_of node.host grain)) 801 _ (λ free.
+      unless (P (Does (Wake grain))) (is_full_of_activations node.settings node.host) 806 _ (λ room.
+      unless (P (Does (Wake grain))) (not (has_numbers node.settings node.host 1 && has_count node.settings node.host)) 805 _ (λ left.
       let so = both (has_numbers node.settings node.host 1) (has_count node.settings node.host) (is_so _ left) in
       w.wakes grain (record { active = is_so _ active; free = none_there (held_of node.host grain) free; room = room; numbers = so.0; count = so.1 })))))
 
-  close_held : (held : Option Held) (grain : Grain) → held_of node.host grain ≡ held → IfOk (at.close_held held node grain) (P (Closes grain))
+  close_held : (held : Option Held) (grain : Grain) → held_of node.host grain ≡ held → IfOk (at.close_held held node grain) (P (Does (Close grain)))
   close_held None grain found = tt
   close_held (Some held) grain found =
-      unless (P (Closes grain)) (not (is_firm held.phase)) 803 _ (λ firm.
-      unless (P (Closes grain)) (not (has_numbers node.settings node.host 1)) 805 _ (λ numbers.
+      unless (P (Does (Close grain))) (not (is_firm held.phase)) 803 _ (λ firm.
+      unless (P (Does (Close grain))) (not (has_numbers node.settings node.host 1)) 805 _ (λ numbers.
       w.closes grain held (record { found = found; firm = firm_is held.phase (is_so _ firm); numbers = is_so _ numbers })))
 
-  offer_held : (held : Option Held) (grain : Grain) (to : Silo) → held_of node.host grain ≡ held → IfOk (at.offer_held held node grain to) (P (Offers grain to))
+  offer_held : (held : Option Held) (grain : Grain) (to : Silo) → held_of node.host grain ≡ held → IfOk (at.offer_held held node grain to) (P (Does (Offer grain to)))
   offer_held None grain to found = tt
   offer_held (Some held) grain to found =
-      unless (P (Offers grain to)) (not (is_firm held.phase)) 803 _ (λ firm.
-      unless (P (Offers grain to)) (not (is_active_in node.view to) || silo_eq to node.host.silo) 807 _ (λ fit.
-      unless (P (Offers grain to)) (not (has_numbers node.settings node.host 1)) 805 _ (λ numbers.
+      unless (P (Does (Offer grain to))) (not (is_firm held.phase)) 803 _ (λ firm.
+      unless (P (Does (Offer grain to))) (not (is_active_in node.view to) || silo_eq to node.host.silo) 807 _ (λ fit.
+      unless (P (Does (Offer grain to))) (not (has_numbers node.settings node.host 1)) 805 _ (λ numbers.
       let so = neither (not (is_active_in node.view to)) (silo_eq to node.host.silo) fit in
       w.offers grain held to (record { found = found; firm = firm_is held.phase (is_so _ firm); numbers = is_so _ numbers }) (is_so _ so.0) (other_silo to node.host.silo so.1))))
 
-  find_by : (hint : Option ActivationId) (grain : Grain) → hint_of node.cache grain ≡ hint → IfOk (at.find_by hint node grain) (P (Finds grain))
+  find_by : (hint : Option ActivationId) (grain : Grain) → hint_of node.cache grain ≡ hint → IfOk (at.find_by hint node grain) (P (Does (Find grain)))
   find_by (Some activation) grain found = w.uses_hint grain activation found
   find_by None grain found =
-      unless (P (Finds grain)) (is_full_of_finds node.settings node.host) 806 _ (λ room.
-      unless (P (Finds grain)) (not (has_numbers node.settings node.host 1)) 805 _ (λ numbers. w.finds grain room (is_so _ numbers)))
+      unless (P (Does (Find grain))) (is_full_of_finds node.settings node.host) 806 _ (λ room.
+      unless (P (Does (Find grain))) (not (has_numbers node.settings node.host 1)) 805 _ (λ numbers. w.finds grain room (is_so _ numbers)))
 
-  forget_hint : (hint : Option ActivationId) (grain : Grain) → hint_of node.cache grain ≡ hint → P (Forgets grain) (at.forget_hint hint node grain)
-  forget_hint None grain found = w.nothing (Forgets grain) (effect.NothingCached grain) refl
+  forget_hint : (hint : Option ActivationId) (grain : Grain) → hint_of node.cache grain ≡ hint → P (Does (Forget grain)) (at.forget_hint hint node grain)
+  forget_hint None grain found = w.nothing (Does (Forget grain)) (effect.NothingCached grain) refl
   forget_hint (Some activation) grain found = w.forgets grain activation found
 
-  nudge : IfOk (at.nudge node) (P Nudges)
-  nudge = unless (P Nudges) (not (has_numbers node.settings node.host (length (outstanding node.host)))) 805 _ (λ numbers. w.nudges (is_so _ numbers))
+  nudge : IfOk (at.nudge node) (P (Does Nudge))
+  nudge = unless (P (Does Nudge)) (not (has_numbers node.settings node.host (length (outstanding node.host)))) 805 _ (λ numbers. w.nudges (is_so _ numbers))
 
   -- ---- letters
   ignores : (letter : Letter) → P (Receives letter) (at.silently node effect.Ignored)
@@ -311,12 +312,12 @@ module _ (node : Node) (P : Input → at.Stepped → Type 0) (w : Ways node P) w
 
   stepped : (input : Input) → IfOk (step node input) (P input)
   stepped (Sees before view places) = see before view places
-  stepped (Wakes grain) = wake grain
-  stepped (Closes grain) = close_held (held_of node.host grain) grain refl
-  stepped (Finds grain) = find_by (hint_of node.cache grain) grain refl
-  stepped (Forgets grain) = forget_hint (hint_of node.cache grain) grain refl
-  stepped Nudges = nudge
-  stepped (Offers grain to) = offer_held (held_of node.host grain) grain to refl
+  stepped (Does (Wake grain)) = wake grain
+  stepped (Does (Close grain)) = close_held (held_of node.host grain) grain refl
+  stepped (Does (Find grain)) = find_by (hint_of node.cache grain) grain refl
+  stepped (Does (Forget grain)) = forget_hint (hint_of node.cache grain) grain refl
+  stepped (Does Nudge) = nudge
+  stepped (Does (Offer grain to)) = offer_held (held_of node.host grain) grain to refl
   stepped (Receives letter) = received letter.body letter refl
 
 -- an accepted step

@@ -11,7 +11,7 @@ use Rattle.hash_ring.specs.Places.{is_added}
 use Rattle.directory_rules.specs.Settings.{Settings, AreSettings}
 use Rattle.directory_rules.specs.Letter.{Letter}
 use Rattle.directory_rules.specs.Node.{Node}
-use Rattle.directory_rules.specs.Event.{Event, Join, Leave, Kill, See, Wake, Close, Find, Forget, Deliver, Lose, Nudge, Offer, IsEvent}
+use Rattle.directory_rules.specs.Event.{Event, Join, Leave, Kill, See, Do, Deliver, Lose, IsEvent}
 use Rattle.directory_rules.specs.World.{World, first_world}
 use Rattle.directory_rules.specs.Mail.{letter_of}
 use Rattle.directory_rules.specs.Happens.{node_of}
@@ -101,14 +101,9 @@ named (Join silo places) is = is.1
 named (Leave silo) is = tt
 named (Kill silo) is = tt
 named (See silo version) is = tt
-named (Wake silo grain) is = tt
-named (Close silo grain) is = tt
-named (Find silo grain) is = tt
-named (Forget silo grain) is = tt
+named (Do silo step) is = tt
 named (Deliver number) is = tt
 named (Lose number) is = tt
-named (Nudge silo) is = tt
-named (Offer silo grain to) is = tt
 
 pub events_name_hashes : EventsNameHashes
 events_name_hashes events are = All-weaker IsEvent NamesHashes (λ event is. named event is) events are

@@ -14,7 +14,7 @@ use Rattle.range_moves.specs.declared.RingArc.{RingArc}
 use Rattle.range_moves.specs.Arcs.{arc_of, arcs_of, circle_cut_at, all_places}
 use Rattle.directory_rules.specs.declared.piece_state.PieceState.{PieceState}
 use Rattle.directory_rules.specs.declared.piece_state.PieceState.TheVariants as state
-use Rattle.directory_rules.specs.Membership.{is_dead_in}
+use Rattle.directory_rules.specs.Members.{is_dead_in}
 use Rattle.directory_rules.specs.Piece.{Piece}
 use Rattle.directory_rules.specs.Sight.{is_owner, was_settled, kept_entries, state_from, missing_state, piece_of, pieces_after, is_handed_over, snapshot_for, sealed, shelf_after}
 use Rattle.directory_rules.specs.Snapshot.{Snapshot}

@@ -1,5 +1,5 @@
 -- What is carried holds of every world that a run reaches.
-use Rattle.std.proofs.Common.{◌≡◌, refl, ap, ℕ, ◌+◌, List, [], ◌∷◌, ◌++◌}
+use Rattle.std.proofs.Common.{◌≡◌, refl, sym, subst, ℕ, ◌+◌, List, [], ◌∷◌, ◌++◌}
 use Rattle.std.specs.Prelude.{Bool, true, false, cond, not, nat_le, nat_lt, is_some, length, All, Option, Some, None, Result, Ok, Err, IfOk, IfSome}
 use Rattle.std.specs.Option.{option_map}
 use Rattle.std.specs.Ordering.{nat_cmp}
@@ -11,24 +11,24 @@ use Rattle.std.proofs.lemmas.List.Elements.{All-nil, All-cons, All-head, All-tai
 use Rattle.texts.proofs.Decided.{both}
 use Rattle.silo_address.specs.Silo.{Silo, silo_cmp}
 use Rattle.silo_address.proofs.Order.{silo_cmp_exact}
-use Rattle.membership_view.specs.declared.status.Status.{Status}
-use Rattle.membership_view.specs.declared.status.Status.TheVariants.{Active, Leaving, Dead}
 use Rattle.membership_view.specs.Views.{ViewsValue}
 use Rattle.membership_view.specs.Changes as change
-use Rattle.hash_ring.specs.Places.{PlacesValue, after_add}
+use Rattle.hash_ring.specs.Places.{PlacesValue}
 use Rattle.directory_rules.specs.Settings.{Settings}
+use Rattle.directory_rules.specs.Membership as membership
+use Rattle.directory_rules.specs.Membership.{Die, is_seeable, joined_in}
 use Rattle.directory_rules.specs.Letter.{Letter}
 use Rattle.directory_rules.specs.Node.{Node, new_node}
-use Rattle.directory_rules.specs.Event.{Event, Join, Leave, Kill, See, Wake, Close, Find, Forget, Deliver, Lose, Nudge, Offer}
+use Rattle.directory_rules.specs.Event.{Event, Join, Leave, Kill, See, Do, Deliver, Lose}
 use Rattle.directory_rules.specs.declared.outcome.Happening.{Happening}
 use Rattle.directory_rules.specs.Step.{Stepped}
-use Rattle.directory_rules.specs.Input.{Input, Wakes, Closes, Finds, Forgets, Nudges, Offers, Receives, step}
-use Rattle.directory_rules.specs.World.{Posted, World, Accepted, first_world}
+use Rattle.directory_rules.specs.Input.{Input, Does, Receives, sight_of, step}
+use Rattle.directory_rules.specs.World.{Posted, World, Accepted, first_world, membership_of}
 use Rattle.directory_rules.specs.Mail.{fresh_letter, numbered, letter_of, has_room_for, with_delivered}
 use Rattle.directory_rules.specs.Happens as rule
 use Rattle.directory_rules.specs.Run.{run, run_from_start, world_after}
 use Rattle.directory_rules.proofs.Cases.{on_bool}
-use Rattle.directory_rules.proofs.Nodes.{placed_added}
+use Rattle.directory_rules.proofs.Decided.{made, decided, join_makes, leave_is, death_is, died}
 use Rattle.directory_facts.proofs.Entries.{all_put, all_removed, all_set, found_so, same_key}
 use Rattle.directory_facts.proofs.Carried.{Facts, Brings, After, GoesOn, IsGoing, Keeps, Everywhere}
 
@@ -113,13 +113,13 @@ seen_by F k node input (Ok stepped) world silo version all there brings is = tak
 sees_at : (F : Facts) → Keeps F → (node : Option Node) (world : World) (silo : Silo) (version : ℕ) → Everywhere F world → rule.node_of world silo ≡ node → Held F (rule.sees_at node world silo version)
 sees_at F k None world silo version all there = tt
 sees_at F k (Some node) world silo version all there =
-    unless F (nat_lt node.view.version version) 903 _ (λ newer. unless F (rule.is_seeable world silo version) 904 _ (λ seeable.
-    let so = both (nat_le version world.views.version) (nat_le (rule.joined_in world silo) version) seeable in
-    seen_by F k node (rule.sight_of world version) (step node (rule.sight_of world version)) world silo version all there
+    unless F (nat_lt node.view.version version) 903 _ (λ newer. unless F (is_seeable (membership_of world) silo version) 904 _ (λ seeable.
+    let so = both (nat_le version world.views.version) (nat_le (joined_in (membership_of world) silo) version) seeable in
+    seen_by F k node (sight_of (membership_of world) version) (step node (sight_of (membership_of world) version)) world silo version all there
     (record {
       version = version;
       within = leb-true version world.views.version so.0;
-      joined = leb-true (rule.joined_in world silo) version so.1;
+      joined = leb-true (joined_in (membership_of world) silo) version so.1;
       is_before = refl;
       is_view = refl;
       is_brought = refl;
@@ -146,31 +146,25 @@ after_joining F (Some old) world silo next added all on = record {
   letters = all.letters;
 }
 
-joined : (F : Facts) → Keeps F → (placed : Result PlacesValue ℕ) (next : ViewsValue) (world : World) (silo : Silo) (given : List ℕ) → F.named (Join silo given) → Everywhere F world → change.after_join world.views silo ≡ Ok next
-    → rule.placed world silo given ≡ placed → Held F (rule.joined placed next world silo)
-joined F k (Err number) next world silo given named all viewed is = tt
-joined F k (Ok added) next world silo given named all viewed is =
-    after_joining F (change.occupant silo world.views.rows) world silo next added all
-    (k.joining world.settings world.views next world.places added silo given named all.shared viewed (placed_added (nat_lt world.settings.places (length given)) (after_add world.places silo given) added is))
-
-join_viewed : (F : Facts) → Keeps F → (viewed : Result ViewsValue ℕ) (world : World) (silo : Silo) (given : List ℕ) → F.named (Join silo given) → Everywhere F world → change.after_join world.views silo ≡ viewed → Held F (rule.join_viewed viewed world silo given)
-join_viewed F k (Err number) world silo given named all is = tt
-join_viewed F k (Ok next) world silo given named all is = joined F k (rule.placed world silo given) next world silo given named all is refl
+joins : (F : Facts) → Keeps F → (world : World) (silo : Silo) (given : List ℕ) → F.named (Join silo given) → Everywhere F world → Held F (rule.decides world (membership.Join silo given))
+joins F k world silo given named all = decided (Held F) world (membership.Join silo given) (λ number. tt) (λ m is.
+    let makes = join_makes world.settings (membership_of world) m silo given is in
+    after_joining F (change.occupant silo world.views.rows) world silo m.views m.places all
+    (k.joining world.settings world.views m.views world.places m.places silo given named all.shared makes.viewed makes.added))
 
 goes : (F : Facts) → Keeps F → (world : World) (next : ViewsValue) (way : change.Change) → IsGoing way → Everywhere F world → change.after world.views way ≡ Ok next → GoesOn F world.settings world.views world.places next world.places
 goes F k world next way going all is = k.going world.settings world.views next world.places way going all.shared is
 
-leave_by : (F : Facts) → Keeps F → (status : Option Status) (world : World) (silo : Silo) → Everywhere F world → rule.status_now world silo ≡ status → Held F (rule.leave_by status world silo)
-leave_by F k None world silo all is = tt
-leave_by F k (Some Active) world silo all is =
+leaves : (F : Facts) → Keeps F → (world : World) (silo : Silo) → Everywhere F world → Held F (rule.decides world (membership.Leave silo))
+leaves F k world silo all = decided (Held F) world (membership.Leave silo) (λ number. tt) (λ m is.
+    let its = leave_is world.settings (membership_of world) m silo is in
     let next = change.with_leave world.views silo in
-    let on = goes F k world next (change.Leave silo) tt all (ap (λ o. change.leave_from o world.views silo) is) in
-    record { shared = on.shared; nodes = nodes_on F world.settings world.views next world.places world.places world.nodes on all.nodes; letters = all.letters }
-leave_by F k (Some Leaving) world silo all is = tt
-leave_by F k (Some Dead) world silo all is = tt
+    let on = goes F k world next (change.Leave silo) tt all its.1 in
+    subst (λ m. Held F (made world (membership.Leave silo) m)) (sym its.0)
+    (record { shared = on.shared; nodes = nodes_on F world.settings world.views next world.places world.places world.nodes on all.nodes; letters = all.letters }))
 
-died : (F : Facts) → Keeps F → (world : World) (silo : Silo) → Everywhere F world → change.after world.views (change.Die silo) ≡ Ok (change.with_death world.views silo) → Everywhere F (rule.died world silo).world
-died F k world silo all is =
+gone : (F : Facts) → Keeps F → (world : World) (silo : Silo) → Everywhere F world → change.after world.views (change.Die silo) ≡ Ok (change.with_death world.views silo) → Everywhere F (died world silo).world
+gone F k world silo all is =
     let next = change.with_death world.views silo in
     let on = goes F k world next (change.Die silo) tt all is in
     record {
@@ -179,11 +173,10 @@ died F k world silo all is =
       letters = all.letters;
     }
 
-kill_by : (F : Facts) → Keeps F → (status : Option Status) (world : World) (silo : Silo) → Everywhere F world → rule.status_now world silo ≡ status → Held F (rule.kill_by status world silo)
-kill_by F k None world silo all is = tt
-kill_by F k (Some Active) world silo all is = died F k world silo all (ap (λ o. change.die_from o world.views silo) is)
-kill_by F k (Some Leaving) world silo all is = died F k world silo all (ap (λ o. change.die_from o world.views silo) is)
-kill_by F k (Some Dead) world silo all is = tt
+dies : (F : Facts) → Keeps F → (world : World) (silo : Silo) → Everywhere F world → Held F (rule.decides world (Die silo))
+dies F k world silo all = decided (Held F) world (Die silo) (λ number. tt) (λ m is.
+    let its = death_is world.settings (membership_of world) m silo is in
+    subst (λ m. Held F (made world (Die silo) m)) (sym its.0) (gone F k world silo all its.1))
 
 delivered_by : (F : Facts) → Keeps F → (node : Node) (result : Result Stepped ℕ) (world : World) (number : ℕ) (letter : Letter) → Everywhere F world → rule.node_of world letter.to ≡ Some node → F.letter world.settings letter
     → step node (Receives letter) ≡ result → Held F (rule.delivered_by result world number letter)
@@ -206,18 +199,13 @@ lost F world number all = when F (is_some (letter_of world number)) 905 _
     (record { shared = all.shared; nodes = all.nodes; letters = all_removed (Says F world.settings) (is_at (nat_cmp number)) world.mail all.letters })
 
 attempted : (F : Facts) → Keeps F → (world : World) (event : Event) → F.named event → Everywhere F world → Held F (rule.attempted world event)
-attempted F k world (Join silo given) named all = join_viewed F k (change.after_join world.views silo) world silo given named all refl
-attempted F k world (Leave silo) named all = leave_by F k (rule.status_now world silo) world silo all refl
-attempted F k world (Kill silo) named all = kill_by F k (rule.status_now world silo) world silo all refl
+attempted F k world (Join silo given) named all = joins F k world silo given named all
+attempted F k world (Leave silo) named all = leaves F k world silo all
+attempted F k world (Kill silo) named all = dies F k world silo all
 attempted F k world (See silo version) named all = sees_at F k (rule.node_of world silo) world silo version all refl
-attempted F k world (Wake silo grain) named all = does F k world silo (Wakes grain) all named
-attempted F k world (Close silo grain) named all = does F k world silo (Closes grain) all named
-attempted F k world (Find silo grain) named all = does F k world silo (Finds grain) all named
-attempted F k world (Forget silo grain) named all = does F k world silo (Forgets grain) all named
+attempted F k world (Do silo step) named all = does F k world silo (Does step) all named
 attempted F k world (Deliver number) named all = delivers F k (letter_of world number) world number all (found_letter F world.settings (is_at (nat_cmp number)) world.mail all.letters)
 attempted F k world (Lose number) named all = lost F world number all
-attempted F k world (Nudge silo) named all = does F k world silo Nudges all named
-attempted F k world (Offer silo grain to) named all = does F k world silo (Offers grain to) all named
 
 -- an event keeps what is carried
 pub happened : (F : Facts) → Keeps F → (world : World) (event : Event) → F.named event → Everywhere F world → Held F (rule.happens world event)

@@ -35,7 +35,8 @@ use Rattle.directory_rules.specs.Host as host
 use Rattle.directory_rules.specs.Transfer.{answering, piece_at, with_settled, with_gathering, with_recovery, asking_on, turned_to_recovery, querying, report_of}
 use Rattle.directory_rules.specs.Receive.{replying}
 use Rattle.directory_rules.specs.PlainMachine.{Nothing_changes, step_of_effect}
-use Rattle.directory_rules.specs.Input.{Input, Sees, Wakes, Closes, Finds, Forgets, Nudges, Offers, Receives}
+use Rattle.directory_rules.specs.declared.own_step.OwnStep.TheVariants.{Wake, Close, Find, Forget, Nudge, Offer}
+use Rattle.directory_rules.specs.Input.{Input, Sees, Does, Receives}
 
 -- an activation of the grain may begin: the silo is Active in the view that it has seen, holds none of the grain, and has a
 -- place, a number and a count left
@@ -92,14 +93,14 @@ pub record Ways (node : Node) (P : Input → Stepped → Type 0) : Type 0 where
   -- steps of the silo's own
   pub sees : (before view : ViewValue) (places : PlacesValue) → node.view.version < view.version → has_numbers node.settings node.host (length (outstanding node.host)) ≡ true
       → P (Sees before view places) (sight (is_next node.view before view node.host.silo) node before view places)
-  pub wakes : (grain : Grain) → MayBegin node grain → P (Wakes grain) (started node grain None)
-  pub closes : (grain : Grain) (held : Held) → MayClose node grain held → P (Closes grain) (closing node grain held)
-  pub offers : (grain : Grain) (held : Held) (to : Silo) → MayClose node grain held → is_active_in node.view to ≡ true → to ≢ node.host.silo → P (Offers grain to) (offered node grain held to)
+  pub wakes : (grain : Grain) → MayBegin node grain → P (Does (Wake grain)) (started node grain None)
+  pub closes : (grain : Grain) (held : Held) → MayClose node grain held → P (Does (Close grain)) (closing node grain held)
+  pub offers : (grain : Grain) (held : Held) (to : Silo) → MayClose node grain held → is_active_in node.view to ≡ true → to ≢ node.host.silo → P (Does (Offer grain to)) (offered node grain held to)
   pub uses_hint : (grain : Grain) (activation : ActivationId) → hint_of node.cache grain ≡ Some activation
-      → P (Finds grain) (silently (record node { cache = in_front node.cache grain activation }) (effect.Cached (record { grain = grain; activation = activation })))
-  pub finds : (grain : Grain) → is_full_of_finds node.settings node.host ≡ false → has_numbers node.settings node.host 1 ≡ true → P (Finds grain) (finding node grain)
-  pub forgets : (grain : Grain) (activation : ActivationId) → hint_of node.cache grain ≡ Some activation → P (Forgets grain) (silently (record node { cache = without_pair node.cache grain activation }) (effect.Forgot grain))
-  pub nudges : has_numbers node.settings node.host (length (outstanding node.host)) ≡ true → P Nudges (having_nudged (record node { host = host.renewed node.host }))
+      → P (Does (Find grain)) (silently (record node { cache = in_front node.cache grain activation }) (effect.Cached (record { grain = grain; activation = activation })))
+  pub finds : (grain : Grain) → is_full_of_finds node.settings node.host ≡ false → has_numbers node.settings node.host 1 ≡ true → P (Does (Find grain)) (finding node grain)
+  pub forgets : (grain : Grain) (activation : ActivationId) → hint_of node.cache grain ≡ Some activation → P (Does (Forget grain)) (silently (record node { cache = without_pair node.cache grain activation }) (effect.Forgot grain))
+  pub nudges : has_numbers node.settings node.host (length (outstanding node.host)) ≡ true → P (Does Nudge) (having_nudged (record node { host = host.renewed node.host }))
   -- a request is answered
   pub answers : (letter : Letter) (request : Request) → letter.body ≡ Request_letter request → request.sender ≡ letter.from → request.version ≡ letter.version
       → P (Receives letter) (replying node request (answered node.holding request))

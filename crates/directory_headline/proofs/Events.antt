@@ -1,36 +1,31 @@
 -- Every accepted event is one of these ways, each with what its guards say.
-use Rattle.std.proofs.Common.{◌≡◌, refl, ap, ℕ, ◌+◌, ◌-◌, List}
+use Rattle.std.proofs.Common.{◌≡◌, refl, sym, subst, ℕ, ◌+◌, ◌-◌, List}
 use Rattle.std.specs.Prelude.{⊤, Bool, true, false, cond, not, nat_le, nat_lt, is_some, length, Option, Some, None, Result, Ok, Err, IfOk}
 use Rattle.std.proofs.lemmas.Bool.{leb-true}
 use Rattle.texts.proofs.Decided.{both}
 use Rattle.silo_address.specs.Silo.{Silo}
-use Rattle.membership_view.specs.declared.status.Status.{Status}
-use Rattle.membership_view.specs.declared.status.Status.TheVariants.{Active, Leaving, Dead}
 use Rattle.membership_view.specs.Views.{ViewsValue, view_at}
 use Rattle.membership_view.specs.Changes as change
 use Rattle.hash_ring.specs.Places.{PlacesValue, after_add}
+use Rattle.directory_rules.specs.Membership as membership
+use Rattle.directory_rules.specs.Membership.{Die, is_seeable, joined_in}
 use Rattle.directory_rules.specs.Letter.{Letter, kind_of}
 use Rattle.directory_rules.specs.Node.{Node}
-use Rattle.directory_rules.specs.Event.{Event, Join, Leave, Kill, See, Wake, Close, Find, Forget, Deliver, Lose, Nudge, Offer}
+use Rattle.directory_rules.specs.Event.{Event, Join, Leave, Kill, See, Do, Deliver, Lose}
 use Rattle.directory_rules.specs.declared.outcome.Happening.{Happening}
 use Rattle.directory_rules.specs.declared.outcome.Happening.TheVariants.{Joined, Left, Saw, Did, Delivered, Lost}
 use Rattle.directory_rules.specs.Step.{Stepped}
-use Rattle.directory_rules.specs.Input.{Input, Sees, Wakes, Closes, Finds, Forgets, Nudges, Offers, Receives, step}
-use Rattle.directory_rules.specs.World.{World, Accepted}
+use Rattle.directory_rules.specs.Input.{Input, Sees, Does, Receives, sight_of, step}
+use Rattle.directory_rules.specs.World.{World, Accepted, membership_of}
 use Rattle.directory_rules.specs.Mail.{letter_of, with_sent, has_room_for, span_of, with_delivered, with_lost}
 use Rattle.directory_rules.specs.Happens as rule
-use Rattle.directory_rules.proofs.Nodes.{placed_added}
+use Rattle.directory_rules.proofs.Decided.{made, decided, join_makes, leave_is, death_is, died}
 use Rattle.directory_facts.proofs.Carried.{IsSight}
 
 -- an input that is the silo's own doing: it brings neither a view nor a letter
 abbrev pub IsOwnInput : Input → Type 0
 IsOwnInput (Sees before view places) = ⊥
-IsOwnInput (Wakes grain) = ⊤
-IsOwnInput (Closes grain) = ⊤
-IsOwnInput (Finds grain) = ⊤
-IsOwnInput (Forgets grain) = ⊤
-IsOwnInput Nudges = ⊤
-IsOwnInput (Offers grain to) = ⊤
+IsOwnInput (Does step) = ⊤
 IsOwnInput (Receives letter) = ⊥
 
 -- the step is done: the silo has its new node, and its letters are in the mail
@@ -51,11 +46,11 @@ pub record EventWays (world : World) (P : Accepted → Type 0) : Type 0 where
   pub leaves :
       (silo : Silo) → change.after world.views (change.Leave silo) ≡ Ok (change.with_leave world.views silo)
       → P (rule.tells (record world { views = change.with_leave world.views silo }) (Left (world.views.version + 1) silo))
-  pub dies : (silo : Silo) → change.after world.views (change.Die silo) ≡ Ok (change.with_death world.views silo) → P (rule.died world silo)
+  pub dies : (silo : Silo) → change.after world.views (change.Die silo) ≡ Ok (change.with_death world.views silo) → P (died world silo)
   pub sees :
       (silo : Silo) (version : ℕ) (node : Node) (stepped : Stepped) → rule.node_of world silo ≡ Some node
       → IsSight world.views world.places silo (view_at world.views (version - 1)) (view_at world.views version) world.places
-      → step node (rule.sight_of world version) ≡ Ok stepped → P (accepted_step world silo (Saw silo version stepped.effect) stepped)
+      → step node (sight_of (membership_of world) version) ≡ Ok stepped → P (accepted_step world silo (Saw silo version stepped.effect) stepped)
   pub does :
       (silo : Silo) (input : Input) (node : Node) (stepped : Stepped) → IsOwnInput input → rule.node_of world silo ≡ Some node → step node input ≡ Ok stepped
       → P (accepted_step world silo (Did silo stepped.effect) stepped)
@@ -91,44 +86,36 @@ module _ (world : World) (P : Accepted → Type 0) (w : EventWays world P) where
   seen_by :
       (node : Node) (result : Result Stepped ℕ) (silo : Silo) (version : ℕ) → rule.node_of world silo ≡ Some node
       → IsSight world.views world.places silo (view_at world.views (version - 1)) (view_at world.views version) world.places
-      → step node (rule.sight_of world version) ≡ result → Held (rule.seen_by result world silo version)
+      → step node (sight_of (membership_of world) version) ≡ result → Held (rule.seen_by result world silo version)
   seen_by node (Err number) silo version there sight is = tt
   seen_by node (Ok stepped) silo version there sight is = taken world silo _ stepped (w.sees silo version node stepped there sight is)
 
   sees_at : (node : Option Node) (silo : Silo) (version : ℕ) → rule.node_of world silo ≡ node → Held (rule.sees_at node world silo version)
   sees_at None silo version there = tt
   sees_at (Some node) silo version there =
-      unless (nat_lt node.view.version version) 903 _ (λ newer. unless (rule.is_seeable world silo version) 904 _ (λ seeable.
-      let so = both (nat_le version world.views.version) (nat_le (rule.joined_in world silo) version) seeable in
-      seen_by node (step node (rule.sight_of world version)) silo version there
+      unless (nat_lt node.view.version version) 903 _ (λ newer. unless (is_seeable (membership_of world) silo version) 904 _ (λ seeable.
+      let so = both (nat_le version world.views.version) (nat_le (joined_in (membership_of world) silo) version) seeable in
+      seen_by node (step node (sight_of (membership_of world) version)) silo version there
       (record {
         version = version;
         within = leb-true version world.views.version so.0;
-        joined = leb-true (rule.joined_in world silo) version so.1;
+        joined = leb-true (joined_in (membership_of world) silo) version so.1;
         is_before = refl;
         is_view = refl;
         is_brought = refl;
       }) refl))
 
-  joined : (placed : Result PlacesValue ℕ) (next : ViewsValue) (silo : Silo) (given : List ℕ) → change.after_join world.views silo ≡ Ok next → rule.placed world silo given ≡ placed → Held (rule.joined placed next world silo)
-  joined (Err number) next silo given viewed is = tt
-  joined (Ok added) next silo given viewed is = w.joins silo given next added viewed (placed_added (nat_lt world.settings.places (length given)) (after_add world.places silo given) added is)
+  joins : (silo : Silo) (given : List ℕ) → Held (rule.decides world (membership.Join silo given))
+  joins silo given = decided Held world (membership.Join silo given) (λ number. tt) (λ m is.
+      let makes = join_makes world.settings (membership_of world) m silo given is in w.joins silo given m.views m.places makes.viewed makes.added)
 
-  join_viewed : (viewed : Result ViewsValue ℕ) (silo : Silo) (given : List ℕ) → change.after_join world.views silo ≡ viewed → Held (rule.join_viewed viewed world silo given)
-  join_viewed (Err number) silo given is = tt
-  join_viewed (Ok next) silo given is = joined (rule.placed world silo given) next silo given is refl
+  leaves : (silo : Silo) → Held (rule.decides world (membership.Leave silo))
+  leaves silo = decided Held world (membership.Leave silo) (λ number. tt) (λ m is.
+      let its = leave_is world.settings (membership_of world) m silo is in subst (λ m. Held (made world (membership.Leave silo) m)) (sym its.0) (w.leaves silo its.1))
 
-  leave_by : (status : Option Status) (silo : Silo) → rule.status_now world silo ≡ status → Held (rule.leave_by status world silo)
-  leave_by None silo is = tt
-  leave_by (Some Active) silo is = w.leaves silo (ap (λ o. change.leave_from o world.views silo) is)
-  leave_by (Some Leaving) silo is = tt
-  leave_by (Some Dead) silo is = tt
-
-  kill_by : (status : Option Status) (silo : Silo) → rule.status_now world silo ≡ status → Held (rule.kill_by status world silo)
-  kill_by None silo is = tt
-  kill_by (Some Active) silo is = w.dies silo (ap (λ o. change.die_from o world.views silo) is)
-  kill_by (Some Leaving) silo is = w.dies silo (ap (λ o. change.die_from o world.views silo) is)
-  kill_by (Some Dead) silo is = tt
+  dies : (silo : Silo) → Held (rule.decides world (Die silo))
+  dies silo = decided Held world (Die silo) (λ number. tt) (λ m is.
+      let its = death_is world.settings (membership_of world) m silo is in subst (λ m. Held (made world (Die silo) m)) (sym its.0) (w.dies silo its.1))
 
   delivered_by : (node : Node) (result : Result Stepped ℕ) (number : ℕ) (letter : Letter) → letter_of world number ≡ Some letter → rule.node_of world letter.to ≡ Some node → step node (Receives letter) ≡ result → Held (rule.delivered_by result world number letter)
   delivered_by node (Err refusal) number letter found there is = tt
@@ -143,18 +130,13 @@ module _ (world : World) (P : Accepted → Type 0) (w : EventWays world P) where
   delivers (Some letter) number found = delivers_to (rule.node_of world letter.to) number letter found refl
 
   attempted : (event : Event) → Held (rule.attempted world event)
-  attempted (Join silo given) = join_viewed (change.after_join world.views silo) silo given refl
-  attempted (Leave silo) = leave_by (rule.status_now world silo) silo refl
-  attempted (Kill silo) = kill_by (rule.status_now world silo) silo refl
+  attempted (Join silo given) = joins silo given
+  attempted (Leave silo) = leaves silo
+  attempted (Kill silo) = dies silo
   attempted (See silo version) = sees_at (rule.node_of world silo) silo version refl
-  attempted (Wake silo grain) = does_at (rule.node_of world silo) silo (Wakes grain) tt refl
-  attempted (Close silo grain) = does_at (rule.node_of world silo) silo (Closes grain) tt refl
-  attempted (Find silo grain) = does_at (rule.node_of world silo) silo (Finds grain) tt refl
-  attempted (Forget silo grain) = does_at (rule.node_of world silo) silo (Forgets grain) tt refl
+  attempted (Do silo step) = does_at (rule.node_of world silo) silo (Does step) tt refl
   attempted (Deliver number) = delivers (letter_of world number) number refl
   attempted (Lose number) = when (is_some (letter_of world number)) 905 _ (w.loses number)
-  attempted (Nudge silo) = does_at (rule.node_of world silo) silo Nudges tt refl
-  attempted (Offer silo grain to) = does_at (rule.node_of world silo) silo (Offers grain to) tt refl
 
 -- what happens at an event
 pub by_event : (world : World) (P : Accepted → Type 0) → EventWays world P → (event : Event) → IfOk (rule.happens world event) P

@@ -15,7 +15,7 @@ use Rattle.directory_protocol.specs.Safety.{IsReached}
 use Rattle.directory_rules.specs.Letter.{Letter}
 use Rattle.directory_rules.specs.Node.{Node}
 use Rattle.directory_rules.specs.Step.{Stepped}
-use Rattle.directory_rules.specs.Input.{Input, Sees, Wakes, Closes, Finds, Forgets, Nudges, Offers, Receives}
+use Rattle.directory_rules.specs.Input.{Input, Sees, Does, Receives}
 use Rattle.directory_rules.specs.World.{World}
 use Rattle.directory_rules.specs.Happens.{node_of}
 use Rattle.directory_rules.specs.Laws.{is_live}
@@ -45,12 +45,7 @@ pub record Comes (m : Setting) (f : World) (w : protocol.World) (silo : Silo) (l
 -- what is known of the silo's input
 abbrev pub Brings : Setting → World → protocol.World → Silo → Input → Type 0
 Brings m f w silo (Sees before view places) = IsSight f.views f.places silo before view places
-Brings m f w silo (Wakes grain) = ⊤
-Brings m f w silo (Closes grain) = ⊤
-Brings m f w silo (Finds grain) = ⊤
-Brings m f w silo (Forgets grain) = ⊤
-Brings m f w silo Nudges = ⊤
-Brings m f w silo (Offers grain to) = ⊤
+Brings m f w silo (Does step) = ⊤
 Brings m f w silo (Receives letter) = Comes m f w silo letter
 
 -- what a step has to show

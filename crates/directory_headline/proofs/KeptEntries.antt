@@ -24,7 +24,7 @@ use Rattle.hash_ring.specs.Hash.{hash_grain}
 use Rattle.directory_protocol.specs.Setting.{Setting}
 use Rattle.directory_protocol.specs.World.{surviving}
 use Rattle.directory_protocol.proofs.Changes.{grain_cases}
-use Rattle.directory_rules.specs.Membership.{is_dead_in}
+use Rattle.directory_rules.specs.Members.{is_dead_in}
 use Rattle.directory_rules.specs.Table.{Table, entry_at, with_entry, entries_of, table_of, is_before_first, rise_by_grain}
 use Rattle.directory_rules.specs.Piece.{Piece}
 use Rattle.directory_rules.specs.Sight.{all_entries, is_kept, kept_entries}

@@ -23,7 +23,7 @@ use Rattle.membership_view.specs.Whole.{IsViews}
 use Rattle.membership_view.proofs.Entries.{lookup-picked}
 use Rattle.membership_view.proofs.Unchanged.{joined_from}
 use Rattle.directory_protocol.proofs.Changes.{silo_cases}
-use Rattle.directory_rules.specs.Membership.{is_dead_status, is_known_dead, members_of}
+use Rattle.directory_rules.specs.Members.{is_dead_status, is_known_dead, members_of}
 use Rattle.directory_rules.specs.Recovery.{is_among}
 use Rattle.directory_rules.specs.Laws.{is_live}
 use Rattle.directory_rules.proofs.Cases.{on_bool}

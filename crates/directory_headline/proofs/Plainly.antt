@@ -12,6 +12,7 @@ use Rattle.membership_view.specs.Laws.{Accepts}
 use Rattle.membership_view.specs.Step.{Joins}
 use Rattle.membership_view.proofs.Changes.{changes_are_steps}
 use Rattle.hash_ring.specs.Places.{PlacesValue}
+use Rattle.directory_rules.proofs.Decided.{died}
 use Rattle.directory_rules.specs.Node.{Node}
 use Rattle.directory_rules.specs.Step.{Stepped}
 use Rattle.directory_rules.specs.Input.{Input, Receives, step}
@@ -19,7 +20,7 @@ use Rattle.directory_rules.specs.Event.{Event, IsEvent}
 use Rattle.directory_rules.specs.declared.outcome.Happening.TheVariants.{Lost}
 use Rattle.directory_rules.specs.World.{World, Accepted}
 use Rattle.directory_rules.specs.Mail.{with_delivered, with_lost}
-use Rattle.directory_rules.specs.Happens.{node_of, happens, counted, tells, after_joining, died}
+use Rattle.directory_rules.specs.Happens.{node_of, happens, counted, tells, after_joining}
 use Rattle.directory_rules.specs.Laws.{ArePeopled}
 use Rattle.directory_rules.specs.Headline.{NoTwoFirm, MovesPlainly}
 use Rattle.directory_rules.specs.PlainMachine.{plain_of, PlainStep, Nothing_changes, step_of_effect, plain_step_of, IsSame, ViewChanges, IsPlainStep}

@@ -30,7 +30,7 @@ use Rattle.directory_rules.specs.declared.held.Held.{Held}
 use Rattle.directory_rules.specs.declared.held.Phase.{Phase}
 use Rattle.directory_rules.specs.declared.held.Phase.TheVariants as phase
 use Rattle.directory_rules.specs.declared.reply.Why.{Why}
-use Rattle.directory_rules.specs.Membership.{is_known_dead}
+use Rattle.directory_rules.specs.Members.{is_known_dead}
 use Rattle.directory_rules.specs.Table.{entry_at, entries_of}
 use Rattle.directory_rules.specs.Piece.{Piece}
 use Rattle.directory_rules.specs.Sight.{is_settled}

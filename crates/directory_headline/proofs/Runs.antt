@@ -13,8 +13,8 @@ use Rattle.directory_rules.specs.Settings.{Settings, AreSettings}
 use Rattle.directory_rules.specs.Node.{Node}
 use Rattle.directory_rules.specs.Step.{Stepped}
 use Rattle.directory_rules.specs.Event.{Event, IsEvent}
-use Rattle.directory_rules.specs.Input.{Input, Wakes, Closes, Finds, Forgets, Nudges, Offers, Receives, Sees, step}
-use Rattle.directory_rules.specs.World.{World, Accepted, first_world}
+use Rattle.directory_rules.specs.Input.{Input, Does, Receives, Sees, step, sight_of}
+use Rattle.directory_rules.specs.World.{World, Accepted, first_world, membership_of}
 use Rattle.directory_rules.specs.Mail.{letter_of, with_delivered}
 use Rattle.directory_rules.specs.Happens as rule
 use Rattle.directory_rules.specs.Run as running
@@ -43,12 +43,7 @@ FactsHold = (settings : Settings) (events : List Event) → AreSettings settings
 -- a silo's own doing brings all that is asked
 own_brings : (m : Setting) (f : World) (w : protocol.World) (silo : Silo) (input : Input) → IsOwnInput input → Brings m f w silo input
 own_brings m f w silo (Sees before view places) own = absurd own
-own_brings m f w silo (Wakes grain) own = tt
-own_brings m f w silo (Closes grain) own = tt
-own_brings m f w silo (Finds grain) own = tt
-own_brings m f w silo (Forgets grain) own = tt
-own_brings m f w silo Nudges own = tt
-own_brings m f w silo (Offers grain to) own = tt
+own_brings m f w silo (Does step) own = tt
 own_brings m f w silo (Receives letter) own = absurd own
 
 module _ (all_move : AllMove) (m : Setting) (f : World) (setting : IsSettingOf m f) (facts : WorldFacts m.hash f) (carried : Carried m f) where
@@ -82,7 +77,7 @@ module _ (all_move : AllMove) (m : Setting) (f : World) (setting : IsSettingOf m
     joins = λ silo given next added viewed placed. carried_joining m f facts carried silo next added viewed _;
     leaves = λ silo is. carried_leaving m f facts carried silo is;
     dies = λ silo is. carried_death m f facts carried silo is;
-    sees = λ silo version node stepped there sight is. carried_step silo node (rule.sight_of f version) stepped there is sight;
+    sees = λ silo version node stepped there sight is. carried_step silo node (sight_of (membership_of f) version) stepped there is sight;
     does = λ silo input node stepped own there is. carried_step silo node input stepped there is (own_brings m f carried.world silo input own);
     delivers = λ number letter node stepped found there is. carried_delivery number letter node stepped found there is;
     loses = λ number. record { world = carried.world; reached = carried.reached; shown = shown_lost m f carried.world number carried.shown };

@@ -24,7 +24,7 @@ use Rattle.hash_ring.proofs.Ownership.{owner_is}
 use Rattle.hash_ring.proofs.Lawful.{points_are, is_sorted_anew}
 use Rattle.range_moves.specs.Arcs.{owner_silo}
 use Rattle.directory_protocol.specs.Setting.{Setting}
-use Rattle.directory_rules.specs.Membership.{is_known_dead}
+use Rattle.directory_rules.specs.Members.{is_known_dead}
 use Rattle.directory_rules.specs.World.{World}
 use Rattle.directory_rules.specs.Laws.{is_live}
 use Rattle.directory_rules.proofs.Cases.{on_bool}

@@ -21,7 +21,7 @@ use Rattle.directory_protocol.specs.Effects as effects
 use Rattle.directory_protocol.proofs.Changes.{put_same}
 use Rattle.directory_rules.specs.declared.piece_state.PieceState.{PieceState}
 use Rattle.directory_rules.specs.declared.piece_state.PieceState.TheVariants as state
-use Rattle.directory_rules.specs.Membership.{is_dead_in}
+use Rattle.directory_rules.specs.Members.{is_dead_in}
 use Rattle.directory_rules.specs.Table.{entry_at, entries_of}
 use Rattle.directory_rules.specs.Piece.{Piece}
 use Rattle.directory_rules.specs.Snapshot.{Snapshot}

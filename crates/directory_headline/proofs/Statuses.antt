@@ -3,7 +3,7 @@ use Rattle.std.proofs.Common.{◌≡◌, IsSome, refl, ap}
 use Rattle.std.specs.Prelude.{true, false, Option, Some, None, not}
 use Rattle.membership_view.specs.declared.status.Status.{Status}
 use Rattle.membership_view.specs.declared.status.Status.TheVariants.{Active, Leaving, Dead}
-use Rattle.directory_rules.specs.Membership.{is_known_dead}
+use Rattle.directory_rules.specs.Members.{is_known_dead}
 use Rattle.directory_rules.specs.Laws.{is_live}
 
 pub live_there : (status : Option Status) → is_live status ≡ true → IsSome status

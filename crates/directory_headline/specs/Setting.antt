@@ -8,7 +8,7 @@ use Rattle.hash_ring.specs.Places.{PlacesValue}
 use Rattle.hash_ring.specs.Ring.{sorted_ring}
 use Rattle.range_moves.specs.Arcs.{owner_silo}
 use Rattle.directory_protocol.specs.Setting.{Setting}
-use Rattle.directory_rules.specs.Membership.{is_dead_in}
+use Rattle.directory_rules.specs.Members.{is_dead_in}
 use Rattle.directory_rules.specs.Laws.{is_live}
 use Rattle.directory_rules.specs.World.{World}
 

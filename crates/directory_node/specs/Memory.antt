@@ -7,7 +7,8 @@ use Rattle.directory_rules.specs.declared.letter_kind.LetterKind.{LetterKind}
 use Rattle.directory_rules.specs.declared.letter_kind.LetterKind.TheVariants.{Register, Deregister, Find, Registered, Taken, Removed, Absent, Found, Nothing, Retry, Ask, Page, Missing, Done, Query, Report, Behind, Ahead, Offer}
 use Rattle.directory_rules.specs.Cache.{hint_of}
 use Rattle.directory_rules.specs.Host.{outstanding}
-use Rattle.directory_rules.specs.Input.{Input, Sees, Wakes, Closes, Finds, Forgets, Nudges, Offers, Receives}
+use Rattle.directory_rules.specs.declared.own_step.OwnStep.TheVariants.{Wake, Close, Find, Forget, Nudge, Offer}
+use Rattle.directory_rules.specs.Input.{Input, Sees, Does, Receives}
 use Rattle.directory_rules.specs.Letter.{Letter, kind_of}
 use Rattle.directory_rules.specs.Node.{Node}
 use Rattle.directory_rules.specs.Receive.{received}
@@ -58,12 +59,12 @@ is_quiet node = (length (outstanding node.host) == 0) && list_all (λ e. is_sett
 -- nothing comes
 abbrev pub MayLackMemory : Node → Input → Result Stepped ℕ → Type 0
 MayLackMemory node (Sees before view places) outcome = IsOk outcome
-MayLackMemory node (Wakes grain) outcome = Sends 1 outcome
-MayLackMemory node (Closes grain) outcome = Sends 1 outcome
-MayLackMemory node (Finds grain) outcome = Sends 1 outcome
-MayLackMemory node (Forgets grain) outcome = ⊥
-MayLackMemory node Nudges outcome = IsOk outcome × (is_quiet node ≡ false)
-MayLackMemory node (Offers grain to) outcome = Sends 1 outcome
+MayLackMemory node (Does (Wake grain)) outcome = Sends 1 outcome
+MayLackMemory node (Does (Close grain)) outcome = Sends 1 outcome
+MayLackMemory node (Does (Find grain)) outcome = Sends 1 outcome
+MayLackMemory node (Does (Forget grain)) outcome = ⊥
+MayLackMemory node (Does Nudge) outcome = IsOk outcome × (is_quiet node ≡ false)
+MayLackMemory node (Does (Offer grain to)) outcome = Sends 1 outcome
 MayLackMemory node (Receives letter) outcome = Sends (answer_count node letter.body) outcome × Counts node letter
 
 -- where a change of a node may need memory: something that the node keeps grows

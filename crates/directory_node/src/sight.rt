@@ -1,7 +1,8 @@
 //! A sight as a plan: what it sends, and the change that it makes.
 ghost use Rattle.std.specs.Prelude.{◌≡◌, ◌&&◌, ◌==◌, ◌<◌, ◌+◌, ◌++◌, if◌then◌else◌, IfErr, IfOk, IsOk, flat_map, length, true};
 ghost use Rattle.directory_rules.specs.Host.{has_numbers, outstanding, renewed};
-ghost use Rattle.directory_rules.specs.Input.{Nudges};
+ghost use Rattle.directory_rules.specs.Input.{Does};
+ghost use Rattle.directory_rules.specs.declared.own_step.OwnStep.TheVariants.{Nudge};
 ghost use Rattle.directory_rules.specs.Sent.{all_wants, request_letters};
 ghost use Rattle.directory_rules.specs.Sight.{is_next, sealed};
 ghost use Rattle.directory_rules.specs.Step.{compared_points, having_nudged, nudge, see, sight};
@@ -336,7 +337,7 @@ impl Node {
 impl Node {
     // All that is outstanding is sent again under new numbers: 805. Needs no memory where the node waits for nothing.
     pub(crate) fn plan_nudge(&self, alloc: Global) -> Result<Plan, StepRefusal>
-        ensures planned { Follows (step_by self.now) step_refusal_number (MayLackMemory self.now Nudges) (nudge self.now) result }
+        ensures planned { Follows (step_by self.now) step_refusal_number (MayLackMemory self.now (Does Nudge)) (nudge self.now) result }
         ensures fits { IfOk result (λ plan. Fits plan.change self.now) }
     {
         if !self.can_renew() {

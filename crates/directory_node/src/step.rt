@@ -1,5 +1,5 @@
 ghost use Rattle.std.specs.Prelude.{◌≡◌, IfOk, OnErr, length};
-ghost use Rattle.directory_rules.specs.Input.{step};
+ghost use Rattle.directory_rules.specs.Input.{Does, own_step, step};
 ghost use Rattle.directory_rules.specs.Receive.{received};
 ghost use Rattle.node_plans.specs.Placed.{IsPlaced};
 ghost use Rattle.node_plans.specs.InputModel.{input_of};
@@ -10,7 +10,7 @@ ghost use Rattle.directory_node.specs.Memory.{Counts, MayLackMemory};
 
 use crate::{Input, Node, Plan, StepRefusal};
 use directory_letters::{Body, Letter};
-use directory_rules::Effect;
+use directory_rules::{Effect, OwnStep};
 use node_plans::member_count;
 use std::alloc::{AllocError, Global};
 
@@ -31,16 +31,26 @@ impl Node {
                 view,
                 places,
             } => self.plan_sight(alloc, before, view, places),
-            Input::Wakes(grain) => self.plan_wake(alloc, grain),
-            Input::Closes(grain) => self.plan_close(alloc, grain),
-            Input::Finds(grain) => self.plan_find(alloc, grain),
-            Input::Forgets(grain) => Ok(self.plan_forget(alloc, grain)),
-            Input::Nudges => self.plan_nudge(alloc),
-            Input::Offers { grain, to } => self.plan_offer(alloc, grain, to),
+            Input::Does(step) => self.plan_own_step(alloc, step),
             Input::Receives(letter) => match self.plan_letter(alloc, letter) {
                 Ok(plan) => Ok(plan),
                 Err(_) => Err(StepRefusal::OutOfMemory),
             },
+        }
+    }
+
+    // What the silo's application asks of it.
+    fn plan_own_step(&self, alloc: Global, step: &OwnStep) -> Result<Plan, StepRefusal>
+        ensures planned { Follows (step_by self.now) step_refusal_number (MayLackMemory self.now (Does step.now)) (own_step self.now step.now) result }
+        ensures fits { IfOk result (λ plan. Fits plan.change self.now) }
+    {
+        match step {
+            OwnStep::Wake(grain) => self.plan_wake(alloc, grain),
+            OwnStep::Close(grain) => self.plan_close(alloc, grain),
+            OwnStep::Find(grain) => self.plan_find(alloc, grain),
+            OwnStep::Forget(grain) => Ok(self.plan_forget(alloc, grain)),
+            OwnStep::Nudge => self.plan_nudge(alloc),
+            OwnStep::Offer { grain, to } => self.plan_offer(alloc, grain, to),
         }
     }
 

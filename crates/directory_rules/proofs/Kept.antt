@@ -5,22 +5,21 @@ use Rattle.std.specs.Ordering.{nat_cmp}
 use Rattle.std.specs.Map.{set_value, remove_entry}
 use Rattle.std.specs.BTreeMap.{is_at}
 use Rattle.silo_address.specs.Silo.{Silo}
-use Rattle.membership_view.specs.declared.status.Status.{Status}
-use Rattle.membership_view.specs.declared.status.Status.TheVariants.{Active, Leaving, Dead}
-use Rattle.membership_view.specs.Views.{ViewsValue}
 use Rattle.membership_view.specs.Changes.{occupant}
-use Rattle.hash_ring.specs.Places.{PlacesValue}
 use Rattle.directory_rules.specs.Settings.{Settings}
+use Rattle.directory_rules.specs.Membership as membership
+use Rattle.directory_rules.specs.Membership.{Change, Die, Membership, is_seeable}
 use Rattle.directory_rules.specs.Letter.{Letter}
 use Rattle.directory_rules.specs.Node.{Node}
-use Rattle.directory_rules.specs.Event.{Event, Join, Leave, Kill, See, Wake, Close, Find, Forget, Deliver, Lose, Nudge, Offer}
+use Rattle.directory_rules.specs.Event.{Event, Join, Leave, Kill, See, Do, Deliver, Lose}
 use Rattle.directory_rules.specs.declared.outcome.Happening.{Happening}
 use Rattle.directory_rules.specs.Step.{Stepped}
-use Rattle.directory_rules.specs.Input.{Input, Wakes, Closes, Finds, Forgets, Nudges, Offers, Receives, step}
-use Rattle.directory_rules.specs.World.{Posted, World, Accepted}
+use Rattle.directory_rules.specs.Input.{Input, Does, Receives, sight_of, step}
+use Rattle.directory_rules.specs.World.{Posted, World, Accepted, membership_of}
 use Rattle.directory_rules.specs.Mail.{letter_of, numbered, has_room_for, with_delivered}
 use Rattle.directory_rules.specs.Happens as rule
 use Rattle.directory_rules.specs.Run.{run, world_after}
+use Rattle.directory_rules.proofs.Decided.{decided}
 
 -- a fact about settings, mail and the number of letters ever sent
 abbrev pub Fact : Type 1
@@ -68,31 +67,20 @@ seen_by P k (Ok stepped) world silo version on = taken P k world silo _ stepped 
 sees_at : (P : Fact) → Keeps P → (node : Option Node) (world : World) (silo : Silo) (version : ℕ) → On P world → After P (rule.sees_at node world silo version)
 sees_at P k None world silo version on = tt
 sees_at P k (Some node) world silo version on =
-    unless P _ 903 _ (λ newer. unless P (rule.is_seeable world silo version) 904 _ (λ seeable. seen_by P k (step node (rule.sight_of world version)) world silo version on))
+    unless P _ 903 _ (λ newer. unless P (is_seeable (membership_of world) silo version) 904 _ (λ seeable. seen_by P k (step node (sight_of (membership_of world) version)) world silo version on))
 
-without_replaced : (P : Fact) (world : World) (old : Option Silo) → On P world → On P (rule.without_replaced world old)
-without_replaced P world None on = on
-without_replaced P world (Some old) on = on
+-- a change of membership changes neither settings nor mail
+joins_kept : (P : Fact) (world : World) (silo : Silo) (replaced : Option Silo) (m : Membership) → On P world → On P (rule.after_joining world silo replaced m.views m.places)
+joins_kept P world silo None m on = on
+joins_kept P world silo (Some old) m on = on
 
-joined : (P : Fact) (places : Result PlacesValue ℕ) (views : ViewsValue) (world : World) (silo : Silo) → On P world → After P (rule.joined places views world silo)
-joined P (Err number) views world silo on = tt
-joined P (Ok places) views world silo on = without_replaced P world (occupant silo world.views.rows) on
+change_kept : (P : Fact) (world : World) (change : Change) (m : Membership) → On P world → On P (rule.after_change world change m)
+change_kept P world (membership.Join silo stated) m on = joins_kept P world silo (occupant silo world.views.rows) m on
+change_kept P world (membership.Leave silo) m on = on
+change_kept P world (Die silo) m on = on
 
-join_viewed : (P : Fact) (views : Result ViewsValue ℕ) (world : World) (silo : Silo) (places : List ℕ) → On P world → After P (rule.join_viewed views world silo places)
-join_viewed P (Err number) world silo places on = tt
-join_viewed P (Ok views) world silo places on = joined P (rule.placed world silo places) views world silo on
-
-leave_by : (P : Fact) (status : Option Status) (world : World) (silo : Silo) → On P world → After P (rule.leave_by status world silo)
-leave_by P None world silo on = tt
-leave_by P (Some Active) world silo on = on
-leave_by P (Some Leaving) world silo on = tt
-leave_by P (Some Dead) world silo on = tt
-
-kill_by : (P : Fact) (status : Option Status) (world : World) (silo : Silo) → On P world → After P (rule.kill_by status world silo)
-kill_by P None world silo on = tt
-kill_by P (Some Active) world silo on = on
-kill_by P (Some Leaving) world silo on = on
-kill_by P (Some Dead) world silo on = tt
+decides : (P : Fact) (world : World) (change : Change) → On P world → After P (rule.decides world change)
+decides P world change on = decided (After P) world change (λ number. tt) (λ m is. change_kept P world change m on)
 
 delivered_by : (P : Fact) → Keeps P → (result : Result Stepped ℕ) (world : World) (number : ℕ) (letter : Letter) → On P world → After P (rule.delivered_by result world number letter)
 delivered_by P k (Err refusal) world number letter on = tt
@@ -108,18 +96,13 @@ delivers P k None world number on = tt
 delivers P k (Some letter) world number on = delivers_to P k (rule.node_of world letter.to) world number letter on
 
 attempted : (P : Fact) → Keeps P → (world : World) (event : Event) → On P world → After P (rule.attempted world event)
-attempted P k world (Join silo places) on = join_viewed P _ world silo places on
-attempted P k world (Leave silo) on = leave_by P (rule.status_now world silo) world silo on
-attempted P k world (Kill silo) on = kill_by P (rule.status_now world silo) world silo on
+attempted P k world (Join silo places) on = decides P world (membership.Join silo places) on
+attempted P k world (Leave silo) on = decides P world (membership.Leave silo) on
+attempted P k world (Kill silo) on = decides P world (Die silo) on
 attempted P k world (See silo version) on = sees_at P k (rule.node_of world silo) world silo version on
-attempted P k world (Wake silo grain) on = does P k world silo (Wakes grain) on
-attempted P k world (Close silo grain) on = does P k world silo (Closes grain) on
-attempted P k world (Find silo grain) on = does P k world silo (Finds grain) on
-attempted P k world (Forget silo grain) on = does P k world silo (Forgets grain) on
+attempted P k world (Do silo step) on = does P k world silo (Does step) on
 attempted P k world (Deliver number) on = delivers P k (letter_of world number) world number on
 attempted P k world (Lose number) on = when P (is_some (letter_of world number)) 905 _ (λ there. k.losing world.settings world.mail world.sent number on)
-attempted P k world (Nudge silo) on = does P k world silo Nudges on
-attempted P k world (Offer silo grain to) on = does P k world silo (Offers grain to) on
 
 -- an accepted event keeps the fact
 pub happened : (P : Fact) → Keeps P → (world : World) (event : Event) → On P world → After P (rule.happens world event)

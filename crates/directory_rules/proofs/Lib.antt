@@ -23,3 +23,4 @@ pub mod Renewal
 pub mod Numbered
 pub mod Throughout
 pub mod Worked
+pub mod Decided

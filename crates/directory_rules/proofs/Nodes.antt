@@ -1,38 +1,33 @@
 -- A fact that new nodes have and that every step keeps holds of each node of every world that a run reaches; also where it
 -- rests on a fact of the places that silos get.
-use Rattle.std.proofs.Common.{◌≡◌, refl, subst, ℕ, List, [], ◌∷◌}
+use Rattle.std.proofs.Common.{◌≡◌, refl, sym, subst, ℕ, List, [], ◌∷◌}
 use Rattle.std.specs.Prelude.{⊤, Bool, true, false, cond, not, is_some, nat_lt, length, All, Option, Some, None, Result, Ok, Err, IfOk, IfSome}
 use Rattle.std.specs.Map.{lookup, values_of}
 use Rattle.std.specs.BTreeMap.{is_at}
 use Rattle.std.proofs.lemmas.List.Elements.{All-nil, All-head, All-tail}
 use Rattle.std.proofs.lemmas.Map.Views.{IfSome-lookup_from_All, All-values-insert_entry, All-map-remove_entry}
 use Rattle.silo_address.specs.Silo.{Silo, silo_cmp}
-use Rattle.membership_view.specs.declared.status.Status.{Status}
-use Rattle.membership_view.specs.declared.status.Status.TheVariants.{Active, Leaving, Dead}
-use Rattle.membership_view.specs.Views.{ViewsValue}
-use Rattle.membership_view.specs.Changes.{occupant, after_join}
+use Rattle.membership_view.specs.Changes.{occupant}
 use Rattle.hash_ring.specs.Places.{PlacesValue, after_add}
 use Rattle.directory_rules.specs.Settings.{Settings}
+use Rattle.directory_rules.specs.Membership as membership
+use Rattle.directory_rules.specs.Membership.{Die, is_seeable}
 use Rattle.directory_rules.specs.Letter.{Letter}
 use Rattle.directory_rules.specs.Node.{Node, new_node}
-use Rattle.directory_rules.specs.Event.{Event, Join, Leave, Kill, See, Wake, Close, Find, Forget, Deliver, Lose, Nudge, Offer}
+use Rattle.directory_rules.specs.Event.{Event, Join, Leave, Kill, See, Do, Deliver, Lose}
 use Rattle.directory_rules.specs.declared.outcome.Happening.{Happening}
 use Rattle.directory_rules.specs.Step.{Stepped}
-use Rattle.directory_rules.specs.Input.{Input, Sees, Wakes, Closes, Finds, Forgets, Nudges, Offers, Receives, step}
-use Rattle.directory_rules.specs.World.{World, Accepted, first_world}
+use Rattle.directory_rules.specs.Input.{Input, Sees, Does, Receives, sight_of, step}
+use Rattle.directory_rules.specs.World.{World, Accepted, first_world, membership_of}
 use Rattle.directory_rules.specs.Mail.{letter_of, has_room_for, with_delivered}
 use Rattle.directory_rules.specs.Happens as rule
 use Rattle.directory_rules.specs.Run.{run, run_from_start, world_after}
+use Rattle.directory_rules.proofs.Decided.{decided, join_makes, leave_makes, death_makes}
 
 -- the places that an input brings are so: a sight brings those of all silos, and nothing else brings any
 abbrev pub Brings : (PlacesValue → Type 0) → Input → Type 0
 Brings P (Sees before view places) = P places
-Brings P (Wakes grain) = ⊤
-Brings P (Closes grain) = ⊤
-Brings P (Finds grain) = ⊤
-Brings P (Forgets grain) = ⊤
-Brings P Nudges = ⊤
-Brings P (Offers grain to) = ⊤
+Brings P (Does step) = ⊤
 Brings P (Receives letter) = ⊤
 
 -- by events that are so the places stay so; new nodes have the fact, and steps that bring such places keep it
@@ -83,44 +78,30 @@ seen_by E P Q k node input (Ok stepped) world silo version each brings has is = 
 sees_at : (E : Event → Type 0) (P : PlacesValue → Type 0) (Q : Node → Type 0) (k : StepsKeepBy E P Q) (node : Option Node) (world : World) (silo : Silo) (version : ℕ) → Each P Q world → rule.node_of world silo ≡ node → After P Q (rule.sees_at node world silo version)
 sees_at E P Q k None world silo version each there = tt
 sees_at E P Q k (Some node) world silo version each there =
-    unless P Q _ 903 _ (unless P Q (rule.is_seeable world silo version) 904 _
-    (seen_by E P Q k node (rule.sight_of world version) (step node (rule.sight_of world version)) world silo version each each.places (of_found Q (is_at (silo_cmp silo)) world.nodes node each.nodes there) refl))
+    unless P Q _ 903 _ (unless P Q (is_seeable (membership_of world) silo version) 904 _
+    (seen_by E P Q k node (sight_of (membership_of world) version) (step node (sight_of (membership_of world) version)) world silo version each each.places (of_found Q (is_at (silo_cmp silo)) world.nodes node each.nodes there) refl))
 
-replaced : (P : PlacesValue → Type 0) (Q : Node → Type 0) (world : World) (old : Option Silo) → Each P Q world → All Q (values_of (rule.without_replaced world old).nodes)
-replaced P Q world None each = each.nodes
-replaced P Q world (Some old) each = All-map-remove_entry (is_at (silo_cmp old)) (λ e. e.1) Q world.nodes each.nodes
+-- the nodes without that of the silo that is replaced
+replaced : (Q : Node → Type 0) (world : World) (old : Option Silo) → All Q (values_of world.nodes) → All Q (values_of (rule.without_replaced world old).nodes)
+replaced Q world None all = all
+replaced Q world (Some old) all = All-map-remove_entry (is_at (silo_cmp old)) (λ e. e.1) Q world.nodes all
 
--- places that the settings let are those of a silo that is added
-pub placed_added : (b : Bool) (places : Result PlacesValue ℕ) (next : PlacesValue) → cond b (Err 402) places ≡ Ok next → places ≡ Ok next
-placed_added true places next is = absurd (cc)
-placed_added false places next is = is
+-- a join: the places of the silo are added, and its node is new
+joins : (E : Event → Type 0) (P : PlacesValue → Type 0) (Q : Node → Type 0) (k : StepsKeepBy E P Q) (world : World) (silo : Silo) (given : List ℕ) → E (Join silo given) → Each P Q world → After P Q (rule.decides world (membership.Join silo given))
+joins E P Q k world silo given so each = decided (After P Q) world (membership.Join silo given) (λ number. tt) (λ m is.
+    record {
+      places = k.adding world.places silo given m.places so each.places (join_makes world.settings (membership_of world) m silo given is).added;
+      nodes = All-values-insert_entry silo_cmp silo (new_node world.settings silo) Q (rule.without_replaced world (occupant silo world.views.rows)).nodes
+          (replaced Q world (occupant silo world.views.rows) each.nodes) (k.new world.settings silo);
+    })
 
-joined : (E : Event → Type 0) (P : PlacesValue → Type 0) (Q : Node → Type 0) (k : StepsKeepBy E P Q) (places : Result PlacesValue ℕ) (views : ViewsValue) (world : World) (silo : Silo) (given : List ℕ) → E (Join silo given) → Each P Q world → rule.placed world silo given ≡ places
-    → After P Q (rule.joined places views world silo)
-joined E P Q k (Err number) views world silo given so each is = tt
-joined E P Q k (Ok places) views world silo given so each is = record {
-  places = k.adding world.places silo given places so each.places (placed_added (nat_lt world.settings.places (length given)) (after_add world.places silo given) places is);
-  nodes = All-values-insert_entry silo_cmp silo (new_node world.settings silo) Q (rule.without_replaced world (occupant silo world.views.rows)).nodes (replaced P Q world (occupant silo world.views.rows) each) (k.new world.settings silo);
-}
+leaves : (P : PlacesValue → Type 0) (Q : Node → Type 0) (world : World) (silo : Silo) → Each P Q world → After P Q (rule.decides world (membership.Leave silo))
+leaves P Q world silo each = decided (After P Q) world (membership.Leave silo) (λ number. tt) (λ m is.
+    record { places = subst P (sym (leave_makes world.settings (membership_of world) m silo is).places) each.places; nodes = each.nodes })
 
-join_viewed : (E : Event → Type 0) (P : PlacesValue → Type 0) (Q : Node → Type 0) (k : StepsKeepBy E P Q) (views : Result ViewsValue ℕ) (world : World) (silo : Silo) (given : List ℕ) → E (Join silo given) → Each P Q world → After P Q (rule.join_viewed views world silo given)
-join_viewed E P Q k (Err number) world silo given so each = tt
-join_viewed E P Q k (Ok views) world silo given so each = joined E P Q k (rule.placed world silo given) views world silo given so each refl
-
-leave_by : (P : PlacesValue → Type 0) (Q : Node → Type 0) (status : Option Status) (world : World) (silo : Silo) → Each P Q world → After P Q (rule.leave_by status world silo)
-leave_by P Q None world silo each = tt
-leave_by P Q (Some Active) world silo each = record { places = each.places; nodes = each.nodes }
-leave_by P Q (Some Leaving) world silo each = tt
-leave_by P Q (Some Dead) world silo each = tt
-
-died : (P : PlacesValue → Type 0) (Q : Node → Type 0) (world : World) (silo : Silo) → Each P Q world → Each P Q (rule.died world silo).world
-died P Q world silo each = record { places = each.places; nodes = All-map-remove_entry (is_at (silo_cmp silo)) (λ e. e.1) Q world.nodes each.nodes }
-
-kill_by : (P : PlacesValue → Type 0) (Q : Node → Type 0) (status : Option Status) (world : World) (silo : Silo) → Each P Q world → After P Q (rule.kill_by status world silo)
-kill_by P Q None world silo each = tt
-kill_by P Q (Some Active) world silo each = died P Q world silo each
-kill_by P Q (Some Leaving) world silo each = died P Q world silo each
-kill_by P Q (Some Dead) world silo each = tt
+dies : (P : PlacesValue → Type 0) (Q : Node → Type 0) (world : World) (silo : Silo) → Each P Q world → After P Q (rule.decides world (Die silo))
+dies P Q world silo each = decided (After P Q) world (Die silo) (λ number. tt) (λ m is.
+    record { places = subst P (sym (death_makes world.settings (membership_of world) m silo is).places) each.places; nodes = replaced Q world (Some silo) each.nodes })
 
 delivered_by : (E : Event → Type 0) (P : PlacesValue → Type 0) (Q : Node → Type 0) (k : StepsKeepBy E P Q) (node : Node) (result : Result Stepped ℕ) (world : World) (number : ℕ) (letter : Letter) → Each P Q world → Q node → step node (Receives letter) ≡ result → After P Q (rule.delivered_by result world number letter)
 delivered_by E P Q k node (Err refusal) world number letter each has is = tt
@@ -137,18 +118,13 @@ delivers E P Q k None world number each = tt
 delivers E P Q k (Some letter) world number each = delivers_to E P Q k (rule.node_of world letter.to) world number letter each refl
 
 attempted : (E : Event → Type 0) (P : PlacesValue → Type 0) (Q : Node → Type 0) (k : StepsKeepBy E P Q) (world : World) (event : Event) → E event → Each P Q world → After P Q (rule.attempted world event)
-attempted E P Q k world (Join silo places) so each = join_viewed E P Q k (after_join world.views silo) world silo places so each
-attempted E P Q k world (Leave silo) so each = leave_by P Q (rule.status_now world silo) world silo each
-attempted E P Q k world (Kill silo) so each = kill_by P Q (rule.status_now world silo) world silo each
+attempted E P Q k world (Join silo places) so each = joins E P Q k world silo places so each
+attempted E P Q k world (Leave silo) so each = leaves P Q world silo each
+attempted E P Q k world (Kill silo) so each = dies P Q world silo each
 attempted E P Q k world (See silo version) so each = sees_at E P Q k (rule.node_of world silo) world silo version each refl
-attempted E P Q k world (Wake silo grain) so each = does E P Q k world silo (Wakes grain) each tt
-attempted E P Q k world (Close silo grain) so each = does E P Q k world silo (Closes grain) each tt
-attempted E P Q k world (Find silo grain) so each = does E P Q k world silo (Finds grain) each tt
-attempted E P Q k world (Forget silo grain) so each = does E P Q k world silo (Forgets grain) each tt
+attempted E P Q k world (Do silo step) so each = does E P Q k world silo (Does step) each tt
 attempted E P Q k world (Deliver number) so each = delivers E P Q k (letter_of world number) world number each
 attempted E P Q k world (Lose number) so each = when P Q (is_some (letter_of world number)) 905 _ (record { places = each.places; nodes = each.nodes })
-attempted E P Q k world (Nudge silo) so each = does E P Q k world silo Nudges each tt
-attempted E P Q k world (Offer silo grain to) so each = does E P Q k world silo (Offers grain to) each tt
 
 happened : (E : Event → Type 0) (P : PlacesValue → Type 0) (Q : Node → Type 0) (k : StepsKeepBy E P Q) (world : World) (event : Event) → E event → Each P Q world → After P Q (rule.happens world event)
 unfolding rule.happens

@@ -35,12 +35,13 @@ use Rattle.directory_rules.specs.Receive as rc
 use Rattle.directory_rules.specs.Sent.{gathering_of, recovery_of}
 use Rattle.directory_rules.specs.Host.{Host, held_acts, find_acts, next_held, without_held, with_started, with_closing, with_find, without_find, confirmed, renewed, new_number, outstanding, is_firm, has_numbers, has_count, is_full_of_activations, is_full_of_finds, held_of, asking_under, closing_under, is_finding, is_outstanding}
 use Rattle.directory_rules.specs.Cache.{hint_of}
-use Rattle.directory_rules.specs.Input.{Input, Sees, Wakes, Closes, Finds, Forgets, Nudges, Offers, Receives, step}
+use Rattle.directory_rules.specs.Input.{Input, Sees, Does, Receives, step}
 use Rattle.directory_rules.specs.Run.{run_from_start}
 use Rattle.directory_rules.specs.Laws.{requests_of, AreNumbered, NumbersAreDistinct}
 use Rattle.directory_rules.proofs.Cases.{on_bool}
 use Rattle.directory_rules.proofs.Nodes.{StepsKeep, each_after, of_found}
 use Rattle.directory_rules.proofs.RequestNumbers.{one, one_same, one_cases, times, times_append, times_removed, times_set, times_pushed, times_unfound, times_put_most, numbers}
+use Rattle.directory_rules.specs.declared.own_step.OwnStep.TheVariants.{Wake, Close, Find, Forget, Nudge, Offer}
 use Rattle.directory_rules.proofs.Renewal.{held_numbers, same_keys, mapped_keys, length_put_all, renewed_numbers, request_numbers, renewed_once, renewed_below}
 
 -- a number occurs once at most, and none from the next one on
@@ -226,14 +227,14 @@ stepped : (node : Node) (input : Input) → Numbered node.host → After (step n
 stepped node (Sees before view places) is =
     refused_or false false (not (nat_lt node.view.version view.version)) (not (has_numbers node.settings node.host (length (outstanding node.host)))) 0 0 903 805
     (at.sight (is_next node.view before view node.host.silo) node before view places) (renews node.host is)
-stepped node (Wakes grain) is = wake node grain is
-stepped node (Closes grain) is = close_held (held_of node.host grain) node grain is
-stepped node (Finds grain) is = find_by (hint_of node.cache grain) node grain is
-stepped node (Forgets grain) is = forget_hint (hint_of node.cache grain) node grain is
-stepped node Nudges is =
+stepped node (Does (Wake grain)) is = wake node grain is
+stepped node (Does (Close grain)) is = close_held (held_of node.host grain) node grain is
+stepped node (Does (Find grain)) is = find_by (hint_of node.cache grain) node grain is
+stepped node (Does (Forget grain)) is = forget_hint (hint_of node.cache grain) node grain is
+stepped node (Does Nudge) is =
     refused_or false false false (not (has_numbers node.settings node.host (length (outstanding node.host)))) 0 0 0 805
     (at.having_nudged (record node { host = renewed node.host })) (renews node.host is)
-stepped node (Offers grain to) is = offer_held (held_of node.host grain) node grain to is
+stepped node (Does (Offer grain to)) is = offer_held (held_of node.host grain) node grain to is
 stepped node (Receives letter) is = received letter.body node letter is
 
 numbered_keeps : StepsKeep (λ node. Numbered node.host)

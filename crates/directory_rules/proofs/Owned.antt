@@ -49,9 +49,10 @@ use Rattle.directory_rules.specs.Receive as rc
 use Rattle.directory_rules.specs.Sent.{gathering_of, recovery_of}
 use Rattle.directory_rules.specs.Host.{renewed, outstanding, is_firm, has_numbers, has_count, is_full_of_activations, is_full_of_finds, held_of, asking_under, closing_under, is_finding, is_outstanding}
 use Rattle.directory_rules.specs.Cache.{hint_of}
-use Rattle.directory_rules.specs.Input.{Input, Sees, Wakes, Closes, Finds, Forgets, Nudges, Offers, Receives, step}
+use Rattle.directory_rules.specs.Input.{Input, Sees, Does, Receives, step}
 use Rattle.directory_rules.proofs.Sights.{on_circle, compared, sight_owned}
 use Rattle.directory_rules.proofs.Ranges.{ranges, Rising, holding_in, held_by_ranges, changed_ranges, stands_at, rising_arcs}
+use Rattle.directory_rules.specs.declared.own_step.OwnStep.TheVariants.{Wake, Close, Find, Forget, Nudge, Offer}
 use Rattle.directory_rules.proofs.Nodes.{Brings}
 
 -- the ranges are what the silo owns by the ring's points, in order
@@ -275,13 +276,13 @@ pub stepped : (node : Node) (input : Input) → Brings IsPlaces input → Owned 
 stepped node (Sees before view places) brings is =
     refused_or false false (not (nat_lt node.view.version view.version)) (not (has_numbers node.settings node.host (length (outstanding node.host)))) 0 0 903 805
     (at.sight (is_next node.view before view node.host.silo) node before view places) (sight (is_next node.view before view node.host.silo) node before view places is brings)
-stepped node (Wakes grain) brings is =
+stepped node (Does (Wake grain)) brings is =
     refused_or (not (is_active_in node.view node.host.silo)) (is_some (held_of node.host grain)) (is_full_of_activations node.settings node.host) (not (has_numbers node.settings node.host 1 && has_count node.settings node.host)) 804 801 806 805
     (at.started node grain None) is
-stepped node (Closes grain) brings is = close_held (held_of node.host grain) node grain is
-stepped node (Finds grain) brings is = find_by (hint_of node.cache grain) node grain is
-stepped node (Forgets grain) brings is = forget_hint (hint_of node.cache grain) node grain is
-stepped node Nudges brings is =
+stepped node (Does (Close grain)) brings is = close_held (held_of node.host grain) node grain is
+stepped node (Does (Find grain)) brings is = find_by (hint_of node.cache grain) node grain is
+stepped node (Does (Forget grain)) brings is = forget_hint (hint_of node.cache grain) node grain is
+stepped node (Does Nudge) brings is =
     refused_or false false false (not (has_numbers node.settings node.host (length (outstanding node.host)))) 0 0 0 805 (at.having_nudged (record node { host = renewed node.host })) is
-stepped node (Offers grain to) brings is = offer_held (held_of node.host grain) node grain to is
+stepped node (Does (Offer grain to)) brings is = offer_held (held_of node.host grain) node grain to is
 stepped node (Receives letter) brings is = received letter.body node letter is

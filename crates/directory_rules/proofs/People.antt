@@ -15,7 +15,7 @@ use Rattle.silo_address.proofs.Order.{silo_cmp_total, silo_cmp_exact, apart_in_o
 use Rattle.membership_view.specs.declared.status.Status.{Status}
 use Rattle.membership_view.specs.declared.status.Status.TheVariants.{Active, Leaving, Dead}
 use Rattle.membership_view.specs.Views.{ViewsValue, view_at, status_at}
-use Rattle.membership_view.specs.Changes.{Join, Leave, Die, after, after_join, leave_from, die_from, shares_endpoint, with_leave, with_death, occupant}
+use Rattle.membership_view.specs.Changes.{Join, Leave, Die, after, after_join, shares_endpoint, occupant}
 use Rattle.membership_view.specs.Step.{Joins, Leaves, Dies}
 use Rattle.membership_view.proofs.Entries.{lookup-insert_entry, sorted-insert_entry, Equal-from}
 use Rattle.membership_view.proofs.Kept.{whole-after}
@@ -62,27 +62,26 @@ peopled_put views nodes silo old node are there = record {
 }
 
 -- a silo begins to leave
-pub peopled_leave : (views : ViewsValue) (nodes : List (Silo × Node)) (silo : Silo) → ArePeopled views nodes → now views silo ≡ Some Active → ArePeopled (with_leave views silo) nodes
-peopled_leave views nodes silo are active =
-    let is : after views (Leave silo) ≡ Ok (with_leave views silo) = ap (λ o. leave_from o views silo) active in
-    let step : Leaves silo (view_at views views.version) (view_at (with_leave views silo) (with_leave views silo).version) = changes_are_steps views (Leave silo) (with_leave views silo) (record { whole = are.whole; is = is }) in
+pub peopled_leave : (views next : ViewsValue) (nodes : List (Silo × Node)) (silo : Silo) → ArePeopled views nodes → after views (Leave silo) ≡ Ok next → ArePeopled next nodes
+peopled_leave views next nodes silo are is =
+    let step : Leaves silo (view_at views views.version) (view_at next next.version) = changes_are_steps views (Leave silo) next (record { whole = are.whole; is = is }) in
     record {
-      whole = whole-after views are.whole (Leave silo) (with_leave views silo) is;
+      whole = whole-after views are.whole (Leave silo) next is;
       by_address = are.by_address;
-      live = λ q. are.live q ∙ by_silo (is_live (now views q) ≡ is_live (now (with_leave views silo) q)) q silo
-          (λ same. subst (λ s. is_live (now views s) ≡ is_live (now (with_leave views silo) s)) (sym same) (ap is_live active ∙ sym (ap is_live step.left)))
+      live = λ q. are.live q ∙ by_silo (is_live (now views q) ≡ is_live (now next q)) q silo
+          (λ same. subst (λ s. is_live (now views s) ≡ is_live (now next s)) (sym same) (ap is_live step.was ∙ sym (ap is_live step.left)))
           (λ differ. sym (ap is_live (step.others q differ)));
     }
 
 -- a silo dies
-pub peopled_death : (views : ViewsValue) (nodes : List (Silo × Node)) (silo : Silo) → ArePeopled views nodes → die_from (now views silo) views silo ≡ Ok (with_death views silo) → ArePeopled (with_death views silo) (remove_entry (is_at (silo_cmp silo)) nodes)
-peopled_death views nodes silo are is =
-    let step : Dies silo (view_at views views.version) (view_at (with_death views silo) (with_death views silo).version) = changes_are_steps views (Die silo) (with_death views silo) (record { whole = are.whole; is = is }) in
+pub peopled_death : (views next : ViewsValue) (nodes : List (Silo × Node)) (silo : Silo) → ArePeopled views nodes → after views (Die silo) ≡ Ok next → ArePeopled next (remove_entry (is_at (silo_cmp silo)) nodes)
+peopled_death views next nodes silo are is =
+    let step : Dies silo (view_at views views.version) (view_at next next.version) = changes_are_steps views (Die silo) next (record { whole = are.whole; is = is }) in
     record {
-      whole = whole-after views are.whole (Die silo) (with_death views silo) is;
+      whole = whole-after views are.whole (Die silo) next is;
       by_address = sorted_removed silo_cmp (is_at (silo_cmp silo)) nodes are.by_address;
-      live = λ q. by_silo (is_some (at q (remove_entry (is_at (silo_cmp silo)) nodes)) ≡ is_live (now (with_death views silo) q)) q silo
-          (λ same. subst (λ s. is_some (at s (remove_entry (is_at (silo_cmp silo)) nodes)) ≡ is_live (now (with_death views silo) s)) (sym same)
+      live = λ q. by_silo (is_some (at q (remove_entry (is_at (silo_cmp silo)) nodes)) ≡ is_live (now next q)) q silo
+          (λ same. subst (λ s. is_some (at s (remove_entry (is_at (silo_cmp silo)) nodes)) ≡ is_live (now next s)) (sym same)
           (ap is_some (lookup_removed silo_cmp silo_cmp_total silo nodes are.by_address) ∙ sym (ap is_live step.dead)))
           (λ differ. ap is_some (at_other silo q nodes differ) ∙ are.live q ∙ sym (ap is_live (step.others q differ)));
     }

@@ -1,26 +1,26 @@
 -- In every world that a run reaches a silo has a node just where it is in the current view and isn't Dead there.
-use Rattle.std.proofs.Common.{arith, ◌≡◌, refl, ap, ℕ, List, [], ◌∷◌}
+use Rattle.std.proofs.Common.{arith, ◌≡◌, refl, ℕ, List, [], ◌∷◌}
 use Rattle.std.specs.Prelude.{Bool, true, false, cond, not, is_some, Option, Some, None, Result, Ok, Err, IfOk}
 use Rattle.std.specs.BTreeMap.{insert_entry}
 use Rattle.silo_address.specs.Silo.{Silo, silo_cmp}
-use Rattle.membership_view.specs.declared.status.Status.{Status}
-use Rattle.membership_view.specs.declared.status.Status.TheVariants.{Active, Leaving, Dead}
 use Rattle.membership_view.specs.Views.{ViewsValue}
-use Rattle.membership_view.specs.Changes.{occupant, after_join, die_from}
+use Rattle.membership_view.specs.Changes.{occupant}
 use Rattle.membership_view.proofs.Entries.{sorted-nil}
-use Rattle.hash_ring.specs.Places.{PlacesValue}
 use Rattle.directory_rules.specs.Settings.{Settings, AreSettings}
+use Rattle.directory_rules.specs.Membership as membership
+use Rattle.directory_rules.specs.Membership.{Die, is_seeable}
 use Rattle.directory_rules.specs.Letter.{Letter}
 use Rattle.directory_rules.specs.Node.{Node, new_node}
-use Rattle.directory_rules.specs.Event.{Event, Join, Leave, Kill, See, Wake, Close, Find, Forget, Deliver, Lose, Nudge, Offer}
+use Rattle.directory_rules.specs.Event.{Event, Join, Leave, Kill, See, Do, Deliver, Lose}
 use Rattle.directory_rules.specs.declared.outcome.Happening.{Happening}
 use Rattle.directory_rules.specs.Step.{Stepped}
-use Rattle.directory_rules.specs.Input.{Input, Wakes, Closes, Finds, Forgets, Nudges, Offers, Receives, step}
-use Rattle.directory_rules.specs.World.{World, Accepted, first_world}
+use Rattle.directory_rules.specs.Input.{Input, Does, Receives, sight_of, step}
+use Rattle.directory_rules.specs.World.{World, Accepted, first_world, membership_of}
 use Rattle.directory_rules.specs.Mail.{letter_of, has_room_for, with_delivered}
 use Rattle.directory_rules.specs.Happens as rule
 use Rattle.directory_rules.specs.Run.{run, run_from_start, world_after}
 use Rattle.directory_rules.specs.Laws.{ArePeopled}
+use Rattle.directory_rules.proofs.Decided.{decided, join_makes, leave_makes, death_makes}
 use Rattle.directory_rules.proofs.People.{peopled_put, peopled_leave, peopled_death, peopled_join, without}
 
 abbrev Peopled : World → Type 0
@@ -58,34 +58,25 @@ seen_by (Ok stepped) world silo version old are there = taken world silo _ stepp
 sees_at : (node : Option Node) (world : World) (silo : Silo) (version : ℕ) → Peopled world → rule.node_of world silo ≡ node → After (rule.sees_at node world silo version)
 sees_at None world silo version are there = tt
 sees_at (Some node) world silo version are there =
-    unless _ 903 _ (unless (rule.is_seeable world silo version) 904 _ (seen_by (step node (rule.sight_of world version)) world silo version node are there))
+    unless _ 903 _ (unless (is_seeable (membership_of world) silo version) 904 _ (seen_by (step node (sight_of (membership_of world) version)) world silo version node are there))
 
-joining : (old : Option Silo) (world : World) (silo : Silo) (views : ViewsValue) (node : Node) → ArePeopled views (insert_entry silo_cmp (without old world.nodes) silo node) → ArePeopled views (rule.with_node (rule.without_replaced world old) silo node).nodes
+joining : (dead : Option Silo) (world : World) (silo : Silo) (views : ViewsValue) (node : Node) → ArePeopled views (insert_entry silo_cmp (without dead world.nodes) silo node) → ArePeopled views (rule.with_node (rule.without_replaced world dead) silo node).nodes
 joining None world silo views node are = are
 joining (Some old) world silo views node are = are
 
-joined : (places : Result PlacesValue ℕ) (views : ViewsValue) (world : World) (silo : Silo) → Peopled world → after_join world.views silo ≡ Ok views → After (rule.joined places views world silo)
-joined (Err number) views world silo are is = tt
-joined (Ok places) views world silo are is =
-    settings_same (occupant silo world.views.rows) (joining (occupant silo world.views.rows) world silo views (new_node world.settings silo) (peopled_join world.views views world.nodes silo (new_node world.settings silo) are is)) where
-      settings_same : (old : Option Silo) → ArePeopled views (rule.with_node (rule.without_replaced world old) silo (new_node world.settings silo)).nodes → Peopled (rule.after_joining world silo old views places)
-      settings_same old are = are
+joins : (world : World) (silo : Silo) (places : List ℕ) → Peopled world → After (rule.decides world (membership.Join silo places))
+joins world silo places are = decided After world (membership.Join silo places) (λ number. tt) (λ m is.
+    let dead = occupant silo world.views.rows in
+    joining dead world silo m.views (new_node world.settings silo)
+    (peopled_join world.views m.views world.nodes silo (new_node world.settings silo) are (join_makes world.settings (membership_of world) m silo places is).viewed))
 
-join_viewed : (views : Result ViewsValue ℕ) (world : World) (silo : Silo) (places : List ℕ) → Peopled world → after_join world.views silo ≡ views → After (rule.join_viewed views world silo places)
-join_viewed (Err number) world silo places are is = tt
-join_viewed (Ok views) world silo places are is = joined (rule.placed world silo places) views world silo are is
+leaves : (world : World) (silo : Silo) → Peopled world → After (rule.decides world (membership.Leave silo))
+leaves world silo are = decided After world (membership.Leave silo) (λ number. tt) (λ m is.
+    peopled_leave world.views m.views world.nodes silo are (leave_makes world.settings (membership_of world) m silo is).viewed)
 
-leave_by : (status : Option Status) (world : World) (silo : Silo) → Peopled world → rule.status_now world silo ≡ status → After (rule.leave_by status world silo)
-leave_by None world silo are is = tt
-leave_by (Some Active) world silo are is = peopled_leave world.views world.nodes silo are is
-leave_by (Some Leaving) world silo are is = tt
-leave_by (Some Dead) world silo are is = tt
-
-kill_by : (status : Option Status) (world : World) (silo : Silo) → Peopled world → rule.status_now world silo ≡ status → After (rule.kill_by status world silo)
-kill_by None world silo are is = tt
-kill_by (Some Active) world silo are is = peopled_death world.views world.nodes silo are (ap (λ o. die_from o world.views silo) is)
-kill_by (Some Leaving) world silo are is = peopled_death world.views world.nodes silo are (ap (λ o. die_from o world.views silo) is)
-kill_by (Some Dead) world silo are is = tt
+dies : (world : World) (silo : Silo) → Peopled world → After (rule.decides world (Die silo))
+dies world silo are = decided After world (Die silo) (λ number. tt) (λ m is.
+    peopled_death world.views m.views world.nodes silo are (death_makes world.settings (membership_of world) m silo is).viewed)
 
 delivered_by : (result : Result Stepped ℕ) (world : World) (number : ℕ) (letter : Letter) (old : Node) → Peopled world → rule.node_of world letter.to ≡ Some old → After (rule.delivered_by result world number letter)
 delivered_by (Err refusal) world number letter old are there = tt
@@ -100,18 +91,13 @@ delivers None world number are = tt
 delivers (Some letter) world number are = delivers_to (rule.node_of world letter.to) world number letter are refl
 
 attempted : (world : World) (event : Event) → Peopled world → After (rule.attempted world event)
-attempted world (Join silo places) are = join_viewed (after_join world.views silo) world silo places are refl
-attempted world (Leave silo) are = leave_by (rule.status_now world silo) world silo are refl
-attempted world (Kill silo) are = kill_by (rule.status_now world silo) world silo are refl
+attempted world (Join silo places) are = joins world silo places are
+attempted world (Leave silo) are = leaves world silo are
+attempted world (Kill silo) are = dies world silo are
 attempted world (See silo version) are = sees_at (rule.node_of world silo) world silo version are refl
-attempted world (Wake silo grain) are = does world silo (Wakes grain) are
-attempted world (Close silo grain) are = does world silo (Closes grain) are
-attempted world (Find silo grain) are = does world silo (Finds grain) are
-attempted world (Forget silo grain) are = does world silo (Forgets grain) are
+attempted world (Do silo step) are = does world silo (Does step) are
 attempted world (Deliver number) are = delivers (letter_of world number) world number are
 attempted world (Lose number) are = when (is_some (letter_of world number)) 905 _ are
-attempted world (Nudge silo) are = does world silo Nudges are
-attempted world (Offer silo grain to) are = does world silo (Offers grain to) are
 
 happened : (world : World) (event : Event) → Peopled world → After (rule.happens world event)
 unfolding rule.happens

@@ -31,8 +31,9 @@ use Rattle.directory_rules.specs.Receive as rc
 use Rattle.directory_rules.specs.Sent.{gathering_of, recovery_of}
 use Rattle.directory_rules.specs.Host.{renewed, outstanding, is_firm, has_numbers, has_count, is_full_of_activations, is_full_of_finds, held_of, asking_under, closing_under, is_finding, is_outstanding}
 use Rattle.directory_rules.specs.Cache.{hint_of}
-use Rattle.directory_rules.specs.Input.{Input, Sees, Wakes, Closes, Finds, Forgets, Nudges, Offers, Receives, step}
+use Rattle.directory_rules.specs.Input.{Input, Sees, Does, Receives, step}
 use Rattle.directory_rules.specs.Laws.{IsOfOneVersion, NodesAreOfOneVersion}
+use Rattle.directory_rules.specs.declared.own_step.OwnStep.TheVariants.{Wake, Close, Find, Forget, Nudge, Offer}
 use Rattle.directory_rules.proofs.Nodes.{StepsKeep, each_after}
 
 abbrev Kept : at.Stepped → Type 0
@@ -152,14 +153,14 @@ stepped : (node : Node) (input : Input) → IsOfOneVersion node → After (step 
 stepped node (Sees before view places) is =
     refused_or false false (not (nat_lt node.view.version view.version)) (not (has_numbers node.settings node.host (length (outstanding node.host)))) 0 0 903 805
     (at.sight (is_next node.view before view node.host.silo) node before view places) (record { ring = refl; holding = refl })
-stepped node (Wakes grain) is = wake node grain is
-stepped node (Closes grain) is = close_held (held_of node.host grain) node grain is
-stepped node (Finds grain) is = find_by (hint_of node.cache grain) node grain is
-stepped node (Forgets grain) is = forget_hint (hint_of node.cache grain) node grain is
-stepped node Nudges is =
+stepped node (Does (Wake grain)) is = wake node grain is
+stepped node (Does (Close grain)) is = close_held (held_of node.host grain) node grain is
+stepped node (Does (Find grain)) is = find_by (hint_of node.cache grain) node grain is
+stepped node (Does (Forget grain)) is = forget_hint (hint_of node.cache grain) node grain is
+stepped node (Does Nudge) is =
     refused_or false false false (not (has_numbers node.settings node.host (length (outstanding node.host)))) 0 0 0 805
     (at.having_nudged (record node { host = renewed node.host })) (record { ring = is.ring; holding = is.holding })
-stepped node (Offers grain to) is = offer_held (held_of node.host grain) node grain to is
+stepped node (Does (Offer grain to)) is = offer_held (held_of node.host grain) node grain to is
 stepped node (Receives letter) is = received letter.body node letter is
 
 one_version_keeps : StepsKeep IsOfOneVersion

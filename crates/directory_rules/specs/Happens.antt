@@ -1,23 +1,25 @@
 -- What happens: every event is accepted, with what it tells and the world after it, or refused by a number, and then the
 -- world stays as it is.
-use Rattle.std.specs.Prelude.{ℕ, ◌+◌, ◌-◌, ◌&&◌, nat_le, nat_lt, not, is_some, Bool, if◌then◌else◌, List, Option, Some, None, Result, Ok, Err, length, find}
+use Rattle.std.specs.Prelude.{ℕ, ◌+◌, ◌&&◌, nat_lt, not, is_some, Bool, false, if◌then◌else◌, Option, Some, None, Result, Ok, Err, find}
 use Rattle.std.specs.Option.{option_map, unwrap_or}
 use Rattle.std.specs.Map.{lookup, remove_entry}
 use Rattle.std.specs.BTreeMap.{is_at, insert_entry}
 use Rattle.silo_address.specs.Silo.{Silo, silo_cmp}
 use Rattle.membership_view.specs.declared.status.Status.{Status}
-use Rattle.membership_view.specs.declared.status.Status.TheVariants.{Active, Leaving, Dead}
-use Rattle.membership_view.specs.Views.{ViewsValue, view_at, status_at, row_of, joining_version}
-use Rattle.membership_view.specs.Changes.{occupant, with_leave, with_death, after_join}
-use Rattle.hash_ring.specs.Places.{PlacesValue, after_add}
+use Rattle.membership_view.specs.Views.{ViewsValue}
+use Rattle.membership_view.specs.Changes.{occupant}
+use Rattle.hash_ring.specs.Places.{PlacesValue}
+use Rattle.directory_rules.specs.Members.{is_known_dead}
+use Rattle.directory_rules.specs.Membership as membership
+use Rattle.directory_rules.specs.Membership.{Change, Die, Membership, barred_by, changed, is_seeable, replaced_by, status_in}
 use Rattle.directory_rules.specs.Letter.{Letter, kind_of}
 use Rattle.directory_rules.specs.Node.{Node, new_node}
-use Rattle.directory_rules.specs.Event.{Event, Join, Leave, Kill, See, Wake, Close, Find, Forget, Deliver, Lose, Nudge, Offer}
+use Rattle.directory_rules.specs.Event.{Event, Join, Leave, Kill, See, Do, Deliver, Lose}
 use Rattle.directory_rules.specs.declared.outcome.Happening.{Happening}
 use Rattle.directory_rules.specs.declared.outcome.Happening.TheVariants.{Joined, Left, Died, Saw, Did, Delivered, Lost}
 use Rattle.directory_rules.specs.Step.{Stepped}
-use Rattle.directory_rules.specs.Input.{Input, Sees, Wakes, Closes, Finds, Forgets, Nudges, Offers, Receives, step}
-use Rattle.directory_rules.specs.World.{World, Posted, Accepted}
+use Rattle.directory_rules.specs.Input.{Input, Does, Receives, sight_of, step}
+use Rattle.directory_rules.specs.World.{World, Posted, Accepted, membership_of, with_membership}
 use Rattle.directory_rules.specs.Mail.{letter_of, with_sent, has_room_for, span_of, with_delivered, with_lost}
 
 -- the node of a silo that isn't Dead
@@ -36,9 +38,9 @@ without_node world silo = record world { nodes = remove_entry (is_at (silo_cmp s
 abbrev pub counted : World → World
 counted world = record world { accepted = world.accepted + 1 }
 
--- the status of a silo in the current view
+-- what a silo is by the last change
 abbrev pub status_now : World → Silo → Option Status
-status_now world silo = status_at world.views world.views.version silo
+status_now world silo = status_in (membership_of world) silo
 
 -- an event that sends nothing
 abbrev pub tells : World → Happening → Accepted
@@ -56,51 +58,33 @@ abbrev pub after_joining : World → Silo → (replaced : Option Silo) → Views
 after_joining world silo replaced views places =
     record (with_node (without_replaced world replaced) silo (new_node world.settings silo)) { views = views; places = places }
 
--- with the silo's places, or refused by their number
-abbrev pub joined : Result PlacesValue ℕ → ViewsValue → World → Silo → Result Accepted ℕ
-joined (Err number) views world silo = Err number
-joined (Ok places) views world silo =
-    Ok (tells (after_joining world silo (occupant silo world.views.rows) views places) (Joined views.version silo (occupant silo world.views.rows)))
+-- the world after a change
+abbrev pub after_change : World → Change → Membership → World
+after_change world (membership.Join silo places) m = after_joining world silo (occupant silo world.views.rows) m.views m.places
+after_change world (membership.Leave silo) m = with_membership world m
+after_change world (Die silo) m = with_membership (without_node world silo) m
 
--- the places that come with a join: no more than the settings let
-abbrev pub placed : World → Silo → List ℕ → Result PlacesValue ℕ
-placed world silo places = if nat_lt world.settings.places (length places) then Err 402 else after_add world.places silo places
+-- what happened, and for a join whom it replaced
+abbrev pub change_told : (version : ℕ) → Change → (replaced : Option Silo) → Happening
+change_told version (membership.Join silo places) replaced = Joined version silo replaced
+change_told version (membership.Leave silo) replaced = Left version silo
+change_told version (Die silo) replaced = Died version silo
 
--- with the views after the join, or refused by their number
-abbrev pub join_viewed : Result ViewsValue ℕ → World → Silo → List ℕ → Result Accepted ℕ
-join_viewed (Err number) world silo places = Err number
-join_viewed (Ok views) world silo places = joined (placed world silo places) views world silo
+-- by what the change makes, or its refusal
+abbrev pub changed_by : Result Membership ℕ → World → Change → Result Accepted ℕ
+changed_by (Err number) world change = Err number
+changed_by (Ok m) world change = Ok (tells (after_change world change m) (change_told m.views.version change (replaced_by (membership_of world) change)))
 
--- a silo joins: 201, 205, 402, 403
-abbrev pub join : World → Silo → List ℕ → Result Accepted ℕ
-join world silo places = join_viewed (after_join world.views silo) world silo places
+-- whether the change is one of a silo that is Dead: its leave or its death
+abbrev pub is_of_dead : World → Change → Bool
+is_of_dead world (membership.Join silo places) = false
+is_of_dead world (membership.Leave silo) = is_known_dead (status_now world silo)
+is_of_dead world (Die silo) = is_known_dead (status_now world silo)
 
--- by the silo's status in the current view
-abbrev pub leave_by : Option Status → World → Silo → Result Accepted ℕ
-leave_by None world silo = Err 202
-leave_by (Some Active) world silo =
-    Ok (tells (record world { views = with_leave world.views silo }) (Left (world.views.version + 1) silo))
-leave_by (Some Leaving) world silo = Err 203
-leave_by (Some Dead) world silo = Err 902
-
--- a silo begins to leave: 202 where it never joined, 902 where it is Dead, 203 where it leaves already
-abbrev pub leave : World → Silo → Result Accepted ℕ
-leave world silo = leave_by (status_now world silo) world silo
-
--- the silo is Dead from now on, and its node goes
-abbrev pub died : World → Silo → Accepted
-died world silo = tells (without_node (record world { views = with_death world.views silo }) silo) (Died (world.views.version + 1) silo)
-
--- by the silo's status in the current view
-abbrev pub kill_by : Option Status → World → Silo → Result Accepted ℕ
-kill_by None world silo = Err 202
-kill_by (Some Active) world silo = Ok (died world silo)
-kill_by (Some Leaving) world silo = Ok (died world silo)
-kill_by (Some Dead) world silo = Err 902
-
--- a silo dies: 202 where it never joined, 902 where it is Dead
-abbrev pub kill : World → Silo → Result Accepted ℕ
-kill world silo = kill_by (status_now world silo) world silo
+-- a change is decided: 902 where it is of a silo that is Dead, since in a world nothing happens to it any more; then as membership
+-- refuses
+abbrev pub decides : World → Change → Result Accepted ℕ
+decides world change = if is_of_dead world change then Err 902 else changed_by (changed world.settings (membership_of world) change) world change
 
 -- Steps of silos.
 
@@ -115,7 +99,7 @@ taken world silo happening stepped =
 
 -- the number by which a silo without a node is refused: 901 where it never joined, else it is Dead and 902
 abbrev pub absent_number : World → Silo → ℕ
-absent_number world silo = if is_some (row_of world.views silo) then 902 else 901
+absent_number world silo = unwrap_or (barred_by (status_now world silo)) 902
 
 -- by what the silo's step made, or its refusal
 abbrev pub done_by : Result Stepped ℕ → World → Silo → Result Accepted ℕ
@@ -131,30 +115,18 @@ does_at (Some node) world silo input = done_by (step node input) world silo
 abbrev pub does : World → Silo → Input → Result Accepted ℕ
 does world silo input = does_at (node_of world silo) world silo input
 
--- the version in which a silo joined
-abbrev pub joined_in : World → Silo → ℕ
-joined_in world silo = unwrap_or (joining_version world.views silo) 0
-
 -- by what the sight made, or its refusal
 abbrev pub seen_by : Result Stepped ℕ → World → Silo → (version : ℕ) → Result Accepted ℕ
 seen_by (Err number) world silo version = Err number
 seen_by (Ok stepped) world silo version = taken world silo (Saw silo version stepped.effect) stepped
-
--- the input of a sight of that version
-abbrev pub sight_of : World → (version : ℕ) → Input
-sight_of world version = Sees (view_at world.views (version - 1)) (view_at world.views version) world.places
-
--- whether there is that view, and the silo is in it
-abbrev pub is_seeable : World → Silo → (version : ℕ) → Bool
-is_seeable world silo version = nat_le version world.views.version && nat_le (joined_in world silo) version
 
 -- by the silo's node, if it has one
 abbrev pub sees_at : Option Node → World → Silo → (version : ℕ) → Result Accepted ℕ
 sees_at None world silo version = Err (absent_number world silo)
 sees_at (Some node) world silo version =
     if not (nat_lt node.view.version version) then Err 903
-    else (if not (is_seeable world silo version) then Err 904
-    else seen_by (step node (sight_of world version)) world silo version)
+    else (if not (is_seeable (membership_of world) silo version) then Err 904
+    else seen_by (step node (sight_of (membership_of world) version)) world silo version)
 
 -- a silo sees a version: 901, 902, 903 where it isn't newer than the one seen, 904 where there is no such view or it is from
 -- before the silo joined, 805
@@ -197,18 +169,13 @@ least_deliverable world = option_map (λ e. e.0) (find (λ e. is_deliverable wor
 
 -- what happens at an event, if there is room for one more
 abbrev pub attempted : World → Event → Result Accepted ℕ
-attempted world (Join silo places) = join world silo places
-attempted world (Leave silo) = leave world silo
-attempted world (Kill silo) = kill world silo
+attempted world (Join silo places) = decides world (membership.Join silo places)
+attempted world (Leave silo) = decides world (membership.Leave silo)
+attempted world (Kill silo) = decides world (Die silo)
 attempted world (See silo version) = sees world silo version
-attempted world (Wake silo grain) = does world silo (Wakes grain)
-attempted world (Close silo grain) = does world silo (Closes grain)
-attempted world (Find silo grain) = does world silo (Finds grain)
-attempted world (Forget silo grain) = does world silo (Forgets grain)
+attempted world (Do silo step) = does world silo (Does step)
 attempted world (Deliver number) = deliver world number
 attempted world (Lose number) = lose world number
-attempted world (Nudge silo) = does world silo Nudges
-attempted world (Offer silo grain to) = does world silo (Offers grain to)
 
 -- what happens at an event; before all else 908 where as many events were accepted as ever may be
 unfoldable pub happens : World → Event → Result Accepted ℕ

@@ -31,7 +31,7 @@ use Rattle.directory_rules.specs.Answer.{piece_with, answered}
 use Rattle.directory_rules.specs.Host.{Host, held_acts, find_acts, outstanding}
 use Rattle.directory_rules.specs.Node.{Node}
 use Rattle.directory_rules.specs.Step.{Stepped, see}
-use Rattle.directory_rules.specs.Event.{Event, Join, Leave, Kill, See, Wake, Close, Find, Forget, Deliver, Lose, Nudge, Offer}
+use Rattle.directory_rules.specs.Event.{Event, Join, Leave, Kill, See, Do, Deliver, Lose}
 use Rattle.directory_rules.specs.World.{Posted, World, Accepted}
 use Rattle.directory_rules.specs.Mail.{letter_of}
 use Rattle.directory_rules.specs.Happens.{happens, node_of}
@@ -77,14 +77,9 @@ NamesHashes (Join silo places) = All (λ place. place < circle) places
 NamesHashes (Leave silo) = ⊤
 NamesHashes (Kill silo) = ⊤
 NamesHashes (See silo version) = ⊤
-NamesHashes (Wake silo grain) = ⊤
-NamesHashes (Close silo grain) = ⊤
-NamesHashes (Find silo grain) = ⊤
-NamesHashes (Forget silo grain) = ⊤
+NamesHashes (Do silo step) = ⊤
 NamesHashes (Deliver number) = ⊤
 NamesHashes (Lose number) = ⊤
-NamesHashes (Nudge silo) = ⊤
-NamesHashes (Offer silo grain to) = ⊤
 
 -- the silo has this node after such events
 pub record IsReached (settings : Settings) (events : List Event) (silo : Silo) (node : Node) : Type 0 where

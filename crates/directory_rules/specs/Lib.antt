@@ -1,5 +1,6 @@
 pub mod Settings
 pub mod SettingsFields
+pub mod Members
 pub mod Membership
 pub mod Table
 pub mod Piece
@@ -31,3 +32,4 @@ pub mod Laws
 pub mod Worked
 pub mod EventModel
 pub mod EventCopies
+pub mod OwnStep

@@ -13,7 +13,7 @@ use Rattle.directory_rules.specs.declared.held.Phase.{Phase}
 use Rattle.directory_rules.specs.declared.held.Phase.TheVariants as phase
 use Rattle.directory_rules.specs.declared.effect.Effect.{Effect}
 use Rattle.directory_rules.specs.declared.effect.Effect.TheVariants as effect
-use Rattle.directory_rules.specs.Membership.{is_dead_in}
+use Rattle.directory_rules.specs.Members.{is_dead_in}
 use Rattle.directory_rules.specs.Host.{held_of}
 use Rattle.directory_rules.specs.Node.{Node}
 use Rattle.directory_rules.specs.declared.outcome.Happening.{Happening}

@@ -6,7 +6,7 @@ use Rattle.silo_address.specs.Silo.{Silo, silo_eq, silo_cmp}
 use Rattle.silo_address.specs.declared.Entry.{Entry}
 use Rattle.membership_view.specs.View.{ViewValue}
 use Rattle.ring_range.specs.Range.{Range, range_eq}
-use Rattle.directory_rules.specs.Membership.{members_of}
+use Rattle.directory_rules.specs.Members.{members_of}
 use Rattle.directory_rules.specs.Table.{Table, entry_at, with_entry}
 
 -- a silo's firm activations with their hashes in a range, when it had seen a version

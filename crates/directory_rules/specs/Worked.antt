@@ -4,8 +4,9 @@ use Rattle.silo_address.specs.Silo.{Silo}
 use Rattle.silo_address.specs.Grain.{Grain}
 use Rattle.hash_ring.specs.declared.Hashing.TheVariants.{Stated}
 use Rattle.directory_rules.specs.Settings.{Settings, directory_settings}
-use Rattle.directory_rules.specs.Event.{Event, Join, Leave, Kill, See, Wake, Close, Find, Forget, Deliver, Lose, Nudge, Offer}
+use Rattle.directory_rules.specs.Event.{Event, Join, Leave, Kill, See, Do, Deliver, Lose}
 use Rattle.directory_rules.specs.declared.outcome.Outcome.{Outcome}
+use Rattle.directory_rules.specs.declared.own_step.OwnStep.TheVariants.{Wake, Close, Find, Forget, Nudge, Offer}
 use Rattle.directory_rules.specs.Run.{run_from_start}
 
 -- the silos 10.0.0.1:1000@1, 10.0.0.2:1000@1 and 10.0.0.3:1000@1, and the grains user/a#7 and user/b#8
@@ -46,15 +47,15 @@ abbrev pub refused_events : List (Event × Option ℕ)
 refused_events =
     (See silo_a 1, Some 901) ∷ (Join silo_a [], Some 403) ∷ (Join silo_a (0 ∷ 1 ∷ 2 ∷ []), Some 402)
     ∷ (Join silo_a (0 ∷ []), None) ∷ (Join silo_a (0 ∷ []), Some 201) ∷ (Join silo_b (5 ∷ []), None) ∷ (Join silo_c (9 ∷ []), Some 205)
-    ∷ (Wake silo_a grain_a, Some 804) ∷ (See silo_a 0, Some 903) ∷ (See silo_a 3, Some 904) ∷ (See silo_b 1, Some 904)
-    ∷ (See silo_a 1, None) ∷ (Deliver 2, Some 905) ∷ (Wake silo_a grain_a, None) ∷ (Wake silo_a grain_a, Some 801) ∷ (Wake silo_a grain_b, Some 806)
-    ∷ (Close silo_a grain_b, Some 802) ∷ (Close silo_a grain_a, Some 803) ∷ (Find silo_a grain_b, None) ∷ (Find silo_a grain_b, Some 806)
+    ∷ (Do silo_a (Wake grain_a), Some 804) ∷ (See silo_a 0, Some 903) ∷ (See silo_a 3, Some 904) ∷ (See silo_b 1, Some 904)
+    ∷ (See silo_a 1, None) ∷ (Deliver 2, Some 905) ∷ (Do silo_a (Wake grain_a), None) ∷ (Do silo_a (Wake grain_a), Some 801) ∷ (Do silo_a (Wake grain_b), Some 806)
+    ∷ (Do silo_a (Close grain_b), Some 802) ∷ (Do silo_a (Close grain_a), Some 803) ∷ (Do silo_a (Find grain_b), None) ∷ (Do silo_a (Find grain_b), Some 806)
     ∷ (Deliver 1, None) ∷ (Deliver 4, None) ∷ (Deliver 2, None) ∷ (Deliver 5, None)
-    ∷ (Offer silo_a grain_a silo_a, Some 807) ∷ (Offer silo_a grain_a silo_b, Some 807) ∷ (Offer silo_a grain_b silo_a, Some 802)
-    ∷ (Nudge silo_a, None) ∷ (Nudge silo_a, Some 805) ∷ (Close silo_a grain_a, Some 805) ∷ (Deliver 3, Some 909)
+    ∷ (Do silo_a (Offer grain_a silo_a), Some 807) ∷ (Do silo_a (Offer grain_a silo_b), Some 807) ∷ (Do silo_a (Offer grain_b silo_a), Some 802)
+    ∷ (Do silo_a Nudge, None) ∷ (Do silo_a Nudge, Some 805) ∷ (Do silo_a (Close grain_a), Some 805) ∷ (Deliver 3, Some 909)
     ∷ (Lose 1, None) ∷ (Deliver 1, Some 905) ∷ (Lose 1, Some 905)
     ∷ (Kill silo_b, None) ∷ (Kill silo_b, Some 902) ∷ (Leave silo_b, Some 902) ∷ (Leave silo_c, Some 202) ∷ (See silo_b 2, Some 902)
-    ∷ (Leave silo_a, None) ∷ (Leave silo_a, Some 908) ∷ (Forget silo_c grain_a, Some 908) ∷ []
+    ∷ (Leave silo_a, None) ∷ (Leave silo_a, Some 908) ∷ (Do silo_c (Forget grain_a), Some 908) ∷ []
 
 -- the number by which an event was refused, if it was
 abbrev pub refusal_of : Result Outcome ℕ → Option ℕ

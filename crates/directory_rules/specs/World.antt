@@ -7,6 +7,7 @@ use Rattle.hash_ring.specs.declared.point.Point.{Point}
 use Rattle.hash_ring.specs.Places.{PlacesValue}
 use Rattle.hash_ring.specs.Ring.{sorted_ring}
 use Rattle.directory_rules.specs.Settings.{Settings}
+use Rattle.directory_rules.specs.Membership.{Membership, first_membership}
 use Rattle.directory_rules.specs.Letter.{Letter}
 use Rattle.directory_rules.specs.Node.{Node}
 use Rattle.directory_rules.specs.declared.outcome.Outcome.{Outcome}
@@ -21,8 +22,8 @@ pub record World : Type 0 where
   pub settings : Settings
   -- how many events were accepted
   pub accepted : ℕ
+  -- what the changes of membership made: the views so far, and each silo's places on the ring
   pub views : ViewsValue
-  -- each silo's places on the ring, as it joined
   pub places : PlacesValue
   -- the silos that aren't Dead in the current view, by address
   pub nodes : List (Silo × Node)
@@ -38,13 +39,21 @@ current_view world = view_at world.views world.views.version
 abbrev pub current_ring : World → List Point
 current_ring world = sorted_ring (current_view world) world.places
 
+-- what its changes made
+abbrev pub membership_of : World → Membership
+membership_of world = record { views = world.views; places = world.places }
+
+-- with what they make from now on
+abbrev pub with_membership : World → Membership → World
+with_membership world m = record world { views = m.views; places = m.places }
+
 -- before the first event
 abbrev pub first_world : Settings → World
 first_world settings = record {
   settings = settings;
   accepted = 0;
-  views = record { limit = settings.silos; version = 0; rows = [] };
-  places = record { hashing = settings.hashing; points = settings.points; entries = [] };
+  views = (first_membership settings).views;
+  places = (first_membership settings).places;
   nodes = [];
   mail = [];
   sent = 0;

@@ -4,7 +4,8 @@ ghost use Rattle.ring_range.specs.Range.{circle};
 ghost use Rattle.directory_rules.specs.EventCopies.{NeedsMemory};
 ghost use Rattle.directory_rules.specs.EventModel.{event_of};
 
-use silo_address::{GrainId, SiloAddress};
+use crate::OwnStep;
+use silo_address::SiloAddress;
 use std::alloc::AllocError;
 
 /// What may happen to a cluster (`docs/RULES.md#the-world`).
@@ -28,25 +29,10 @@ pub enum Event {
         silo: SiloAddress,
         version: u64,
     },
-    /// A silo starts an activation of a grain.
-    Wake {
+    /// A silo does what its application asks of it.
+    Do {
         silo: SiloAddress,
-        grain: GrainId,
-    },
-    /// A silo closes its activation of a grain.
-    Close {
-        silo: SiloAddress,
-        grain: GrainId,
-    },
-    /// A silo looks a grain up.
-    Find {
-        silo: SiloAddress,
-        grain: GrainId,
-    },
-    /// A silo drops what its cache has of a grain.
-    Forget {
-        silo: SiloAddress,
-        grain: GrainId,
+        step: OwnStep,
     },
     /// The letter of that number comes to its receiver.
     Deliver {
@@ -55,16 +41,6 @@ pub enum Event {
     /// The letter of that number is lost for good.
     Lose {
         number: u64,
-    },
-    /// A silo sends again what it has outstanding.
-    Nudge {
-        silo: SiloAddress,
-    },
-    /// A silo closes its activation of a grain, and offers its place to another silo.
-    Offer {
-        silo: SiloAddress,
-        grain: GrainId,
-        to: SiloAddress,
     },
 }
 
@@ -78,23 +54,12 @@ impl Event {
                 silo.in_range();
                 are_hashes(places);
             }
-            Event::Leave { silo }
-            | Event::Kill { silo }
-            | Event::See { silo, .. }
-            | Event::Nudge { silo } => silo.in_range(),
-            Event::Wake { silo, grain }
-            | Event::Close { silo, grain }
-            | Event::Find { silo, grain }
-            | Event::Forget { silo, grain } => {
+            Event::Leave { silo } | Event::Kill { silo } | Event::See { silo, .. } => silo.in_range(),
+            Event::Do { silo, step } => {
                 silo.in_range();
-                grain.in_range();
+                step.in_range();
             }
             Event::Deliver { .. } | Event::Lose { .. } => {}
-            Event::Offer { silo, grain, to } => {
-                silo.in_range();
-                grain.in_range();
-                to.in_range();
-            }
         }
     }
 
@@ -117,30 +82,12 @@ impl Event {
                 silo: *silo,
                 version: *version,
             }),
-            Event::Wake { silo, grain } => Ok(Event::Wake {
+            Event::Do { silo, step } => Ok(Event::Do {
                 silo: *silo,
-                grain: *grain,
-            }),
-            Event::Close { silo, grain } => Ok(Event::Close {
-                silo: *silo,
-                grain: *grain,
-            }),
-            Event::Find { silo, grain } => Ok(Event::Find {
-                silo: *silo,
-                grain: *grain,
-            }),
-            Event::Forget { silo, grain } => Ok(Event::Forget {
-                silo: *silo,
-                grain: *grain,
+                step: *step,
             }),
             Event::Deliver { number } => Ok(Event::Deliver { number: *number }),
             Event::Lose { number } => Ok(Event::Lose { number: *number }),
-            Event::Nudge { silo } => Ok(Event::Nudge { silo: *silo }),
-            Event::Offer { silo, grain, to } => Ok(Event::Offer {
-                silo: *silo,
-                grain: *grain,
-                to: *to,
-            }),
         }
     }
 
@@ -166,44 +113,14 @@ impl Event {
                 },
             ) => silo.same(its) && version == other,
             (
-                Event::Wake { silo, grain },
-                Event::Wake {
+                Event::Do { silo, step },
+                Event::Do {
                     silo: its,
-                    grain: other,
+                    step: other,
                 },
-            ) => silo.same(its) && grain.same(other),
-            (
-                Event::Close { silo, grain },
-                Event::Close {
-                    silo: its,
-                    grain: other,
-                },
-            ) => silo.same(its) && grain.same(other),
-            (
-                Event::Find { silo, grain },
-                Event::Find {
-                    silo: its,
-                    grain: other,
-                },
-            ) => silo.same(its) && grain.same(other),
-            (
-                Event::Forget { silo, grain },
-                Event::Forget {
-                    silo: its,
-                    grain: other,
-                },
-            ) => silo.same(its) && grain.same(other),
+            ) => silo.same(its) && step.same(other),
             (Event::Deliver { number }, Event::Deliver { number: its }) => number == its,
             (Event::Lose { number }, Event::Lose { number: its }) => number == its,
-            (Event::Nudge { silo }, Event::Nudge { silo: its }) => silo.same(its),
-            (
-                Event::Offer { silo, grain, to },
-                Event::Offer {
-                    silo: its,
-                    grain: other,
-                    to: whom,
-                },
-            ) => silo.same(its) && grain.same(other) && to.same(whom),
             _ => false,
         }
     }

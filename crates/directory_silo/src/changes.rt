@@ -1,7 +1,7 @@
 ghost use Rattle.std.specs.Prelude.{◌≡◌, ◌==◌, ◌+◌, ◌<◌, Err, IfErr, IsOk, IsTrue, Ok, OnErr, false};
 ghost use Rattle.directory_node.specs.Follows.{Follows};
 ghost use Rattle.directory_silo.specs.AnswerModel.{heard_as};
-ghost use Rattle.silo_rules.specs.Membership.{Join, Leave, Die, changed, replaced_by};
+ghost use Rattle.directory_rules.specs.Membership.{Join, Leave, Die, changed, replaced_by};
 ghost use Rattle.directory_silo.specs.Numbers.{IsNumberedUnlessMemory, silo_refusal_number};
 ghost use Rattle.silo_rules.specs.Told.{IsNever, heard_by, told};
 

@@ -3,7 +3,7 @@ ghost use Rattle.std.specs.Prelude.{◌≡◌, ◌==◌, List, ℕ};
 ghost use Rattle.std.specs.List.{list_any};
 ghost use Rattle.hash_ring.specs.Places.{places_of};
 ghost use Rattle.silo_rules.specs.Known.{are_these, is_known, is_made_in, is_of_join, were_stated};
-ghost use Rattle.silo_rules.specs.Membership.{Join, Leave, Die};
+ghost use Rattle.directory_rules.specs.Membership.{Join, Leave, Die};
 
 use hash_ring::{Hashing, Places};
 use membership_view::Views;

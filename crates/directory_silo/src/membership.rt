@@ -3,7 +3,7 @@ ghost use Rattle.std.specs.Prelude.{◌≡◌, IfErr, IfOk, IsOk, OnErr, OnOk, O
 ghost use Rattle.membership_view.specs.Changes.{after_join, occupant, with_join};
 ghost use Rattle.hash_ring.specs.Places.{after_add};
 ghost use Rattle.directory_node.specs.Follows.{Follows};
-ghost use Rattle.silo_rules.specs.Membership.{Join, changed};
+ghost use Rattle.directory_rules.specs.Membership.{Join, changed};
 ghost use Rattle.directory_silo.specs.Numbers.{IsNumberedUnlessMemory, silo_refusal_number};
 
 use crate::SiloRefusal;

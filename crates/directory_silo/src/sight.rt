@@ -1,11 +1,12 @@
+ghost use Rattle.directory_rules.specs.Membership.{is_seeable};
 ghost use Rattle.std.specs.Prelude.{◌≡◌, ◌≤◌, ◌<◌, IfErr, IfOk, IsOk, OnErr};
 ghost use Rattle.membership_view.specs.Views.{view_at};
-ghost use Rattle.directory_rules.specs.Input.{step};
+ghost use Rattle.directory_rules.specs.Input.{step, sight_of};
 ghost use Rattle.directory_node.specs.Follows.{Follows};
 ghost use Rattle.directory_node.specs.Plans.{Fits, step_by};
 ghost use Rattle.directory_silo.specs.AnswerModel.{stepped_as};
 ghost use Rattle.directory_silo.specs.Numbers.{IsNumberedUnlessMemory, silo_refusal_number};
-ghost use Rattle.silo_rules.specs.Steps.{is_seeable, sees, sight_of};
+ghost use Rattle.silo_rules.specs.Steps.{sees};
 
 use crate::{Answer, Silo, SiloRefusal};
 use directory_node::{Input, Plan, StepRefusal};

@@ -9,7 +9,7 @@ use Rattle.texts.proofs.Decided.{both}
 use Rattle.ring_range.specs.Range.{circle, IsRange}
 use Rattle.hash_ring.specs.declared.point.Point.{Point}
 use Rattle.hash_ring.specs.Point.{IsOnCircle}
-use Rattle.directory_rules.specs.Membership.{is_dead_in}
+use Rattle.directory_rules.specs.Members.{is_dead_in}
 use Rattle.dump_rules.specs.Dump.{DumpPiece, DumpNode, DumpValue}
 use Rattle.dump_rules.specs.DumpShape.{has_point_numbers, has_piece_numbers, has_node_numbers, has_row_numbers, has_numbers, has_shape, is_version, is_hash, is_index, is_number_of_points, is_dump}
 use Rattle.dump_rules.specs.Judgement.{judgement_of, judged, no_dump}

@@ -20,7 +20,7 @@ use Rattle.hash_ring.specs.Point.{point_eq, IsOnCircle}
 use Rattle.hash_ring.specs.Places.{PlacesValue, places_for}
 use Rattle.hash_ring.specs.Owner.{owns}
 use Rattle.hash_ring.specs.Ring.{sorted_ring}
-use Rattle.directory_rules.specs.Membership.{is_dead_in}
+use Rattle.directory_rules.specs.Members.{is_dead_in}
 use Rattle.texts.specs.Words.{sentence}
 use Rattle.dump_rules.specs.Dump.{DumpPhase, Asking, Firm, Closing, DumpState, Settled, Awaiting, Recovering, DumpHeld, DumpPiece, DumpNode, DumpRow, DumpValue}
 

@@ -13,7 +13,7 @@ use Rattle.ring_range.proofs.Parts.{size-part}
 use Rattle.hash_ring.specs.declared.Hashing.{Hashing}
 use Rattle.hash_ring.specs.Hash.{hash_grain}
 use Rattle.directory_rules.specs.Answer.{piece_with}
-use Rattle.directory_rules.specs.Membership.{is_dead_in}
+use Rattle.directory_rules.specs.Members.{is_dead_in}
 use Rattle.directory_rules.specs.Piece.{Piece}
 use Rattle.directory_rules.specs.Sight.{all_entries, is_kept, kept_entries, was_settled}
 use Rattle.directory_rules.specs.Table.{entries_of, with_entry}

@@ -15,7 +15,7 @@ use Rattle.silo_address.specs.declared.Entry.{Entry}
 use Rattle.membership_view.specs.View.{ViewValue}
 use Rattle.ring_range.specs.Range.{Range, IsRange, circle, holds}
 use Rattle.hash_ring.specs.declared.Hashing.{Hashing}
-use Rattle.directory_rules.specs.Membership.{is_dead_in}
+use Rattle.directory_rules.specs.Members.{is_dead_in}
 use Rattle.directory_rules.specs.Sight.{is_kept}
 use Rattle.directory_rules.specs.Table.{Table, entries_of, entry_at}
 use Rattle.grain_table.specs.declared.hashed_grain.HashedGrain.{HashedGrain}

@@ -5,7 +5,7 @@ use Rattle.membership_view.specs.View.{ViewValue}
 use Rattle.ring_range.specs.Range.{Range, IsRange, circle, holds}
 use Rattle.hash_ring.specs.declared.Hashing.{Hashing}
 use Rattle.hash_ring.specs.Hash.{hash_grain}
-use Rattle.directory_rules.specs.Membership.{is_dead_in}
+use Rattle.directory_rules.specs.Members.{is_dead_in}
 use Rattle.directory_rules.specs.Sight.{is_kept}
 use Rattle.directory_rules.specs.Table.{Table, entries_of}
 use Rattle.grain_table.specs.Hashed.{AreHashed, Hashed, by_grain}

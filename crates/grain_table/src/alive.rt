@@ -1,5 +1,5 @@
 ghost use Rattle.std.specs.Prelude.{◌≡◌};
-ghost use Rattle.directory_rules.specs.Membership.{is_dead_in};
+ghost use Rattle.directory_rules.specs.Members.{is_dead_in};
 
 use membership_view::{Status, View};
 use silo_address::SiloAddress;

@@ -5,7 +5,7 @@ use Rattle.std.specs.Map.{lookup}
 use Rattle.silo_address.specs.Silo.{Silo}
 use Rattle.membership_view.specs.declared.Status.{Status}
 use Rattle.membership_view.specs.View.{ViewValue}
-use Rattle.directory_rules.specs.Membership.{is_dead_status, is_known_dead}
+use Rattle.directory_rules.specs.Members.{is_dead_status, is_known_dead}
 use Rattle.lookup_cache.specs.Hints.{living_hints}
 use Rattle.lookup_cache.proofs.Rounds.{Hint}
 

@@ -9,7 +9,7 @@ use Rattle.silo_address.specs.Grain.{Grain, grain_eq}
 use Rattle.silo_address.specs.declared.ActivationId.{ActivationId}
 use Rattle.silo_address.specs.contracts.grain.GrainIdEq.TheImpl.Laws.{laws-law}
 use Rattle.membership_view.specs.View.{ViewValue}
-use Rattle.directory_rules.specs.Membership.{is_dead_in}
+use Rattle.directory_rules.specs.Members.{is_dead_in}
 use Rattle.lru.specs.LruCache.{last_entry, promoted}
 use Rattle.lru.proofs.Pairs.{cut_end, last_of_push}
 use Rattle.lookup_cache.specs.Hints.{living_hints, turned}

@@ -5,7 +5,7 @@ use Rattle.silo_address.specs.Grain.{Grain}
 use Rattle.silo_address.specs.declared.ActivationId.{ActivationId}
 use Rattle.lru.specs.LruCache.{last_entry}
 use Rattle.membership_view.specs.View.{ViewValue}
-use Rattle.directory_rules.specs.Membership.{is_dead_in}
+use Rattle.directory_rules.specs.Members.{is_dead_in}
 
 -- those at silos that aren't Dead in the view
 abbrev pub living_hints : ViewValue → List (Grain × ActivationId) → List (Grain × ActivationId)

@@ -1,7 +1,7 @@
 ghost use Rattle.std.specs.List.{list_any};
 ghost use Rattle.std.specs.Map.{lookup};
 ghost use Rattle.std.specs.Prelude.{◌≡◌, ◌↔◌, IsTrue, IfOk, is_some};
-ghost use Rattle.directory_rules.specs.Membership.{is_dead_in, is_dead_status};
+ghost use Rattle.directory_rules.specs.Members.{is_dead_in, is_dead_status};
 ghost use Rattle.lookup_cache.specs.Hints.{living_hints, turned};
 ghost use Rattle.lru.specs.LruCache.{lru_cache, promoted};
 ghost use Rattle.silo_address.specs.Grain.{grain_eq};

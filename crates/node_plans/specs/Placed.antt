@@ -4,7 +4,7 @@ use Rattle.membership_view.specs.View.{ViewValue}
 use Rattle.hash_ring.specs.Places.{PlacesValue}
 use Rattle.hash_ring.specs.Ring.{are_added, ring_of}
 use Rattle.directory_rules.specs.Node.{Node}
-use Rattle.directory_rules.specs.Input.{Input, Sees, Wakes, Closes, Finds, Forgets, Nudges, Offers, Receives}
+use Rattle.directory_rules.specs.Input.{Input, Sees, Does, Receives}
 
 -- the places of all who are Active in the view, or in the one before it, are known, and the node's ring is its view's by them
 pub record ArePlaced (node : Node) (before view : ViewValue) (places : PlacesValue) : Type 0 where
@@ -15,10 +15,5 @@ pub record ArePlaced (node : Node) (before view : ViewValue) (places : PlacesVal
 -- so are those of a sight
 abbrev pub IsPlaced : Node → Input → Type 0
 IsPlaced node (Sees before view places) = ArePlaced node before view places
-IsPlaced node (Wakes grain) = Unit {0}
-IsPlaced node (Closes grain) = Unit {0}
-IsPlaced node (Finds grain) = Unit {0}
-IsPlaced node (Forgets grain) = Unit {0}
-IsPlaced node Nudges = Unit {0}
-IsPlaced node (Offers grain to) = Unit {0}
+IsPlaced node (Does step) = Unit {0}
 IsPlaced node (Receives letter) = Unit {0}

@@ -12,7 +12,7 @@ use Rattle.directory_rules.specs.Gatherings.{gathered, new_gathering, with_page}
 use Rattle.directory_rules.specs.Host.{asking_under, closing_under, has_numbers, held_of, is_firm, outstanding, renewed, with_find, with_started, without_find, without_held}
 use Rattle.directory_rules.specs.Letter.{Body, Request_letter, Reply_letter, Ask_letter, Page_letter, Missing_letter, Done_letter, Query_letter, Report_letter, Behind_letter, Ahead_letter, Offer_letter}
 use Rattle.directory_rules.specs.Node.{Node}
-use Rattle.directory_rules.specs.Membership.{members_of}
+use Rattle.directory_rules.specs.Members.{members_of}
 use Rattle.directory_rules.specs.Recovery.{Recovery, recovered}
 use Rattle.directory_rules.specs.Reply.{confirmed_by, yielded_by}
 use Rattle.directory_rules.specs.Sent.{gathering_of, recovery_of}

@@ -1,7 +1,7 @@
 use directory_letters::Letter;
+use directory_rules::OwnStep;
 use hash_ring::Places;
 use membership_view::View;
-use silo_address::{GrainId, SiloAddress};
 
 /// One input of a silo's step.
 #[derive(Clone, Copy)]
@@ -12,21 +12,8 @@ pub enum Input<'a> {
         view: &'a View,
         places: &'a Places,
     },
-    /// An activation of the grain is to start.
-    Wakes(&'a GrainId),
-    /// The activation of the grain is to be closed.
-    Closes(&'a GrainId),
-    /// The grain is to be looked up.
-    Finds(&'a GrainId),
-    /// What the cache has of the grain is to be forgotten.
-    Forgets(&'a GrainId),
-    /// All that is outstanding is to be sent again.
-    Nudges,
-    /// The activation of the grain is to be offered to another silo.
-    Offers {
-        grain: &'a GrainId,
-        to: &'a SiloAddress,
-    },
+    /// What the silo's application asks of it.
+    Does(&'a OwnStep),
     /// A letter comes.
     Receives(&'a Letter),
 }

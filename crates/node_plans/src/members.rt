@@ -1,6 +1,6 @@
 //! The silos that a recovery asks (`docs/RULES.md#recovery`).
 ghost use Rattle.std.specs.Prelude.{◌≡◌, filter, length, not};
-ghost use Rattle.directory_rules.specs.Membership.{is_dead_status, members_of};
+ghost use Rattle.directory_rules.specs.Members.{is_dead_status, members_of};
 
 use membership_view::{Status, View};
 use silo_address::SiloAddress;

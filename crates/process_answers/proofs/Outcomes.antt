@@ -12,7 +12,7 @@ use Rattle.directory_rules.specs.Node.{Node}
 use Rattle.directory_rules.specs.Step.{Stepped}
 use Rattle.directory_node.specs.Follows.{RefusesBy}
 use Rattle.silo_rules.specs.declared.news.News.{News}
-use Rattle.silo_rules.specs.Membership.{Change, Membership}
+use Rattle.directory_rules.specs.Membership.{Change, Membership}
 use Rattle.silo_rules.specs.SiloValue.{SiloValue, own_status}
 use Rattle.silo_rules.specs.Steps.{receives}
 use Rattle.silo_rules.specs.Told.{Heard}

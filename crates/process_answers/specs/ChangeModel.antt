@@ -1,5 +1,5 @@
 -- How a change that the code tells a silo is a change of membership.
-use Rattle.silo_rules.specs.Membership as rule
+use Rattle.directory_rules.specs.Membership as rule
 use Rattle.process_answers.specs.declared.changes.Change.{Change}
 use Rattle.process_answers.specs.declared.changes.Change.TheVariants.{Join, Leave, Die}
 

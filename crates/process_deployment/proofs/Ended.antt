@@ -19,7 +19,7 @@ use Rattle.directory_rules.specs.Laws.{is_live, ArePeopled}
 use Rattle.directory_rules.specs.Letter.{Letter}
 use Rattle.directory_rules.specs.Settings.{Settings, AreSettings}
 use Rattle.directory_rules.specs.Step.{Stepped}
-use Rattle.silo_rules.specs.Membership.{Change, Join, Leave, Die, Membership, changed}
+use Rattle.directory_rules.specs.Membership.{Change, Join, Leave, Die, Membership, changed}
 use Rattle.silo_rules.specs.SiloValue.{SiloValue, first_silo, own_status}
 use Rattle.silo_rules.specs.Steps.{does, sees, receives}
 use Rattle.silo_rules.specs.Told.{Heard, told}

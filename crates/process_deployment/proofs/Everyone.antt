@@ -6,7 +6,7 @@ use Rattle.silo_address.specs.Silo.{Silo, silo_cmp}
 use Rattle.silo_address.proofs.Order.{silo_cmp_exact}
 use Rattle.directory_rules.specs.Settings.{Settings}
 use Rattle.directory_facts.proofs.Entries.{all_put, all_removed, found_so, same_key}
-use Rattle.silo_rules.specs.Membership.{Change, Join, Leave, Die}
+use Rattle.directory_rules.specs.Membership.{Change, Join, Leave, Die}
 use Rattle.process_deployment.specs.Cluster.{JoinTokens, Process, started, reads, process_at}
 use Rattle.process_deployment.specs.Steps.{without, with_process, with_dying, with_started, read_by, reading}
 

@@ -17,7 +17,7 @@ use Rattle.directory_rules.specs.declared.outcome.Happening.TheVariants.{Saw, Di
 use Rattle.directory_rules.specs.declared.reply.Reply.TheVariants as reply
 use Rattle.directory_rules.specs.Happens.{node_of}
 use Rattle.directory_rules.specs.Host.{asking_under}
-use Rattle.directory_rules.specs.Input.{Input, Wakes, Closes, Finds, Forgets, Nudges, Offers, Receives, step}
+use Rattle.directory_rules.specs.Input.{Input, Wakes, Closes, Finds, Forgets, Nudges, Offers, Receives, step, sight_of}
 use Rattle.directory_rules.specs.Letter.{Letter, Body, Request_letter, Reply_letter, Ask_letter, Page_letter, Missing_letter, Done_letter, Query_letter, Report_letter, Behind_letter, Ahead_letter, Offer_letter}
 use Rattle.directory_rules.specs.Node.{Node}
 use Rattle.directory_rules.specs.PlainMachine.{Life, Is_asking, Is_firm, life_on, step_of_effect}
@@ -28,9 +28,9 @@ use Rattle.directory_rules.specs.Step.{Stepped, silently}
 use Rattle.directory_rules.specs.World.{World}
 use Rattle.directory_facts.specs.Own.{HoldsOnce}
 use Rattle.directory_facts.proofs.Lawful.{nodes_are_own}
-use Rattle.silo_rules.specs.Membership.{Change, Join, Leave, Die}
+use Rattle.directory_rules.specs.Membership.{Change, Join, Leave, Die, is_seeable}
 use Rattle.silo_rules.specs.SiloValue.{SiloValue, own_status}
-use Rattle.silo_rules.specs.Steps.{barred, unless_barred, is_seeable, sight_of, seen, does, sees}
+use Rattle.silo_rules.specs.Steps.{barred, unless_barred, seen, does, sees}
 use Rattle.silo_rules.specs.Told.{Heard, told}
 use Rattle.script_rules.specs.Lines.{happening_words, refusal_line}
 use Rattle.deployment_headline.specs.Deployment.{Deployment, process_of}

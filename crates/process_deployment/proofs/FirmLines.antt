@@ -23,7 +23,7 @@ use Rattle.directory_rules.specs.Letter.{Letter}
 use Rattle.directory_rules.specs.Piece.{Piece}
 use Rattle.silo_rules.specs.declared.news.News.{News}
 use Rattle.silo_rules.specs.declared.news.News.TheVariants.{Known, Made, Replaced}
-use Rattle.silo_rules.specs.Membership.{Change, Join, Leave, Die}
+use Rattle.directory_rules.specs.Membership.{Change, Join, Leave, Die}
 use Rattle.silo_rules.specs.SiloValue.{SiloValue, own_status}
 use Rattle.script_rules.specs.Lines.{effect_words, happening_words, refusal_line}
 use Rattle.script_rules.specs.Show.{held_line, phase_word, seen_words}

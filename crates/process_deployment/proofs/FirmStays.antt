@@ -20,7 +20,7 @@ use Rattle.directory_rules.proofs.Cases.{on_bool}
 use Rattle.directory_rules.specs.Laws.{is_live}
 use Rattle.directory_facts.proofs.Entries.{same_key}
 use Rattle.directory_facts.proofs.Lookups.{found_put, found_beside_put, found_beside_removed}
-use Rattle.silo_rules.specs.Membership.{Change, Join, Leave, Die, Membership, changed, joined}
+use Rattle.directory_rules.specs.Membership.{Change, Join, Leave, Die, Membership, changed, joined}
 use Rattle.deployment_headline.specs.Deployment.{Deployment, process_of}
 use Rattle.deployment_headline.specs.Steps as deployment
 use Rattle.deployment_headline.proofs.Lists.{lookup-over}

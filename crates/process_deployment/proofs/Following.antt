@@ -14,7 +14,7 @@ use Rattle.directory_rules.specs.Letter.{Letter}
 use Rattle.directory_rules.specs.Settings.{Settings, AreSettings}
 use Rattle.directory_rules.specs.Settled.{IsFirmOn}
 use Rattle.directory_facts.proofs.SeenRings.{seen_keep}
-use Rattle.silo_rules.specs.Membership.{Change, Join, Leave, Die, Membership, changed}
+use Rattle.directory_rules.specs.Membership.{Change, Join, Leave, Die, Membership, changed}
 use Rattle.silo_rules.specs.SiloValue.{SiloValue, first_silo}
 use Rattle.deployment_headline.specs.Deployment.{Deployment, first_deployment}
 use Rattle.deployment_headline.specs.Steps as deployment

@@ -20,9 +20,9 @@ use Rattle.directory_rules.specs.Settings.{Settings}
 use Rattle.directory_rules.specs.Step.{Stepped, silently}
 use Rattle.silo_rules.specs.declared.news.News.TheVariants.{Known}
 use Rattle.silo_rules.specs.Known.{is_known}
-use Rattle.silo_rules.specs.Membership.{Change, Join, Leave, Die, Membership, changed, replaced_by}
+use Rattle.directory_rules.specs.Membership.{Change, Join, Leave, Die, Membership, changed, replaced_by, barred_by}
 use Rattle.silo_rules.specs.SiloValue.{SiloValue, own_status, told_of_its_join}
-use Rattle.silo_rules.specs.Steps.{barred_by, unless_barred, does, sees, receives}
+use Rattle.silo_rules.specs.Steps.{unless_barred, does, sees, receives}
 use Rattle.silo_rules.specs.Told.{Heard, MakesVersion, heard_by, told, told_again}
 use Rattle.script_rules.specs.Lines.{happening_words, refusal_line}
 use Rattle.deployment_headline.specs.Deployment.{Deployment, process_of}

@@ -9,7 +9,7 @@ use Rattle.texts.specs.Printed.{text_of_lines}
 use Rattle.texts.specs.Words.{line_feed, pieces_at, with_byte}
 use Rattle.silo_address.specs.Silo.{Silo}
 use Rattle.directory_rules.specs.Settings.{Settings}
-use Rattle.silo_rules.specs.Membership.{Change, Membership, changed}
+use Rattle.directory_rules.specs.Membership.{Change, Membership, changed}
 use Rattle.silo_rules.specs.SiloValue.{first_silo}
 use Rattle.process_rules.specs.ReadLine.{unended_fault}
 use Rattle.process_rules.specs.Answer.{Answered}

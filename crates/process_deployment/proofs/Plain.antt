@@ -7,7 +7,7 @@ use Rattle.silo_address.specs.Silo.{Silo, IsSilo, silo_cmp}
 use Rattle.silo_address.proofs.Order.{silo_cmp_total}
 use Rattle.directory_rules.specs.PlainMachine.{PlainStep, Nothing_changes, IsPlainStep, plain_of}
 use Rattle.directory_rules.specs.World.{World}
-use Rattle.silo_rules.specs.Membership.{Change, changed}
+use Rattle.directory_rules.specs.Membership.{Change, changed}
 use Rattle.deployment_headline.specs.Deployment.{Deployment}
 use Rattle.deployment_headline.specs.Steps as deployment
 use Rattle.deployment_headline.specs.Theorems as deployment_theorems

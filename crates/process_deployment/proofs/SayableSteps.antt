@@ -22,7 +22,7 @@ use Rattle.directory_rules.specs.declared.held.Phase.TheVariants.{Firm, Closing}
 use Rattle.directory_rules.specs.declared.piece_state.PieceState.{PieceState}
 use Rattle.directory_rules.specs.declared.piece_state.PieceState.TheVariants as state
 use Rattle.directory_rules.specs.Answer.{answered}
-use Rattle.directory_rules.specs.Membership.{members_of}
+use Rattle.directory_rules.specs.Members.{members_of}
 use Rattle.directory_rules.specs.Settings.{Settings}
 use Rattle.directory_rules.specs.Sight.{is_next}
 use Rattle.directory_rules.specs.Table.{table_of}

@@ -14,7 +14,7 @@ use Rattle.silo_address.proofs.Same.{Decides-silo}
 use Rattle.directory_rules.proofs.Cases.{on_bool}
 use Rattle.directory_rules.specs.Settings.{Settings}
 use Rattle.directory_facts.proofs.Lookups.{found_put, found_beside_put, found_beside_removed}
-use Rattle.silo_rules.specs.Membership.{Change, Join, Leave, Die, Membership, changed}
+use Rattle.directory_rules.specs.Membership.{Change, Join, Leave, Die, Membership, changed}
 use Rattle.process_rules.specs.ReadLine.{Asked, Joined, Leaving, Dead, See, Wake, Close, Offer, Find, Forget, Nudge, Receive, Ping, Owner, Place, Show, Dump}
 use Rattle.process_rules.specs.Output.{said}
 use Rattle.process_deployment.specs.Allowed.{IsLine, MayAsk, MayAskDead, IfAsks, May, MayAll}

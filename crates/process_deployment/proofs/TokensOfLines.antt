@@ -8,7 +8,7 @@ use Rattle.silo_address.specs.Grain.{Grain}
 use Rattle.silo_address.specs.declared.ActivationId.{ActivationId}
 use Rattle.silo_address.proofs.Order.{silo_cmp_total, silo_cmp_exact}
 use Rattle.membership_view.specs.Views.{view_at}
-use Rattle.directory_rules.specs.Membership.{is_dead_in}
+use Rattle.directory_rules.specs.Members.{is_dead_in}
 use Rattle.directory_rules.specs.Settings.{Settings, AreSettings}
 use Rattle.directory_rules.specs.World.{World}
 use Rattle.directory_rules.specs.Happens.{node_of}
@@ -17,7 +17,7 @@ use Rattle.directory_rules.specs.Node.{Node}
 use Rattle.directory_facts.proofs.Lookups.{found_put}
 use Rattle.silo_rules.specs.SiloValue.{SiloValue}
 use Rattle.deployment_headline.proofs.Lists.{over, lookup-over}
-use Rattle.silo_rules.specs.Membership.{Change, Membership, changed}
+use Rattle.directory_rules.specs.Membership.{Change, Membership, changed}
 use Rattle.deployment_headline.specs.Steps as deployment
 use Rattle.deployment_headline.specs.Theorems as deployment_theorems
 use Rattle.deployment_headline.specs.Tokens.{IsFirm, BecomesFirm, NeverFall, PassDeaths}

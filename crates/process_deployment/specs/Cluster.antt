@@ -4,7 +4,7 @@ use Rattle.std.specs.Map.{lookup}
 use Rattle.std.specs.BTreeMap.{is_at}
 use Rattle.silo_address.specs.Silo.{Silo, silo_cmp}
 use Rattle.directory_rules.specs.Settings.{Settings}
-use Rattle.silo_rules.specs.Membership.{Change, Membership, first_membership}
+use Rattle.directory_rules.specs.Membership.{Change, Membership, first_membership}
 use Rattle.silo_rules.specs.SiloValue.{SiloValue, first_silo}
 use Rattle.process_rules.specs.Answer.{Answered}
 use Rattle.process_rules.specs.Output.{answered_to, said}

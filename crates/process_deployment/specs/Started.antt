@@ -4,7 +4,7 @@ use Rattle.std.specs.Prelude.{◌≡◌, ⊤, ℕ, false, not, List, [], ◌∷�
 use Rattle.std.specs.BTreeMap.{insert_entry}
 use Rattle.silo_address.specs.Silo.{Silo, IsSilo, silo_cmp, silo_eq}
 use Rattle.directory_rules.specs.Settings.{Settings}
-use Rattle.silo_rules.specs.Membership.{Change, Join, Leave, Die, Membership, changed}
+use Rattle.directory_rules.specs.Membership.{Change, Join, Leave, Die, Membership, changed}
 use Rattle.silo_rules.specs.SiloValue.{told_of_its_join}
 use Rattle.process_rules.specs.ReadLine.{Asked, Joined, Leaving, Dead, Receive}
 use Rattle.process_rules.specs.Output.{said}

@@ -3,7 +3,7 @@
 use Rattle.std.specs.Prelude.{◌≡◌, ℕ, if◌then◌else◌, List, [], ◌∷◌, ◌++◌, map, codes, Some, None}
 use Rattle.silo_address.specs.Silo.{silo_eq}
 use Rattle.directory_rules.specs.Worked.{silo_a, silo_b}
-use Rattle.silo_rules.specs.Membership.{Join, Die}
+use Rattle.directory_rules.specs.Membership.{Join, Die}
 use Rattle.deployment_headline.specs.Worked.{worked_settings}
 use Rattle.process_deployment.specs.Allowed.{MayAll}
 use Rattle.process_deployment.specs.Cluster.{JoinTokens, Cluster, first_cluster, everyone}

@@ -5,7 +5,7 @@ use Rattle.std.specs.BTreeMap.{insert_entry}
 use Rattle.silo_address.specs.Silo.{Silo, silo_cmp}
 use Rattle.silo_address.specs.Grain.{Grain}
 use Rattle.directory_rules.specs.Worked.{silo_a, silo_b, grain_a}
-use Rattle.silo_rules.specs.Membership.{Join, Die}
+use Rattle.directory_rules.specs.Membership.{Join, Die}
 use Rattle.deployment_headline.specs.Worked.{worked_settings}
 use Rattle.deployment_headline.specs.Wrong.{has_firm}
 use Rattle.process_deployment.specs.Cluster.{started, Cluster}

@@ -11,7 +11,7 @@ use Rattle.script_rules.specs.Lines.{happening_words, refusal_line}
 use Rattle.directory_rules.specs.Input.{Input, Wakes, Closes, Finds, Forgets, Nudges, Offers}
 use Rattle.directory_rules.specs.Letter.{Letter}
 use Rattle.directory_rules.specs.Step.{Stepped}
-use Rattle.silo_rules.specs.Membership.{Change, Join, Leave, Die}
+use Rattle.directory_rules.specs.Membership.{Change, Join, Leave, Die}
 use Rattle.silo_rules.specs.SiloValue.{SiloValue, own_status}
 use Rattle.silo_rules.specs.Steps.{does, sees, receives}
 use Rattle.silo_rules.specs.NodeInputs.{IsNoSight}

@@ -10,7 +10,7 @@ use Rattle.directory_rules.specs.Input.{Input, Wakes, Closes, Finds, Forgets, Nu
 use Rattle.directory_rules.specs.Letter.{Letter}
 use Rattle.directory_rules.specs.Step.{Stepped}
 use Rattle.silo_rules.specs.declared.news.News.{News}
-use Rattle.silo_rules.specs.Membership.{Change, Join, Leave, Die}
+use Rattle.directory_rules.specs.Membership.{Change, Join, Leave, Die}
 use Rattle.silo_rules.specs.SiloValue.{SiloValue, own_status}
 use Rattle.silo_rules.specs.Steps.{does, sees, receives}
 use Rattle.silo_rules.specs.Told.{Heard, told}

@@ -18,7 +18,7 @@ use Rattle.directory_rules.specs.Host.{Host, entry_of, asking_under, closing_und
 use Rattle.directory_rules.specs.Letter.{Letter, Body, Reply_letter, Offer_letter, kind_of}
 use Rattle.silo_rules.specs.declared.news.News.{News}
 use Rattle.silo_rules.specs.declared.news.News.TheVariants.{Known, Made, Replaced}
-use Rattle.silo_rules.specs.Membership.{Change, Join, Leave, Die}
+use Rattle.directory_rules.specs.Membership.{Change, Join, Leave, Die}
 use Rattle.directory_rules.specs.Answer.{why_number}
 use Rattle.script_rules.specs.Lines.{kind_word, effect_words, entry_words, happening_words}
 

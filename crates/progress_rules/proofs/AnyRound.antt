@@ -12,11 +12,12 @@ use Rattle.directory_rules.specs.Host.{Host}
 use Rattle.directory_rules.specs.Laws.{requests_of, AreNumbered}
 use Rattle.directory_rules.specs.Letter.{Letter}
 use Rattle.directory_rules.specs.Node.{Node}
-use Rattle.directory_rules.specs.Event.{Deliver, Nudge}
+use Rattle.directory_rules.specs.Event.{Deliver, Do}
 use Rattle.directory_rules.specs.Step.{Stepped}
-use Rattle.directory_rules.specs.Input.{Nudges}
+use Rattle.directory_rules.specs.Input.{Does}
 use Rattle.directory_rules.specs.World.{World, Accepted}
 use Rattle.directory_rules.specs.Happens.{happens, node_of, least_deliverable}
+use Rattle.directory_rules.specs.declared.own_step.OwnStep.TheVariants.{Nudge}
 use Rattle.directory_rules.proofs.Cases.{on_bool}
 use Rattle.progress_rules.specs.Plan.{and_then}
 use Rattle.progress_rules.specs.Plan as plan
@@ -52,11 +53,11 @@ record IsFrom (base before world : World) : Type 0 where
   pub asks_as : (silo : Silo) (node : Node) → node_of world silo ≡ Some node
       → (own : Node) × (node_of before silo ≡ Some own) × ((owner : Silo) → asks base owner node.host ≡ asks base owner own.host)
 
-nudge_from : (base before world : World) (silo : Silo) (accepted : Accepted) → IsFrom base before world → happens world (Nudge silo) ≡ Ok accepted
+nudge_from : (base before world : World) (silo : Silo) (accepted : Accepted) → IsFrom base before world → happens world (Do silo Nudge) ≡ Ok accepted
     → IsFrom base before accepted.world
 nudge_from base before world silo accepted from ok = subst (IsFrom base before) (sym s.is) (record { owners = from.owners; asks_as = as_before })
   where
-    s : IsStep world accepted.world silo Nudges
+    s : IsStep world accepted.world silo (Does Nudge)
     s = nudged world silo accepted ok
 
     As : Node → Silo → Type 0

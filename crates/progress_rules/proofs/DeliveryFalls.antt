@@ -9,7 +9,7 @@ use Rattle.std.specs.BTreeMap.{is_at}
 use Rattle.std.proofs.lemmas.List.Sums.{sum_by-cons}
 use Rattle.silo_address.specs.Silo.{silo_cmp}
 use Rattle.membership_view.specs.View.{ViewValue}
-use Rattle.directory_rules.specs.Membership.{members_of}
+use Rattle.directory_rules.specs.Members.{members_of}
 use Rattle.directory_rules.specs.Snapshot.{Page}
 use Rattle.directory_rules.specs.Gatherings.{Gathering, Refuses, gathered}
 use Rattle.directory_rules.specs.Host.{outstanding}

@@ -13,9 +13,9 @@ use Rattle.silo_address.proofs.Order.{silo_cmp_total, silo_cmp_exact}
 use Rattle.silo_address.proofs.Same.{Decides-silo}
 use Rattle.directory_rules.specs.Letter.{Letter}
 use Rattle.directory_rules.specs.Node.{Node}
-use Rattle.directory_rules.specs.Event.{Deliver, Nudge}
+use Rattle.directory_rules.specs.Event.{Deliver, Do}
 use Rattle.directory_rules.specs.Step.{Stepped}
-use Rattle.directory_rules.specs.Input.{Input, Nudges, step}
+use Rattle.directory_rules.specs.Input.{Input, Does, step}
 use Rattle.directory_rules.specs.Receive.{received}
 use Rattle.directory_rules.specs.World.{World, Posted, Accepted}
 use Rattle.directory_rules.specs.Mail.{fresh_letter, numbered, letter_of, has_room_for, with_sent, with_delivered}
@@ -23,6 +23,7 @@ use Rattle.directory_rules.specs.Laws.{RiseBetween}
 use Rattle.directory_rules.specs.declared.outcome.Happening.{Happening}
 use Rattle.directory_rules.specs.Happens.{happens, node_of, with_node, counted, taken, is_deliverable, least_deliverable, delivers, delivers_to, does_at, done_by}
 use Rattle.directory_rules.proofs.Cases.{on_bool}
+use Rattle.directory_rules.specs.declared.own_step.OwnStep.TheVariants.{Nudge}
 use Rattle.directory_rules.proofs.FreshLetters.{at_itself, at_lower}
 use Rattle.directory_facts.proofs.Lookups.{found_put, found_beside_put, found_beside_set}
 use Rattle.progress_rules.specs.InFlight.{InFlight}
@@ -181,9 +182,9 @@ by_node : (world : World) (silo : Silo) (input : Input) (accepted : Accepted) �
 by_node world silo input accepted None none is = absurd (cc (is))
 by_node world silo input accepted (Some node) its is = by_step world silo input node accepted its (step node input) refl is
 
-pub nudged : (world : World) (silo : Silo) (accepted : Accepted) → happens world (Nudge silo) ≡ Ok accepted → IsStep world accepted.world silo Nudges
+pub nudged : (world : World) (silo : Silo) (accepted : Accepted) → happens world (Do silo Nudge) ≡ Ok accepted → IsStep world accepted.world silo (Does Nudge)
 unfolding happens
-nudged world silo accepted is = by_node world silo Nudges accepted (node_of world silo) refl (accepted_if _ (does_at (node_of world silo) world silo Nudges) 908 accepted is)
+nudged world silo accepted is = by_node world silo (Does Nudge) accepted (node_of world silo) refl (accepted_if _ (does_at (node_of world silo) world silo (Does Nudge)) 908 accepted is)
 
 -- ---- what stays in the mail
 module _ (world : World) (number : ℕ) (letter : Letter) where

@@ -23,8 +23,9 @@ use Rattle.directory_rules.specs.Node.{Node}
 use Rattle.directory_rules.specs.Sent.{request_letters, all_requests, all_wants}
 use Rattle.directory_rules.specs.Step.{Stepped, silently, sight, started}
 use Rattle.directory_rules.specs.Sight.{is_next}
-use Rattle.directory_rules.specs.Input.{Input, Wakes, Closes, Finds, Forgets, Nudges, Offers, Receives, step}
+use Rattle.directory_rules.specs.Input.{Input, Does, Receives, step}
 use Rattle.directory_rules.specs.Transfer.{answer_to, with_settled, with_gathering, turned_to_recovery}
+use Rattle.directory_rules.specs.declared.own_step.OwnStep.TheVariants.{Wake, Close, Find, Forget, Nudge, Offer}
 use Rattle.directory_rules.proofs.Cases.{on_bool}
 use Rattle.directory_facts.proofs.Ways.{Ways}
 use Rattle.directory_facts.proofs.EachStep.{by_way}
@@ -186,15 +187,15 @@ module _ (node : Node) where
           keeps = λ seen. let same = ap (λ (v : ViewValue). v.version) seen in absurd (omega (arith, same, newer));
           view = inl newer;
         };
-    wakes = λ grain may. begins (Wakes grain) grain None;
-    closes = λ grain its may. requests (Closes grain) _ (act.Deregister (entry_of node.host grain its)) _ refl refl;
-    offers = λ grain its to may active other. sends (Offers grain to) _ _ _ refl refl (one_tells _ _ tt);
-    uses_hint = λ grain activation hint. silent (Finds grain) _ _ refl refl;
-    finds = λ grain room numbers. requests (Finds grain) _ (act.Find grain) _ refl refl;
-    forgets = λ grain activation hint. silent (Forgets grain) _ _ refl refl;
+    wakes = λ grain may. begins (Does (Wake grain)) grain None;
+    closes = λ grain its may. requests (Does (Close grain)) _ (act.Deregister (entry_of node.host grain its)) _ refl refl;
+    offers = λ grain its to may active other. sends (Does (Offer grain to)) _ _ _ refl refl (one_tells _ _ tt);
+    uses_hint = λ grain activation hint. silent (Does (Find grain)) _ _ refl refl;
+    finds = λ grain room numbers. requests (Does (Find grain)) _ (act.Find grain) _ refl refl;
+    forgets = λ grain activation hint. silent (Does (Forget grain)) _ _ refl refl;
     nudges = λ numbers.
         let after = record node { host = host.renewed node.host } in
-        sends Nudges after (all_requests after ++ all_wants after) effect.Nudged refl refl
+        sends (Does Nudge) after (all_requests after ++ all_wants after) effect.Nudged refl refl
         (ask_tell after (all_requests after ++ all_wants after) (All-append IsQuestion (all_requests after) (all_wants after) (request_questions after)
         (want_questions after)));
     answers = λ letter request body sender version. sends (Receives letter) _ _ _ refl refl (one_tells _ _ tt);

@@ -21,15 +21,16 @@ use Rattle.membership_view.proofs.Unchanged.{versions_rise, views_stay, rows_sta
 use Rattle.membership_view.proofs.Changes.{changes_are_steps}
 use Rattle.ring_range.specs.Range.{Range}
 use Rattle.hash_ring.specs.Places.{PlacesValue}
+use Rattle.directory_rules.proofs.Decided.{died}
 use Rattle.directory_rules.specs.Settings.{Settings, AreSettings}
 use Rattle.directory_rules.specs.Letter.{Letter, Body, Page_letter, Done_letter}
 use Rattle.directory_rules.specs.Node.{Node}
 use Rattle.directory_rules.specs.Step.{Stepped}
-use Rattle.directory_rules.specs.Input.{Input, Sees, Receives, step}
+use Rattle.directory_rules.specs.Input.{Input, Sees, Receives, step, sight_of}
 use Rattle.directory_rules.specs.Event.{Event, IsEvent}
-use Rattle.directory_rules.specs.World.{World, Posted, Accepted, first_world}
+use Rattle.directory_rules.specs.World.{World, Posted, Accepted, first_world, membership_of}
 use Rattle.directory_rules.specs.Mail.{fresh_letter, numbered, letter_of, with_delivered, with_lost}
-use Rattle.directory_rules.specs.Happens.{happens, node_of, after_joining, counted, died, sight_of}
+use Rattle.directory_rules.specs.Happens.{happens, node_of, after_joining, counted}
 use Rattle.directory_rules.specs.Run.{run, world_after}
 use Rattle.directory_rules.specs.Laws.{ArePeopled}
 use Rattle.directory_rules.proofs.Cases.{on_bool}
@@ -210,7 +211,7 @@ module _ (settings : Settings) (are : AreSettings settings) (events : List Event
       known = λ other known. known_on f.views peopled.whole (change.Die silo) (change.with_death f.views silo) is other known;
       nodes = λ other later known there. (later, still_there f peopled silo other later there, stays_same f later);
     }) f.mail all;
-    sees = λ silo version node stepped its sight made. all_after silo node its (sight_of f version) stepped made (λ v range to done. absurd (no_receipt done.is)) f.mail all;
+    sees = λ silo version node stepped its sight made. all_after silo node its (sight_of (membership_of f) version) stepped made (λ v range to done. absurd (no_receipt done.is)) f.mail all;
     does = λ silo input node stepped own its made. all_after silo node its input stepped made (λ v range to done. absurd (subst IsOwnInput done.is own)) f.mail all;
     delivers = λ number letter node stepped found its made.
         all_after letter.to node its (Receives letter) stepped made (delivered_past number letter all found) (with_delivered f number letter).mail

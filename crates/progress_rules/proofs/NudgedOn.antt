@@ -16,13 +16,14 @@ use Rattle.directory_rules.specs.Host.{Host, outstanding}
 use Rattle.directory_rules.specs.Answer.{last_served, is_numbered}
 use Rattle.directory_rules.specs.Letter.{Letter, Request_letter}
 use Rattle.directory_rules.specs.Node.{Node}
-use Rattle.directory_rules.specs.Event.{Nudge}
+use Rattle.directory_rules.specs.Event.{Do}
 use Rattle.directory_rules.specs.Sent.{letter_to, grain_of, hash_of, request_of, owner_by, all_requests}
 use Rattle.directory_rules.specs.Step.{Stepped, having_nudged}
-use Rattle.directory_rules.specs.Input.{Nudges}
+use Rattle.directory_rules.specs.Input.{Does}
 use Rattle.directory_rules.specs.World.{World, Accepted, current_ring}
 use Rattle.directory_rules.specs.Happens.{happens, node_of}
 use Rattle.directory_rules.specs.Laws.{is_live, AreNumbered}
+use Rattle.directory_rules.specs.declared.own_step.OwnStep.TheVariants.{Nudge}
 use Rattle.directory_rules.proofs.Cases.{on_bool}
 use Rattle.directory_facts.proofs.Carried.{Everywhere}
 use Rattle.directory_facts.proofs.Reached.{everywhere, found_node}
@@ -56,7 +57,7 @@ same_at zero (x ∷ xs) l i below = refl
 same_at (suc b) (x ∷ xs) l i below = same_at b xs l i (omega (arith, below))
 
 module _ (world : World) (silo : Silo) (nd : Node) (those : List (Silo × Node)) (accepted : Accepted) (n : IsAnswering true world ((silo, nd) ∷ those) world)
-    (apart : Apart ((silo, nd) ∷ those)) (rests : IsResting accepted.world) (s : IsStep world accepted.world silo Nudges)
+    (apart : Apart ((silo, nd) ∷ those)) (rests : IsResting accepted.world) (s : IsStep world accepted.world silo (Does Nudge))
     (sorted : InNumbers (host.renewed s.node.host)) where
   abbrev node : Node
   node = record s.node { host = host.renewed s.node.host }
@@ -235,12 +236,12 @@ module _ (world : World) (silo : Silo) (nd : Node) (those : List (Silo × Node))
 
 -- ---- one silo after the other
 pub nudge_on : (world : World) (e : Silo × Node) (es : List (Silo × Node)) (accepted : Accepted) → IsSilo e.0 → IsNudgingOn (e ∷ es) world
-    → happens world (Nudge e.0) ≡ Ok accepted → IsNudgingOn es accepted.world
+    → happens world (Do e Nudge.0) ≡ Ok accepted → IsNudgingOn es accepted.world
 nudge_on world e es accepted is_silo n ok =
     let s = nudged world e.0 accepted ok in
     let seen_then : AllSeen accepted.world = subst AllSeen (sym s.is)
-    (still_seen world e.0 s.node s.stepped s.its (view_kept s.node Nudges s.stepped s.made) n.answering.rests.seen) in
-    let rests = rests_on world n.answering.rests (Nudge e.0) accepted is_silo ok seen_then in
+    (still_seen world e.0 s.node s.stepped s.its (view_kept s.node (Does Nudge) s.stepped s.made) n.answering.rests.seen) in
+    let rests = rests_on world n.answering.rests (Do e Nudge.0) accepted is_silo ok seen_then in
     let all : Everywhere sorted_facts accepted.world = subst (Everywhere sorted_facts) (sym rests.is)
     (everywhere sorted_facts sorted_keep rests.settings rests.events tt (λ k d below. tt)) in
     let there : node_of accepted.world e.0 ≡ Some s.stepped.node = ap (λ w. node_of w e.0) s.is ∙ its_node world e.0 s.stepped in

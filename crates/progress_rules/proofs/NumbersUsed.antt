@@ -15,9 +15,9 @@ use Rattle.directory_rules.specs.Host.{outstanding, has_numbers}
 use Rattle.directory_rules.specs.Node.{Node, new_node}
 use Rattle.directory_rules.specs.Event.{Event}
 use Rattle.directory_rules.specs.Step.{Stepped}
-use Rattle.directory_rules.specs.Input.{Input, Receives, step}
-use Rattle.directory_rules.specs.World.{World, Accepted, first_world}
-use Rattle.directory_rules.specs.Happens.{happens, node_of, counted, after_joining, sight_of}
+use Rattle.directory_rules.specs.Input.{Input, Receives, step, sight_of}
+use Rattle.directory_rules.specs.World.{World, Accepted, first_world, membership_of}
+use Rattle.directory_rules.specs.Happens.{happens, node_of, counted, after_joining}
 use Rattle.directory_rules.specs.Run.{run, world_after}
 use Rattle.directory_facts.specs.Laws.{world_by}
 use Rattle.directory_facts.proofs.Entries.{all_put, all_removed, found_so}
@@ -96,7 +96,7 @@ module _ (world : World) (all : AllFew world) where
     joins = λ silo given next added viewed placed. joined (occupant silo world.views.rows) silo next added;
     leaves = λ silo is. still;
     dies = λ silo is. all_removed Few (is_at (silo_cmp silo)) world.nodes still;
-    sees = λ silo version node made its sight is. stepped silo (sight_of world version) node made its is;
+    sees = λ silo version node made its sight is. stepped silo (sight_of (membership_of world) version) node made its is;
     does = λ silo input node made own its is. stepped silo input node made its is;
     delivers = λ number letter node made found its is. stepped letter.to (Receives letter) node made its is;
     loses = λ number. still;

@@ -19,7 +19,7 @@ use Rattle.hash_ring.specs.declared.Hashing.{Hashing}
 use Rattle.directory_rules.specs.declared.effect.Effect.TheVariants as effect
 use Rattle.directory_rules.specs.declared.piece_state.PieceState.{PieceState}
 use Rattle.directory_rules.specs.declared.piece_state.PieceState.TheVariants as state
-use Rattle.directory_rules.specs.Membership.{members_of}
+use Rattle.directory_rules.specs.Members.{members_of}
 use Rattle.directory_rules.specs.Table.{table_of, rise_by_grain, lie_in}
 use Rattle.directory_rules.specs.Snapshot.{Page}
 use Rattle.directory_rules.specs.Gatherings.{Gathering, Gathered, Wants_page, Has_all, Refuses, new_gathering, gathered}

@@ -10,13 +10,14 @@ use Rattle.silo_address.specs.Silo.{Silo, IsSilo, silo_cmp}
 use Rattle.silo_address.proofs.Order.{silo_cmp_total}
 use Rattle.directory_rules.specs.Settings.{Settings, AreSettings}
 use Rattle.directory_rules.specs.Node.{Node}
-use Rattle.directory_rules.specs.Event.{See, Nudge, Deliver}
+use Rattle.directory_rules.specs.Event.{See, Do, Deliver}
 use Rattle.directory_rules.specs.Letter.{Letter}
-use Rattle.directory_rules.specs.Input.{Input, Nudges, Receives}
-use Rattle.directory_rules.specs.World.{World, Posted, Accepted}
-use Rattle.directory_rules.specs.Happens.{happens, node_of, sight_of}
+use Rattle.directory_rules.specs.Input.{Input, Does, Receives, sight_of}
+use Rattle.directory_rules.specs.World.{World, Posted, Accepted, membership_of}
+use Rattle.directory_rules.specs.Happens.{happens, node_of}
 use Rattle.directory_rules.proofs.Cases.{on_bool}
 use Rattle.directory_rules.proofs.Kept.{On}
+use Rattle.directory_rules.specs.declared.own_step.OwnStep.TheVariants.{Nudge}
 use Rattle.directory_rules.proofs.FreshLetters.{AtMost, find_in, next_delivered}
 use Rattle.directory_facts.proofs.Lookups.{lookup_first}
 use Rattle.progress_rules.specs.Plan as plan
@@ -36,8 +37,8 @@ Ends I E (Err number) = E number
 
 -- what the plan's events keep, and what each refusal of one says
 pub record PlanKeeps (settings : Settings) (I : World → Type 0) (E : ℕ → Type 0) : Type 0 where
-  pub sees : (world after : World) (silo : Silo) → IsReachedBy settings world → I world → IsStep world after silo (sight_of world world.views.version) → I after
-  pub nudges : (world after : World) (silo : Silo) → IsReachedBy settings world → I world → IsStep world after silo Nudges → I after
+  pub sees : (world after : World) (silo : Silo) → IsReachedBy settings world → I world → IsStep world after silo (sight_of (membership_of world) world.views.version) → I after
+  pub nudges : (world after : World) (silo : Silo) → IsReachedBy settings world → I world → IsStep world after silo (Does Nudge) → I after
   pub delivers : (world after : World) (number : ℕ) → IsReachedBy settings world → I world → IsDelivery world after number → I after
   pub refuses : (world : World) (silo : Silo) (input : Input) (number : ℕ) → IsReachedBy settings world → I world → Refused world silo input number → E number
 
@@ -106,7 +107,7 @@ module _ (settings : Settings) (are : AreSettings settings) (I : World → Type 
       (λ accepted ok.
       let it = saw world silo world.views.version accepted ok in
       on accepted.world (reached_on settings are world r.0 (See silo world.views.version) accepted named ok, k.sees world accepted.world silo r.0 r.1 it))
-      (λ number refused. k.refuses world silo (sight_of world world.views.version) number r.0 r.1
+      (λ number refused. k.refuses world silo (sight_of (membership_of world) world.views.version) number r.0 r.1
       (refused_sight world silo who.node world.views.version number who.its who.newer (seeable_now world silo (reached_peopled settings are world r.0).whole) refused))
 
   sights_end : (silos : List Silo) (world : World) → All IsSilo silos → J world → Ends J E (sights silos world)
@@ -119,19 +120,19 @@ module _ (settings : Settings) (are : AreSettings settings) (I : World → Type 
 
   -- ---- nudges
   nudge_ends : (world : World) (silo : Silo) (next : World → Result World ℕ) → IsSilo silo → is_some (node_of world silo) ≡ true → J world
-      → ((later : World) → IsStep world later silo Nudges → J later → Ends J E (next later)) → Ends J E (then_on (happens world (Nudge silo)) next)
+      → ((later : World) → IsStep world later silo (Does Nudge) → J later → Ends J E (next later)) → Ends J E (then_on (happens world (Do silo Nudge)) next)
   nudge_ends world silo next named there r on =
-      then_ends J E (happens world (Nudge silo)) next
+      then_ends J E (happens world (Do silo Nudge)) next
       (λ accepted ok.
       let it = flight.nudged world silo accepted ok in
-      on accepted.world it (reached_on settings are world r.0 (Nudge silo) accepted named ok, k.nudges world accepted.world silo r.0 r.1 it))
-      (λ number refused. let its = some_of (node_of world silo) there in k.refuses world silo Nudges number r.0 r.1 (refused_nudge world silo its.0 number its.1 refused))
+      on accepted.world it (reached_on settings are world r.0 (Do silo Nudge) accepted named ok, k.nudges world accepted.world silo r.0 r.1 it))
+      (λ number refused. let its = some_of (node_of world silo) there in k.refuses world silo (Does Nudge) number r.0 r.1 (refused_nudge world silo its.0 number its.1 refused))
 
-  nudges_end : (es : List (Silo × Node)) (world : World) → All (λ e. IsSilo e.0) es → All (HasNode world) es → J world → Ends J E (in_turn (map (λ e. Nudge e.0) es) world)
+  nudges_end : (es : List (Silo × Node)) (world : World) → All (λ e. IsSilo e.0) es → All (HasNode world) es → J world → Ends J E (in_turn (map (λ e. Do e Nudge.0) es) world)
   nudges_end [] world named there r = r
   nudges_end (e ∷ es) world named there r =
-      nudge_ends world e.0 (λ next. in_turn (map (λ x. Nudge x.0) es) next) (All-head (λ (x : Silo × Node). IsSilo x.0) e es named) (All-head (HasNode world) e es there) r
-      (λ later it its. nudges_end es later (All-tail (λ (x : Silo × Node). IsSilo x.0) e es named) (still_there world later e.0 Nudges es it (All-tail (HasNode world) e es there)) its)
+      nudge_ends world e.0 (λ next. in_turn (map (λ x. Do x Nudge.0) es) next) (All-head (λ (x : Silo × Node). IsSilo x.0) e es named) (All-head (HasNode world) e es there) r
+      (λ later it its. nudges_end es later (All-tail (λ (x : Silo × Node). IsSilo x.0) e es named) (still_there world later e.0 (Does Nudge) es it (All-tail (HasNode world) e es there)) its)
 
   -- ---- deliveries
   deliver_ends : (more : ℕ) (world : World) (e : ℕ × Posted) (next : World → Result World ℕ) → On (AtMost (suc more)) world → J world → find_in world world.mail ≡ Some e

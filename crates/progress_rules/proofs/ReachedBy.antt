@@ -8,11 +8,12 @@ use Rattle.silo_address.specs.Silo.{Silo, IsSilo}
 use Rattle.membership_view.specs.declared.row.Row.{Row}
 use Rattle.membership_view.specs.Views.{row_of}
 use Rattle.membership_view.specs.Whole.{IsViews}
+use Rattle.directory_rules.specs.Membership.{is_seeable, joined_in}
 use Rattle.directory_rules.specs.Settings.{Settings, AreSettings}
 use Rattle.directory_rules.specs.Event.{Event, IsEvent}
-use Rattle.directory_rules.specs.World.{World, Accepted}
+use Rattle.directory_rules.specs.World.{World, Accepted, membership_of}
 use Rattle.directory_rules.specs.Laws.{IsMail, ArePeopled}
-use Rattle.directory_rules.specs.Happens.{happens, joined_in, is_seeable}
+use Rattle.directory_rules.specs.Happens.{happens}
 use Rattle.directory_rules.specs.Run.{world_after}
 use Rattle.directory_rules.proofs.Mails.{mail_there}
 use Rattle.directory_rules.proofs.Peopled.{peopled_after}
@@ -48,15 +49,15 @@ module _ (settings : Settings) (are : AreSettings settings) (world : World) (r :
       }
 
 -- ---- each silo may see the current view
-joined_by : (world : World) (silo : Silo) → IsViews world.views → joined_in world silo ≤ world.views.version
+joined_by : (world : World) (silo : Silo) → IsViews world.views → joined_in (membership_of world) silo ≤ world.views.version
 joined_by world silo whole = by (row_of world.views silo) refl
   where
     by : (o : Option Row) → row_of world.views silo ≡ o → unwrap_or (option_map (λ row. row.joined) o) 0 ≤ world.views.version
     by None none = omega arith
     by (Some row) found = (whole.in_time silo row found).joined_by
 
-pub seeable_now : (world : World) (silo : Silo) → IsViews world.views → is_seeable world silo world.views.version ≡ true
+pub seeable_now : (world : World) (silo : Silo) → IsViews world.views → is_seeable (membership_of world) silo world.views.version ≡ true
 seeable_now world silo whole =
     let made = le-leb world.views.version world.views.version (omega arith) in
-    let joined = le-leb (joined_in world silo) world.views.version (joined_by world silo whole) in
-    both_true (nat_le world.views.version world.views.version) (nat_le (joined_in world silo) world.views.version) made joined
+    let joined = le-leb (joined_in (membership_of world) silo) world.views.version (joined_by world silo whole) in
+    both_true (nat_le world.views.version world.views.version) (nat_le (joined_in (membership_of world) silo) world.views.version) made joined

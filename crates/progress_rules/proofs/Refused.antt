@@ -4,18 +4,20 @@ use Rattle.std.specs.Prelude.{Bool, true, false, cond, not, nat_lt, Some, Result
 use Rattle.std.proofs.lemmas.Bool.{leb-false, ltb-true, ltb-false, lt-ltb}
 use Rattle.silo_address.specs.Silo.{Silo}
 use Rattle.membership_view.specs.Views.{view_at}
+use Rattle.directory_rules.specs.Membership.{is_seeable}
 use Rattle.directory_rules.specs.Host.{outstanding, has_numbers}
 use Rattle.directory_rules.specs.Letter.{Letter}
 use Rattle.directory_rules.specs.Node.{Node}
 use Rattle.directory_rules.specs.Sight.{is_next}
 use Rattle.directory_rules.specs.Step.{Stepped, sight}
-use Rattle.directory_rules.specs.Input.{Input, Nudges, Receives, step}
+use Rattle.directory_rules.specs.Input.{Input, Does, Receives, step, sight_of}
 use Rattle.directory_rules.specs.Receive.{received}
-use Rattle.directory_rules.specs.Event.{See, Nudge, Deliver}
-use Rattle.directory_rules.specs.World.{World, Accepted}
+use Rattle.directory_rules.specs.Event.{See, Do, Deliver}
+use Rattle.directory_rules.specs.World.{World, Accepted, membership_of}
 use Rattle.directory_rules.specs.Mail.{letter_of, has_room_for, with_delivered}
 use Rattle.directory_rules.specs.declared.outcome.Happening.{Happening}
-use Rattle.directory_rules.specs.Happens.{happens, node_of, taken, does_at, done_by, sees_at, seen_by, is_seeable, sight_of, delivers, delivers_to}
+use Rattle.directory_rules.specs.declared.own_step.OwnStep.TheVariants.{Nudge}
+use Rattle.directory_rules.specs.Happens.{happens, node_of, taken, does_at, done_by, sees_at, seen_by, delivers, delivers_to}
 
 -- as many events were accepted as ever may be
 pub record IsLate (world : World) (number : ℕ) : Type 0 where
@@ -89,27 +91,27 @@ module _ (world : World) (silo : Silo) (node : Node) (its : node_of world silo �
 
 -- ---- a step of a silo's own
 by_nudge : (world : World) (silo : Silo) (node : Node) (number : ℕ) → node_of world silo ≡ Some node → early world ≡ true
-    → (r : Result Stepped ℕ) → step node Nudges ≡ r → done_by r world silo ≡ Err number → HasNoRoom world silo Nudges number ⊎ HasNoNumbers world silo number
-by_nudge world silo node number its in_time (Ok stepped) made is = inl (cramped world silo node its Nudges stepped number made (full world silo _ stepped number is))
+    → (r : Result Stepped ℕ) → step node (Does Nudge) ≡ r → done_by r world silo ≡ Err number → HasNoRoom world silo (Does Nudge) number ⊎ HasNoNumbers world silo number
+by_nudge world silo node number its in_time (Ok stepped) made is = inl (cramped world silo node its (Does Nudge) stepped number made (full world silo _ stepped number is))
 by_nudge world silo node number its in_time (Err refusal) made is =
     let so = unless (has_numbers node.settings node.host (length (outstanding node.host))) 805 refusal _ made in
     let same : refusal ≡ number = cc (is) in
     inr (lacking world silo node its number in_time (so.0, sym same ∙ so.1))
 
 -- a nudge of a live silo
-pub refused_nudge : (world : World) (silo : Silo) (node : Node) (number : ℕ) → node_of world silo ≡ Some node → happens world (Nudge silo) ≡ Err number → Refused world silo Nudges number
+pub refused_nudge : (world : World) (silo : Silo) (node : Node) (number : ℕ) → node_of world silo ≡ Some node → happens world (Do silo Nudge) ≡ Err number → Refused world silo (Does Nudge) number
 unfolding happens
 refused_nudge world silo node number its is =
-    elim (late_or (early world) (does_at (node_of world silo) world silo Nudges) number is) [
+    elim (late_or (early world) (does_at (node_of world silo) world silo (Does Nudge)) number is) [
       | inl after ↦ inl (late world number after.0 after.1)
-      | inr in_time ↦ inr (by_nudge world silo node number its in_time.0 (step node Nudges) refl (subst (λ o. does_at o world silo Nudges ≡ Err number) its in_time.1))
+      | inr in_time ↦ inr (by_nudge world silo node number its in_time.0 (step node (Does Nudge)) refl (subst (λ o. does_at o world silo (Does Nudge) ≡ Err number) its in_time.1))
     ]
 
 by_sight : (world : World) (silo : Silo) (node : Node) (version number : ℕ) → node_of world silo ≡ Some node → nat_lt node.view.version version ≡ true → early world ≡ true
-    → (r : Result Stepped ℕ) → step node (sight_of world version) ≡ r → seen_by r world silo version ≡ Err number
-    → HasNoRoom world silo (sight_of world version) number ⊎ HasNoNumbers world silo number
+    → (r : Result Stepped ℕ) → step node (sight_of (membership_of world) version) ≡ r → seen_by r world silo version ≡ Err number
+    → HasNoRoom world silo (sight_of (membership_of world) version) number ⊎ HasNoNumbers world silo number
 by_sight world silo node version number its newer in_time (Ok stepped) made is =
-    inl (cramped world silo node its (sight_of world version) stepped number made (full world silo _ stepped number is))
+    inl (cramped world silo node its (sight_of (membership_of world) version) stepped number made (full world silo _ stepped number is))
 by_sight world silo node version number its newer in_time (Err refusal) made is =
     let before = view_at world.views (version - 1) in
     let view = view_at world.views version in
@@ -121,8 +123,8 @@ by_sight world silo node version number its newer in_time (Err refusal) made is 
 
 -- a sight of a version that a live silo hasn't seen and may see
 pub refused_sight :
-    (world : World) (silo : Silo) (node : Node) (version number : ℕ) → node_of world silo ≡ Some node → node.view.version < version → is_seeable world silo version ≡ true
-    → happens world (See silo version) ≡ Err number → Refused world silo (sight_of world version) number
+    (world : World) (silo : Silo) (node : Node) (version number : ℕ) → node_of world silo ≡ Some node → node.view.version < version → is_seeable (membership_of world) silo version ≡ true
+    → happens world (See silo version) ≡ Err number → Refused world silo (sight_of (membership_of world) version) number
 unfolding happens
 refused_sight world silo node version number its less seeable is =
     let newer = lt-ltb node.view.version version less in
@@ -130,8 +132,8 @@ refused_sight world silo node version number its less seeable is =
       | inl after ↦ inl (late world number after.0 after.1)
       | inr in_time ↦ inr (
           let at : sees_at (Some node) world silo version ≡ Err number = subst (λ o. sees_at o world silo version ≡ Err number) its in_time.1 in
-          let seen = passed (is_seeable world silo version) 904 _ number seeable (passed (nat_lt node.view.version version) 903 _ number newer at) in
-          by_sight world silo node version number its newer in_time.0 (step node (sight_of world version)) refl seen)
+          let seen = passed (is_seeable (membership_of world) silo version) 904 _ number seeable (passed (nat_lt node.view.version version) 903 _ number newer at) in
+          by_sight world silo node version number its newer in_time.0 (step node (sight_of (membership_of world) version)) refl seen)
     ]
 
 -- ---- a delivery to a live silo

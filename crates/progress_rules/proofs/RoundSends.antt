@@ -9,16 +9,17 @@ use Rattle.std.proofs.lemmas.List.Elements.{All-nil, All-cons, All-head, All-tai
 use Rattle.std.proofs.lemmas.List.Sums.{sum_by-cons}
 use Rattle.silo_address.specs.Silo.{Silo, IsSilo, silo_cmp}
 use Rattle.silo_address.proofs.Order.{silo_cmp_total, silo_cmp_exact}
-use Rattle.directory_rules.specs.Membership.{members_of}
+use Rattle.directory_rules.specs.Members.{members_of}
 use Rattle.directory_rules.specs.Host.{outstanding, renewed}
 use Rattle.directory_rules.specs.Letter.{Letter}
 use Rattle.directory_rules.specs.Node.{Node}
-use Rattle.directory_rules.specs.Event.{Deliver, Nudge}
+use Rattle.directory_rules.specs.Event.{Deliver, Do}
 use Rattle.directory_rules.specs.Step.{Stepped, having_nudged}
-use Rattle.directory_rules.specs.Input.{Nudges, Receives}
+use Rattle.directory_rules.specs.Input.{Does, Receives}
 use Rattle.directory_rules.specs.Receive.{received}
 use Rattle.directory_rules.specs.World.{World, Posted, Accepted, current_view}
 use Rattle.directory_rules.specs.Mail.{letter_of, with_delivered, fresh_letter}
+use Rattle.directory_rules.specs.declared.own_step.OwnStep.TheVariants.{Nudge}
 use Rattle.directory_rules.specs.Happens.{happens, node_of, least_deliverable}
 use Rattle.directory_facts.proofs.Lookups.{lookup_first, lookup_later}
 use Rattle.progress_rules.specs.Plan.{and_then, settled, round}
@@ -96,17 +97,17 @@ pub record NudgingWithin (n sends asks events : ℕ) (those : List (Silo × Node
   pub asked : requests_out world + fresh_with is_offer world ≤ asks
   pub came : world.accepted + fresh_with (λ body. true) world + potential n world + length those + 2 * asked_by_all those ≤ events
 
-pub nudged_rests : (world : World) (silo : Silo) (accepted : Accepted) → IsResting world → IsSilo silo → happens world (Nudge silo) ≡ Ok accepted → IsResting accepted.world
+pub nudged_rests : (world : World) (silo : Silo) (accepted : Accepted) → IsResting world → IsSilo silo → happens world (Do silo Nudge) ≡ Ok accepted → IsResting accepted.world
 nudged_rests world silo accepted r is_silo ok =
     let s = nudged world silo accepted ok in
-    rests_on world r (Nudge silo) accepted is_silo ok (subst AllSeen (sym s.is) (still_seen world silo s.node s.stepped s.its (view_kept s.node Nudges s.stepped s.made) r.seen))
+    rests_on world r (Do silo Nudge) accepted is_silo ok (subst AllSeen (sym s.is) (still_seen world silo s.node s.stepped s.its (view_kept s.node (Does Nudge) s.stepped s.made) r.seen))
 
 module _ (n sends asks events : ℕ) where
   abbrev Keeping : List (Silo × Node) → World → Type 0
   Keeping those world = NudgingWithin n sends asks events those world
 
   pub within_nudged : (world : World) (e : Silo × Node) (es : List (Silo × Node)) (accepted : Accepted) → IsSilo e.0 → Keeping (e ∷ es) world
-      → happens world (Nudge e.0) ≡ Ok accepted → Keeping es accepted.world
+      → happens world (Do e Nudge.0) ≡ Ok accepted → Keeping es accepted.world
   within_nudged world e es accepted is_silo w ok =
       let s = nudged world e.0 accepted ok in
       let mine = All-head (λ (x : Silo × Node). node_of world x.0 ≡ Some x.1) e es w.there in

@@ -1,9 +1,10 @@
 -- What isn't promised: a silo that is nudged before its letters have come and gone never gets anything done, though each letter comes.
 -- A nudge gives each request a new number, and a reply to the old one is ignored.
 use Rattle.std.specs.Prelude.{◌≡◌, ℕ, zero, suc, ◌+◌, true, List, [], ◌∷◌, ◌++◌}
-use Rattle.directory_rules.specs.Event.{Event, Join, See, Wake, Deliver, Nudge}
+use Rattle.directory_rules.specs.Event.{Event, Join, See, Do, Deliver}
 use Rattle.directory_rules.specs.World.{World}
 use Rattle.directory_rules.specs.Run.{run_from_start}
+use Rattle.directory_rules.specs.declared.own_step.OwnStep.TheVariants.{Wake, Nudge}
 use Rattle.directory_rules.specs.Worked.{silo_a, silo_b, grain_b}
 use Rattle.progress_rules.specs.Plan.{plan}
 use Rattle.progress_rules.specs.Worked.{few_letters, waits_of, told}
@@ -15,12 +16,12 @@ opening =
 
 -- silo a wakes a grain of b's, and is nudged before its request, letter 6, comes to b
 abbrev pub asking : List Event
-asking = Wake silo_a grain_b ∷ Nudge silo_a ∷ Deliver 6 ∷ []
+asking = Do silo_a (Wake grain_b) ∷ Do silo_a Nudge ∷ Deliver 6 ∷ []
 
 -- so often it is nudged again, and then the reply comes to it, and the request of the nudge before to b: letters from this one on
 abbrev pub nudged_too_soon : (often number : ℕ) → List Event
 nudged_too_soon zero number = []
-nudged_too_soon (suc often) number = Nudge silo_a ∷ Deliver (number + 1) ∷ Deliver number ∷ nudged_too_soon often (number + 2)
+nudged_too_soon (suc often) number = Do silo_a Nudge ∷ Deliver (number + 1) ∷ Deliver number ∷ nudged_too_soon often (number + 2)
 
 abbrev pub hasty : World
 hasty = (run_from_start few_letters (opening ++ asking ++ nudged_too_soon 8 7)).world

@@ -1,16 +1,17 @@
 -- A worked plan that sends just as many letters as are needed at most: a silo that owns the circle and hasn't settled it, and an activation
 -- on it that asks; their first letters are lost.
 use Rattle.std.specs.Prelude.{◌≡◌, ℕ, ◌-◌, List, [], ◌∷◌, Result, Ok, Err}
-use Rattle.directory_rules.specs.Event.{Event, Join, See, Wake, Lose}
+use Rattle.directory_rules.specs.Event.{Event, Join, See, Do, Lose}
 use Rattle.directory_rules.specs.World.{World}
 use Rattle.directory_rules.specs.Run.{run_from_start}
+use Rattle.directory_rules.specs.declared.own_step.OwnStep.TheVariants.{Wake}
 use Rattle.directory_rules.specs.Worked.{silo_a, grain_a}
 use Rattle.progress_rules.specs.Plan.{synced, plan}
 use Rattle.progress_rules.specs.Worked.{few_letters}
 use Rattle.progress_rules.specs.Room.{letters_needed}
 
 abbrev pub waiting_events : List Event
-waiting_events = Join silo_a (0 ∷ []) ∷ See silo_a 1 ∷ Wake silo_a grain_a ∷ Lose 1 ∷ Lose 2 ∷ []
+waiting_events = Join silo_a (0 ∷ []) ∷ See silo_a 1 ∷ Do silo_a (Wake grain_a) ∷ Lose 1 ∷ Lose 2 ∷ []
 
 -- how many letters are needed where all have seen the current view, and how many the plan sends from there; nothing where it is refused
 abbrev pub sent_after : World → Result World ℕ → List ℕ

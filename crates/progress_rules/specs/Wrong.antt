@@ -7,11 +7,12 @@ use Rattle.directory_rules.specs.Node.{Node}
 use Rattle.directory_rules.specs.Step.{Stepped, silently}
 use Rattle.directory_rules.specs.Receive.{received}
 use Rattle.directory_rules.specs.Transfer.{answering, is_report_awaited}
-use Rattle.directory_rules.specs.Event.{Event, Join, See, Deliver, Nudge}
+use Rattle.directory_rules.specs.Event.{Event, Join, See, Deliver, Do}
 use Rattle.directory_rules.specs.World.{World, Accepted}
 use Rattle.directory_rules.specs.Mail.{letter_of}
 use Rattle.directory_rules.specs.Happens.{happens, node_of, delivered_by, least_deliverable}
 use Rattle.directory_rules.specs.Run.{world_after, run_from_start}
+use Rattle.directory_rules.specs.declared.own_step.OwnStep.TheVariants.{Nudge}
 use Rattle.directory_rules.specs.Worked.{silo_a}
 use Rattle.progress_rules.specs.Worked.{few_letters, all_settled}
 
@@ -57,7 +58,7 @@ report_is_not_struck_off node letter = keeps_awaiting letter.body node letter
 -- so often a silo that is alone is nudged, and all letters come: its query, and the answer
 abbrev pub rounds_alone : (often number : ℕ) → List Event
 rounds_alone zero number = []
-rounds_alone (suc often) number = Nudge silo_a ∷ Deliver number ∷ Deliver (number + 1) ∷ rounds_alone often (number + 2)
+rounds_alone (suc often) number = Do silo_a Nudge ∷ Deliver number ∷ Deliver (number + 1) ∷ rounds_alone often (number + 2)
 
 abbrev pub alone : World
 alone = (run_from_start few_letters (Join silo_a (0 ∷ []) ∷ See silo_a 1 ∷ [])).world

@@ -12,7 +12,7 @@ use Rattle.ring_range.specs.Range.{IsRange, circle}
 use Rattle.silo_address.specs.Grain.{Grain, grain_eq}
 use Rattle.silo_address.specs.declared.Entry.{Entry}
 use Rattle.dumps.proofs.InOrder.{list_all-flat_map}
-use Rattle.directory_rules.specs.Membership.{is_dead_in}
+use Rattle.directory_rules.specs.Members.{is_dead_in}
 use Rattle.dump_rules.specs.Dump.{DumpNode, DumpPiece, DumpValue}
 use Rattle.dump_rules.specs.DumpShape as shape
 use Rattle.dump_rules.specs.DumpShape.{has_piece_numbers, has_point_numbers, has_node_numbers, has_row_numbers, has_numbers, has_shape, is_version, is_number_of_points, is_dump}

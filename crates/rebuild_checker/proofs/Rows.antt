@@ -21,7 +21,7 @@ use Rattle.membership_view.specs.Row.{has_come, is_active, status_in}
 use Rattle.membership_view.proofs.Entries.{lookup-picked, sorted-nil}
 use Rattle.membership_view.proofs.Search.{lookup_hit, lookup_miss}
 use Rattle.hash_ring.specs.Ring.{is_active_in}
-use Rattle.directory_rules.specs.Membership.{is_dead_in, is_known_dead}
+use Rattle.directory_rules.specs.Members.{is_dead_in, is_known_dead}
 use Rattle.dump_rules.specs.Dump.{DumpRow, DumpValue}
 use Rattle.dump_rules.specs.DumpShape.{is_dump, row_silos}
 use Rattle.dump_rules.specs.RightShape.{IsDump}

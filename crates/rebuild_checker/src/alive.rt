@@ -4,7 +4,7 @@ ghost use Rattle.std.specs.Prelude.{◌≡◌, IsTrue};
 ghost use Rattle.std.specs.Option.{option_map};
 ghost use Rattle.membership_view.specs.Row.{has_come};
 ghost use Rattle.hash_ring.specs.Ring.{is_active_in};
-ghost use Rattle.directory_rules.specs.Membership.{is_dead_in};
+ghost use Rattle.directory_rules.specs.Members.{is_dead_in};
 ghost use Rattle.dump_rules.specs.DumpShape.{is_dump};
 ghost use Rattle.dump_rules.specs.Verdict.{dump_view, row_in_dump, unless_never};
 ghost use Rattle.rebuild_checker.specs.Rows.{is_serving, row_of_silo};

@@ -1,6 +1,6 @@
 ghost use Rattle.std.specs.Prelude.{◌≡◌, ◌↔◌, ◌+◌, ◌≤◌, ◌++◌, [], All, IsTrue, IsOk, IfOk, IfSome, IfNone, Some, filter, length, not, true, false, vec_capacity};
 ghost use Rattle.std.specs.List.Sorted.{IsPartitionPoint};
-ghost use Rattle.directory_rules.specs.Membership.{is_dead_in};
+ghost use Rattle.directory_rules.specs.Members.{is_dead_in};
 ghost use Rattle.directory_rules.specs.Sight.{shelf_after};
 ghost use Rattle.directory_rules.specs.Snapshot.{has_snapshot, is_snapshot, page_from, shelf_answer, shelf_without};
 ghost use Rattle.seal_snapshot.specs.Shelf.{AreInOrder, IsAt, IsPageless, Meets, answer_of, is_before};

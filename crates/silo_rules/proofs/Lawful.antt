@@ -11,13 +11,12 @@ use Rattle.membership_view.specs.declared.status.Status.{Status}
 use Rattle.membership_view.specs.declared.status.Status.TheVariants.{Active, Leaving, Dead}
 use Rattle.membership_view.specs.Row.{status_in}
 use Rattle.membership_view.specs.Views.{ViewsValue, row_of, status_at, joining_version}
-use Rattle.membership_view.specs.Changes.{after_join, leave_from, die_from}
 use Rattle.membership_view.specs.Whole.{IsViews}
 use Rattle.membership_view.proofs.Known.{status_at-made}
 use Rattle.membership_view.proofs.Statuses.{there_from}
 use Rattle.hash_ring.specs.Places.{PlacesValue}
 use Rattle.directory_rules.specs.Happens as rule
-use Rattle.directory_rules.specs.Input.{Input, Receives, step}
+use Rattle.directory_rules.specs.Input.{Input, Receives, sight_of, step}
 use Rattle.directory_rules.specs.Laws.{is_live}
 use Rattle.directory_rules.specs.Letter.{Letter}
 use Rattle.directory_rules.specs.Step.{Stepped, silently}
@@ -25,10 +24,10 @@ use Rattle.directory_rules.specs.World.{World, Accepted}
 use Rattle.directory_rules.specs.declared.effect.Effect.TheVariants.{Ignored}
 use Rattle.silo_rules.specs.declared.news.News.TheVariants.{Known}
 use Rattle.silo_rules.specs.Known.{is_known}
-use Rattle.silo_rules.specs.Laws.{StaysWhole, IsOf, FollowsTheRule, ChangesAreEvents, joined_by, membership_of}
-use Rattle.silo_rules.specs.Membership.{Change, Join, Leave, Die, Membership, changed, joined, placed, replaced_by, with_places, with_views}
+use Rattle.silo_rules.specs.Laws.{StaysWhole, IsOf, FollowsTheRule}
+use Rattle.directory_rules.specs.Membership.{Change, Membership, barred_by, changed, is_seeable, replaced_by}
 use Rattle.silo_rules.specs.SiloValue.{SiloValue, own_status, told_of_its_join}
-use Rattle.silo_rules.specs.Steps.{barred, barred_by, unless_barred, does, is_seeable, receives, seen, sees, sight_of}
+use Rattle.silo_rules.specs.Steps.{barred, unless_barred, does, receives, seen, sees}
 use Rattle.silo_rules.specs.NodeInputs.{IsNoSight}
 use Rattle.silo_rules.specs.Told.{Heard, heard_by, told}
 use Rattle.silo_rules.specs.Whole.{IsWhole}
@@ -95,14 +94,10 @@ row_known views whole silo =
     by (Some row) at =
         ap (λ (o : Option Row). is_some o) at ∙ sym (there_from views.version row (whole.in_time silo row at).joined_by) ∙ sym (ap (λ (o : Option Row). is_some (option_and_then (status_in views.version) o)) at)
 
-absent_is : (world : World) (s : SiloValue) → IsWhole s → IsOf world s → rule.absent_number world s.node.host.silo ≡ (if is_some (own_status s) then 902 else 901)
-absent_is world s whole of =
-    ap (λ (v : ViewsValue). if is_some (row_of v s.node.host.silo) then 902 else 901) of.views
-    ∙ ap (λ (b : Bool). if b then 902 else 901) (row_known s.membership.views whole.membership.whole s.node.host.silo)
-
 module _ (world : World) (s : SiloValue) (whole : IsWhole s) (of : IsOf world s) where
-  absent_at : (o : Option Status) → own_status s ≡ o → rule.absent_number world s.node.host.silo ≡ (if is_some o then 902 else 901)
-  absent_at o at = absent_is world s whole of ∙ ap (λ (p : Option Status). if is_some p then 902 else 901) at
+  absent_at : (o : Option Status) → own_status s ≡ o → rule.absent_number world s.node.host.silo ≡ unwrap_or (barred_by o) 902
+  absent_at o at =
+      ap (λ (v : ViewsValue). unwrap_or (barred_by (status_at v v.version s.node.host.silo)) 902) of.views ∙ ap (λ (p : Option Status). unwrap_or (barred_by p) 902) at
 
   does_rule : (input : Input) → rule.does world s.node.host.silo input ≡ rule.done_by (does s input) world s.node.host.silo
   does_rule input = ap (λ n. rule.does_at n world s.node.host.silo input) of.node ∙ by (own_status s) refl
@@ -165,40 +160,3 @@ follows_the_rule = record {
   sees_so = λ world s version whole of. sees_rule world s whole of version;
   receives_so = λ world s number letter whole of told_so to. receives_rule world s whole of number letter told_so to;
 }
-
--- ---- changes
-abbrev membership_left : Result Accepted ℕ → Result Membership ℕ
-membership_left (Err number) = Err number
-membership_left (Ok accepted) = Ok (membership_of accepted.world)
-
-joins_event : (world : World) (silo : Silo) (stated : List ℕ) → rule.join world silo stated ≡ joined_by (changed world.settings (membership_of world) (Join silo stated)) world silo
-joins_event world silo stated = by (after_join world.views silo)
-  where
-    by_places : (views : ViewsValue) (o : Result PlacesValue ℕ) → rule.joined o views world silo ≡ joined_by (with_places o views) world silo
-    by_places views (Err number) = refl
-    by_places views (Ok places) = refl
-
-    by : (o : Result ViewsValue ℕ) → rule.join_viewed o world silo stated ≡ joined_by (joined o world.settings world.places silo stated) world silo
-    by (Err number) = refl
-    by (Ok views) = by_places views (placed world.settings world.places silo stated)
-
-leaves_event : (world : World) (silo : Silo) (accepted : Accepted) → rule.leave world silo ≡ Ok accepted → changed world.settings (membership_of world) (Leave silo) ≡ Ok (membership_of accepted.world)
-leaves_event world silo accepted so = by (rule.status_now world silo) so
-  where
-    by : (o : Option Status) → rule.leave_by o world silo ≡ Ok accepted → with_views (leave_from o world.views silo) world.places ≡ Ok (membership_of accepted.world)
-    by None left = absurd (cc (left))
-    by (Some Active) left = ap (λ (r : Result Accepted ℕ). membership_left r) left
-    by (Some Leaving) left = absurd (cc (left))
-    by (Some Dead) left = absurd (cc (left))
-
-dies_event : (world : World) (silo : Silo) (accepted : Accepted) → rule.kill world silo ≡ Ok accepted → changed world.settings (membership_of world) (Die silo) ≡ Ok (membership_of accepted.world)
-dies_event world silo accepted so = by (rule.status_now world silo) so
-  where
-    by : (o : Option Status) → rule.kill_by o world silo ≡ Ok accepted → with_views (die_from o world.views silo) world.places ≡ Ok (membership_of accepted.world)
-    by None died = absurd (cc (died))
-    by (Some Active) died = ap (λ (r : Result Accepted ℕ). membership_left r) died
-    by (Some Leaving) died = ap (λ (r : Result Accepted ℕ). membership_left r) died
-    by (Some Dead) died = absurd (cc (died))
-
-pub changes_are_events : ChangesAreEvents
-changes_are_events = record { joins = joins_event; leaves = leaves_event; dies = dies_event }

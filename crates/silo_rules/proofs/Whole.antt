@@ -13,14 +13,14 @@ use Rattle.hash_ring.proofs.Lawful.{ring_stays}
 use Rattle.directory_rules.specs.Settings.{Settings, AreSettings}
 use Rattle.directory_rules.specs.Node.{Node}
 use Rattle.directory_rules.specs.Step.{Stepped}
-use Rattle.directory_rules.specs.Input.{Input, Sees, Wakes, Closes, Finds, Forgets, Nudges, Offers, Receives, step}
+use Rattle.directory_rules.specs.Input.{Input, Sees, Does, Receives, step, sight_of}
 use Rattle.directory_facts.specs.Seen.{SeesItsVersion}
 use Rattle.directory_facts.proofs.Carried.{Brings}
 use Rattle.directory_facts.proofs.Places.{added_view}
 use Rattle.directory_facts.proofs.SeenRings.{AreViews, seen_facts, seen_keep}
-use Rattle.silo_rules.specs.Membership.{Change, Join, Leave, Die, Membership, changed, joined, placed, with_places, with_views, first_membership}
+use Rattle.directory_rules.specs.Membership.{Change, Join, Leave, Die, Membership, changed, joined, placed, with_places, with_views, first_membership}
 use Rattle.silo_rules.specs.SiloValue.{SiloValue, first_silo}
-use Rattle.silo_rules.specs.Steps.{sight_of}
+
 use Rattle.silo_rules.specs.NodeInputs.{IsNoSight}
 use Rattle.silo_rules.specs.Whole.{AreWhole, IsWhole}
 use Rattle.silo_rules.proofs.Own.{stays_own}
@@ -127,12 +127,7 @@ step_whole s silo input stepped is brings so =
 
 pub input_whole : (s : SiloValue) (input : Input) (stepped : Stepped) → IsWhole s → IsNoSight input → step s.node input ≡ Ok stepped → IsWhole (record s { node = stepped.node })
 input_whole s (Sees before view places) stepped is other so = absurd other
-input_whole s (Wakes grain) stepped is other so = step_whole s s.node.host.silo (Wakes grain) stepped is tt so
-input_whole s (Closes grain) stepped is other so = step_whole s s.node.host.silo (Closes grain) stepped is tt so
-input_whole s (Finds grain) stepped is other so = step_whole s s.node.host.silo (Finds grain) stepped is tt so
-input_whole s (Forgets grain) stepped is other so = step_whole s s.node.host.silo (Forgets grain) stepped is tt so
-input_whole s Nudges stepped is other so = step_whole s s.node.host.silo Nudges stepped is tt so
-input_whole s (Offers grain to) stepped is other so = step_whole s s.node.host.silo (Offers grain to) stepped is tt so
+input_whole s (Does step) stepped is other so = step_whole s s.node.host.silo (Does step) stepped is tt so
 input_whole s (Receives letter) stepped is other so = step_whole s letter.to (Receives letter) stepped is (refl, tt) so
 
 -- the same, of an equal silo

@@ -7,7 +7,7 @@ use Rattle.membership_view.specs.Views.{ViewsValue, joining_version, leaving_ver
 use Rattle.hash_ring.specs.declared.hashing.Hashing.{Hashing}
 use Rattle.hash_ring.specs.declared.hashing.Hashing.TheVariants.{Sha256, Stated}
 use Rattle.hash_ring.specs.Places.{PlacesValue, places_of}
-use Rattle.silo_rules.specs.Membership.{Change, Join, Leave, Die, Membership}
+use Rattle.directory_rules.specs.Membership.{Change, Join, Leave, Die, Membership}
 
 -- whether that version is the one in which it was made, if it was
 abbrev pub is_made_in : ℕ → Option ℕ → Bool

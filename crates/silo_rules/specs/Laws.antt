@@ -1,5 +1,5 @@
 -- The laws of a silo by itself.
-use Rattle.std.specs.Prelude.{◌≡◌, ℕ, true, if◌then◌else◌, List, Some, None, Result, Ok, Err}
+use Rattle.std.specs.Prelude.{◌≡◌, ℕ, true, if◌then◌else◌, Some, None, Ok}
 use Rattle.silo_address.specs.Silo.{Silo}
 use Rattle.directory_rules.specs.Happens as rule
 use Rattle.directory_rules.specs.Input.{Input}
@@ -7,8 +7,8 @@ use Rattle.directory_rules.specs.Laws.{is_live}
 use Rattle.directory_rules.specs.Letter.{Letter}
 use Rattle.directory_rules.specs.Settings.{Settings, AreSettings}
 use Rattle.directory_rules.specs.Step.{Stepped}
-use Rattle.directory_rules.specs.World.{World, Accepted}
-use Rattle.silo_rules.specs.Membership.{Change, Join, Leave, Die, Membership, changed}
+use Rattle.directory_rules.specs.World.{World}
+use Rattle.directory_rules.specs.Membership.{Change}
 use Rattle.silo_rules.specs.SiloValue.{SiloValue, first_silo, own_status, told_of_its_join}
 use Rattle.silo_rules.specs.Steps.{does, sees, receives}
 use Rattle.silo_rules.specs.NodeInputs.{IsNoSight}
@@ -35,18 +35,3 @@ pub record FollowsTheRule : Type 0 where
   pub sees_so : (world : World) (s : SiloValue) (version : ℕ) → IsWhole s → IsOf world s → rule.sees world s.node.host.silo version ≡ rule.seen_by (sees s version) world s.node.host.silo version
   pub receives_so : (world : World) (s : SiloValue) (number : ℕ) (letter : Letter) → IsWhole s → IsOf world s → told_of_its_join s ≡ true → letter.to ≡ s.node.host.silo
       → rule.delivers (Some letter) world number ≡ rule.delivered_by (receives s letter) world number letter
-
--- what a world has of the changes
-abbrev pub membership_of : World → Membership
-membership_of world = record { views = world.views; places = world.places }
-
--- the event of a join, by what the change makes
-abbrev pub joined_by : Result Membership ℕ → World → Silo → Result Accepted ℕ
-joined_by (Err number) world silo = Err number
-joined_by (Ok m) world silo = rule.joined (Ok m.places) m.views world silo
-
--- a change makes what the event of the rule makes
-pub record ChangesAreEvents : Type 0 where
-  pub joins : (world : World) (silo : Silo) (stated : List ℕ) → rule.join world silo stated ≡ joined_by (changed world.settings (membership_of world) (Join silo stated)) world silo
-  pub leaves : (world : World) (silo : Silo) (accepted : Accepted) → rule.leave world silo ≡ Ok accepted → changed world.settings (membership_of world) (Leave silo) ≡ Ok (membership_of accepted.world)
-  pub dies : (world : World) (silo : Silo) (accepted : Accepted) → rule.kill world silo ≡ Ok accepted → changed world.settings (membership_of world) (Die silo) ≡ Ok (membership_of accepted.world)

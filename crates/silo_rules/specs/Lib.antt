@@ -1,4 +1,3 @@
-pub mod Membership
 pub mod Known
 pub mod Told
 pub mod SiloValue

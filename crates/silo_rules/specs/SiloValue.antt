@@ -2,10 +2,9 @@
 use Rattle.std.specs.Prelude.{Bool, is_some, Option}
 use Rattle.silo_address.specs.Silo.{Silo}
 use Rattle.membership_view.specs.declared.status.Status.{Status}
-use Rattle.membership_view.specs.Views.{status_at}
 use Rattle.directory_rules.specs.Settings.{Settings}
 use Rattle.directory_rules.specs.Node.{Node, new_node}
-use Rattle.silo_rules.specs.Membership.{Membership, first_membership}
+use Rattle.directory_rules.specs.Membership.{Membership, first_membership, status_in}
 
 -- what a silo has
 pub record SiloValue : Type 0 where
@@ -19,7 +18,7 @@ first_silo settings silo = record { membership = first_membership settings; node
 
 -- what the silo itself is by the last change that it was told; none before its own join
 abbrev pub own_status : SiloValue → Option Status
-own_status s = status_at s.membership.views s.membership.views.version s.node.host.silo
+own_status s = status_in s.membership s.node.host.silo
 
 -- whether it was told of its own join
 abbrev pub told_of_its_join : SiloValue → Bool

@@ -1,24 +1,13 @@
 -- The steps of a silo by itself: those that the event rule has for it, on its own views, places and node. It takes none before it
 -- was told of its own join, and none once it is Dead by what it was told.
-use Rattle.std.specs.Prelude.{ℕ, ◌-◌, ◌&&◌, nat_le, nat_lt, not, Bool, if◌then◌else◌, Option, Some, None, Result, Ok, Err}
-use Rattle.std.specs.Option.{unwrap_or}
-use Rattle.silo_address.specs.Silo.{Silo, silo_eq}
-use Rattle.membership_view.specs.declared.status.Status.{Status}
-use Rattle.membership_view.specs.declared.status.Status.TheVariants.{Active, Leaving, Dead}
-use Rattle.membership_view.specs.Views.{view_at, joining_version}
+use Rattle.std.specs.Prelude.{ℕ, nat_lt, not, if◌then◌else◌, Option, Some, None, Result, Ok, Err}
+use Rattle.silo_address.specs.Silo.{silo_eq}
 use Rattle.directory_rules.specs.declared.effect.Effect.TheVariants.{Ignored}
 use Rattle.directory_rules.specs.Letter.{Letter}
 use Rattle.directory_rules.specs.Step.{Stepped, silently}
-use Rattle.directory_rules.specs.Input.{Input, Sees, Receives, step}
-use Rattle.silo_rules.specs.Membership.{Membership}
+use Rattle.directory_rules.specs.Input.{Input, Receives, sight_of, step}
+use Rattle.directory_rules.specs.Membership.{barred_by, is_seeable}
 use Rattle.silo_rules.specs.SiloValue.{SiloValue, own_status}
-
--- the number that bars a silo of that status from any step: 901 before its join, 902 where it is Dead
-abbrev pub barred_by : Option Status → Option ℕ
-barred_by None = Some 901
-barred_by (Some Active) = None
-barred_by (Some Leaving) = None
-barred_by (Some Dead) = Some 902
 
 -- the number that bars the silo, by the last change that it was told
 abbrev pub barred : SiloValue → Option ℕ
@@ -32,14 +21,6 @@ unless_barred (Some number) outcome = Err number
 -- the silo's node takes an input: 901, 902, and then as the step refuses
 abbrev pub does : SiloValue → Input → Result Stepped ℕ
 does s input = unless_barred (barred s) (step s.node input)
-
--- the input of a sight of that version, by what changes made
-abbrev pub sight_of : Membership → (version : ℕ) → Input
-sight_of m version = Sees (view_at m.views (version - 1)) (view_at m.views version) m.places
-
--- whether a silo was told of that version, and is in its view
-abbrev pub is_seeable : Membership → Silo → (version : ℕ) → Bool
-is_seeable m silo version = nat_le version m.views.version && nat_le (unwrap_or (joining_version m.views silo) 0) version
 
 -- a version is seen: 903 where it isn't newer than the one seen, 904 where the silo wasn't told of it or joined later, then as the
 -- step refuses

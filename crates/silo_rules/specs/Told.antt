@@ -4,7 +4,7 @@ use Rattle.silo_address.specs.Silo.{Silo}
 use Rattle.directory_rules.specs.Settings.{Settings}
 use Rattle.silo_rules.specs.declared.news.News.{News}
 use Rattle.silo_rules.specs.declared.news.News.TheVariants.{Known, Made, Replaced}
-use Rattle.silo_rules.specs.Membership.{Change, Membership, changed, replaced_by}
+use Rattle.directory_rules.specs.Membership.{Change, Membership, changed, replaced_by}
 use Rattle.silo_rules.specs.Known.{is_known}
 
 -- what a change that was told makes: the membership after it, and whether it was known

@@ -5,7 +5,7 @@ use Rattle.membership_view.specs.Whole.{IsViews}
 use Rattle.hash_ring.specs.Places.{is_added}
 use Rattle.directory_rules.specs.Settings.{Settings}
 use Rattle.directory_facts.specs.Seen.{SeesItsVersion}
-use Rattle.silo_rules.specs.Membership.{Membership}
+use Rattle.directory_rules.specs.Membership.{Membership}
 use Rattle.silo_rules.specs.SiloValue.{SiloValue}
 
 -- the views are whole, views and places are by the settings, and each silo with a row has its places

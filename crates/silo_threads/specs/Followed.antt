@@ -4,7 +4,7 @@ use Rattle.silo_address.specs.Silo.{Silo}
 use Rattle.membership_view.specs.View.{ViewValue}
 use Rattle.hash_ring.specs.Places.{PlacesValue}
 use Rattle.hash_ring.specs.Ring.{ring_of}
-use Rattle.directory_rules.specs.Event.{Event, Join, Leave, Kill, See, Wake, Close, Find, Forget, Deliver, Lose, Nudge, Offer}
+use Rattle.directory_rules.specs.Event.{Event, Join, Leave, Kill, See, Do, Deliver, Lose}
 use Rattle.directory_rules.specs.declared.outcome.Happening.{Happening}
 use Rattle.directory_rules.specs.declared.outcome.Happening.TheVariants.{Joined, Left, Died}
 use Rattle.directory_rules.specs.World.{World, current_view}
@@ -80,11 +80,6 @@ HasFollowed world (Join silo places) receipt before after lack = HasJoined world
 HasFollowed world (Leave silo) receipt before after lack = HasChanged world receipt before after lack
 HasFollowed world (Kill silo) receipt before after lack = HasChanged world receipt before after lack
 HasFollowed world (See silo version) receipt before after lack = HasStayed before after lack
-HasFollowed world (Wake silo grain) receipt before after lack = HasStayed before after lack
-HasFollowed world (Close silo grain) receipt before after lack = HasStayed before after lack
-HasFollowed world (Find silo grain) receipt before after lack = HasStayed before after lack
-HasFollowed world (Forget silo grain) receipt before after lack = HasStayed before after lack
+HasFollowed world (Do silo step) receipt before after lack = HasStayed before after lack
 HasFollowed world (Deliver number) receipt before after lack = HasStayed before after lack
 HasFollowed world (Lose number) receipt before after lack = HasStayed before after lack
-HasFollowed world (Nudge silo) receipt before after lack = HasStayed before after lack
-HasFollowed world (Offer silo grain to) receipt before after lack = HasStayed before after lack

@@ -1,6 +1,6 @@
 //! Some entries of a map stay, and the others go.
 ghost use Rattle.std.specs.Prelude.{◌≡◌, filter, not};
-ghost use Rattle.directory_rules.specs.Membership.{is_dead_in};
+ghost use Rattle.directory_rules.specs.Members.{is_dead_in};
 ghost use Rattle.hash_ring.specs.Hash.{hash_grain};
 ghost use Rattle.ring_range.specs.Range.{holds};
 ghost use Rattle.silo_address.specs.ReadGrain.{read_grain};

@@ -1,7 +1,7 @@
 //! What is kept of a table in a range, added to a list.
 ghost use Rattle.std.specs.List.Sorted.{IsPermutation};
 ghost use Rattle.std.specs.Prelude.{◌≡◌, ◌≤◌, ◌++◌, filter, map, not, IfOk};
-ghost use Rattle.directory_rules.specs.Membership.{is_dead_in};
+ghost use Rattle.directory_rules.specs.Members.{is_dead_in};
 ghost use Rattle.directory_rules.specs.Sight.{is_kept};
 ghost use Rattle.directory_rules.specs.Table.{entries_of};
 ghost use Rattle.hash_ring.specs.declared.Hashing.{Hashing as HashingValue};

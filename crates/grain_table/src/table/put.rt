@@ -1,7 +1,7 @@
 //! Entries of one table put into another.
 ghost use Rattle.std.specs.Prelude.{◌≡◌, ◌≤◌, filter, fold, map, not, IfOk};
 ghost use Rattle.std.specs.List.{list_any};
-ghost use Rattle.directory_rules.specs.Membership.{is_dead_in};
+ghost use Rattle.directory_rules.specs.Members.{is_dead_in};
 ghost use Rattle.directory_rules.specs.Sight.{is_kept};
 ghost use Rattle.directory_rules.specs.Table.{entries_of, with_entry};
 ghost use Rattle.hash_ring.specs.Hash.{hash_grain};

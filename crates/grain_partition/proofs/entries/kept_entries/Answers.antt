@@ -1,6 +1,6 @@
 use Rattle.std.proofs.Common.{ap, ◌∙◌, []}
 use Rattle.std.specs.Prelude.{filter, flat_map, not}
-use Rattle.directory_rules.specs.Membership.{is_dead_in}
+use Rattle.directory_rules.specs.Members.{is_dead_in}
 use Rattle.directory_rules.specs.Sight.{all_entries}
 use Rattle.directory_rules.specs.Table.{entries_of}
 use Rattle.grain_table.proofs.ByGrain.{nothing_is_table}

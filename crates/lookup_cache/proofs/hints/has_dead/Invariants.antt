@@ -1,6 +1,6 @@
 use Rattle.std.proofs.Common.{◌≡◌, drop}
 use Rattle.std.specs.List.{list_any}
-use Rattle.directory_rules.specs.Membership.{is_dead_status}
+use Rattle.directory_rules.specs.Members.{is_dead_status}
 use Rattle.lookup_cache.proofs.hints.has_dead.Given as goal
 
 abbrev pub invariant-loop-row : goal.invariant-loop-row

@@ -1,7 +1,7 @@
 use Rattle.std.proofs.Common.{sym, ap, ◌∙◌, length}
 use Rattle.std.specs.Prelude.{filter, not}
 use Rattle.std.proofs.lemmas.List.{length-map}
-use Rattle.directory_rules.specs.Membership.{is_dead_status}
+use Rattle.directory_rules.specs.Members.{is_dead_status}
 use Rattle.node_plans.proofs.members.member_count.Goals as goal
 
 pub returns : goal.returns

@@ -1,7 +1,7 @@
 use Rattle.std.proofs.Common.{◌≡◌, Bool, IfOk, filter, not, rules, subst, tests}
 use Rattle.std.proofs.lemmas.Iterator.{YieldsList-from_slice}
 use Rattle.std.proofs.lemmas.Iterator.Consumers.{YieldsList-at, YieldsList-from_filter, map_from_collect}
-use Rattle.directory_rules.specs.Membership.{is_dead_in}
+use Rattle.directory_rules.specs.Members.{is_dead_in}
 use Rattle.dump_rules.specs.Dump.{DumpNode, DumpValue}
 use Rattle.dump_rules.specs.Verdict.{dump_view}
 use Rattle.rebuild_checker.specs.Lent.{nodes_lent}

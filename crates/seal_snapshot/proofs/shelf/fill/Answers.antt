@@ -1,6 +1,6 @@
 use Rattle.std.proofs.Common.{◌≡◌, ◌∙◌, ◌++◌, ap, filter, not, rules}
 use Rattle.std.proofs.lemmas.Fn.{filter_same}
-use Rattle.directory_rules.specs.Membership.{is_dead_in}
+use Rattle.directory_rules.specs.Members.{is_dead_in}
 use Rattle.directory_rules.specs.Snapshot.{Snapshot}
 use Rattle.seal_snapshot.proofs.shelf.fill.Goals as goal
 

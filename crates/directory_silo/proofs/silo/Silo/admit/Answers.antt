@@ -1,4 +1,4 @@
-use Rattle.silo_rules.specs.Membership.{Join}
+use Rattle.directory_rules.specs.Membership.{Join}
 use Rattle.directory_silo.specs.SiloModel.{silo_of}
 use Rattle.silo_rules.proofs.Whole.{change_kept}
 use Rattle.directory_silo.proofs.silo.Silo.admit.Goals as goal

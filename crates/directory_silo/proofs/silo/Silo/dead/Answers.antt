@@ -1,6 +1,6 @@
 use Rattle.std.proofs.Common.{ap, Result, ℕ}
 use Rattle.membership_view.specs.Views.{ViewsValue}
-use Rattle.silo_rules.specs.Membership.{Die, with_views}
+use Rattle.directory_rules.specs.Membership.{Die, with_views}
 use Rattle.directory_silo.specs.SiloModel.{silo_of}
 use Rattle.silo_rules.proofs.Whole.{change_whole, same_whole}
 use Rattle.directory_silo.proofs.silo.Silo.dead.Goals as goal

@@ -1,7 +1,7 @@
 use Rattle.std.proofs.Common.{◌∙◌, ap, [], ◌∷◌}
 use Rattle.std.specs.Prelude.{filter, not}
 use Rattle.directory_rules.specs.declared.PieceState.TheVariants.{Settled}
-use Rattle.directory_rules.specs.Membership.{is_dead_in}
+use Rattle.directory_rules.specs.Members.{is_dead_in}
 use Rattle.directory_rules.specs.Piece.{Piece}
 use Rattle.directory_rules.specs.Sight.{kept_entries}
 use Rattle.directory_rules.specs.Table.{Table}

@@ -2,7 +2,7 @@ use Rattle.std.proofs.Common.{◌∙◌, ◌≡◌, refl, rules, ap, sym, subst}
 use Rattle.std.specs.Box.{boxed_slice_items}
 use Rattle.std.specs.Prelude.{filter, not}
 use Rattle.std.proofs.lemmas.Map.Made.{filter_same_pairs}
-use Rattle.directory_rules.specs.Membership.{is_dead_in}
+use Rattle.directory_rules.specs.Members.{is_dead_in}
 use Rattle.grain_table.specs.Hashed.{Hashed}
 use Rattle.grain_table.specs.KeyBytes.{AreKeyBytes, hashed_in}
 use Rattle.grain_table.proofs.KeysRead.{each_key, passed_are, passed_read}

@@ -2,7 +2,7 @@ use Rattle.std.proofs.Common.{◌∙◌, ap, subst, []}
 use Rattle.std.specs.Prelude.{filter, not}
 use Rattle.ring_range.specs.Range.{holds}
 use Rattle.hash_ring.specs.Hash.{hash_grain}
-use Rattle.directory_rules.specs.Membership.{is_dead_in}
+use Rattle.directory_rules.specs.Members.{is_dead_in}
 use Rattle.directory_rules.specs.Table.{entries_of}
 use Rattle.grain_table.specs.Table.{TableValue}
 use Rattle.grain_table.proofs.ByGrain.{IsTable, by_grain_is_table}

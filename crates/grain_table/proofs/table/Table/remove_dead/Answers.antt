@@ -1,7 +1,7 @@
 use Rattle.std.proofs.Common.{◌∙◌, ap, sym, subst, rules}
 use Rattle.std.specs.Prelude.{filter, not}
 use Rattle.std.proofs.lemmas.Fn.{filter_same}
-use Rattle.directory_rules.specs.Membership.{is_dead_in}
+use Rattle.directory_rules.specs.Members.{is_dead_in}
 use Rattle.grain_table.specs.Hashed.{AreKept, Hashed, by_grain}
 use Rattle.grain_table.specs.Table.{TableValue}
 use Rattle.grain_table.proofs.Filters.{living_by_grain}

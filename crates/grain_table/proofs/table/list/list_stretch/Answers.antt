@@ -1,5 +1,5 @@
 use Rattle.std.proofs.Common.{◌≡◌, ◌∙◌, ap, false, rules}
-use Rattle.directory_rules.specs.Membership.{is_dead_in}
+use Rattle.directory_rules.specs.Members.{is_dead_in}
 use Rattle.grain_table.proofs.Listed.{one_listed, with_living}
 use Rattle.grain_table.proofs.table.list.list_stretch.Goals as goal
 

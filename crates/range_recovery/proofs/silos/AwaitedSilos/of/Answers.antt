@@ -2,7 +2,7 @@ use Rattle.std.proofs.Common.{◌≡◌, List, length, map, not, ◌∙◌, ap, 
 use Rattle.std.specs.List.{filter}
 use Rattle.silo_address.specs.Silo.{Silo}
 use Rattle.membership_view.specs.declared.status.Status.{Status}
-use Rattle.directory_rules.specs.Membership.{is_dead_status}
+use Rattle.directory_rules.specs.Members.{is_dead_status}
 use Rattle.range_recovery.specs.declared.awaited.Awaited.{Awaited}
 use Rattle.range_recovery.specs.Silos.{IsCounted}
 use Rattle.range_recovery.proofs.Told.{told, unreported, told-unreported, by_address-unreported, counted-unreported}
