@@ -1,6 +1,5 @@
 ghost use Rattle.std.specs.Prelude.{◌≡◌, MatchResult, OnErr, length};
 ghost use Rattle.directory_rules.specs.Receive.{received};
-ghost use Rattle.directory_node.specs.Memory.{Counts};
 ghost use Rattle.directory_node.specs.Plans.{answer_count};
 
 use crate::{Mark, Names};
@@ -53,12 +52,11 @@ impl<N: Names> Job<N> {
         self.letter.to()
     }
 
-    /// The silo's step with the letter, planned: for this no board is needed. The job comes back only where memory runs out, of
-    /// which the step needs some only for the letters that it sends, and at a report that counts (`docs/RULES.md#memory`).
+    /// The silo's step with the letter, planned: for this no board is needed. The job comes back only where memory runs out
+    /// (`docs/RULES.md#memory`).
     pub fn prepare(self, alloc: Global) -> Result<Prepared<N>, Job<N>>
         ensures work { MatchResult result (λ prepared. prepared ≡ self) (λ job. job ≡ self) }
         ensures memory { OnErr result (length (received self.node self.letter).letters ≡ answer_count self.node self.letter.body) }
-        ensures counts { OnErr result (Counts self.node self.letter) }
     {
         match self.node.node().plan_letter(alloc, &self.letter) {
             Ok(plan) => Ok(Prepared { job: self, plan }),

@@ -1,4 +1,2 @@
-pub mod Ignored
-pub mod Quiet
 pub mod Numbered
 pub mod SightBy

@@ -1,11 +1,9 @@
-ghost use Rattle.std.specs.Prelude.{◌≡◌, None, OnErr, OnOk};
+ghost use Rattle.std.specs.Prelude.{◌≡◌, OnErr, OnOk};
 ghost use Rattle.directory_rules.specs.Answer.{answered};
-ghost use Rattle.directory_rules.specs.Cache.{hint_of, learnt};
+ghost use Rattle.directory_rules.specs.Cache.{learnt};
 ghost use Rattle.directory_rules.specs.Host.{asking_under, closing_under, without_find};
 ghost use Rattle.directory_rules.specs.Reply.{yielded_by};
-ghost use Rattle.grain_partition.specs.Memory.{MayLackMemory};
 ghost use Rattle.node_plans.specs.Plans.{Fits, changed, without};
-ghost use Rattle.directory_node.specs.Memory.{NeedsMemory};
 
 use crate::{Change, Node};
 use grain_table::HashedRequest;
@@ -14,13 +12,11 @@ use silo_address::Entry;
 use std::alloc::AllocError;
 
 impl Node {
-    /// Makes the change of a plan of this node. Fails only when memory runs out at a change by which something grows, and then
-    /// changes nothing.
+    /// Makes the change of a plan of this node. Fails only when memory runs out, and then changes nothing.
     pub fn carry_out(&mut self, change: Change) -> Result<(), AllocError>
         requires fits { Fits change self.old }
         ensures made { OnOk result (self.new ≡ changed change self.old) }
         ensures unchanged { OnErr result (self.new ≡ self.old) }
-        ensures memory { OnErr result (NeedsMemory change self.old) }
     {
         match change {
             Change::Nothing => Ok(()),
@@ -74,7 +70,6 @@ impl Node {
     fn serve(&mut self, request: &HashedRequest) -> Result<(), AllocError>
         ensures made { OnOk result (self.new ≡ record self.old { holding = (answered self.old.holding request.now).holding }) }
         ensures unchanged { OnErr result (self.new ≡ self.old) }
-        ensures memory { OnErr result (MayLackMemory self.old.holding request.now) }
     {
         self.holding.serve(request)?;
         Ok(())
@@ -84,7 +79,6 @@ impl Node {
     fn yield_to_other(&mut self, number: u64, entry: Entry) -> Result<(), AllocError>
         ensures made { OnOk result (self.new ≡ (yielded_by (asking_under self.old.host number) entry self.old).node) }
         ensures unchanged { OnErr result (self.new ≡ self.old) }
-        ensures memory { OnErr result (hint_of self.old.cache entry.grain ≡ None) }
     {
         if let Some((grain, _)) = self.host.asking_under(number) {
             learn(&mut self.cache, entry)?;
@@ -106,7 +100,6 @@ impl Node {
     fn learn(&mut self, number: u64, entry: Entry) -> Result<(), AllocError>
         ensures made { OnOk result (self.new ≡ record self.old { host = without_find self.old.host number; cache = learnt self.old.cache entry }) }
         ensures unchanged { OnErr result (self.new ≡ self.old) }
-        ensures memory { OnErr result (hint_of self.old.cache entry.grain ≡ None) }
     {
         learn(&mut self.cache, entry)?;
         self.host.end_find(number);

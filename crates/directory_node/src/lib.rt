@@ -4,7 +4,6 @@
 
 mod change;
 mod close;
-mod idle;
 mod listed;
 mod node;
 mod own_steps;
@@ -20,7 +19,6 @@ mod step;
 mod transfer_changes;
 mod transfers;
 
-pub use idle::is_idle;
 pub use listed::listed_node;
 pub use node::Node;
 pub use node_plans::{Change, Input, Plan, Sight, StepRefusal, Transition};

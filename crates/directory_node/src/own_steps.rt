@@ -1,6 +1,5 @@
-ghost use Rattle.std.specs.Prelude.{◌≡◌, ◌↔◌, IfErr, IfNone, IfOk, IfSome, Ok, OnErr, None, length};
-ghost use Rattle.directory_rules.specs.Cache.{hint_of};
-ghost use Rattle.directory_rules.specs.Step.{finding, find_grain, forget, silently, started, wake};
+ghost use Rattle.std.specs.Prelude.{◌≡◌, IfErr, IfOk, OnErr, length};
+ghost use Rattle.directory_rules.specs.Step.{finding, find_grain, forget, started, wake};
 ghost use Rattle.hash_ring.specs.Ring.{is_active_in};
 ghost use Rattle.node_plans.specs.Follows.{Follows};
 ghost use Rattle.node_plans.specs.Numbers.{step_refusal_number};
@@ -8,7 +7,7 @@ ghost use Rattle.node_plans.specs.Plans.{Fits, Sends, step_by};
 
 use crate::{Change, Node, Plan, StepRefusal};
 use directory_rules::{Act, Effect};
-use node_plans::{forget, hint_in, use_hint};
+use node_plans::hint_in;
 use silo_address::{ActivationId, Entry, GrainId, SiloAddress};
 use std::alloc::{AllocError, Global};
 
@@ -108,35 +107,6 @@ impl Node {
                 Change::Forgets { grain, activation },
             ),
             None => Plan::idle(alloc, Effect::NothingCached(grain)),
-        }
-    }
-
-    /// The silo forgets what its cache has of a grain, at once: what `carry_out` makes of the plan to forget. Needs no memory.
-    pub fn forget(&mut self, grain: &GrainId) -> Effect
-        ensures { silently self.new result ≡ forget self.old grain.now }
-    {
-        match hint_in(&self.cache, grain) {
-            Some(activation) => {
-                forget(&mut self.cache, grain, &activation);
-                Effect::Forgot(*grain)
-            }
-            None => Effect::NothingCached(*grain),
-        }
-    }
-
-    /// The silo looks a grain up in its cache alone, at once: where that has a hint, what `carry_out` makes of the plan to find it.
-    /// `None` just where there is no hint, and then nothing changes. Needs no memory.
-    pub fn find_hint(&mut self, grain: &GrainId) -> Option<Effect>
-        ensures found { IfSome result (λ effect. find_grain self.old grain.now ≡ Ok (silently self.new effect)) }
-        ensures none { (result ≡ None) ↔ (hint_of self.old.cache grain.now ≡ None) }
-        ensures unchanged { IfNone result (self.new ≡ self.old) }
-    {
-        match use_hint(&mut self.cache, grain) {
-            Some(activation) => {
-                let grain = *grain;
-                Some(Effect::Cached(Entry { grain, activation }))
-            }
-            None => None,
         }
     }
 

@@ -1,7 +1,7 @@
 ghost use Rattle.std.specs.BTreeMap.{is_at};
 ghost use Rattle.std.specs.Map.{lookup};
 ghost use Rattle.std.specs.Ordering.{nat_cmp};
-ghost use Rattle.std.specs.Prelude.{◌≡◌, ◌≢◌, [], if◌then◌else◌, IsTrue, IfOk, OnOk, OnErr, Ok, Some, length, true};
+ghost use Rattle.std.specs.Prelude.{◌≡◌, if◌then◌else◌, IsTrue, IfOk, OnOk, OnErr, Ok, Some, length, true};
 ghost use Rattle.directory_rules.specs.Recovery.{Recovery as RecoveryValue, recovered};
 ghost use Rattle.directory_rules.specs.Table.{lie_in, rise_by_grain};
 ghost use Rattle.directory_rules.specs.Sent.{recovery_of};
@@ -75,7 +75,7 @@ impl Node {
         Ok(Report::new(self.view.version(), range, self.host.silo(), entries))
     }
 
-    // A report comes. It is answered by no letter, and needs memory only where it counts.
+    // A report comes. It is answered by no letter.
     pub(crate) fn plan_report(
         &self,
         alloc: Global,
@@ -85,7 +85,6 @@ impl Node {
         ensures planned { IfOk result (λ plan. step_by self.now plan ≡ reported self.now letter.now report.now) }
         ensures fits { IfOk result (λ plan. Fits plan.change self.now) }
         ensures none { length (reported self.now letter.now report.now).letters ≡ 0 }
-        ensures counts { OnErr result (¬ ((reported self.now letter.now report.now).effect ≡ Effect.Ignored)) }
     {
         if !self.is_report_awaited(letter, report) {
             return Ok(Plan::idle(alloc, Effect::Ignored));
@@ -98,7 +97,6 @@ impl Node {
         requires recovers { has_range is_recovering report.now.range (piece_at self.now report.now.range) ≡ true }
         ensures planned { IfOk result (λ plan. step_by self.now plan ≡ recovered_by (recovered (recovery_of self.now report.now.range) report.now) report.now.range self.now) }
         ensures fits { IfOk result (λ plan. Fits plan.change self.now) }
-        ensures counts { OnErr result (¬ ((recovered_by (recovered (recovery_of self.now report.now.range) report.now) report.now.range self.now).effect ≡ Effect.Ignored)) }
     {
         let Some(recovery) = self.recoveries.get(&report.range().start()) else {
             unreachable!()
@@ -120,7 +118,6 @@ impl Node {
         requires recovers { has_range is_recovering report.now.range (piece_at self.old report.now.range) ≡ true }
         ensures made { OnOk result (self.new ≡ (recovered_by (recovered (recovery_of self.old report.now.range) report.now) report.now.range self.old).node) }
         ensures unchanged { OnErr result (self.new ≡ self.old) }
-        ensures entries { OnErr result (report.now.entries ≢ []) }
     {
         if take_report(&mut self.recoveries, report)? {
             self.settle_recovered(report.range());

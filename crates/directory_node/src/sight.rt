@@ -1,8 +1,6 @@
 //! A sight as a plan: what it sends, and the change that it makes.
 ghost use Rattle.std.specs.Prelude.{◌≡◌, ◌&&◌, ◌==◌, ◌<◌, ◌+◌, ◌++◌, if◌then◌else◌, IfErr, IfOk, IsOk, flat_map, length, true};
 ghost use Rattle.directory_rules.specs.Host.{has_numbers, outstanding, renewed};
-ghost use Rattle.directory_rules.specs.Input.{Does};
-ghost use Rattle.directory_rules.specs.declared.own_step.OwnStep.TheVariants.{Nudge};
 ghost use Rattle.directory_rules.specs.Sent.{all_wants, request_letters};
 ghost use Rattle.directory_rules.specs.Sight.{is_next, sealed};
 ghost use Rattle.directory_rules.specs.Step.{compared_points, having_nudged, nudge, see, sight};
@@ -18,7 +16,6 @@ ghost use Rattle.node_plans.specs.Placed.{ArePlaced};
 ghost use Rattle.node_plans.specs.Plans.{Fits, FitsSight, step_by};
 ghost use Rattle.node_plans.specs.Sender.{ahead, wants_of};
 ghost use Rattle.node_plans.specs.Transition.{IsOfSight};
-ghost use Rattle.directory_node.specs.Memory.{MayLackMemory};
 ghost use Rattle.directory_node.specs.SightBy.{sight_by};
 ghost use Rattle.hash_ring.specs.Places.{PlacesValue};
 ghost use Rattle.membership_view.specs.View.{ViewValue};
@@ -335,16 +332,13 @@ impl Node {
 
 // A nudge.
 impl Node {
-    // All that is outstanding is sent again under new numbers: 805. Needs no memory where the node waits for nothing.
+    // All that is outstanding is sent again under new numbers: 805.
     pub(crate) fn plan_nudge(&self, alloc: Global) -> Result<Plan, StepRefusal>
-        ensures planned { Follows (step_by self.now) step_refusal_number (MayLackMemory self.now (Does Nudge)) (nudge self.now) result }
+        ensures planned { Follows (step_by self.now) step_refusal_number IsOk (nudge self.now) result }
         ensures fits { IfOk result (λ plan. Fits plan.change self.now) }
     {
         if !self.can_renew() {
             return Err(StepRefusal::NumbersSpent);
-        }
-        if self.is_quiet() {
-            return Ok(Plan::idle(alloc, Effect::Nudged));
         }
         match self.plan_again(alloc) {
             Ok(plan) => Ok(plan),

@@ -6,7 +6,7 @@ ghost use Rattle.node_plans.specs.InputModel.{input_of};
 ghost use Rattle.node_plans.specs.Follows.{Follows};
 ghost use Rattle.node_plans.specs.Numbers.{step_refusal_number};
 ghost use Rattle.node_plans.specs.Plans.{Fits, answer_count, step_by};
-ghost use Rattle.directory_node.specs.Memory.{Counts, MayLackMemory};
+ghost use Rattle.directory_node.specs.Memory.{MayLackMemory};
 
 use crate::{Input, Node, Plan, StepRefusal};
 use directory_letters::{Body, Letter};
@@ -18,8 +18,8 @@ impl Node {
     /// The silo's step with an input, as a plan: what it sends and does, and the change that `carry_out` then makes. Refused
     /// as the rule says of each input (`docs/RULES.md#the-world`). A sight asks that the places are known of all who are Active in
     /// the view, or in the one before, and that the node's ring is its view's by these places: it is, where the node saw its view
-    /// by them. Out of memory comes only at an input that isn't refused: where letters are sent, at a report that counts, and at a
-    /// sight; never at a letter of which nothing comes.
+    /// by them. Out of memory comes only at an input that isn't refused, and but for a sight and a nudge only where as many letters
+    /// would be sent as are known before they are made.
     pub fn plan(&self, alloc: Global, input: &Input<'_>) -> Result<Plan, StepRefusal>
         requires placed { IsPlaced self.now (input_of input.now) }
         ensures planned { Follows (step_by self.now) step_refusal_number (MayLackMemory self.now (input_of input.now)) (step self.now (input_of input.now)) result }
@@ -55,13 +55,11 @@ impl Node {
     }
 
     /// The silo's step with a letter that comes, which is never refused, as a plan: what `plan` makes of that input
-    /// (`docs/RULES.md#the-world`). Out of memory comes only where letters are sent, as many as `answer_count` says, and at a
-    /// report that counts: never at a letter that is ignored.
+    /// (`docs/RULES.md#the-world`). Out of memory comes only where as many letters would be sent as `answer_count` says.
     pub fn plan_letter(&self, alloc: Global, letter: &Letter) -> Result<Plan, AllocError>
         ensures planned { IfOk result (λ plan. step_by self.now plan ≡ received self.now letter.now) }
         ensures fits { IfOk result (λ plan. Fits plan.change self.now) }
         ensures answers { OnErr result (length (received self.now letter.now).letters ≡ answer_count self.now letter.now.body) }
-        ensures counts { OnErr result (Counts self.now letter.now) }
     {
         match letter.body() {
             Body::Request(request) => self.plan_request(alloc, letter, request),
@@ -79,7 +77,7 @@ impl Node {
         }
     }
 
-    /// How many letters the node sends by this letter, where it needs memory for it: a report is answered by none, and where a
+    /// How many letters the node sends by this letter, where it may run out of memory: a report is answered by none, and where a
     /// snapshot is missing all silos are asked.
     pub fn answer_count(&self, letter: &Letter) -> usize
         ensures { result ≡ answer_count self.now letter.now.body }

@@ -67,7 +67,7 @@ impl Node {
 
 // The new owner.
 impl Node {
-    // A page comes. Needs memory where it is put behind others, and where it is the last one: one letter is sent then.
+    // A page comes.
     pub(crate) fn plan_page(
         &self,
         alloc: Global,
@@ -187,7 +187,7 @@ impl Node {
         }
     }
 
-    // There is no snapshot: the piece recovers, and all silos are asked. Needs memory where it does.
+    // There is no snapshot: the piece recovers, and all silos are asked.
     pub(crate) fn plan_missing(
         &self,
         alloc: Global,
@@ -197,7 +197,6 @@ impl Node {
         ensures planned { IfOk result (λ plan. step_by self.now plan ≡ missing self.now letter.now range) }
         ensures fits { IfOk result (λ plan. Fits plan.change self.now) }
         ensures members { OnErr result (length (missing self.now letter.now range).letters ≡ answer_count self.now (Missing_letter range)) }
-        ensures counts { OnErr result (¬ ((missing self.now letter.now range).effect ≡ Effect.Ignored)) }
     {
         if !self.awaits(letter.version(), range, letter.from()) {
             return Ok(Plan::idle(alloc, Effect::Ignored));

@@ -1,6 +1,6 @@
 -- A request that is served from a piece.
-use Rattle.std.proofs.Common.{◌≡◌, refl, sym, ap, ◌∙◌, subst, inl, inr, ℕ, ◌==◌, List, find}
-use Rattle.std.specs.Prelude.{◌⊎◌, ◌&&◌, not, nat_lt, Bool, true, false, cond, Option, Some, None, Result, Ok, Err, IfOk, IsOkAnd, IsSomeAnd, OnOk, OnErr}
+use Rattle.std.proofs.Common.{◌≡◌, refl, sym, ap, ◌∙◌, subst, ℕ, ◌==◌, List, find}
+use Rattle.std.specs.Prelude.{◌&&◌, not, nat_lt, Bool, true, false, cond, Option, Some, None, Result, Ok, Err, IfOk, OnOk, OnErr}
 use Rattle.std.specs.Option.{option_map}
 use Rattle.std.specs.Map.{lookup, set_value}
 use Rattle.std.specs.BTreeMap.{is_at, insert_entry}
@@ -20,10 +20,8 @@ use Rattle.directory_rules.specs.declared.PieceState.{PieceState}
 use Rattle.directory_rules.specs.declared.PieceState.TheVariants.{Settled, Awaiting, Recovering}
 use Rattle.directory_rules.specs.Piece.{Piece, Holding}
 use Rattle.directory_rules.specs.Answer.{Answered, answered, answered_from, after_numbered, is_numbered, last_served, piece_with, served_by, serving_by_piece, serving_by_state, serving_piece, turned, with_piece}
-use Rattle.grain_table.specs.Memory.{puts_in}
 use Rattle.grain_partition.specs.Holdings.{ArePieces}
-use Rattle.grain_partition.specs.Memory.{IsUnserved, MayLackMemory}
-use Rattle.grain_partition.specs.Served.{IsTurnOf, PutsIn}
+use Rattle.grain_partition.specs.Served.{IsTurnOf}
 use Rattle.grain_partition.proofs.OnePiece.{at_lookup}
 use Rattle.grain_partition.proofs.Kept.{pieces-set}
 
@@ -120,19 +118,3 @@ pieces_after_turn act start old new are (Ok reply) turn stay =
     subst (λ pieces. ArePieces pieces) (sym turn.table_is)
     (pieces-set start turn.piece (record turn.piece { entries = (turned act turn.piece.entries).table }) refl old are turn.there)
 pieces_after_turn act start old new are (Err fault) turn stay = subst (λ pieces. ArePieces pieces) (sym stay) are
-
--- where serving it lacks memory, the sender has no number yet, or the piece puts an entry in
-pub may_lack : {E : Type 0} (holding : Holding) → ArePieces holding.pieces → (request : Request) (piece : Piece) → serving_piece holding request ≡ Ok piece
-    → is_numbered request.act ≡ true → (start : ℕ) → start ≡ piece.range.start → (result : Result Reply E)
-    → OnErr result (IsUnserved request.sender holding.served ⊎ PutsIn request.act start holding.pieces)
-    → OnErr result (MayLackMemory holding request)
-may_lack holding are request piece serves numbered start at (Ok reply) lacks = tt
-may_lack holding are request piece serves numbered start at (Err fault) lacks =
-    subst (λ (served : Result Piece Why). IsOkAnd served (λ its. (is_numbered request.act ≡ true) × (IsUnserved request.sender holding.served ⊎ (puts_in request.act its.entries ≡ true)))) (sym serves)
-    (numbered, elim lacks as (λ _. IsUnserved request.sender holding.served ⊎ (puts_in request.act piece.entries ≡ true)) [ inl new ↦ inl new | inr puts ↦ inr (put puts) ])
-  where
-    there : lookup (is_at (nat_cmp start)) holding.pieces ≡ Some piece
-    there = ap (λ k. lookup (is_at (nat_cmp k)) holding.pieces) at ∙ serving_found holding are request piece serves
-
-    put : PutsIn request.act start holding.pieces → puts_in request.act piece.entries ≡ true
-    put puts = subst (λ (found : Option Piece). IsSomeAnd found (λ its. puts_in request.act its.entries ≡ true)) there puts

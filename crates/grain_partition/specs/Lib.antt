@@ -6,4 +6,3 @@ pub mod Sight
 pub mod Kept
 pub mod Seen
 pub mod BySilo
-pub mod Memory

@@ -10,8 +10,7 @@ ghost use Rattle.directory_rules.specs.declared.PieceState.TheVariants.{Recoveri
 ghost use Rattle.directory_rules.specs.Sight.{all_entries, pieces_after, sealed, was_settled};
 ghost use Rattle.grain_partition.specs.Holdings.{ArePieces, HasPiece, IsHolding, tidied, settled_entries};
 ghost use Rattle.grain_partition.specs.Seen.{pieces_seen};
-ghost use Rattle.grain_partition.specs.Memory.{IsUnserved, MayLackMemory};
-ghost use Rattle.grain_partition.specs.Served.{IsTurnOf, PutsIn};
+ghost use Rattle.grain_partition.specs.Served.{IsTurnOf};
 ghost use Rattle.grain_partition.specs.Settled.{LiesSettled};
 ghost use Rattle.grain_partition.specs.Sight.{AreOfRings};
 
@@ -108,13 +107,11 @@ impl Holding {
     }
 
     /// Serves a request: answers it, and makes its change. A sender's Registers and Deregisters are served by rising numbers,
-    /// so that a late copy of one changes nothing. Fails only when memory runs out, which it may only at a Register or Deregister that
-    /// is served and is the first one of its sender at this version, or puts an entry in; then it changes nothing
+    /// so that a late copy of one changes nothing. Fails only when memory runs out, and then changes nothing
     /// (`docs/RULES.md#requests`).
     pub fn serve(&mut self, request: &HashedRequest) -> Result<Reply, AllocError>
         ensures served { IfOk result (λ reply. answered self.old request.now ≡ record { reply = reply; holding = self.new }) }
         ensures unchanged { OnErr result (self.new ≡ self.old) }
-        ensures memory { OnErr result (MayLackMemory self.old request.now) }
     {
         self.whole();
         let asked = request.request();
@@ -136,7 +133,6 @@ impl Holding {
         ensures turned { IfOk result (IsTurnOf request.now.act start self.old.pieces self.new.pieces) }
         ensures noted { OnOk result (self.new ≡ record self.old { served = insert_entry silo_cmp self.old.served request.now.sender request.now.number; pieces = self.new.pieces }) }
         ensures unchanged { OnErr result (self.new ≡ self.old) }
-        ensures memory { OnErr result (IsUnserved request.now.sender self.old.served ⊎ PutsIn request.now.act start self.old.pieces) }
     {
         serve_numbered(&mut self.pieces, &mut self.served, start, request)
     }

@@ -4,7 +4,6 @@ ghost use Rattle.directory_rules.specs.declared.PieceState.TheVariants.{Recoveri
 ghost use Rattle.directory_rules.specs.Sight.{is_settled};
 ghost use Rattle.directory_rules.specs.Table.{entries_of, entry_at, lie_in};
 ghost use Rattle.grain_partition.specs.Kept.{covers, left_of};
-ghost use Rattle.grain_table.specs.Memory.{puts_in};
 
 use directory_rules::{PieceState, Reply};
 use grain_table::{HashedRequest, Table};
@@ -143,13 +142,11 @@ impl Piece {
         self.entries.reply_to(request)
     }
 
-    // Answers what a request asks, and makes its change. Fails only when memory runs out, which it may only where an entry is put
-    // in, and then changes nothing.
+    // Answers what a request asks, and makes its change. Fails only when memory runs out, and then changes nothing.
     pub(crate) fn turn(&mut self, request: &HashedRequest) -> Result<Reply, AllocError>
         ensures reply { IfOk result (λ reply. reply ≡ (turned request.now.act self.old.entries).reply) }
         ensures table { OnOk result (self.new ≡ record self.old { entries = (turned request.now.act self.old.entries).table }) }
         ensures unchanged { OnErr result (self.new ≡ self.old) }
-        ensures memory { OnErr result (puts_in request.now.act self.old.entries ≡ true) }
     {
         self.entries.turn(request)
     }

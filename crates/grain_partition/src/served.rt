@@ -1,14 +1,13 @@
 //! Serving a numbered request: the piece's turn, and the sender's number. Either may need room, so the number is noted
 //! first, and unnoted where the piece finds no room.
-ghost use Rattle.std.specs.Prelude.{◌≡◌, ◌⊎◌, Some, IfOk, OnOk, OnErr, IsSome};
+ghost use Rattle.std.specs.Prelude.{◌≡◌, Some, IfOk, OnOk, OnErr, IsSome};
 ghost use Rattle.std.specs.BTreeMap.{insert_entry, is_at};
 ghost use Rattle.std.specs.Map.{lookup, set_value};
 ghost use Rattle.std.specs.Ordering.{nat_cmp};
 ghost use Rattle.silo_address.specs.Silo.{silo_cmp};
 ghost use Rattle.directory_rules.specs.Answer.{turned};
 ghost use Rattle.directory_rules.specs.Piece.{Piece as PieceValue};
-ghost use Rattle.grain_partition.specs.Memory.{IsUnserved};
-ghost use Rattle.grain_partition.specs.Served.{IsTurnOf, PutsIn, number_before};
+ghost use Rattle.grain_partition.specs.Served.{IsTurnOf, number_before};
 
 use crate::Piece;
 use directory_rules::{Reply, Request};
@@ -17,8 +16,7 @@ use silo_address::SiloAddress;
 use std::alloc::AllocError;
 use std::collections::BTreeMap;
 
-/// Serves a numbered request from the piece that begins at the start. Fails only when memory runs out, which it may only where the
-/// sender has no number yet or an entry is put in, and then changes nothing.
+/// Serves a numbered request from the piece that begins at the start. Fails only when memory runs out, and then changes nothing.
 pub(crate) fn serve_numbered(
     pieces: &mut BTreeMap<u32, Piece>,
     served: &mut BTreeMap<SiloAddress, u64>,
@@ -30,7 +28,6 @@ pub(crate) fn serve_numbered(
     ensures noted { OnOk result (served.new.entries ≡ insert_entry silo_cmp served.old.entries request.now.sender request.now.number) }
     ensures pieces_stay { OnErr result (pieces.new.entries ≡ pieces.old.entries) }
     ensures served_stay { OnErr result (served.new.entries ≡ served.old.entries) }
-    ensures memory { OnErr result (IsUnserved request.now.sender served.old.entries ⊎ PutsIn request.now.act start pieces.old.entries) }
 {
     let Request { sender, number, .. } = *request.request();
     let before = served.insert(sender, number)?;
@@ -53,7 +50,6 @@ fn turn_at(
     requires { IsSome (lookup (is_at (nat_cmp start)) pieces.old.entries) }
     ensures turned { IfOk result (IsTurnOf request.now.act start pieces.old.entries pieces.new.entries) }
     ensures unchanged { OnErr result (pieces.new.entries ≡ pieces.old.entries) }
-    ensures memory { OnErr result (PutsIn request.now.act start pieces.old.entries) }
 {
     let piece = pieces.get_mut(&start).unwrap();
     piece.turn(request)

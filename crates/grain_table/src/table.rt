@@ -1,6 +1,6 @@
 ghost use Rattle.std.specs.List.Sorted.{IsStrictlySortedBy};
 ghost use Rattle.std.specs.Map.{keys_of};
-ghost use Rattle.std.specs.Prelude.{◌≡◌, [], IfOk, None, OnOk, OnErr, fold, length, is_none};
+ghost use Rattle.std.specs.Prelude.{◌≡◌, [], IfOk, OnOk, OnErr, fold, length, is_none};
 ghost use Rattle.silo_address.specs.Grain.{grain_cmp};
 ghost use Rattle.directory_rules.specs.Recovery.{with_reported};
 ghost use Rattle.directory_rules.specs.Table.{entries_of, entry_at, with_entry, without_grain};
@@ -81,13 +81,12 @@ impl Table {
         self.put(key, entry.activation)
     }
 
-    /// Puts the entry in where its grain has none, and answers whether it did. Fails only when memory runs out, never where the
-    /// grain has an entry, and then changes nothing.
+    /// Puts the entry in where its grain has none, and answers whether it did. Fails only when memory runs out, and then changes
+    /// nothing.
     pub fn insert_new(&mut self, entry: &Entry) -> Result<bool, AllocError>
         ensures put { OnOk result (self.new ≡ record self.old { entries = with_reported self.old.entries entry.now }) }
         ensures is_new { IfOk result (λ is_new. is_new ≡ is_none (entry_at entry.now.grain self.old.entries)) }
         ensures unchanged { OnErr result (self.new ≡ self.old) }
-        ensures memory { OnErr result (entry_at entry.now.grain self.old.entries ≡ None) }
     {
         let key = key_of(self.hashing, &entry.grain);
         if self.at(&key).is_some() {

@@ -1,4 +1,4 @@
-ghost use Rattle.std.specs.Prelude.{◌≡◌, ◌↔◌, length, Some, None, IsTrue, IfOk, IsErrOf, OnOk, OnErr};
+ghost use Rattle.std.specs.Prelude.{◌≡◌, ◌↔◌, length, Some, IsTrue, IfOk, IsErrOf, OnOk, OnErr};
 ghost use Rattle.directory_rules.specs.Cache.{cache_seeing, hint_of, learnt, new_cache, without_pair};
 ghost use Rattle.lookup_cache.specs.Capacity.{IsCache, IsCapacity};
 ghost use Rattle.lookup_cache.specs.Used.{used};
@@ -83,11 +83,10 @@ impl Cache {
     }
 
     /// Learns where a grain is: the hint stands in front, in place of one of its grain, and the last one goes where there are too
-    /// many. Fails only when memory runs out, never where the grain has a hint already, and then changes nothing.
+    /// many. Fails only when memory runs out, and then changes nothing.
     pub fn learn(&mut self, entry: Entry) -> Result<(), AllocError>
         ensures learnt { OnOk result (self.new ≡ learnt self.old entry) }
         ensures unchanged { OnErr result (self.new ≡ self.old) }
-        ensures memory { OnErr result (hint_of self.old entry.grain ≡ None) }
     {
         let _len = self.hints.len();
         self.hints.put(entry.grain, entry.activation)?;

@@ -1,5 +1,5 @@
 //! The cache of a node, which is none where the settings keep no entry (`docs/RULES.md#the-cache`).
-ghost use Rattle.std.specs.Prelude.{◌≡◌, ◌↔◌, IsTrue, IfOk, None, OnErr, OnOk};
+ghost use Rattle.std.specs.Prelude.{◌≡◌, ◌↔◌, IsTrue, IfOk, OnErr, OnOk};
 ghost use Rattle.directory_rules.specs.Cache.{cache_seeing, hint_of, learnt, new_cache, without_pair};
 ghost use Rattle.lookup_cache.specs.Used.{used};
 ghost use Rattle.node_plans.specs.CacheModel.{cache_of};
@@ -36,11 +36,10 @@ pub fn hint_in(cache: &Option<Cache>, grain: &GrainId) -> Option<ActivationId>
     }
 }
 
-/// An entry is learnt. Fails only when memory runs out, never where there is a hint of the grain already, and then changes nothing.
+/// An entry is learnt. Fails only when memory runs out, and then changes nothing.
 pub fn learn(cache: &mut Option<Cache>, entry: Entry) -> Result<(), AllocError>
     ensures learnt { OnOk result (cache_of cache.new ≡ learnt (cache_of cache.old) entry) }
     ensures unchanged { OnErr result (cache.new ≡ cache.old) }
-    ensures memory { OnErr result (hint_of (cache_of cache.old) entry.grain ≡ None) }
 {
     match cache {
         Some(cache) => cache.learn(entry),

@@ -3,7 +3,7 @@ ghost use Rattle.std.specs.BTreeMap.{is_at};
 ghost use Rattle.std.specs.List.Sorted.{IsStrictlySortedBy};
 ghost use Rattle.std.specs.Map.{keys_of, lookup, set_value};
 ghost use Rattle.std.specs.Ordering.{nat_cmp};
-ghost use Rattle.std.specs.Prelude.{◌≡◌, ◌≢◌, ◌↔◌, [], if◌then◌else◌, false, is_ok, IsOk, IsSomeAnd, IsTrue, IfOk, OnErr, OnOk, None, Ok, Some};
+ghost use Rattle.std.specs.Prelude.{◌≡◌, ◌↔◌, if◌then◌else◌, false, is_ok, IsTrue, IfOk, OnErr, OnOk, None, Ok, Some};
 ghost use Rattle.directory_rules.specs.Recovery.{Recovery as RecoveryValue, recovered, with_report};
 ghost use Rattle.range_recovery.specs.Progress.{progress_of};
 
@@ -11,8 +11,8 @@ use range_recovery::{Progress, Recovery, RecoveryError, Report};
 use std::alloc::AllocError;
 use std::collections::BTreeMap;
 
-/// The report goes to the recovery of its range, if there is one: whether all have reported now. Fails only when memory runs out at a
-/// report with entries that its recovery takes, and then changes nothing.
+/// The report goes to the recovery of its range, if there is one: whether all have reported now. Fails only when memory runs out, and
+/// then changes nothing.
 pub fn take_report(
     recoveries: &mut BTreeMap<u32, Recovery>,
     report: &Report,
@@ -28,8 +28,6 @@ pub fn take_report(
     ensures absent { IfOk result (λ complete. lookup (is_at (nat_cmp report.now.range.start)) recoveries.old.entries ≡ None → complete ≡ false) }
     ensures left { OnOk result (lookup (is_at (nat_cmp report.now.range.start)) recoveries.old.entries ≡ None → recoveries.new.entries ≡ recoveries.old.entries) }
     ensures unchanged { OnErr result (recoveries.new.entries ≡ recoveries.old.entries) }
-    ensures memory { OnErr result (IsSomeAnd (lookup (is_at (nat_cmp report.now.range.start)) recoveries.old.entries) (λ recovery. IsOk (progress_of (recovered recovery report.now)))) }
-    ensures entries { OnErr result (report.now.entries ≢ []) }
     ensures in_order { IsStrictlySortedBy nat_cmp (keys_of recoveries.old.entries) }
 {
     let Some(recovery) = recoveries.get_mut(&report.range().start()) else {

@@ -14,7 +14,7 @@ use Rattle.directory_rules.specs.Node.{Node}
 use Rattle.directory_rules.specs.Settings.{Settings, AreSettings}
 use Rattle.directory_rules.specs.Step.{Stepped, silently}
 use Rattle.script_rules.specs.Lines.{happening_words, refusal_line}
-use Rattle.silo_rules.specs.Membership.{Change, Join, Leave, Die, Membership, changed}
+use Rattle.directory_rules.specs.Membership.{Change, Join, Leave, Die, Membership, changed}
 use Rattle.silo_rules.specs.SiloValue.{SiloValue, own_status, told_of_its_join}
 use Rattle.silo_rules.specs.Steps.{barred, unless_barred, is_seeable, sight_of, seen, does, sees}
 use Rattle.silo_rules.specs.Told.{Heard, told}

@@ -16,7 +16,7 @@ use Rattle.directory_rules.specs.Node.{Node, new_node}
 use Rattle.directory_rules.specs.Settings.{Settings}
 use Rattle.directory_rules.specs.Step.{Stepped, silently}
 use Rattle.script_rules.specs.Lines.{happening_words, refusal_line}
-use Rattle.silo_rules.specs.Membership.{Change, Join, Leave, Die}
+use Rattle.directory_rules.specs.Membership.{Change, Join, Leave, Die}
 use Rattle.silo_rules.specs.SiloValue.{SiloValue, own_status, told_of_its_join}
 use Rattle.silo_rules.specs.Steps.{barred, barred_by, unless_barred, seen, does}
 use Rattle.silo_rules.specs.Told.{Heard, told}

@@ -26,7 +26,7 @@ use Rattle.directory_rules.specs.Step.{Stepped, silently}
 use Rattle.script_rules.specs.Lines.{happening_words, refusal_line}
 use Rattle.silo_rules.specs.declared.news.News.TheVariants.{Known}
 use Rattle.silo_rules.specs.Known.{is_known}
-use Rattle.silo_rules.specs.Membership.{Change, Join, Leave, Die, Membership, changed, joined, placed, replaced_by, with_places, with_views}
+use Rattle.directory_rules.specs.Membership.{Change, Join, Leave, Die, Membership, changed, joined, placed, replaced_by, with_places, with_views}
 use Rattle.silo_rules.specs.SiloValue.{SiloValue, own_status, told_of_its_join}
 use Rattle.silo_rules.specs.Steps.{barred_by, unless_barred, does, receives, seen, sees}
 use Rattle.silo_rules.specs.Told.{Heard, heard_by, told}

@@ -1,4 +1,4 @@
-ghost use Rattle.std.specs.Prelude.{◌≡◌, ◌≢◌, ◌+◌, ◌<◌, ◌≤◌, [], fold, length, vec_len, vec_capacity, OnOk, OnErr};
+ghost use Rattle.std.specs.Prelude.{◌≡◌, ◌+◌, ◌<◌, ◌≤◌, fold, length, vec_len, vec_capacity, OnOk, OnErr};
 ghost use Rattle.directory_rules.specs.Recovery.{with_reported};
 ghost use Rattle.range_recovery.specs.Gathered.{without_grains};
 
@@ -6,8 +6,7 @@ use grain_table::Table;
 use silo_address::{Entry, GrainId};
 use std::alloc::{AllocError, Global};
 
-/// Puts in the entries of a report, each whose grain has none yet. What was put in is taken out again when memory runs out, which
-/// it may only where there are entries.
+/// Puts in the entries of a report, each whose grain has none yet. What was put in is taken out again when memory runs out.
 pub(crate) fn gather(
     alloc: Global,
     gathered: &mut Table,
@@ -15,7 +14,6 @@ pub(crate) fn gather(
 ) -> Result<(), AllocError>
     ensures gathered { OnOk result (gathered.new.entries ≡ fold with_reported gathered.old.entries entries.now) }
     ensures unchanged { OnErr result (gathered.new.entries ≡ gathered.old.entries) }
-    ensures memory { OnErr result (entries.now ≢ []) }
 {
     let mut new = Vec::with_capacity(alloc, entries.len())?;
     match gather_each(gathered, entries, &mut new) {
@@ -36,7 +34,6 @@ fn gather_each(
     requires room { vec_len new.old + length entries.now ≤ vec_capacity new.old }
     ensures gathered { OnOk result (gathered.new.entries ≡ fold with_reported gathered.old.entries entries.now) }
     ensures noted { without_grains new.new.items gathered.new.entries ≡ without_grains new.old.items gathered.old.entries }
-    ensures memory { OnErr result (entries.now ≢ []) }
 {
     for entry in entries {
         gather_one(gathered, entry, new)?;

@@ -1,4 +1,4 @@
-ghost use Rattle.std.specs.Prelude.{◌≡◌, ◌≢◌, ◌↔◌, ◌==◌, ◌&&◌, [], length, IsTrue, IfOk, IfErr, IsErrOf, OnOk, OnErr, Ok, if◌then◌else◌};
+ghost use Rattle.std.specs.Prelude.{◌≡◌, ◌↔◌, ◌==◌, ◌&&◌, length, IsTrue, IfOk, IfErr, OnOk, OnErr, Ok, if◌then◌else◌};
 ghost use Rattle.ring_range.specs.Range.{range_eq};
 ghost use Rattle.directory_rules.specs.Recovery.{new_recovery, recovered, with_report};
 ghost use Rattle.range_recovery.specs.Kept.{IsRecovery};
@@ -120,8 +120,7 @@ impl Recovery {
     }
 
     /// Takes a report: of each grain that has no entry yet the first one. Refuses by 751 one of another version or range, then by
-    /// 752 one of a silo that was never awaited, then by 753 one of a silo that has reported. A report without entries needs no
-    /// memory.
+    /// 752 one of a silo that was never awaited, then by 753 one of a silo that has reported.
     pub fn take(&mut self, report: &Report) -> Result<Progress, RecoveryError>
         ensures reached { IfOk result (λ progress. Reaches progress self.new (recovered self.old report.now)) }
         ensures taken { OnOk result (self.new ≡ with_report self.old report.now) }
@@ -129,7 +128,6 @@ impl Recovery {
         // Only a report that nothing refuses can run out of memory.
         ensures refused { IfErr result (RefusesOrLacksMemory self.old report.now) }
         ensures unchanged { OnErr result (self.new ≡ self.old) }
-        ensures memory { IsErrOf result RecoveryError.OutOfMemory → report.now.entries ≢ [] }
     {
         let progress = self.progress_with(report)?;
         match gather(self.alloc, &mut self.gathered, report.entries()) {

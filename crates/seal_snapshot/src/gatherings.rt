@@ -1,5 +1,5 @@
 ghost use lib.Pointwise.{pointwise};
-ghost use Rattle.std.specs.Prelude.{◌≡◌, ◌≢◌, ◌↔◌, ◌==◌, ◌<◌, ◌++◌, ℕ, List, [], flat_map, length, IsTrue, IfOk, IfErr, IsErrOf, OnOk, OnErr, Ok, MatchResult};
+ghost use Rattle.std.specs.Prelude.{◌≡◌, ◌↔◌, ◌==◌, ◌<◌, ◌++◌, ℕ, List, flat_map, length, IsTrue, IfOk, IfErr, OnOk, Ok, MatchResult};
 ghost use Rattle.sha2.specs.Hashers.{Holds256};
 ghost use Rattle.sha2.specs.Sha256.{sha256};
 ghost use Rattle.directory_rules.specs.Gatherings.{agrees, gathered, is_entry_count, is_in_turn, new_gathering, with_page};
@@ -109,14 +109,13 @@ impl Gathering {
     /// Takes a page: its entries go behind those of the pages before it. Refuses by 703 one of another version or range, then by
     /// 702 one that isn't the next one of the snapshot whose pages were taken, then by 701 the last one if the digest isn't that
     /// of all entries: nothing is left of them then, and the first page is wanted again. Nothing else that is refused changes
-    /// anything. A page without entries needs no memory.
+    /// anything.
     pub fn take(&mut self, page: &Page) -> Result<Progress, GatheringError>
         ensures reached { IfOk result (λ progress. Reaches progress self.new (gathered self.old page.now)) }
         ensures taken { OnOk result (self.new ≡ with_page self.old page.now) }
 
         // Only a page that nothing refuses can run out of memory.
         ensures refused { IfErr result (λ fault. IsRefusedOrLacksMemory fault self.old self.new (gathered self.old page.now)) }
-        ensures memory { IsErrOf result GatheringError.OutOfMemory → page.now.entries ≢ [] }
     {
         self.check(page)?;
         let hasher = self.hasher_after(page);
@@ -184,7 +183,6 @@ impl Gathering {
         requires taken { Holds256 hasher (flat_map digest_line (self.old.entries ++ page.now.entries)) }
         ensures added { OnOk result (self.new ≡ with_page self.old page.now) }
         ensures unchanged { IfErr result (λ fault. (fault ≡ GatheringError.OutOfMemory) × (self.new ≡ self.old)) }
-        ensures memory { OnErr result (page.now.entries ≢ []) }
     {
         let whole = Whole {
             pages: page.pages(),

@@ -1,9 +1,8 @@
 //! A table's turn at a request.
-ghost use Rattle.std.specs.Prelude.{◌≡◌, [], true, IfOk, OnOk, OnErr};
+ghost use Rattle.std.specs.Prelude.{◌≡◌, [], IfOk, OnOk, OnErr};
 ghost use Rattle.directory_rules.specs.Answer.{deregistered_from, found_reply, is_previous, registered_over, turned};
 ghost use Rattle.directory_rules.specs.Table.{entry_at};
 ghost use Rattle.grain_table.specs.Hashed.{IsKeyOf};
-ghost use Rattle.grain_table.specs.Memory.{is_put_in, puts_in};
 
 use super::Table;
 use crate::HashedRequest;
@@ -25,13 +24,12 @@ impl Table {
         }
     }
 
-    /// Answers what a request asks, and makes its change. Fails only when memory runs out, which it may only where an entry is
-    /// put in, and then changes nothing (`docs/RULES.md#requests`).
+    /// Answers what a request asks, and makes its change. Fails only when memory runs out, and then changes nothing
+    /// (`docs/RULES.md#requests`).
     pub fn turn(&mut self, request: &HashedRequest) -> Result<Reply, AllocError>
         ensures reply { IfOk result (λ reply. reply ≡ (turned request.now.act self.old.entries).reply) }
         ensures table { OnOk result (self.new ≡ record self.old { entries = (turned request.now.act self.old.entries).table }) }
         ensures unchanged { OnErr result (self.new ≡ self.old) }
-        ensures memory { OnErr result (puts_in request.now.act self.old.entries ≡ true) }
     {
         let key = request.key(self.hashing);
         match &request.request().act {
@@ -52,7 +50,6 @@ impl Table {
         ensures reply { IfOk result (λ reply. reply ≡ (registered_over (entry_at entry.now.grain self.old.entries) entry.now previous self.old.entries).reply) }
         ensures table { OnOk result (self.new ≡ record self.old { entries = (registered_over (entry_at entry.now.grain self.old.entries) entry.now previous self.old.entries).table }) }
         ensures unchanged { OnErr result (self.new ≡ self.old) }
-        ensures memory { OnErr result (is_put_in (entry_at entry.now.grain self.old.entries) entry.now previous ≡ true) }
     {
         if let Some(there) = self.at(&key) {
             if there.activation == entry.activation {

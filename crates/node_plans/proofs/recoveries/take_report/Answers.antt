@@ -1,12 +1,11 @@
 use Rattle.std.proofs.Common.{◌≡◌, refl, sym, subst, ap, ◌∙◌, ℕ, Some}
-use Rattle.std.specs.Prelude.{IsOk, IsSomeAnd, Option}
 use Rattle.std.specs.Map.{lookup, set_value}
 use Rattle.std.specs.BTreeMap.{is_at}
 use Rattle.std.specs.Ordering.{nat_cmp}
 use Rattle.std.proofs.lemmas.Map.Steps.{set_value_same}
 use Rattle.ring_range.specs.Range.{Range}
-use Rattle.directory_rules.specs.Recovery.{Recovery, recovered}
-use Rattle.range_recovery.specs.Progress.{RefusesOrLacksMemory, progress_of}
+use Rattle.directory_rules.specs.Recovery.{Recovery}
+use Rattle.range_recovery.specs.Progress.{RefusesOrLacksMemory}
 use Rattle.node_plans.proofs.TakenReports.{refused_is}
 use Rattle.node_plans.proofs.recoveries.take_report.Goals as goal
 
@@ -25,8 +24,6 @@ returns-in-Err-WrongVersion c =
       absent = λ none. refl;
       left = λ none. same;
       unchanged = tt;
-      memory = tt;
-      entries = tt;
       in_order = c.get_mut.ensures.ordered;
     }
 
@@ -45,8 +42,6 @@ returns-in-Err-Stranger c =
       absent = λ none. refl;
       left = λ none. same;
       unchanged = tt;
-      memory = tt;
-      entries = tt;
       in_order = c.get_mut.ensures.ordered;
     }
 
@@ -65,8 +60,6 @@ returns-in-Err-Twice c =
       absent = λ none. refl;
       left = λ none. same;
       unchanged = tt;
-      memory = tt;
-      entries = tt;
       in_order = c.get_mut.ensures.ordered;
     }
 
@@ -76,13 +69,3 @@ returns-in-Err-OutOfMemory-clause-unchanged c =
     (c.get_mut.follows.holds c.take.new.self).0
     ∙ ap (λ r. set_value (is_at (nat_cmp c.start.result)) old r) c.in-Err-OutOfMemory.ensures.unchanged
     ∙ set_value_same (is_at (nat_cmp c.start.result)) old c.in-Some.recovery.now (sym c.in-Some.ensures.value)
-
-pub returns-in-Err-OutOfMemory-clause-memory : goal.returns-in-Err-OutOfMemory-clause-memory
-returns-in-Err-OutOfMemory-clause-memory c =
-    let old = c.args.recoveries.now.entries in
-    let report = c.args.report.now in
-    let its = c.in-Some.recovery.now in
-    let start : c.start.result ≡ report.range.start = c.start.ensures ∙ ap (λ (r : Range). r.start) c.range.ensures in
-    let there : lookup (is_at (nat_cmp report.range.start)) old ≡ Some its = sym (ap (λ (s : ℕ). lookup (is_at (nat_cmp s)) old) start) ∙ sym c.in-Some.ensures.value in
-    let taken = subst (λ f. RefusesOrLacksMemory its report f) c.in-Err-OutOfMemory.field-0-is c.in-Err-OutOfMemory.ensures.refused in
-    subst (λ (found : Option Recovery). IsSomeAnd found (λ recovery. IsOk (progress_of (recovered recovery report)))) (sym there) taken

@@ -9,7 +9,6 @@ use Rattle.directory_rules.specs.Transfer.{awaits}
 use Rattle.node_plans.specs.Plans.{recovering_by}
 use Rattle.node_plans.proofs.Gatherings.{missing_count, missing_is}
 use Rattle.node_plans.proofs.Results.{on_err}
-use Rattle.directory_node.proofs.Ignored.{missing_heeded}
 use Rattle.directory_node.proofs.node.Node.plan_missing.Goals as goal
 
 pub returns-in_err-recovery-clause-members : goal.returns-in_err-recovery-clause-members
@@ -23,18 +22,6 @@ returns-in-Err-clause-members c =
     let awaited : awaits c.args.self.now c.args.letter.now.version c.args.range c.args.letter.now.from ≡ true =
     cc (c.awaits.ensures, c.if-not-awaits.false, c.version.ensures, c.from.ensures) in
     missing_count c.args.self.now c.args.letter.now c.args.range awaited
-
-pub returns-in_err-recovery-clause-counts : goal.returns-in_err-recovery-clause-counts
-returns-in_err-recovery-clause-counts c =
-    let awaited : awaits c.args.self.now c.args.letter.now.version c.args.range c.args.letter.now.from ≡ true =
-    cc (c.awaits.ensures, c.if-not-awaits.false, c.version.ensures, c.from.ensures) in
-    on_err c.from_residual.result (missing_heeded c.args.self.now c.args.letter.now c.args.range awaited)
-
-pub returns-in-Err-clause-counts : goal.returns-in-Err-clause-counts
-returns-in-Err-clause-counts c =
-    let awaited : awaits c.args.self.now c.args.letter.now.version c.args.range c.args.letter.now.from ≡ true =
-    cc (c.awaits.ensures, c.if-not-awaits.false, c.version.ensures, c.from.ensures) in
-    missing_heeded c.args.self.now c.args.letter.now c.args.range awaited
 
 pub returns-in-Ok-clause-planned : goal.returns-in-Ok-clause-planned
 returns-in-Ok-clause-planned c =

@@ -6,7 +6,7 @@ use Rattle.ring_range.specs.Range.{Range}
 use Rattle.directory_rules.specs.declared.act.Request.{Request}
 use Rattle.directory_rules.specs.Answer.{is_numbered, serving_piece}
 use Rattle.directory_rules.specs.Piece.{Piece}
-use Rattle.grain_partition.proofs.ServedFrom.{serving_found, answer_after, may_lack}
+use Rattle.grain_partition.proofs.ServedFrom.{serving_found, answer_after}
 use Rattle.grain_partition.proofs.holdings.Holding.serve.Goals as goal
 
 pub serve_from-requires : goal.serve_from-requires
@@ -25,11 +25,3 @@ returns-clause-served c =
     let numbered = ap (λ (asked : Request). is_numbered asked.act) (sym c.request-asked.ensures) ∙ sym c.is_numbered.ensures ∙ c.if-not-is_numbered.false in
     answer_after c.args.self.now c.serve_from.new.self c.whole.ensures c.args.request.now piece serves numbered
     c.start-start.result at c.serve_from.result c.serve_from.ensures.turned c.serve_from.ensures.noted
-
-pub returns-clause-memory : goal.returns-clause-memory
-returns-clause-memory c =
-    let piece : Piece = c.in-Ok.piece.now in
-    let at : c.start-start.result ≡ piece.range.start = c.start-start.ensures ∙ ap (λ (r : Range). r.start) c.range.ensures in
-    let serves : serving_piece c.args.self.now c.args.request.now ≡ Ok piece = subst (λ (asked : Request). serving_piece c.args.self.now asked ≡ Ok piece) c.request-asked.ensures c.in-Ok.ensures in
-    let numbered = ap (λ (asked : Request). is_numbered asked.act) (sym c.request-asked.ensures) ∙ sym c.is_numbered.ensures ∙ c.if-not-is_numbered.false in
-    may_lack c.args.self.now c.whole.ensures c.args.request.now piece serves numbered c.start-start.result at c.serve_from.result c.serve_from.ensures.memory
