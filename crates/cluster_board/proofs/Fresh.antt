@@ -5,6 +5,7 @@ use Rattle.std.specs.Ordering.{nat_cmp}
 use Rattle.std.specs.Map.{lookup}
 use Rattle.std.specs.BTreeMap.{is_at}
 use Rattle.std.proofs.lemmas.Bool.Decides.{nat_tests}
+use Rattle.texts.proofs.Orderings.{Equal-from}
 use Rattle.silo_address.specs.Silo.{Silo, silo_cmp}
 use Rattle.silo_address.proofs.Order.{silo_cmp_exact}
 use Rattle.directory_rules.specs.Laws.{RiseBetween}
@@ -12,7 +13,6 @@ use Rattle.directory_rules.specs.Letter.{Letter}
 use Rattle.directory_rules.specs.Mail.{letter_of}
 use Rattle.directory_rules.specs.World.{Posted, World}
 use Rattle.directory_rules.proofs.Cases.{on_bool}
-use Rattle.membership_view.proofs.Entries.{Equal-from}
 
 abbrev Mail : Type 0
 Mail = List (ℕ × Posted)

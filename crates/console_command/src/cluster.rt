@@ -7,7 +7,7 @@ ghost use Rattle.console_command.specs.Play.{lines_played, long_lines_are_faults
 
 use crate::commands::perform;
 use directory_core::World;
-use line_loop::{LineFault, LinePlayer};
+use line_loop::{LineFault, LinePlayer, MOST_BEGUN, MOST_OF_SCRIPT};
 use script_lines::{ReadError, read_command, without_return, write_fault};
 use std::alloc::{AllocError, Global};
 
@@ -30,9 +30,9 @@ impl LinePlayer for Cluster {
 
     ghost countable = { Prim.omega arith };
 
-    const MOST_KEPT: usize = 8193;
+    const MOST_KEPT: usize = MOST_BEGUN;
 
-    const MOST_READ: u64 = 268_435_456;
+    const MOST_READ: u64 = MOST_OF_SCRIPT;
 
     fn play_line(
         &mut self,

@@ -6,7 +6,7 @@ ghost use Rattle.script_lines.specs.CommandModel.{command_of};
 ghost use Rattle.line_loop.specs.Scripts.{most_begun, most_read};
 ghost use Rattle.console_threads.specs.Kept.{PlaysAndKeeps, long_lines};
 
-use line_loop::{LineFault, LinePlayer};
+use line_loop::{LineFault, LinePlayer, MOST_BEGUN, MOST_OF_SCRIPT};
 use script_lines::{Command, ReadError, read_command, without_return, write_fault};
 use std::alloc::{AllocError, Global};
 
@@ -29,9 +29,9 @@ impl LinePlayer for Script {
 
     ghost countable = { Prim.omega arith };
 
-    const MOST_KEPT: usize = 8193;
+    const MOST_KEPT: usize = MOST_BEGUN;
 
-    const MOST_READ: u64 = 268_435_456;
+    const MOST_READ: u64 = MOST_OF_SCRIPT;
 
     fn play_line(
         &mut self,

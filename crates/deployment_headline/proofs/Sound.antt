@@ -10,13 +10,12 @@ use Rattle.std.proofs.lemmas.List.{drop-append-le}
 use Rattle.silo_address.specs.Silo.{Silo, silo_cmp, silo_eq}
 use Rattle.silo_address.proofs.Order.{silo_cmp_total, silo_cmp_exact}
 use Rattle.membership_view.specs.Changes.{occupant}
-use Rattle.membership_view.proofs.Entries.{sorted-insert_entry}
+use Rattle.texts.proofs.Entries.{sorted-insert_entry, sorted-remove_entry}
 use Rattle.directory_rules.specs.declared.effect.Effect.TheVariants.{Ignored}
 use Rattle.directory_rules.specs.Settings.{Settings}
 use Rattle.directory_rules.specs.Letter.{Letter}
 use Rattle.directory_rules.specs.Step.{Stepped, silently}
 use Rattle.directory_rules.specs.Input.{Input, Does, Receives, step, sight_of}
-use Rattle.directory_rules.proofs.Removed.{sorted_removed}
 use Rattle.directory_facts.proofs.Entries.{all_put, all_removed, found_so, same_key}
 use Rattle.silo_rules.specs.declared.news.News.TheVariants.{Known}
 use Rattle.silo_rules.specs.Known.{is_known}
@@ -207,7 +206,7 @@ module _ (d : Deployment) (sound : Sound d) where
 
     without_sorted : (old : Option Silo) → IsStrictlySortedBy silo_cmp (keys_of (without old d.processes))
     without_sorted None = sound.sorted
-    without_sorted (Some silo) = sorted_removed silo_cmp (is_at (silo_cmp silo)) d.processes sound.sorted
+    without_sorted (Some silo) = sorted-remove_entry (is_at (silo_cmp silo)) silo_cmp d.processes sound.sorted
 
     processes_sorted : (how : Change) → IsStrictlySortedBy silo_cmp (keys_of (processes_after d how))
     processes_sorted (Join silo stated) =

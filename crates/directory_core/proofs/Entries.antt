@@ -1,4 +1,4 @@
--- Entries in the order of their keys: one that is put in at a key that is there, and one that is put in and taken out again.
+-- Entries in the order of their keys: one that is put in at a key that is there, and one that is taken out before another is put in.
 use Rattle.std.proofs.Common.{◌≡◌, List, [], ◌∷◌, cond, Bool, true, false, Option, Some, None, IsSome, refl, sym, ◌∙◌, ap, subst}
 use Rattle.std.specs.Cmp.{IsTotalOrder}
 use Rattle.std.specs.List.{AllByRecursion}
@@ -8,7 +8,6 @@ use Rattle.std.specs.BTreeMap.{is_at, insert_entry}
 use Rattle.std.specs.Ordering.{is_eq, match_ordering}
 use Rattle.std.specs.declared.cmp.Ordering.{Ordering}
 use Rattle.std.specs.declared.cmp.Ordering.TheVariants.{Less, Equal, Greater}
-use Rattle.std.proofs.lemmas.Cmp.{tied_itself}
 use Rattle.std.proofs.lemmas.Option.{same_Some}
 use Rattle.std.proofs.lemmas.Map.Keys.{sorted_head, sorted_tail}
 
@@ -44,20 +43,6 @@ pub put_at : {K X : Type 0} (R : K → K → Ordering) (o : IsTotalOrder R) (k :
 put_at R o k es sorted lent found left change there is left_is =
     ap (λ v. set_value (is_at (R k)) es v) (left_is ∙ ap change (same_Some lent found (there ∙ is)))
     ∙ sym (put_there R o k (change found) es sorted (subst (λ e. IsSome e) (sym is) refl))
-
--- what was put in at a new key and is taken out again leaves the entries as they were
-pub taken_back : {K X : Type 0} (R : K → K → Ordering) (o : IsTotalOrder R) (k : K) (v : X) (es : List (K × X)) → lookup (is_at (R k)) es ≡ None
-    → remove_entry (is_at (R k)) (insert_entry R es k v) ≡ es
-taken_back R o k v [] none = ap (λ r. cond (is_eq r) [] ((k, v) ∷ [])) (tied_itself o k)
-taken_back {K} {X} R o k v (e ∷ es) none = by (R k e.0) refl (λ later. taken_back R o k v es later) none
-  where
-    by : (r : Ordering) → R k e.0 ≡ r → (lookup (is_at (R k)) es ≡ None → remove_entry (is_at (R k)) (insert_entry R es k v) ≡ es)
-        → cond (is_eq r) (Some e.1) (lookup (is_at (R k)) es) ≡ None
-        → remove_entry (is_at (R k)) (match_ordering r ((k, v) ∷ e ∷ es) ((e.0, v) ∷ es) (e ∷ insert_entry R es k v)) ≡ e ∷ es
-    by Less h later none = ap (λ q. cond (is_eq q) (e ∷ es) ((k, v) ∷ remove_entry (is_at (R k)) (e ∷ es))) (tied_itself o k)
-    by Equal h later none = cc
-    by Greater h later none =
-        ap (λ q. cond (is_eq q) (insert_entry R es k v) (e ∷ remove_entry (is_at (R k)) (insert_entry R es k v))) h ∙ ap (λ (l : List (K × X)). e ∷ l) (later none)
 
 -- an entry put in before all others
 put_first : {K X : Type 0} (R : K → K → Ordering) (o : IsTotalOrder R) (k first : K) (v : X) (es : List (K × X)) → R k first ≡ Less → AllByRecursion (λ y. R first y ≡ Less) (keys_of es)

@@ -24,7 +24,7 @@ use Rattle.letter_mail.specs.Mail.{with_lost as lost_mail}
 use Rattle.directory_core.specs.Join.{nodes_without, with_admitted}
 use Rattle.directory_core.specs.Steps.{after_step}
 use Rattle.directory_core.specs.Whole.{IsWorld}
-use Rattle.directory_core.proofs.Entries.{taken_back, taken_before}
+use Rattle.directory_core.proofs.Entries.{taken_before}
 
 -- what is there
 pub found_of : {X : Type 0} (found : Option X) → IsSome found → (x : X) × (found ≡ Some x)
@@ -149,13 +149,3 @@ kept_admitted world now same silo given views places nodes is views_are added no
     subst (λ (w : World). IsWorld (with_admitted w silo places)) (sym same) (is places (ap (λ (w : World). after_add w.places silo given) (sym same) ∙ added)) in
     subst (λ (v : ViewsValue). IsWorld (record world { accepted = world.accepted + 1; views = v; places = places; nodes = nodes })) (sym views_are)
     (nodes_admitted (occupant silo world.views.rows) world silo (with_join world.views silo) places nodes is_first nodes_are)
-
--- places to which a silo was added and from which it was taken out again
-pub places_back : (old mid new : PlacesValue) (silo : Silo) (given : List ℕ) → after_add old silo given ≡ Ok mid
-    → new ≡ record mid { entries = remove_entry (is_at (silo_cmp silo)) mid.entries } → new ≡ old
-places_back old mid new silo given added out =
-    let are = places_are old mid silo given added in
-    out
-    ∙ ap (λ (p : PlacesValue). record p { entries = remove_entry (is_at (silo_cmp silo)) p.entries }) (sym are.0)
-    ∙ ap (λ (l : List (Silo × List ℕ)). record old { entries = l })
-    (taken_back silo_cmp silo_cmp_total silo (places_for old.hashing old.points silo given) old.entries (none_of (lookup (is_at (silo_cmp silo)) old.entries) are.1))

@@ -2,6 +2,7 @@
 use Rattle.std.proofs.Common.{◌≡◌, refl, sym, ap, ◌∙◌, ℕ, List, [], ◌∷◌, true}
 use Rattle.std.specs.Prelude.{Option, Some, None, All, IfSome}
 use Rattle.std.proofs.lemmas.List.Elements.{All-head, All-tail}
+use Rattle.std.proofs.lemmas.Bool.{and_from}
 use Rattle.silo_address.specs.Silo.{Silo}
 use Rattle.silo_address.specs.Grain.{Grain}
 use Rattle.silo_address.specs.declared.Entry.{Entry}
@@ -15,7 +16,6 @@ use Rattle.directory_rules.specs.Table.{Table, entries_of, lie_in}
 use Rattle.directory_rules.specs.World.{World}
 use Rattle.directory_facts.proofs.Lawful.{events_name_hashes, pieces_are_owned}
 use Rattle.grain_partition.specs.Holdings.{are_tidy}
-use Rattle.grain_partition.proofs.SettledHashes.{both_are}
 use Rattle.directory_core.specs.Whole.{IsWorld}
 
 module _ (hashing : Hashing) where
@@ -23,7 +23,7 @@ module _ (hashing : Hashing) where
   placed_lie : (range : Range) (table : Table) → All (λ x. holds range (hash_grain hashing x.1.grain) ≡ true) table → lie_in hashing range (entries_of table) ≡ true
   placed_lie range [] placed = refl
   placed_lie range (e ∷ es) placed =
-      both_are (holds range (hash_grain hashing e.1.grain)) (lie_in hashing range (entries_of es)) (All-head (λ (x : Grain × Entry). holds range (hash_grain hashing x.1.grain) ≡ true) e es placed)
+      and_from (holds range (hash_grain hashing e.1.grain)) (lie_in hashing range (entries_of es)) (All-head (λ (x : Grain × Entry). holds range (hash_grain hashing x.1.grain) ≡ true) e es placed)
       (placed_lie range es (All-tail (λ (x : Grain × Entry). holds range (hash_grain hashing x.1.grain) ≡ true) e es placed))
 
   abbrev IsPlaced : ℕ × Piece → Type 0
@@ -32,7 +32,7 @@ module _ (hashing : Hashing) where
   all_tidy : (pieces : List (ℕ × Piece)) → All IsPlaced pieces → are_tidy hashing pieces ≡ true
   all_tidy [] placed = refl
   all_tidy (e ∷ es) placed =
-      both_are (lie_in hashing e.1.range (entries_of e.1.entries)) (are_tidy hashing es) (placed_lie e.1.range e.1.entries (All-head IsPlaced e es placed)) (all_tidy es (All-tail IsPlaced e es placed))
+      and_from (lie_in hashing e.1.range (entries_of e.1.entries)) (are_tidy hashing es) (placed_lie e.1.range e.1.entries (All-head IsPlaced e es placed)) (all_tidy es (All-tail IsPlaced e es placed))
 
 pub tidy_node : (world : World) → IsWorld world → (silo : Silo) → IfSome (node_of world silo) (λ node. are_tidy world.settings.hashing node.holding.pieces ≡ true)
 tidy_node world is silo = by (node_of world silo) refl

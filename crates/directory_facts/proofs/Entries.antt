@@ -8,7 +8,7 @@ use Rattle.std.specs.Map.{lookup, set_value, remove_entry}
 use Rattle.std.specs.BTreeMap.{is_at, insert_entry}
 use Rattle.std.proofs.lemmas.List.Elements.{All-nil, All-cons, All-head, All-tail}
 use Rattle.std.proofs.lemmas.Map.Lookups.{CmpEqualImpliesEq}
-use Rattle.membership_view.proofs.Entries.{Equal-from}
+use Rattle.texts.proofs.Orderings.{Equal-from}
 use Rattle.directory_rules.proofs.Cases.{on_bool}
 
 -- a key that passes the test of another one is that key

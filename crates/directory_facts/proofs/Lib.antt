@@ -24,5 +24,6 @@ pub mod Lawful
 pub mod Lookups
 pub mod OwnPieces
 pub mod PagesTaken
+pub mod PageCounts
 pub mod OneMap
 pub mod Transfers

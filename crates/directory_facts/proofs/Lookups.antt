@@ -12,7 +12,7 @@ use Rattle.std.specs.BTreeMap.{is_at, insert_entry}
 use Rattle.std.proofs.lemmas.Map.Lookups.{CmpEqualImpliesEq}
 use Rattle.std.proofs.lemmas.Cmp.{tied_itself}
 use Rattle.silo_address.proofs.Order.{apart_in_order}
-use Rattle.membership_view.proofs.Entries.{lookup-insert_entry}
+use Rattle.texts.proofs.Entries.{lookup-insert_entry}
 use Rattle.directory_rules.proofs.Cases.{on_bool}
 use Rattle.directory_rules.proofs.Tables.{lookup-remove_other}
 use Rattle.directory_facts.proofs.Entries.{same_key}

@@ -13,7 +13,7 @@ use Rattle.silo_address.specs.Activation.{activation_eq}
 use Rattle.silo_address.specs.declared.ActivationId.{ActivationId}
 use Rattle.silo_address.specs.declared.Entry.{Entry}
 use Rattle.silo_address.proofs.Order.{grain_cmp_total, grain_cmp_exact}
-use Rattle.membership_view.proofs.Entries.{lookup-insert_entry, sorted-insert_entry}
+use Rattle.texts.proofs.Entries.{lookup-insert_entry, sorted-insert_entry, sorted-remove_entry}
 use Rattle.ring_range.specs.Range.{Range, holds}
 use Rattle.hash_ring.specs.declared.Hashing.{Hashing}
 use Rattle.hash_ring.specs.Hash.{hash_grain}
@@ -29,7 +29,7 @@ use Rattle.directory_rules.specs.Answer.{Answered, Turned, turned, registered_ov
 use Rattle.directory_rules.specs.Sight.{is_owner}
 use Rattle.directory_rules.specs.Sent.{grain_of}
 use Rattle.directory_rules.proofs.Cases.{on_bool}
-use Rattle.directory_rules.proofs.Removed.{lookup_removed, sorted_removed}
+use Rattle.directory_rules.proofs.Removed.{lookup_removed}
 use Rattle.directory_rules.proofs.Ranges.{ranges, Rising, stands_at}
 use Rattle.directory_rules.proofs.Tables.{turned_leaves}
 use Rattle.directory_facts.specs.Pieces.{IsPiece, ArePieces}
@@ -108,7 +108,7 @@ deregistered_sorted : (there : Option Entry) (entry : Entry) (table : Table) →
 deregistered_sorted None entry table is = is
 deregistered_sorted (Some there) entry table is =
     on_bool (λ b. Sorted (cond b (turn Removed (without_grain entry.grain table)) (turn Absent table)).table) (activation_eq there.activation entry.activation)
-    (λ t. sorted_removed grain_cmp (is_at (grain_cmp entry.grain)) table is) (λ f. is)
+    (λ t. sorted-remove_entry (is_at (grain_cmp entry.grain)) grain_cmp table is) (λ f. is)
 
 turned_sorted : (act : Act) (table : Table) → Sorted table → Sorted (turned act table).table
 turned_sorted (Register entry previous) table is = registered_sorted (entry_at entry.grain table) entry previous table is

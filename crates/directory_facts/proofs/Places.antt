@@ -16,7 +16,7 @@ use Rattle.membership_view.specs.declared.status.Status.{Status}
 use Rattle.membership_view.specs.Row.{is_active, status_in, joining, dying}
 use Rattle.membership_view.specs.Views.{ViewsValue, row_of, rows_in, view_at}
 use Rattle.membership_view.specs.Changes.{occupant, changed, without, joined_rows}
-use Rattle.membership_view.proofs.Entries.{lookup-insert_entry}
+use Rattle.texts.proofs.Entries.{lookup-insert_entry}
 use Rattle.hash_ring.specs.Places.{PlacesValue, is_added, with_silo, places_for, is_point_count, has_points, after_add}
 use Rattle.hash_ring.specs.Ring.{are_added}
 use Rattle.directory_rules.proofs.Cases.{on_bool}

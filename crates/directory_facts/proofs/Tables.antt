@@ -3,9 +3,7 @@ use Rattle.std.proofs.Common.{◌≡◌, refl, List, [], ◌∷◌}
 use Rattle.std.specs.Prelude.{Bool, true, cond, is_some, All, Option, Some, None, filter, fold}
 use Rattle.std.specs.List.{AllByRecursion, list_all}
 use Rattle.std.specs.List.Sorted.{IsStrictlySortedBy}
-use Rattle.std.specs.Ordering.{is_lt}
-use Rattle.std.specs.declared.cmp.Ordering.{Ordering}
-use Rattle.std.specs.declared.cmp.Ordering.TheVariants.{Less, Equal, Greater}
+use Rattle.std.specs.declared.cmp.Ordering.TheVariants.{Less}
 use Rattle.std.specs.Map.{keys_of}
 use Rattle.std.specs.BTreeMap.{is_at}
 use Rattle.std.proofs.lemmas.List.Elements.{All-nil, All-cons, All-head, All-tail, All-filter, All-map}
@@ -15,7 +13,7 @@ use Rattle.silo_address.specs.Activation.{activation_eq}
 use Rattle.silo_address.specs.declared.ActivationId.{ActivationId}
 use Rattle.silo_address.specs.declared.Entry.{Entry}
 use Rattle.silo_address.proofs.Order.{grain_cmp_total, grain_cmp_exact}
-use Rattle.membership_view.proofs.Entries.{sorted-nil, sorted-insert_entry}
+use Rattle.texts.proofs.Entries.{sorted-nil, sorted-insert_entry, sorted-remove_entry}
 use Rattle.ring_range.specs.Range.{Range, holds}
 use Rattle.hash_ring.specs.declared.Hashing.{Hashing}
 use Rattle.hash_ring.specs.Hash.{hash_grain}
@@ -23,12 +21,12 @@ use Rattle.directory_rules.specs.declared.act.Act.{Act}
 use Rattle.directory_rules.specs.declared.act.Act.TheVariants.{Register, Deregister, Find}
 use Rattle.directory_rules.specs.declared.reply.Reply.{Reply}
 use Rattle.directory_rules.specs.declared.reply.Reply.TheVariants.{Registered, Taken, Removed, Absent}
-use Rattle.directory_rules.specs.Table.{Table, entry_at, with_entry, without_grain, table_of, is_before_first, rise_by_grain}
+use Rattle.directory_rules.specs.Table.{Table, entry_at, with_entry, without_grain, table_of, rise_by_grain}
 use Rattle.directory_rules.specs.Answer.{Turned, turned, registered_over, deregistered_from, is_previous}
 use Rattle.directory_rules.specs.Recovery.{with_reported}
 use Rattle.directory_rules.specs.Sent.{grain_of}
 use Rattle.directory_rules.proofs.Cases.{on_bool}
-use Rattle.directory_rules.proofs.Removed.{sorted_removed}
+use Rattle.directory_rules.proofs.RisingTables.{rising_sorted}
 use Rattle.directory_facts.specs.Pieces.{IsHashedInto, IsTableOf}
 use Rattle.directory_facts.proofs.Entries.{all_put, all_removed}
 
@@ -53,7 +51,7 @@ order_put table entry is = record {
 
 order_taken : (table : Table) (grain : Grain) → InOrder table → InOrder (without_grain grain table)
 order_taken table grain is = record {
-  by_grain = sorted_removed grain_cmp (is_at (grain_cmp grain)) table is.by_grain;
+  by_grain = sorted-remove_entry (is_at (grain_cmp grain)) grain_cmp table is.by_grain;
   own_grain = all_removed (λ e. e.0 ≡ e.1.grain) (is_at (grain_cmp grain)) table is.own_grain;
 }
 
@@ -73,29 +71,6 @@ pub order_filtered : (test : Grain × Entry → Bool) (table : Table) → InOrde
 order_filtered test table is = record { by_grain = sorted_filtered test table is.by_grain; own_grain = All-filter test (λ e. e.0 ≡ e.1.grain) table is.own_grain }
 
 -- ---- entries that rise make a table
-less_is : (r : Ordering) → is_lt r ≡ true → r ≡ Less
-less_is Less is = refl
-less_is Equal is = absurd (cc (is))
-less_is Greater is = absurd (cc (is))
-
-pub above_all : (low first : Grain) (es : Table) → grain_cmp low first ≡ Less → AllByRecursion (λ y. grain_cmp first y ≡ Less) (keys_of es) → AllByRecursion (λ y. grain_cmp low y ≡ Less) (keys_of es)
-above_all low first [] less above = tt
-above_all low first (e ∷ es) less above = (grain_cmp_total.trans low first e.0 less above.0, above_all low first es less above.1)
-
-rising_sorted : (entries : List Entry) → rise_by_grain entries ≡ true → IsStrictlySortedBy grain_cmp (keys_of (table_of entries))
-unfolding IsStrictlySortedBy
-rising_sorted [] rise = tt
-rising_sorted (entry ∷ entries) rise =
-    let so = both (is_before_first entry entries) (rise_by_grain entries) rise in
-    let later = rising_sorted entries so.1 in
-    (from entries so.0 later, later)
-  where
-    from : (rest : List Entry) → is_before_first entry rest ≡ true → IsStrictlySortedBy grain_cmp (keys_of (table_of rest)) → AllByRecursion (λ y. grain_cmp entry.grain y ≡ Less) (keys_of (table_of rest))
-    from [] before sorted = tt
-    from (next ∷ rest) before sorted =
-        let less = less_is (grain_cmp entry.grain next.grain) before in
-        (less, above_all entry.grain next.grain (table_of rest) less sorted.0)
-
 pub order_rising : (entries : List Entry) → rise_by_grain entries ≡ true → InOrder (table_of entries)
 order_rising entries rise = record { by_grain = rising_sorted entries rise; own_grain = All-map (λ e. e.0 ≡ e.1.grain) (λ (entry : Entry). (entry.grain, entry)) entries (λ k d below. refl) }
 

@@ -1,11 +1,10 @@
 -- A snapshot's pages complete a gathering with its entries; the last page, and the last report, settle their piece with what is had then.
-use Rattle.std.proofs.Common.{arith, ◌≡◌, refl, sym, ap, subst, ◌∙◌, ℕ, zero, suc, ◌+◌, ◌*◌, ◌/◌, ◌<◌, ◌≤◌, List, [], ◌∷◌, ◌++◌, length, take, drop, map}
-use Rattle.std.specs.Prelude.{◌==◌, ◌&&◌, ◌||◌, not, nat_lt, nat_le, Bool, true, false, cond, is_some, if◌then◌else◌, Option, Some, None, fold}
+use Rattle.std.proofs.Common.{arith, ◌≡◌, refl, sym, ap, subst, ◌∙◌, ℕ, zero, suc, ◌+◌, ◌*◌, ◌/◌, ◌<◌, List, ◌++◌, length, take, map}
+use Rattle.std.specs.Prelude.{◌==◌, ◌&&◌, not, nat_lt, Bool, true, false, cond, is_some, if◌then◌else◌, Option, Some, None, fold}
 use Rattle.std.specs.Ordering.{nat_cmp}
 use Rattle.std.specs.Cmp.Lexicographic.{pointwise}
 use Rattle.std.specs.List.{list_all, range_with_len}
-use Rattle.std.proofs.lemmas.Bool.{eq-eqb, eqb-false, lt-ltb, ltb-true, le-leb}
-use Rattle.std.proofs.lemmas.List.{length-take, length-drop}
+use Rattle.std.proofs.lemmas.Bool.{eq-eqb, eqb-false, lt-ltb, ltb-true}
 use Rattle.std.proofs.lemmas.Cmp.{nat_cmp_total}
 use Rattle.std.proofs.lemmas.Map.Lookups.{exact_unsigned}
 use Rattle.texts.proofs.Decided.{both}
@@ -29,40 +28,14 @@ use Rattle.directory_rules.specs.Transfer.{piece_at, has_range, is_awaiting_from
 use Rattle.directory_rules.proofs.Cases.{on_bool}
 use Rattle.directory_facts.specs.Transfers.{then_page, PagesAreTheSnapshot, IsSettledWith, LastPageSettles, LastReportSettles}
 use Rattle.directory_facts.proofs.Lookups.{found_set}
+use Rattle.directory_facts.proofs.PageCounts.{counted, same_bytes}
 use Rattle.directory_facts.proofs.PagesTaken.{page_more, all_pages}
 
 -- ---- the pages of a snapshot
-same_bytes : (bytes : List ℕ) → pointwise ◌==◌ bytes bytes ≡ true
-same_bytes [] = refl
-same_bytes (b ∷ bs) = ap (λ t. t && pointwise ◌==◌ bs bs) (eq-eqb b b refl) ∙ same_bytes bs
-
 both_true : (a b : Bool) → a ≡ true → b ≡ true → (a && b) ≡ true
 both_true a b one other = ap (λ t. t && b) one ∙ other
 
--- how many entries a page has
-at_most : {X : Type 0} (n : ℕ) (xs : List X) → length (take n xs) ≤ n
-at_most n xs = let taken = length-take n xs in omega (taken, arith)
-
-full_page : {X : Type 0} (k : ℕ) (xs : List X) → (k + 1) * page_size ≤ length xs → length (take page_size (drop (k * page_size) xs)) ≡ page_size
-full_page k xs enough = let taken = length-take page_size (drop (k * page_size) xs) in let left = length-drop (k * page_size) xs in omega (taken, left, enough, arith)
-
-some_on_page : {X : Type 0} (k : ℕ) (xs : List X) → k * page_size < length xs → 0 < length (take page_size (drop (k * page_size) xs))
-some_on_page k xs less = let taken = length-take page_size (drop (k * page_size) xs) in let left = length-drop (k * page_size) xs in omega (taken, left, less, arith)
-
--- how many pages there are
-full_before : (n k : ℕ) → k + 1 < page_count n → (k + 1) * page_size ≤ n
-full_before n k less =
-    on_bool (λ b. k + 1 < (if b then 1 else (n + 63) / page_size) → (k + 1) * page_size ≤ n) (n == 0) (λ t one. absurd (omega (one, arith))) (λ f many. omega (many, arith)) less
-
-one_or_some : (n k : ℕ) → k < page_count n → (nat_lt (k * page_size) n || (page_count n == 1)) ≡ true
-one_or_some n k less =
-    on_bool (λ b. k < (if b then 1 else (n + 63) / page_size) → (nat_lt (k * page_size) n || ((if b then 1 else (n + 63) / page_size) == 1)) ≡ true) (n == 0)
-    (λ t one. or_right (nat_lt (k * page_size) n)) (λ f many. ap (λ t. t || ((n + 63) / page_size == 1)) (lt-ltb (k * page_size) n (omega (many, arith)))) less
-  where
-    or_right : (b : Bool) → (b || true) ≡ true
-    or_right true = refl
-    or_right false = refl
-
+-- there is a page
 some_page : (n : ℕ) → 0 < page_count n
 some_page n = on_bool (λ b. (n == 0) ≡ b → 0 < (if b then 1 else (n + 63) / page_size)) (n == 0) (λ t is. omega arith) (λ f is. let more = eqb-false n 0 is in above n more) refl
   where
@@ -90,26 +63,11 @@ module _ (snapshot : Snapshot) where
   agreeing zero = refl
   agreeing (suc k) = ap (λ t. t && pointwise ◌==◌ (digest_of all) (digest_of all)) (eq-eqb count count refl) ∙ same_bytes (digest_of all)
 
-  counted : (k : ℕ) → k < count → is_entry_count k count (length (page_entries k all)) ≡ true
-  counted k less =
-      on_bool (λ b. nat_lt (k + 1) count ≡ b → cond b (length (page_entries k all) == page_size) (nat_le (length (page_entries k all)) page_size && (nat_lt 0 (length (page_entries k all)) || (count == 1))) ≡ true)
-      (nat_lt (k + 1) count)
-      (λ t is. eq-eqb (length (page_entries k all)) page_size (full_page k all (full_before (length all) k (ltb-true (k + 1) count is))))
-      (λ f is. both_true (nat_le (length (page_entries k all)) page_size) (nat_lt 0 (length (page_entries k all)) || (count == 1)) (le-leb (length (page_entries k all)) page_size (at_most page_size (drop (k * page_size) all)))
-      (on_bool (λ b. nat_lt (k * page_size) (length all) ≡ b → (b || (count == 1)) ≡ true → (nat_lt 0 (length (page_entries k all)) || (count == 1)) ≡ true) (nat_lt (k * page_size) (length all))
-      (λ t below so. ap (λ b. b || (count == 1)) (lt-ltb 0 (length (page_entries k all)) (some_on_page k all (ltb-true (k * page_size) (length all) below))))
-      (λ f not so. or_one (nat_lt 0 (length (page_entries k all))) so) refl (one_or_some (length all) k less)))
-      refl
-    where
-      or_one : (b : Bool) → (count == 1) ≡ true → (b || (count == 1)) ≡ true
-      or_one true one = refl
-      or_one false one = one
-
   in_turn : (k : ℕ) → k < count → is_in_turn (had k) (page_of snapshot k) ≡ true
   in_turn k less =
       both_true ((k == k) && nat_lt k count && agrees (told k) (page_of snapshot k)) (is_entry_count k count (length (page_entries k all)))
       (both_true ((k == k) && nat_lt k count) (agrees (told k) (page_of snapshot k)) (both_true (k == k) (nat_lt k count) (eq-eqb k k refl) (lt-ltb k count less)) (agreeing k))
-      (counted k less)
+      (counted all k less)
 
   of_it : ((snapshot.version == snapshot.version) && range_eq snapshot.range snapshot.range) ≡ true
   of_it = both_true (snapshot.version == snapshot.version) (range_eq snapshot.range snapshot.range) (eq-eqb snapshot.version snapshot.version refl) ((Decides-range snapshot.range snapshot.range).1 refl)

@@ -17,7 +17,7 @@ use Rattle.silo_address.specs.Silo.{Silo}
 use Rattle.silo_address.specs.declared.Entry.{Entry}
 use Rattle.silo_address.proofs.Order.{grain_cmp_total, grain_cmp_exact}
 use Rattle.membership_view.specs.View.{ViewValue}
-use Rattle.membership_view.proofs.Entries.{lookup-insert_entry}
+use Rattle.texts.proofs.Entries.{lookup-insert_entry}
 use Rattle.ring_range.specs.Range.{Range, holds}
 use Rattle.hash_ring.specs.declared.Hashing.{Hashing}
 use Rattle.hash_ring.specs.Hash.{hash_grain}

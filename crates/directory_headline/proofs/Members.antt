@@ -20,7 +20,7 @@ use Rattle.membership_view.specs.Row.{status_in}
 use Rattle.membership_view.specs.View.{ViewValue, IsByAddress, status_of}
 use Rattle.membership_view.specs.Views.{ViewsValue, row_of, rows_in, status_at, joining_version}
 use Rattle.membership_view.specs.Whole.{IsViews}
-use Rattle.membership_view.proofs.Entries.{lookup-picked}
+use Rattle.texts.proofs.Entries.{lookup-picked}
 use Rattle.membership_view.proofs.Unchanged.{joined_from}
 use Rattle.directory_protocol.proofs.Changes.{silo_cases}
 use Rattle.directory_rules.specs.Members.{is_dead_status, is_known_dead, members_of}

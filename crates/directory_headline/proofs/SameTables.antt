@@ -12,8 +12,10 @@ use Rattle.silo_address.specs.declared.Entry.{Entry}
 use Rattle.silo_address.proofs.Order.{grain_cmp_total, grain_cmp_exact}
 use Rattle.ring_range.specs.Range.{Range, holds}
 use Rattle.directory_rules.specs.Table.{Table, entry_at, entries_of, table_of}
+use Rattle.texts.proofs.Entries.{all_above}
 use Rattle.directory_rules.proofs.Cases.{on_bool}
-use Rattle.directory_facts.proofs.Tables.{order_rising, above_all, InOrder}
+use Rattle.directory_rules.proofs.RisingTables.{entries_again}
+use Rattle.directory_facts.proofs.Tables.{order_rising, InOrder}
 use Rattle.directory_headline.specs.Shown.{IsListOf, activation_in}
 use Rattle.directory_facts.proofs.Lookups.{absent_found, lookup_first, lookup_later}
 use Rattle.directory_headline.proofs.TableEntries.{table_tail, head_apart, found_own, found_holds, none_above}
@@ -23,7 +25,7 @@ use Rattle.directory_protocol.proofs.Changes.{grain_cases}
 none_below : (grain : Grain) (e : Grain × Entry) (es : Table) → InOrder (e ∷ es) → grain_cmp grain e.0 ≡ Less → entry_at grain (e ∷ es) ≡ None
 unfolding IsStrictlySortedBy
 none_below grain e es is less =
-    ap (λ r. cond (is_eq r) (Some e.1) (entry_at grain es)) less ∙ none_above grain es (above_all grain e.0 es less is.by_grain.0)
+    ap (λ r. cond (is_eq r) (Some e.1) (entry_at grain es)) less ∙ none_above grain es (all_above grain_cmp_total grain e.0 es less is.by_grain.0)
 
 pub same_tables : (one other : Table) → InOrder one → InOrder other → ((grain : Grain) → entry_at grain one ≡ entry_at grain other) → one ≡ other
 same_tables [] [] is its same = refl
@@ -61,10 +63,6 @@ same_tables (x ∷ xs) (y ∷ ys) is its same =
         absurd (cc (sym there ∙ sym (same y.0) ∙ none_below y.0 x xs is less))
 
 -- ---- lists of what is said of a range
-table_is : (entries : List Entry) → entries_of (table_of entries) ≡ entries
-table_is [] = refl
-table_is (e ∷ es) = ap (λ l. e ∷ l) (table_is es)
-
 module _ (hash : Grain → ℕ) (range : Range) (says : Grain → Option ActivationId) where
   list_table : (entries : List Entry) → IsListOf hash range says entries → InOrder (table_of entries)
   list_table entries is = order_rising entries is.rising
@@ -96,11 +94,11 @@ module _ (hash : Grain → ℕ) (range : Range) (says : Grain → Option Activat
 
   pub one_list : (one other : List Entry) → IsListOf hash range says one → IsListOf hash range says other → one ≡ other
   one_list one other is its =
-      sym (table_is one)
+      sym (entries_again one)
       ∙ ap entries_of (same_tables (table_of one) (table_of other) (list_table one is) (list_table other its) (λ grain.
       on_bool (λ b. holds range (hash grain) ≡ b → entry_at grain (table_of one) ≡ entry_at grain (table_of other)) (holds range (hash grain))
       (λ t held. same_entry_of grain (entry_at grain (table_of one)) (entry_at grain (table_of other))
       (λ e found. found_own grain (table_of one) e (list_table one is).own_grain found) (λ e found. found_own grain (table_of other) e (list_table other its).own_grain found)
       (sym (is.exact grain held) ∙ its.exact grain held))
       (λ u apart. outside one is grain apart ∙ sym (outside other its grain apart)) refl))
-      ∙ table_is other
+      ∙ entries_again other

@@ -13,7 +13,7 @@ use Rattle.membership_view.specs.Row.{status_in}
 use Rattle.membership_view.specs.View.{ViewValue, IsByAddress, status_of}
 use Rattle.membership_view.specs.Views.{ViewsValue, rows_in, view_at, status_at}
 use Rattle.membership_view.specs.Whole.{IsViews}
-use Rattle.membership_view.proofs.Entries.{sorted-nil, sorted-picked}
+use Rattle.texts.proofs.Entries.{sorted-nil, sorted-picked}
 use Rattle.membership_view.proofs.Unchanged.{first_is_empty, rows_stay, dead_stays_dead}
 use Rattle.hash_ring.specs.declared.point.Point.{Point}
 use Rattle.hash_ring.specs.Hash.{hash_grain}

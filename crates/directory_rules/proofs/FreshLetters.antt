@@ -5,8 +5,8 @@ use Rattle.std.specs.Ordering.{nat_cmp}
 use Rattle.std.specs.List.{enumerate_from}
 use Rattle.std.specs.Map.{lookup, set_value}
 use Rattle.std.specs.BTreeMap.{is_at}
-use Rattle.std.proofs.lemmas.Bool.Decides.{nat_tests}
 use Rattle.std.proofs.lemmas.List.Sums.{sum_by-cons, sum_by-append}
+use Rattle.texts.proofs.Orderings.{at_itself, at_lower}
 use Rattle.texts.proofs.Decided.{both}
 use Rattle.directory_rules.specs.Letter.{Letter}
 use Rattle.directory_rules.specs.Node.{Node}
@@ -78,13 +78,6 @@ above world low high (x ∷ mail) e rise found =
 pub record IsNext (world : World) (mail : Mail) (e : ℕ × Posted) : Type 0 where
   pub found : lookup (is_at (nat_cmp e.0)) mail ≡ Some e.1
   pub fresh : e.1.fresh ≡ true
-
--- a number finds itself, and no lower one
-pub at_itself : (number : ℕ) → is_at (nat_cmp number) number ≡ true
-at_itself number = grind (arith, nat_tests)
-
-pub at_lower : (number lower : ℕ) → lower < number → is_at (nat_cmp number) lower ≡ false
-at_lower number lower lt = grind (arith, nat_tests)
 
 pub found_next : (world : World) (low high : ℕ) (mail : Mail) (e : ℕ × Posted) → RiseBetween low high mail → find_in world mail ≡ Some e → IsNext world mail e
 found_next world low high [] e rise found = absurd (let no : None ≡ Some e = found in cc)

@@ -24,3 +24,4 @@ pub mod Numbered
 pub mod Throughout
 pub mod Worked
 pub mod Decided
+pub mod RisingTables

@@ -45,11 +45,11 @@ use Rattle.directory_rules.specs.declared.own_step.OwnStep.TheVariants.{Wake, Cl
 use Rattle.directory_rules.proofs.Renewal.{held_numbers, same_keys, mapped_keys, length_put_all, renewed_numbers, request_numbers, renewed_once, renewed_below}
 
 -- a number occurs once at most, and none from the next one on
-record AreDistinct (next : ℕ) (held : List (Grain × Held)) (finds : List (ℕ × Grain)) : Type 0 where
-  once : (n : ℕ) → times n (numbers held) + times n (keys_of finds) ≤ 1
-  below : (n : ℕ) → next ≤ n → times n (numbers held) + times n (keys_of finds) ≡ 0
+pub record AreDistinct (next : ℕ) (held : List (Grain × Held)) (finds : List (ℕ × Grain)) : Type 0 where
+  pub once : (n : ℕ) → times n (numbers held) + times n (keys_of finds) ≤ 1
+  pub below : (n : ℕ) → next ≤ n → times n (numbers held) + times n (keys_of finds) ≡ 0
 
-abbrev Numbered : Host → Type 0
+abbrev pub Numbered : Host → Type 0
 Numbered host = AreDistinct host.next_number host.held host.finds
 
 -- ---- What a step does to the host.
@@ -283,7 +283,7 @@ all_below next es below =
     on_bool (λ b. n < next) (nat_lt n next) (λ t. ltb-true n next t)
     (λ f. let high = ltb-false n next f in let none = below n (omega (high, arith)) in omega (there, none, arith)))
 
-are_numbered : (host : Host) → Numbered host → AreNumbered host
+pub are_numbered : (host : Host) → Numbered host → AreNumbered host
 are_numbered host is = record {
   distinct = all_apart (requests_of host) (λ n. let times = requests_times host n in let few = is.once n in omega (times, few, arith));
   many = all_outstanding host is;

@@ -127,7 +127,7 @@ by_version : (b : Bool) (why : Why) (serving : Result Piece Why) (piece : Piece)
 by_version true why serving piece is = is
 by_version false why serving piece is = absurd (cc)
 
-serving_has : (holding : Holding) (request : Request) (piece : Piece) → serving_piece holding request ≡ Ok piece → piece_with request.hash holding.pieces ≡ Some piece
+pub serving_has : (holding : Holding) (request : Request) (piece : Piece) → serving_piece holding request ≡ Ok piece → piece_with request.hash holding.pieces ≡ Some piece
 serving_has holding request piece is =
     by_piece (piece_with request.hash holding.pieces) piece holding request
     (by_version (request.version == holding.seen) (View holding.seen) (serving_by_piece (piece_with request.hash holding.pieces) holding request) piece is)

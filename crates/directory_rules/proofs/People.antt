@@ -8,6 +8,7 @@ use Rattle.std.specs.BTreeMap.{is_at, insert_entry}
 use Rattle.std.specs.Ordering.{is_eq}
 use Rattle.std.specs.declared.cmp.Ordering.{Ordering}
 use Rattle.std.proofs.lemmas.Cmp.{tied_itself}
+use Rattle.texts.proofs.Orderings.{Equal-from}
 use Rattle.texts.proofs.Decided.{decided}
 use Rattle.silo_address.specs.Silo.{Silo, silo_cmp, silo_eq}
 use Rattle.silo_address.proofs.Same.{Decides-silo}
@@ -17,7 +18,7 @@ use Rattle.membership_view.specs.declared.status.Status.TheVariants.{Active, Lea
 use Rattle.membership_view.specs.Views.{ViewsValue, view_at, status_at}
 use Rattle.membership_view.specs.Changes.{Join, Leave, Die, after, after_join, shares_endpoint, occupant}
 use Rattle.membership_view.specs.Step.{Joins, Leaves, Dies}
-use Rattle.membership_view.proofs.Entries.{lookup-insert_entry, sorted-insert_entry, Equal-from}
+use Rattle.texts.proofs.Entries.{lookup-insert_entry, sorted-insert_entry, sorted-remove_entry}
 use Rattle.membership_view.proofs.Kept.{whole-after}
 use Rattle.membership_view.proofs.Changes.{changes_are_steps}
 use Rattle.membership_view.proofs.Order.{Decides-shares}
@@ -26,7 +27,7 @@ use Rattle.directory_rules.specs.Node.{Node}
 use Rattle.directory_rules.specs.Laws.{is_live, ArePeopled}
 use Rattle.directory_rules.proofs.Cases.{on_bool}
 use Rattle.directory_rules.proofs.Tables.{lookup-remove_other}
-use Rattle.directory_rules.proofs.Removed.{sorted_removed, lookup_removed}
+use Rattle.directory_rules.proofs.Removed.{lookup_removed}
 
 -- the node of a silo
 abbrev at : Silo → List (Silo × Node) → Option Node
@@ -79,7 +80,7 @@ peopled_death views next nodes silo are is =
     let step : Dies silo (view_at views views.version) (view_at next next.version) = changes_are_steps views (Die silo) next (record { whole = are.whole; is = is }) in
     record {
       whole = whole-after views are.whole (Die silo) next is;
-      by_address = sorted_removed silo_cmp (is_at (silo_cmp silo)) nodes are.by_address;
+      by_address = sorted-remove_entry (is_at (silo_cmp silo)) silo_cmp nodes are.by_address;
       live = λ q. by_silo (is_some (at q (remove_entry (is_at (silo_cmp silo)) nodes)) ≡ is_live (now next q)) q silo
           (λ same. subst (λ s. is_some (at s (remove_entry (is_at (silo_cmp silo)) nodes)) ≡ is_live (now next s)) (sym same)
           (ap is_some (lookup_removed silo_cmp silo_cmp_total silo nodes are.by_address) ∙ sym (ap is_live step.dead)))
@@ -104,7 +105,7 @@ without (Some old) nodes = remove_entry (is_at (silo_cmp old)) nodes
 
 without_sorted : (old : Option Silo) (nodes : List (Silo × Node)) → IsStrictlySortedBy silo_cmp (keys_of nodes) → IsStrictlySortedBy silo_cmp (keys_of (without old nodes))
 without_sorted None nodes sorted = sorted
-without_sorted (Some old) nodes sorted = sorted_removed silo_cmp (is_at (silo_cmp old)) nodes sorted
+without_sorted (Some old) nodes sorted = sorted-remove_entry (is_at (silo_cmp old)) silo_cmp nodes sorted
 
 -- of the endpoint's silos only the one that is replaced has a node
 replaced_gone : (old : Option Silo) (nodes : List (Silo × Node)) (q : Silo) → IsStrictlySortedBy silo_cmp (keys_of nodes) → (is_some (at q nodes) ≡ true → old ≡ Some q) → is_some (at q (without old nodes)) ≡ false

@@ -5,7 +5,7 @@ use Rattle.std.specs.BTreeMap.{insert_entry}
 use Rattle.silo_address.specs.Silo.{Silo, silo_cmp}
 use Rattle.membership_view.specs.Views.{ViewsValue}
 use Rattle.membership_view.specs.Changes.{occupant}
-use Rattle.membership_view.proofs.Entries.{sorted-nil}
+use Rattle.texts.proofs.Entries.{sorted-nil}
 use Rattle.directory_rules.specs.Settings.{Settings, AreSettings}
 use Rattle.directory_rules.specs.Membership as membership
 use Rattle.directory_rules.specs.Membership.{Die, is_seeable}

@@ -3,7 +3,7 @@ use Rattle.std.proofs.Common.{arith, ◌≡◌, refl, sym, ap, ◌∙◌, ℕ, L
 use Rattle.std.specs.Prelude.{Bool, true, false, cond, not, All, count_by, filter, map, Option}
 use Rattle.std.specs.List.{slice_index_or}
 use Rattle.std.proofs.lemmas.List.Sums.{sum_by-cons}
-use Rattle.std.proofs.lemmas.List.Elements.{All-cons, All-nil, All-head, All-tail, All-map}
+use Rattle.std.proofs.lemmas.List.Elements.{All-nil, All-head, All-tail, All-map, filter_passes}
 use Rattle.texts.proofs.Decided.{both}
 use Rattle.silo_address.specs.Silo.{Silo}
 use Rattle.silo_address.specs.Grain.{Grain}
@@ -69,11 +69,6 @@ counted_arcs next hashing view silo pieces hash owner (arc ∷ arcs) tells =
     (λ f. rest ∙ counted_out (holds arc.range hash) (is_owner silo owner) (count_by (λ a. holds a.range hash) arcs) (λ held. ap (is_owner silo) (sym (told held)) ∙ f))
     ∙ ap (λ c. cond (is_owner silo owner) c 0) (sym (sum_by-cons (λ (a : RingArc). cond (holds a.range hash) 1 0) arc arcs))
 
-passed_all : {X : Type 0} (p : X → Bool) (xs : List X) → All (λ x. p x ≡ true) (filter p xs)
-passed_all p [] = All-nil (λ x. p x ≡ true)
-passed_all p (x ∷ xs) = on_bool (λ b. p x ≡ b → All (λ x. p x ≡ true) (cond b (x ∷ filter p xs) (filter p xs))) (p x)
-    (λ t is. All-cons (λ x. p x ≡ true) x (filter p xs) is (passed_all p xs)) (λ f is. passed_all p xs) refl
-
 -- each entry of a piece lies in it
 abbrev LiesIn : Hashing → Range → (Grain × Entry) → Type 0
 LiesIn hashing range x = holds range (hash_grain hashing x.1.grain) ≡ true
@@ -82,7 +77,7 @@ kept_lie : (hashing : Hashing) (view : ViewValue) (pieces : List (ℕ × Piece))
 kept_lie hashing view pieces range =
     All-imp (λ x. is_kept hashing view range x.1 ≡ true) (LiesIn hashing range) (kept_entries hashing view pieces range)
     (λ x kept. (both (holds range (hash_grain hashing x.1.grain)) (not (is_dead_in view x.1.activation.silo)) kept).0)
-    (passed_all (λ x. is_kept hashing view range x.1) (all_entries pieces)) where
+    (filter_passes (λ x. is_kept hashing view range x.1) (all_entries pieces)) where
       All-imp : {X : Type 0} (P Q : X → Type 0) (xs : List X) → ((x : X) → P x → Q x) → All P xs → All Q xs
       All-imp P Q xs imp all = λ k d below. imp _ (all k d below)
 

@@ -1,27 +1,19 @@
 -- Hashes lie on the circle, and so the places of silos stay what all places keep, after every run whose joins name hashes.
-use Rattle.std.proofs.Common.{arith, ◌≡◌, refl, subst, ℕ, ◌+◌, ◌*◌, ◌%◌, ◌<◌, List, []}
+use Rattle.std.proofs.Common.{◌≡◌, refl, subst, ℕ, ◌<◌, List, []}
 use Rattle.std.specs.Prelude.{Bool, true, false, cond, not, length, All, IsTrue, Result, Ok, Err}
 use Rattle.std.specs.List.{range_with_len}
 use Rattle.std.proofs.lemmas.List.Elements.{All-map}
-use Rattle.sha2.specs.Sha256.{sha256, digest_bytes}
 use Rattle.silo_address.specs.Silo.{Silo, silo_cmp}
 use Rattle.ring_range.specs.Range.{circle}
 use Rattle.hash_ring.specs.declared.hashing.Hashing.{Hashing}
 use Rattle.hash_ring.specs.declared.hashing.Hashing.TheVariants.{Sha256, Stated}
 use Rattle.hash_ring.specs.Hash.{hash_text, point_text, hashed_places}
 use Rattle.hash_ring.specs.Places.{PlacesValue, IsPlaces, is_point_count, has_points, places_for, is_added, with_silo, after_add}
+use Rattle.hash_ring.proofs.HashesBelow.{hash_below}
 use Rattle.hash_ring.proofs.StrictOrder.{sorted-from_Rising}
 use Rattle.hash_ring.proofs.PlacesKept.{IsPlaces-with_silo}
 use Rattle.directory_rules.specs.Settings.{Settings, AreSettings}
 use Rattle.directory_rules.specs.World.{first_world}
-
-four_below : (a b c d : ℕ) → a % 256 * 16777216 + b % 256 * 65536 + c % 256 * 256 + d % 256 < 4294967296
-four_below a b c d = omega arith
-
--- the hash of a text is a hash
-pub hash_below : (bytes : List ℕ) → hash_text bytes < circle
-unfolding sha256 digest_bytes
-hash_below bytes = four_below _ _ _ _
 
 hashed_below : (silo : Silo) (points : ℕ) → All (λ place. place < circle) (hashed_places points silo)
 hashed_below silo points = All-map (λ place. place < circle) (λ index. hash_text (point_text silo index)) (range_with_len 0 points) (λ k d below. hash_below _)

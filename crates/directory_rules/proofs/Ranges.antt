@@ -2,13 +2,12 @@
 use Rattle.std.proofs.Common.{arith, ◌≡◌, refl, sym, ap, subst, ◌∙◌, ℕ, ◌+◌, ◌<◌, suc, List, [], ◌∷◌}
 use Rattle.std.specs.Prelude.{⊤, Bool, true, false, cond, map, find, count_by, All, AllPairs, Option, Some}
 use Rattle.std.specs.Option.{option_map}
-use Rattle.std.specs.Ordering.{nat_cmp, is_eq}
-use Rattle.std.specs.declared.cmp.Ordering.TheVariants.{Equal, Greater}
+use Rattle.std.specs.Ordering.{nat_cmp}
 use Rattle.std.specs.Map.{lookup, set_value}
 use Rattle.std.specs.BTreeMap.{is_at}
-use Rattle.std.specs.Cmp.{nat_cmp_is}
 use Rattle.std.proofs.lemmas.List.Elements.{All-nil, All-cons, All-head, All-tail}
 use Rattle.std.proofs.lemmas.List.Sums.{sum_by-cons}
+use Rattle.texts.proofs.Orderings.{at_itself, at_lower}
 use Rattle.silo_address.specs.Silo.{Silo}
 use Rattle.membership_view.specs.View.{ViewValue}
 use Rattle.ring_range.specs.Range.{Range, holds}
@@ -41,12 +40,6 @@ held_by_ranges hash (e ∷ es) =
     ∙ sym (sum_by-cons (λ (x : ℕ × Piece). cond (holds x.1.range hash) 1 0) e es)
 
 -- ---- a piece that is changed keeps its range
-at_self : (start : ℕ) → is_at (nat_cmp start) start ≡ true
-at_self start = ap is_eq (sym (nat_cmp_is start start Equal refl))
-
-at_less : (start key : ℕ) → key < start → is_at (nat_cmp start) key ≡ false
-at_less start key less = ap is_eq (sym (nat_cmp_is start key Greater less))
-
 same_head : (e : ℕ × Piece) (found changed : Piece) (es : List (ℕ × Piece)) → ◌≡◌ {A = Option Piece} (Some e.1) (Some found) → found.range ≡ changed.range → ranges ((e.0, changed) ∷ es) ≡ ranges (e ∷ es)
 same_head e found changed es is same =
     let there : e.1 ≡ found = cc in
@@ -82,9 +75,9 @@ stands_at hash (e ∷ es) piece rising is = at (holds e.1.range hash) is (λ lat
     at true here rest =
         let there : e.1 ≡ piece = cc in
         let key : e.0 ≡ piece.range.start = rising.0 ∙ ap (λ (p : Piece). p.range.start) there in
-        ap (λ b. cond b (Some e.1) (lookup (is_at (nat_cmp piece.range.start)) es)) (ap (λ k. is_at (nat_cmp piece.range.start) k) key ∙ at_self piece.range.start) ∙ ap Some there
+        ap (λ b. cond b (Some e.1) (lookup (is_at (nat_cmp piece.range.start)) es)) (ap (λ k. is_at (nat_cmp piece.range.start) k) key ∙ at_itself piece.range.start) ∙ ap Some there
     at false there rest =
-        ap (λ b. cond b (Some e.1) (lookup (is_at (nat_cmp piece.range.start)) es)) (at_less piece.range.start e.0 (begins_behind e.0 hash es piece rising.1 there)) ∙ rest there
+        ap (λ b. cond b (Some e.1) (lookup (is_at (nat_cmp piece.range.start)) es)) (at_lower piece.range.start e.0 (begins_behind e.0 hash es piece rising.1 there)) ∙ rest there
 
 -- ---- the pieces of arcs that rise
 abbrev Below : RingArc → RingArc → Type 0

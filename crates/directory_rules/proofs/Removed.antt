@@ -1,6 +1,6 @@
 -- Lists of entries in the order of their keys, after one was taken out.
 use Rattle.std.proofs.Common.{◌≡◌, refl, ap, ◌∙◌, List, [], ◌∷◌}
-use Rattle.std.specs.Prelude.{Bool, cond, Some, None}
+use Rattle.std.specs.Prelude.{cond, Some, None}
 use Rattle.std.specs.Cmp.{IsTotalOrder}
 use Rattle.std.specs.List.{AllByRecursion}
 use Rattle.std.specs.List.Sorted.{IsStrictlySortedBy}
@@ -9,20 +9,8 @@ use Rattle.std.specs.BTreeMap.{is_at}
 use Rattle.std.specs.Ordering.{is_eq}
 use Rattle.std.specs.declared.cmp.Ordering.{Ordering}
 use Rattle.std.specs.declared.cmp.Ordering.TheVariants.{Less, Equal}
-use Rattle.membership_view.proofs.Entries.{Equal-from}
+use Rattle.texts.proofs.Orderings.{Equal-from}
 use Rattle.directory_rules.proofs.Cases.{on_bool}
-
-all_removed : {K X : Type 0} (P : K → Type 0) (test : K → Bool) (es : List (K × X)) → AllByRecursion P (keys_of es) → AllByRecursion P (keys_of (remove_entry test es))
-all_removed P test [] all = all
-all_removed P test (e ∷ es) all =
-    on_bool (λ b. AllByRecursion P (keys_of (cond b es (e ∷ remove_entry test es)))) (test e.0) (λ t. all.1) (λ f. (all.0, all_removed P test es all.1))
-
-pub sorted_removed : {K X : Type 0} (R : K → K → Ordering) (test : K → Bool) (es : List (K × X)) → IsStrictlySortedBy R (keys_of es) → IsStrictlySortedBy R (keys_of (remove_entry test es))
-unfolding IsStrictlySortedBy
-sorted_removed R test [] sorted = sorted
-sorted_removed R test (e ∷ es) sorted =
-    on_bool (λ b. IsStrictlySortedBy R (keys_of (cond b es (e ∷ remove_entry test es)))) (test e.0)
-    (λ t. sorted.1) (λ f. (all_removed (λ y. R e.0 y ≡ Less) test es sorted.0, sorted_removed R test es sorted.1))
 
 none_after : {K X : Type 0} (R : K → K → Ordering) (o : IsTotalOrder R) (k first : K) → R k first ≡ Equal → (es : List (K × X)) → AllByRecursion (λ y. R first y ≡ Less) (keys_of es) → lookup (is_at (R k)) es ≡ None
 none_after R o k first same [] above = refl

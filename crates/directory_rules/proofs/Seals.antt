@@ -1,7 +1,8 @@
 -- What a sight seals.
 use Rattle.std.proofs.Common.{◌≡◌, refl, ℕ, List, [], ◌∷◌}
-use Rattle.std.specs.Prelude.{Bool, true, false, cond, not, ◌&&◌, is_some, All, Option, Some, None, filter, flat_map}
+use Rattle.std.specs.Prelude.{true, false, cond, not, ◌&&◌, is_some, All, Option, Some, None, filter, flat_map}
 use Rattle.std.proofs.lemmas.List.Elements.{All-cons, All-nil, All-append}
+use Rattle.std.proofs.lemmas.Bool.{not-true}
 use Rattle.texts.proofs.Decided.{both}
 use Rattle.silo_address.specs.Silo.{Silo, silo_eq}
 use Rattle.silo_address.proofs.Same.{Decides-silo}
@@ -13,10 +14,6 @@ use Rattle.directory_rules.specs.Piece.{Piece}
 use Rattle.directory_rules.specs.Sight.{was_settled, is_owner, is_handed_over, snapshot_for, sealed}
 use Rattle.directory_rules.specs.Laws.{IsHandedOver}
 use Rattle.directory_rules.proofs.Cases.{on_bool}
-
-not_true : (b : Bool) → not b ≡ true → b ≡ false
-not_true true n = cc (n)
-not_true false n = refl
 
 for_owner : (to : Option Silo) (hashing : Hashing) (view : ViewValue) (silo : Silo) (pieces : List (ℕ × Piece)) (range : Range) → is_owner silo to ≡ false → was_settled pieces range ≡ true → All (IsHandedOver view silo pieces) (snapshot_for to hashing view silo pieces range)
 for_owner None hashing view silo pieces range other settled = All-nil (IsHandedOver view silo pieces)
@@ -31,7 +28,7 @@ handed : (hashing : Hashing) (view : ViewValue) (silo : Silo) (pieces : List (�
 handed hashing view silo pieces arc over =
     let settled = both (is_owner silo arc.from && is_some arc.to && not (is_owner silo arc.to)) (was_settled pieces arc.range) over in
     let other = both (is_owner silo arc.from && is_some arc.to) (not (is_owner silo arc.to)) settled.0 in
-    for_owner arc.to hashing view silo pieces arc.range (not_true (is_owner silo arc.to) other.1) settled.1
+    for_owner arc.to hashing view silo pieces arc.range (not-true (is_owner silo arc.to) other.1) settled.1
 
 pub all_handed : (hashing : Hashing) (view : ViewValue) (silo : Silo) (pieces : List (ℕ × Piece)) (arcs : List RingArc) → All (IsHandedOver view silo pieces) (sealed hashing view silo pieces arcs)
 all_handed hashing view silo pieces [] = All-nil (IsHandedOver view silo pieces)

@@ -3,7 +3,8 @@ use Rattle.std.proofs.Common.{◌≡◌, ◌≢◌, refl, sym, ap, ◌∙◌, Li
 use Rattle.std.specs.Prelude.{Bool, true, false, cond, Option, Some, None}
 use Rattle.std.specs.Map.{lookup, remove_entry}
 use Rattle.std.specs.BTreeMap.{is_at}
-use Rattle.membership_view.proofs.Entries.{lookup-insert_entry, Equal-from}
+use Rattle.texts.proofs.Orderings.{Equal-from}
+use Rattle.texts.proofs.Entries.{lookup-insert_entry}
 use Rattle.silo_address.specs.Grain.{Grain, grain_cmp}
 use Rattle.silo_address.specs.declared.ActivationId.{ActivationId}
 use Rattle.silo_address.specs.declared.Entry.{Entry}

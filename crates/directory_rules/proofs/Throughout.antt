@@ -1,10 +1,11 @@
 -- A range that was settled has each of its hashes in a settled piece.
 use Rattle.std.proofs.Common.{arith, ◌≡◌, refl, sym, ap, ◌∙◌, ℕ, List, [], ◌∷◌, ◌+◌, ◌<◌}
-use Rattle.std.specs.Prelude.{Bool, true, false, cond, ◌&&◌, ◌||◌, All, count_by}
+use Rattle.std.specs.Prelude.{true, cond, ◌&&◌, ◌||◌, All, count_by}
 use Rattle.std.specs.List.{list_all}
 use Rattle.std.specs.Map.{keys_of}
 use Rattle.std.proofs.lemmas.List.Elements.{All-head, All-tail}
 use Rattle.std.proofs.lemmas.List.Sums.{sum_by-cons}
+use Rattle.std.proofs.lemmas.Bool.{or_right, and_from}
 use Rattle.texts.proofs.Decided.{both}
 use Rattle.ring_range.specs.Range.{circle, Range, IsRange, EachHash, holds, within}
 use Rattle.ring_range.specs.Cut.{cut_parts}
@@ -20,14 +21,6 @@ held_within : (inner outer : Range) (hash : ℕ) → IsRange inner → IsRange o
 held_within inner outer hash in_ok out_ok below inside held =
     (Decides-holds outer hash out_ok below).1 ((Decides-within inner outer in_ok out_ok).0 inside hash ((Decides-holds inner hash in_ok below).0 held))
 
-any_true : (a b : Bool) → b ≡ true → (a || b) ≡ true
-any_true true b is = refl
-any_true false b is = is
-
-both_true : (a b : Bool) → a ≡ true → b ≡ true → (a && b) ≡ true
-both_true true b is that = that
-both_true false b is that = is
-
 -- one settled piece has the part, so it has the hash
 in_one : (pieces : List (ℕ × Piece)) (part : Range) (hash : ℕ) → IsRange part → All (λ e. IsRange e.1.range) pieces → hash < circle → holds part hash ≡ true → is_in_settled pieces part ≡ true → lies_settled hash pieces ≡ true
 in_one [] part hash ok oks below held inside = inside
@@ -35,8 +28,8 @@ in_one (e ∷ es) part hash ok oks below held inside =
     on_bool (λ b. (is_settled e.1.state && within part e.1.range) ≡ b → (b || is_in_settled es part) ≡ true → ((is_settled e.1.state && holds e.1.range hash) || lies_settled hash es) ≡ true)
     (is_settled e.1.state && within part e.1.range)
     (λ t is any. let here = both (is_settled e.1.state) (within part e.1.range) is in
-    ap (λ b. b || lies_settled hash es) (both_true (is_settled e.1.state) (holds e.1.range hash) here.0 (held_within part e.1.range hash ok (All-head (λ x. IsRange x.1.range) e es oks) below here.1 held)))
-    (λ f is any. any_true (is_settled e.1.state && holds e.1.range hash) (lies_settled hash es) (in_one es part hash ok (All-tail (λ x. IsRange x.1.range) e es oks) below held any))
+    ap (λ b. b || lies_settled hash es) (and_from (is_settled e.1.state) (holds e.1.range hash) here.0 (held_within part e.1.range hash ok (All-head (λ x. IsRange x.1.range) e es oks) below here.1 held)))
+    (λ f is any. or_right (is_settled e.1.state && holds e.1.range hash) (lies_settled hash es) (in_one es part hash ok (All-tail (λ x. IsRange x.1.range) e es oks) below held any))
     refl inside
 
 -- some part holds the hash

@@ -1,8 +1,9 @@
 -- What has been read of members stands on when one more is found.
-use Rattle.std.proofs.Common.{◌≡◌, ℕ, ◌||◌, Bool, true, false, true≢false, List, ◌∷◌, Option, Some, None, refl, sym, ◌∙◌}
+use Rattle.std.proofs.Common.{◌≡◌, ℕ, true, false, true≢false, List, ◌∷◌, Option, Some, None, sym, ◌∙◌}
 use Rattle.std.specs.Prelude.{bytes_eq}
 use Rattle.std.specs.List.{list_any}
 use Rattle.std.proofs.lemmas.Slice.Eq.{bytes_eq-Decides}
+use Rattle.std.proofs.lemmas.Bool.{or_parts}
 use Rattle.serde_json.specs.Data.{Data, Members, put}
 use Rattle.serde_json.proofs.Views.{get_member-put_other}
 use Rattle.dumps.specs.MembersRead.{IsApart, Stands}
@@ -10,11 +11,6 @@ use Rattle.dumps.specs.MembersRead.{IsApart, Stands}
 -- two names that differ
 pub names_apart : (one other : List ℕ) → bytes_eq one other ≡ false → other ≡ one → ⊥
 names_apart one other differ same = true≢false (sym ((bytes_eq-Decides one other).1 (sym same)) ∙ differ)
-
--- neither of two
-pub neither : (a b : Bool) → (a || b) ≡ false → (a ≡ false) × (b ≡ false)
-neither true b is = absurd (true≢false is)
-neither false b is = (refl, is)
 
 -- a member of another name changes nothing
 pub stands_on : {X : Type 0} (tells : Data → X → Type 0) (own name : List ℕ) (read : Option X) (value : Data) (found : Members) → (own ≡ name → ⊥)
@@ -28,5 +24,5 @@ pub others_stand : {X S : Type 0} (tells : Data → X → Type 0) (stands : S �
     → (Stands tells own read found × IsApart own (names others) × stands others found)
     → (Stands tells own read (put name value found) × IsApart own (names others) × stands others (put name value found))
 others_stand tells stands names own read others on name value found differ stood =
-    let none = neither (bytes_eq name own) (list_any (bytes_eq name) (names others)) differ in
+    let none = or_parts (bytes_eq name own) (list_any (bytes_eq name) (names others)) differ in
     (stands_on tells own name read value found (names_apart name own none.0) stood.0, stood.1, on name value found none.1 stood.2)

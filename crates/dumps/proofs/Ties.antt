@@ -1,5 +1,5 @@
 -- Tests of lists by an order that tells apart what differs.
-use Rattle.std.proofs.Common.{◌≡◌, Bool, true, false, not, List, [], ◌∷◌, refl, sym, ◌∙◌, ap, Ordering, Equal, Less, Greater, is_eq}
+use Rattle.std.proofs.Common.{◌≡◌, Bool, true, false, not, List, [], ◌∷◌, refl, sym, ◌∙◌, ap, Ordering, is_eq}
 use Rattle.std.specs.Prelude.{◌&&◌, ◌||◌}
 use Rattle.std.specs.Bool.{Decides}
 use Rattle.std.specs.Borrow.{Bor}
@@ -9,6 +9,7 @@ use Rattle.std.specs.Cmp.{IsTotalOrder}
 use Rattle.std.specs.List.{list_any}
 use Rattle.std.proofs.lemmas.Cmp.{tied_itself}
 use Rattle.std.proofs.lemmas.Map.Lookups.{CmpEqualImpliesEq}
+use Rattle.texts.proofs.Orderings.{Equal-from}
 use Rattle.silo_address.specs.Silo.{Silo, silo_cmp, silo_eq}
 use Rattle.silo_address.specs.Grain.{Grain, grain_cmp, grain_eq}
 use Rattle.silo_address.specs.Activation.{activation_cmp, activation_eq, entry_cmp, entry_eq}
@@ -21,18 +22,13 @@ use Rattle.dump_rules.specs.DumpShape.{are_distinct_by, has_row, row_silos}
 use Rattle.dumps.specs.Mixed.{grains_lent}
 use Rattle.dumps.specs.Sets.{HasItems}
 
-equal_if : (o : Ordering) → is_eq o ≡ true → o ≡ Equal
-equal_if Less is = absurd (cc)
-equal_if Equal is = refl
-equal_if Greater is = absurd (cc)
-
 -- what ties in the order is the same
 tie : {K : Type 0} (R : K → K → Ordering) (E : K → K → Bool) → IsTotalOrder R → CmpEqualImpliesEq R → ((a b : K) → Decides (E a b) (a ≡ b))
     → (a b : K) → is_at (R a) b ≡ E a b
 tie {K} R E total exact decides a b = by (is_eq (R a b)) (E a b) refl refl
   where
     by : (s t : Bool) → is_eq (R a b) ≡ s → E a b ≡ t → is_eq (R a b) ≡ E a b
-    by true t is e = is ∙ sym ((decides a b).1 (exact a b (equal_if (R a b) is)))
+    by true t is e = is ∙ sym ((decides a b).1 (exact a b (Equal-from (R a b) is)))
     by false true is e =
         let same : is_eq (R a b) ≡ true = ap (λ (x : K). is_eq (R a x)) (sym ((decides a b).0 e)) ∙ ap is_eq (tied_itself total a) in
         absurd (let no : false ≡ true = sym is ∙ same in cc)

@@ -6,9 +6,7 @@ ghost use Rattle.dump_rules.specs.DumpShape as rule;
 
 use crate::conjunction::all_hold;
 use crate::{Dump, ListedNode, ListedPiece, ListedPoint, ListedRow};
-
-/// How many hashes there are.
-const CIRCLE: u64 = 4_294_967_296;
+use ring_range::CIRCLE;
 
 /// The most points of a silo.
 const MOST_POINTS: u64 = 128;

@@ -3,12 +3,11 @@ use Rattle.std.proofs.Common.{arith, ◌≡◌, refl, sym, ap, ◌∙◌, ℕ, L
 use Rattle.std.specs.Prelude.{Bool, true, false, not, ◌&&◌, cond, filter, flat_map, map, is_some, count_by, Option, Some, None}
 use Rattle.std.specs.Ordering.{is_eq}
 use Rattle.std.specs.BTreeMap.{is_at}
-use Rattle.std.specs.declared.cmp.Ordering.{Ordering}
-use Rattle.std.specs.declared.cmp.Ordering.TheVariants.{Less, Equal, Greater}
 use Rattle.std.proofs.lemmas.Cmp.{tied_itself}
 use Rattle.std.proofs.lemmas.List.Elements.{All-filter}
 use Rattle.std.proofs.lemmas.List.Kept.{AllPairs-filter}
 use Rattle.std.proofs.lemmas.List.Sums.{sum_by-cons}
+use Rattle.texts.proofs.Orderings.{Equal-from}
 use Rattle.silo_address.specs.Silo.{Silo, silo_cmp, silo_eq}
 use Rattle.silo_address.proofs.Order.{silo_cmp_exact, silo_cmp_total}
 use Rattle.silo_address.proofs.Same.{Decides-silo}
@@ -106,17 +105,12 @@ own_sealed hashing view silo pieces arcs =
     (narrower (is_handed_over silo pieces) (λ arc. is_owner silo (giver_of arc)) (λ arc is. gives_up silo arc.range arc.from arc.to (was_settled pieces arc.range) is) arcs)
 
 -- ---- An arc more under its silo.
-equal_from : (r : Ordering) → is_eq r ≡ true → r ≡ Equal
-equal_from Less h = cc
-equal_from Equal h = refl
-equal_from Greater h = cc
-
 -- the order's test for one silo is that of equality
 one_silo : (a b : Silo) → is_at (silo_cmp a) b ≡ silo_eq a b
 one_silo a b = by (is_at (silo_cmp a) b) (silo_eq a b) refl refl
   where
     by : (s t : Bool) → is_at (silo_cmp a) b ≡ s → silo_eq a b ≡ t → is_at (silo_cmp a) b ≡ silo_eq a b
-    by true t is e = is ∙ sym ((Decides-silo a b).1 (silo_cmp_exact a b (equal_from (silo_cmp a b) is)))
+    by true t is e = is ∙ sym ((Decides-silo a b).1 (silo_cmp_exact a b (Equal-from (silo_cmp a b) is)))
     by false true is e =
         let same : is_at (silo_cmp a) b ≡ true = ap (λ x. is_eq (silo_cmp a x)) (sym ((Decides-silo a b).0 e)) ∙ ap is_eq (tied_itself silo_cmp_total a) in
         absurd (let no : false ≡ true = sym is ∙ same in cc)

@@ -6,6 +6,7 @@ use Rattle.std.proofs.lemmas.List.Elements.{filter-append}
 use Rattle.std.proofs.lemmas.List.Sorted.{IsPermutation-refl, length_permutation}
 use Rattle.std.proofs.lemmas.List.Sums.{count_by-le-length, length-filter}
 use Rattle.std.proofs.lemmas.Map.Entries.{length-values_of}
+use Rattle.std.proofs.lemmas.Bool.{and_from}
 use Rattle.silo_address.specs.declared.Entry.{Entry}
 use Rattle.membership_view.specs.View.{ViewValue}
 use Rattle.texts.proofs.Decided.{both}
@@ -22,7 +23,7 @@ use Rattle.directory_rules.proofs.Cases.{on_bool}
 use Rattle.grain_partition.specs.Holdings.{ArePieces, are_tidy}
 use Rattle.grain_partition.proofs.ListsByWalk.{AreListed, front, listed_all, listed_more, listed_none, same_picked}
 use Rattle.grain_partition.proofs.OnePiece.{counted, found_counts, one_for, passing}
-use Rattle.grain_partition.proofs.SettledHashes.{both_are, passes_of_any, settles}
+use Rattle.grain_partition.proofs.SettledHashes.{passes_of_any, settles}
 use Rattle.grain_partition.proofs.SettledParts.{Decides-was_settled}
 use Rattle.grain_partition.proofs.Tidy.{by_range, kept_by_steps, none_pass}
 use Rattle.grain_partition.proofs.Walks.{part_behind}
@@ -54,7 +55,7 @@ module _ (hashing : Hashing) (range : Range) where
           on_bool (λ b. holds range hash ≡ b → b ≡ false) (holds range hash)
           (λ t held.
           let none = miss hash below held in
-          let one = one_for (unsettled hash) (unsettled hash e.1) (both_are (not (is_settled e.1.state)) (holds e.1.range hash) (ap not is) here) in
+          let one = one_for (unsettled hash) (unsettled hash e.1) (and_from (not (is_settled e.1.state)) (holds e.1.range hash) (ap not is) here) in
           absurd (omega (arith, none, one, counted (unsettled hash) e es)))
           (λ f held. refl) refl
 

@@ -5,10 +5,11 @@ use Rattle.std.specs.Option.{option_or}
 use Rattle.std.specs.BTreeMap.{is_at}
 use Rattle.std.proofs.lemmas.Bool.Decides.{nat_tests}
 use Rattle.std.proofs.lemmas.Map.Entries.{lookup-filter-keys}
+use Rattle.texts.proofs.Orderings.{Equal-from}
 use Rattle.silo_address.specs.Grain.{Grain, grain_cmp}
 use Rattle.silo_address.specs.declared.Entry.{Entry}
 use Rattle.silo_address.proofs.Order.{grain_cmp_exact}
-use Rattle.membership_view.proofs.Entries.{Equal-from, sorted-nil}
+use Rattle.texts.proofs.Entries.{sorted-nil}
 use Rattle.ring_range.specs.Range.{Range, IsRange, distance, holds}
 use Rattle.ring_range.proofs.Circle.{distance-itself}
 use Rattle.hash_ring.specs.declared.Hashing.{Hashing}
@@ -20,7 +21,7 @@ use Rattle.directory_rules.specs.Sight.{all_entries, was_settled}
 use Rattle.directory_rules.specs.Table.{Table, entries_of, entry_at, with_entry}
 use Rattle.grain_table.proofs.ByGrain.{IsTable, nothing_is_table, same_tables}
 use Rattle.grain_table.proofs.Filters.{entries_passed, passed_is_table}
-use Rattle.grain_table.proofs.HashesBelow.{grain_below}
+use Rattle.hash_ring.proofs.HashesBelow.{grain_below}
 use Rattle.grain_table.proofs.Put.{found_all, put_in, put_in_is_table}
 use Rattle.grain_partition.specs.Holdings.{ArePieces, are_tidy}
 use Rattle.grain_partition.specs.Search.{SettlesAt}

@@ -1,7 +1,6 @@
 -- Pieces made of the arcs between two rings, each with its arc's range, of those arcs that pass a test.
 use Rattle.std.proofs.Common.{arith, ◌≡◌, refl, sym, ap, ◌∙◌, subst, ℕ, suc, List, [], ◌∷◌, ◌+◌, ◌<◌, ◌≤◌}
 use Rattle.std.specs.Prelude.{Bool, true, false, cond, All, AllPairs, count_by, map, filter}
-use Rattle.std.specs.Cmp.{nat_cmp_is}
 use Rattle.std.specs.List.{AllByRecursion, slice_index_or}
 use Rattle.std.specs.List.Sorted.{IsStrictlySortedBy}
 use Rattle.std.specs.Map.{keys_of}
@@ -9,15 +8,13 @@ use Rattle.std.specs.Ordering.{nat_cmp}
 use Rattle.std.specs.declared.cmp.Ordering.TheVariants.{Less}
 use Rattle.std.proofs.lemmas.List.Elements.{All-head, All-tail, All-map, All-filter}
 use Rattle.std.proofs.lemmas.List.Sums.{sum_by-cons}
+use Rattle.texts.proofs.Orderings.{less_is}
 use Rattle.ring_range.specs.Range.{Range, IsRange, holds}
 use Rattle.range_moves.specs.declared.RingArc.{RingArc}
 use Rattle.directory_rules.specs.Piece.{Piece}
 use Rattle.grain_partition.specs.Holdings.{ArePieces}
 use Rattle.grain_partition.specs.Sight.{AreApart}
 use Rattle.grain_partition.proofs.OnePiece.{passing}
-
-less : (a b : ℕ) → a < b → nat_cmp a b ≡ Less
-less a b lt = sym (nat_cmp_is a b Less lt)
 
 abbrev Rising : List RingArc → Type 0
 Rising arcs = AllPairs (λ arc later. arc.range.start < later.range.start) arcs
@@ -38,7 +35,7 @@ module _ (f : RingArc → Piece) (q : RingArc → Bool) where
     where
       by : (b : Bool) → AllByRecursion (λ key. nat_cmp start key ≡ Less) (keys_of (made arcs))
           → AllByRecursion (λ key. nat_cmp start key ≡ Less) (keys_of (map (λ arc. (arc.range.start, f arc)) (cond b (arc ∷ filter q arcs) (filter q arcs))))
-      by true rest = (less start arc.range.start (All-head (λ (later : RingArc). start < later.range.start) arc arcs above), rest)
+      by true rest = (less_is start arc.range.start (All-head (λ (later : RingArc). start < later.range.start) arc arcs above), rest)
       by false rest = rest
 
   -- they stand by start

@@ -20,7 +20,7 @@ use Rattle.directory_rules.specs.Table.{entries_of, with_entry}
 use Rattle.directory_rules.proofs.Cases.{on_bool}
 use Rattle.grain_table.proofs.ByGrain.{nothing_is_table}
 use Rattle.grain_table.proofs.Filters.{passed_is_table}
-use Rattle.grain_table.proofs.HashesBelow.{grain_below}
+use Rattle.hash_ring.proofs.HashesBelow.{grain_below}
 use Rattle.grain_table.proofs.Listed.{values_kept}
 use Rattle.grain_table.proofs.Put.{put_in_is_table}
 use Rattle.grain_table.proofs.Sorted.{sorted_again}

@@ -2,11 +2,10 @@
 use Rattle.std.proofs.Common.{arith, ◌≡◌, refl, sym, ap, ◌∙◌, subst, ℕ, List, ◌<◌, ◌≤◌, find, ◌⊎◌, inl, inr}
 use Rattle.std.specs.Prelude.{Bool, true, false, if◌then◌else◌, Option, Some, None, IsSome, is_some}
 use Rattle.std.specs.Option.{option_map}
-use Rattle.std.specs.Ordering.{nat_cmp, is_gt}
+use Rattle.std.specs.Ordering.{nat_cmp}
 use Rattle.std.specs.Map.{lookup}
 use Rattle.std.specs.BTreeMap.{is_at}
 use Rattle.std.proofs.lemmas.Bool.{cases_lt}
-use Rattle.std.proofs.lemmas.Bool.Decides.{nat_tests}
 use Rattle.std.proofs.lemmas.Cmp.{nat_cmp_total}
 use Rattle.std.proofs.lemmas.Option.{same_Some}
 use Rattle.std.proofs.lemmas.Map.Lookups.{exact_unsigned}
@@ -31,10 +30,6 @@ past_where hash other o none there = by (cases_lt hash other)
     by : (hash < other) ⊎ (other ≤ hash) → hash < other
     by (inl gt) = gt
     by (inr le) = let no : false ≡ true = sym (ap is_some (none le)) ∙ there in cc
-
--- what a bound on the keys says, at numbers
-pub not_gt_from_le : (a b : ℕ) → a ≤ b → is_gt (nat_cmp a b) ≡ false
-not_gt_from_le a b le = grind (arith, nat_tests)
 
 module _ (pieces : List (ℕ × Piece)) (are : ArePieces pieces) (hash : ℕ) (below : hash < circle) (piece : Piece) (near : BeginsNearest pieces hash piece) where
   -- the piece has its own start

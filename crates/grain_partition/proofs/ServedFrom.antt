@@ -1,12 +1,13 @@
 -- A request that is served from a piece.
-use Rattle.std.proofs.Common.{◌≡◌, refl, sym, ap, ◌∙◌, subst, ℕ, ◌==◌, List, find}
-use Rattle.std.specs.Prelude.{◌&&◌, not, nat_lt, Bool, true, false, cond, Option, Some, None, Result, Ok, Err, IfOk, OnOk, OnErr}
+use Rattle.std.proofs.Common.{◌≡◌, refl, sym, ap, ◌∙◌, subst, ℕ, List, find}
+use Rattle.std.specs.Prelude.{true, Option, Some, None, Result, Ok, Err, IfOk, OnOk, OnErr}
 use Rattle.std.specs.Option.{option_map}
 use Rattle.std.specs.Map.{lookup, set_value}
 use Rattle.std.specs.BTreeMap.{is_at, insert_entry}
 use Rattle.std.specs.Ordering.{nat_cmp}
 use Rattle.std.proofs.lemmas.Cmp.{nat_cmp_total}
 use Rattle.std.proofs.lemmas.Option.{same_Some}
+use Rattle.directory_rules.proofs.Owned.{serving_has}
 use Rattle.silo_address.specs.Silo.{silo_cmp}
 use Rattle.membership_view.proofs.Found.{find_found}
 use Rattle.ring_range.specs.Range.{holds}
@@ -14,12 +15,8 @@ use Rattle.directory_rules.specs.declared.Act.{Act}
 use Rattle.directory_rules.specs.declared.Act.TheVariants.{Register, Deregister, Find}
 use Rattle.directory_rules.specs.declared.Request.{Request}
 use Rattle.directory_rules.specs.declared.Reply.{Reply}
-use Rattle.directory_rules.specs.declared.Why.{Why}
-use Rattle.directory_rules.specs.declared.Why.TheVariants.{View, OldNumber}
-use Rattle.directory_rules.specs.declared.PieceState.{PieceState}
-use Rattle.directory_rules.specs.declared.PieceState.TheVariants.{Settled, Awaiting, Recovering}
 use Rattle.directory_rules.specs.Piece.{Piece, Holding}
-use Rattle.directory_rules.specs.Answer.{Answered, answered, answered_from, after_numbered, is_numbered, last_served, piece_with, served_by, serving_by_piece, serving_by_state, serving_piece, turned, with_piece}
+use Rattle.directory_rules.specs.Answer.{Answered, answered, answered_from, after_numbered, is_numbered, piece_with, served_by, serving_piece, turned, with_piece}
 use Rattle.grain_partition.specs.Holdings.{ArePieces}
 use Rattle.grain_partition.specs.Served.{IsTurnOf}
 use Rattle.grain_partition.proofs.OnePiece.{at_lookup}
@@ -39,37 +36,9 @@ found_with hash pieces are piece with = by (find (λ e. holds e.1.range hash) pi
         let under : f.1.range.start ≡ f.0 = at_lookup (λ e. e.1.range.start ≡ e.0) pieces are.under_start f.0 f.1 got.0 in
         ap (λ (p : Piece). lookup (is_at (nat_cmp p.range.start)) pieces) (sym same) ∙ ap (λ k. lookup (is_at (nat_cmp k)) pieces) under ∙ got.0 ∙ ap (λ p. Some p) same
 
-abbrev Serves : Result Piece Why → Piece → Type 0
-Serves served piece = served ≡ Ok piece
-
-same_Ok : (one other : Piece) → Serves (Ok one) other → one ≡ other
-same_Ok one other is = cc
-
--- a request is served from the piece that has its hash
-pub serving_with : (holding : Holding) (request : Request) (piece : Piece) → serving_piece holding request ≡ Ok piece → piece_with request.hash holding.pieces ≡ Some piece
-serving_with holding request piece serves = by_version (request.version == holding.seen) serves
-  where
-    by_number : (one : Piece) (b : Bool) → Serves (cond b (Err (OldNumber (last_served request.sender holding.served))) (Ok one)) piece → one ≡ piece
-    by_number one true serves = cc
-    by_number one false serves = same_Ok one piece serves
-
-    by_state : (one : Piece) (state : PieceState) → Serves (serving_by_state state one holding request) piece → one ≡ piece
-    by_state one Settled serves = by_number one (is_numbered request.act && not (nat_lt (last_served request.sender holding.served) request.number)) serves
-    by_state one (Awaiting from) serves = cc
-    by_state one Recovering serves = cc
-
-    by_piece : (o : Option Piece) → Serves (serving_by_piece o holding request) piece → o ≡ Some piece
-    by_piece None serves = cc
-    by_piece (Some one) serves = ap (λ p. Some p) (by_state one one.state serves)
-
-    by_version : (b : Bool) → Serves (cond b (serving_by_piece (piece_with request.hash holding.pieces) holding request) (Err (View holding.seen))) piece
-        → piece_with request.hash holding.pieces ≡ Some piece
-    by_version true serves = by_piece (piece_with request.hash holding.pieces) serves
-    by_version false serves = cc
-
 pub serving_found : (holding : Holding) → ArePieces holding.pieces → (request : Request) (piece : Piece) → serving_piece holding request ≡ Ok piece
     → lookup (is_at (nat_cmp piece.range.start)) holding.pieces ≡ Some piece
-serving_found holding are request piece serves = found_with request.hash holding.pieces are piece (serving_with holding request piece serves)
+serving_found holding are request piece serves = found_with request.hash holding.pieces are piece (serving_has holding request piece serves)
 
 -- what comes of a Register or a Deregister that is served
 served_numbered : (act : Act) → is_numbered act ≡ true → (piece : Piece) (holding : Holding) (request : Request) → served_by act piece holding request ≡ after_numbered (turned act piece.entries) piece holding request

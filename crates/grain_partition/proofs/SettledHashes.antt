@@ -10,6 +10,7 @@ use Rattle.std.specs.List.Sorted.{IsStrictlySortedBy}
 use Rattle.std.proofs.lemmas.Cmp.{nat_cmp_total}
 use Rattle.std.proofs.lemmas.Option.{same_Some}
 use Rattle.std.proofs.lemmas.Map.Lookups.{exact_unsigned}
+use Rattle.std.proofs.lemmas.Bool.{and_from, or_right}
 use Rattle.membership_view.proofs.Found.{find_found, find_none}
 use Rattle.texts.proofs.Decided.{both}
 use Rattle.ring_range.specs.Range.{circle, Range, holds}
@@ -22,14 +23,6 @@ use Rattle.grain_partition.specs.Holdings.{ArePieces}
 use Rattle.grain_partition.specs.Search.{SettlesAt}
 use Rattle.grain_partition.proofs.OnePiece.{by_entry, only_one}
 use Rattle.grain_partition.proofs.ServedFrom.{found_with}
-
-pub both_are : (a b : Bool) → a ≡ true → b ≡ true → (a && b) ≡ true
-both_are true b is that = that
-both_are false b is that = is
-
-or_right : (a b : Bool) → b ≡ true → (a || b) ≡ true
-or_right true b is = refl
-or_right false b is = is
 
 -- what is found and passes
 pub any_lookup : {X : Type 0} (p : X → Bool) (es : List (ℕ × X)) (k : ℕ) (v : X) → lookup (is_at (nat_cmp k)) es ≡ Some v → p v ≡ true → list_any (λ e. p e.1) es ≡ true
@@ -105,4 +98,4 @@ module _ (pieces : List (ℕ × Piece)) (are : ArePieces pieces) (hash : ℕ) (b
 pub lies_by : (pieces : List (ℕ × Piece)) (hash : ℕ) (range : Range) → SettlesAt pieces hash range → lies_settled hash pieces ≡ true
 lies_by pieces hash range at =
     any_lookup (settles hash) pieces at.piece.range.start at.piece at.there
-    (both_are (is_settled at.piece.state) (holds at.piece.range hash) at.settled (ap (λ r. holds r hash) at.range_is ∙ at.has))
+    (and_from (is_settled at.piece.state) (holds at.piece.range hash) at.settled (ap (λ r. holds r hash) at.range_is ∙ at.has))

@@ -6,7 +6,7 @@ use Rattle.std.specs.List.{list_all, slice_index_or}
 use Rattle.std.specs.Ordering.{nat_cmp}
 use Rattle.std.specs.Map.{lookup, keys_of}
 use Rattle.std.specs.BTreeMap.{is_at}
-use Rattle.std.proofs.lemmas.Bool.{cases_lt}
+use Rattle.std.proofs.lemmas.Bool.{cases_lt, and_from}
 use Rattle.std.proofs.lemmas.Option.{same_Some}
 use Rattle.std.proofs.lemmas.List.Elements.{All-map, All-contains}
 use Rattle.std.proofs.lemmas.List.Sums.{sum_by-cons}
@@ -25,7 +25,7 @@ use Rattle.grain_partition.specs.Holdings.{ArePieces}
 use Rattle.grain_partition.specs.Settled.{LiesSettled}
 use Rattle.grain_partition.proofs.Around.{distance-over, holds-below, below-holds, step-back, within-before, within-full}
 use Rattle.grain_partition.proofs.OnePiece.{at_lookup, only_one}
-use Rattle.grain_partition.proofs.SettledHashes.{Passes, any_lookup, both_are, passes_of_any, settles}
+use Rattle.grain_partition.proofs.SettledHashes.{Passes, any_lookup, passes_of_any, settles}
 
 zero_from : (n : ℕ) → (0 < n → ⊥) → n ≡ 0
 zero_from n none = by (cases_lt 0 n)
@@ -130,7 +130,7 @@ module _ (pieces : List (ℕ × Piece)) (are : ArePieces pieces) (part : Range) 
   pub part_in_settled : is_in_settled pieces part ≡ true
   part_in_settled =
       any_lookup (λ p. is_settled p.state && within part p.range) pieces first.key here first.there
-      (both_are (is_settled here.state) (within part here.range) (both (is_settled here.state) (holds here.range part.start) first.passes).0 (inside (cases_lt here.range.size circle)))
+      (and_from (is_settled here.state) (within part here.range) (both (is_settled here.state) (holds here.range part.start) first.passes).0 (inside (cases_lt here.range.size circle)))
     where
       inside : (here.range.size < circle) ⊎ (circle ≤ here.range.size) → within part here.range ≡ true
       inside (inr full) = within-full part here.range (omega (arith, here_range.size_within))
@@ -143,7 +143,7 @@ module _ (pieces : List (ℕ × Piece)) (are : ArePieces pieces) (part : Range) 
 all_in_settled : (pieces : List (ℕ × Piece)) (parts : List Range) → ((part : Range) → Contains parts part → is_in_settled pieces part ≡ true) → list_all (is_in_settled pieces) parts ≡ true
 all_in_settled pieces [] each = refl
 all_in_settled pieces (part ∷ parts) each =
-    both_are (is_in_settled pieces part) (list_all (is_in_settled pieces) parts) (each part (Contains-head part parts))
+    and_from (is_in_settled pieces part) (list_all (is_in_settled pieces) parts) (each part (Contains-head part parts))
     (all_in_settled pieces parts (λ other there. each other (Contains-tail part parts other there)))
   where
     Contains-head : (x : Range) (xs : List Range) → Contains (x ∷ xs) x

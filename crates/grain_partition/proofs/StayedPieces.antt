@@ -5,15 +5,15 @@ use Rattle.std.specs.List.Sorted.{IsStrictlySortedBy}
 use Rattle.std.specs.Map.{keys_of, lookup, set_value}
 use Rattle.std.specs.BTreeMap.{is_at}
 use Rattle.std.specs.Ordering.{nat_cmp}
-use Rattle.std.proofs.lemmas.Bool.Decides.{nat_tests}
 use Rattle.std.proofs.lemmas.Cmp.{eq_by_cmp_equiv, nat_cmp_total}
 use Rattle.std.proofs.lemmas.Map.{keys-set_value, lookup-none}
 use Rattle.std.proofs.lemmas.Map.Entries.{none_past_head}
 use Rattle.std.proofs.lemmas.Map.Keys.{sorted_tail, IsDistinct-from_sorted}
 use Rattle.std.proofs.lemmas.Map.Lookups.{exact_unsigned}
+use Rattle.std.proofs.lemmas.Bool.{leb-true}
+use Rattle.texts.proofs.Orderings.{Equal-from}
 use Rattle.silo_address.specs.Silo.{Silo}
 use Rattle.membership_view.specs.View.{ViewValue}
-use Rattle.membership_view.proofs.Entries.{Equal-from}
 use Rattle.membership_view.proofs.Found.{same_entries}
 use Rattle.texts.proofs.Decided.{both}
 use Rattle.ring_range.specs.Range.{Range, IsRange, circle, distance, holds}
@@ -133,9 +133,6 @@ module _ (k : ℕ) (q : RingArc → Bool) (f g : RingArc → Piece) (h : Option 
       by false rest = rest
 
 -- ---- A piece that stays is the piece of its arc.
-fits_from : (a b : ℕ) → nat_le a b ≡ true → a ≤ b
-fits_from a b is = grind (arith, nat_tests)
-
 abbrev piece_with_all : Range → PieceState → Table → Piece
 piece_with_all range state entries = record { range = range; state = state; entries = entries }
 
@@ -184,7 +181,7 @@ module _ (next : Bool) (hashing : Hashing) (view : ViewValue) (silo : Silo) (pie
           → staying hashing view (0, piece) (cond b (bare arc) (after_of arc)) ≡ after_of arc
       stayed piece found true is =
           let so = both (is_settled piece.state) (nat_le arc.range.size piece.range.size) is in
-          ap (λ b. cond b (left_of hashing view arc.range piece) (bare arc)) is ∙ left_is arc piece found so.0 (fits_from arc.range.size piece.range.size so.1)
+          ap (λ b. cond b (left_of hashing view arc.range piece) (bare arc)) is ∙ left_is arc piece found so.0 (leb-true arc.range.size piece.range.size so.1)
       stayed piece found false is =
           ap (λ b. cond b (left_of hashing view (after_of arc).range piece) (after_of arc)) (ap (λ r. covers r piece) (piece_range next hashing view silo pieces arc) ∙ is)
 

@@ -9,6 +9,7 @@ use Rattle.std.specs.Ordering.{nat_cmp}
 use Rattle.std.proofs.lemmas.List.Elements.{All-map, filter_passes}
 use Rattle.std.proofs.lemmas.List.Sums.{list_all-from_AllPass, sum_by-cons}
 use Rattle.std.proofs.lemmas.Map.Made.{keys_of-map_values}
+use Rattle.std.proofs.lemmas.Bool.{and_from}
 use Rattle.silo_address.specs.declared.Entry.{Entry}
 use Rattle.texts.proofs.Decided.{both}
 use Rattle.ring_range.specs.Cut.{cut_parts}
@@ -21,13 +22,12 @@ use Rattle.directory_rules.specs.Sight.{entries_within, is_in_settled, is_settle
 use Rattle.directory_rules.specs.Table.{Table, entries_of, lie_in, with_entry}
 use Rattle.grain_table.proofs.ByGrain.{IsTable, nothing_is_table}
 use Rattle.grain_table.proofs.Filters.{passed_is_table}
-use Rattle.grain_table.proofs.HashesBelow.{grain_below}
+use Rattle.hash_ring.proofs.HashesBelow.{grain_below}
 use Rattle.grain_table.proofs.Listed.{values_kept}
 use Rattle.grain_table.proofs.Put.{put_in_is_table, put_in_nothing}
 use Rattle.grain_partition.specs.Holdings.{ArePieces, are_tidy, tidied, settled_entries}
 use Rattle.grain_partition.proofs.Counted.{AreCounted, counted_all, counted_more, nobody}
 use Rattle.grain_partition.proofs.ListsByWalk.{inside}
-use Rattle.grain_partition.proofs.SettledHashes.{both_are}
 use Rattle.grain_partition.proofs.Walks.{part_behind}
 
 -- what passes one test is among what passes a wider one
@@ -93,7 +93,7 @@ module _ (hashing : Hashing) where
 
   pub are_tidy-tidied : (pieces : List (ℕ × Piece)) → are_tidy hashing (tidied hashing pieces) ≡ true
   are_tidy-tidied [] = refl
-  are_tidy-tidied (e ∷ es) = both_are (lie_in hashing e.1.range (entries_of (own e.1).entries)) (are_tidy hashing (tidied hashing es)) (own_lie e.1) (are_tidy-tidied es)
+  are_tidy-tidied (e ∷ es) = and_from (lie_in hashing e.1.range (entries_of (own e.1).entries)) (are_tidy hashing (tidied hashing es)) (own_lie e.1) (are_tidy-tidied es)
 
   -- tidy pieces stay as they are
   pub tidied-tidy : (pieces : List (ℕ × Piece)) → are_tidy hashing pieces ≡ true → tidied hashing pieces ≡ pieces

@@ -9,7 +9,7 @@ use Rattle.std.proofs.lemmas.List.Sums.{sum_by-cons}
 use Rattle.silo_address.specs.Grain.{grain_cmp}
 use Rattle.silo_address.specs.declared.Entry.{Entry}
 use Rattle.membership_view.specs.View.{ViewValue}
-use Rattle.membership_view.proofs.Entries.{sorted-nil}
+use Rattle.texts.proofs.Entries.{sorted-nil}
 use Rattle.texts.proofs.Decided.{both}
 use Rattle.ring_range.specs.Range.{Range, circle, holds}
 use Rattle.hash_ring.specs.declared.Hashing.{Hashing}
@@ -22,7 +22,7 @@ use Rattle.directory_rules.proofs.Cases.{on_bool}
 use Rattle.grain_table.proofs.Counted.{all_pass}
 use Rattle.grain_table.proofs.ByGrain.{IsTable, nothing_is_table}
 use Rattle.grain_table.proofs.Filters.{kept_of}
-use Rattle.grain_table.proofs.HashesBelow.{grain_below}
+use Rattle.hash_ring.proofs.HashesBelow.{grain_below}
 use Rattle.grain_table.proofs.Put.{put_in_is_table}
 use Rattle.grain_partition.specs.Holdings.{ArePieces, are_tidy}
 use Rattle.grain_partition.proofs.OnePiece.{by_entry, found_counts, passing}

@@ -14,7 +14,7 @@ use Rattle.std.proofs.lemmas.Map.Lookups.{CmpEqualImpliesEq}
 use Rattle.silo_address.specs.Grain.{Grain, grain_cmp}
 use Rattle.silo_address.specs.declared.Entry.{Entry}
 use Rattle.silo_address.proofs.Order.{grain_cmp_exact, grain_cmp_total}
-use Rattle.membership_view.proofs.Entries.{sorted-insert_entry}
+use Rattle.texts.proofs.Entries.{all_above, sorted-insert_entry}
 use Rattle.ring_range.specs.Range.{Range, holds}
 use Rattle.hash_ring.specs.declared.Hashing.{Hashing}
 use Rattle.hash_ring.specs.Hash.{hash_grain}
@@ -33,10 +33,6 @@ module _ {K X : Type 0} {R : K → K → Ordering} (o : IsTotalOrder R) (exact :
       by true rest = (all.0, rest)
       by false rest = rest
 
-  all_above : (j k : K) (es : List (K × X)) → R j k ≡ Less → AllByRecursion (λ y. R k y ≡ Less) (keys_of es) → AllByRecursion (λ y. R j y ≡ Less) (keys_of es)
-  all_above j k [] below above = tt
-  all_above j k (e ∷ es) below above = (o.trans j k e.0 below above.0, all_above j k es below above.1)
-
   -- below all others it stands first
   insert_entry-first : (k : K) (v : X) (es : List (K × X)) → AllByRecursion (λ y. R k y ≡ Less) (keys_of es) → insert_entry R es k v ≡ (k, v) ∷ es
   insert_entry-first k v [] above = refl
@@ -51,7 +47,7 @@ module _ {K X : Type 0} {R : K → K → Ordering} (o : IsTotalOrder R) (exact :
           → passed (match_ordering r ((k, v) ∷ e ∷ es) ((e.0, v) ∷ es) (e ∷ insert_entry R es k v)) ≡ insert_entry R (cond (p e.0) (e ∷ passed es) (passed es)) k v
       by Less is later =
           ap (λ b. cond b ((k, v) ∷ passed (e ∷ es)) (passed (e ∷ es))) passes
-          ∙ sym (insert_entry-first k v (passed (e ∷ es)) (all_passed (λ y. R k y ≡ Less) (e ∷ es) (is, all_above k e.0 es is (sorted_head R e.0 (keys_of es) s))))
+          ∙ sym (insert_entry-first k v (passed (e ∷ es)) (all_passed (λ y. R k y ≡ Less) (e ∷ es) (is, all_above o k e.0 es is (sorted_head R e.0 (keys_of es) s))))
       by Equal is later =
           let here : p e.0 ≡ true = ap p (sym (exact k e.0 is)) ∙ passes in
           ap (λ b. cond b ((e.0, v) ∷ passed es) (passed es)) here

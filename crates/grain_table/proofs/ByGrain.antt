@@ -9,11 +9,12 @@ use Rattle.std.specs.BTreeMap.{is_at, insert_entry}
 use Rattle.std.specs.Ordering.{match_ordering}
 use Rattle.std.specs.declared.cmp.Ordering.{Ordering}
 use Rattle.std.specs.declared.cmp.Ordering.TheVariants.{Less, Equal, Greater}
+use Rattle.texts.proofs.Orderings.{Equal-from}
 use Rattle.silo_address.specs.Grain.{Grain, grain_cmp}
 use Rattle.silo_address.specs.declared.ActivationId.{ActivationId}
 use Rattle.silo_address.specs.declared.Entry.{Entry}
 use Rattle.silo_address.proofs.Order.{grain_cmp_total, grain_cmp_exact}
-use Rattle.membership_view.proofs.Entries.{lookup-insert_entry, sorted-insert_entry, sorted-nil, Equal-from}
+use Rattle.texts.proofs.Entries.{lookup-insert_entry, sorted-insert_entry, sorted-nil}
 use Rattle.membership_view.proofs.Found.{same_entries}
 use Rattle.hash_ring.specs.declared.Hashing.{Hashing}
 use Rattle.directory_rules.specs.Table.{Table, entry_at, with_entry}

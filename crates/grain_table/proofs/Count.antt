@@ -11,7 +11,7 @@ use Rattle.std.proofs.lemmas.Cmp.{eq_by_cmp_equiv, tied_itself}
 use Rattle.std.specs.Ordering.{is_eq}
 use Rattle.silo_address.specs.declared.ActivationId.{ActivationId}
 use Rattle.silo_address.proofs.Order.{grain_cmp_total}
-use Rattle.membership_view.proofs.Entries.{length-insert_entry}
+use Rattle.texts.proofs.Entries.{length-insert_entry}
 use Rattle.hash_ring.specs.declared.Hashing.{Hashing}
 use Rattle.directory_rules.specs.Table.{entry_at}
 use Rattle.grain_table.specs.declared.hashed_grain.HashedGrain.{HashedGrain}

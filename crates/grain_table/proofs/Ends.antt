@@ -13,7 +13,7 @@ use Rattle.directory_rules.specs.Table.{Table}
 use Rattle.grain_table.specs.declared.hashed_grain.HashedGrain.{HashedGrain}
 use Rattle.grain_table.specs.Hashed.{Hashed}
 use Rattle.grain_table.specs.Stretch.{is_between}
-use Rattle.grain_table.proofs.HashesBelow.{grain_below}
+use Rattle.hash_ring.proofs.HashesBelow.{grain_below}
 
 -- ---- What passes of all or of none.
 pub all_before : (last end : ℕ) (es : Hashed) → last < end → AllByRecursion (λ e. e.0.hash ≤ last) es → filter (λ e. nat_lt e.0.hash end) es ≡ es

@@ -12,6 +12,7 @@ use Rattle.std.specs.Ordering.{is_gt, is_lt, nat_cmp, ordering_then}
 use Rattle.std.proofs.lemmas.Map.Keys.{ge_from_not_lt, le_from_not_gt}
 use Rattle.std.specs.declared.cmp.Ordering.{Ordering}
 use Rattle.std.specs.declared.cmp.Ordering.TheVariants.{Less, Equal, Greater}
+use Rattle.texts.proofs.Orderings.{then_assoc, first_upto, first_from}
 use Rattle.silo_address.specs.Marks.{slash}
 use Rattle.silo_address.specs.Grain.{Grain, IsGrain, grain_cmp, grain_text}
 use Rattle.silo_address.specs.ReadGrain.{grain_at_slash}
@@ -38,13 +39,8 @@ digit q p r s low lower = by (nat_cmp q p) refl
     by Equal is = let tied : q ≡ p = ranked q p Equal is in ranks_as r s (q * 256 + r) (p * 256 + s) (λ h. omega arith) (λ h. omega arith) (λ h. omega arith)
     by Greater is = let above : p < q = ranked q p Greater is in let more : p * 256 + s < q * 256 + r = omega arith in grind (arith, nat_tests)
 
-then_then : (q r s : Ordering) → ordering_then q (ordering_then r s) ≡ ordering_then (ordering_then q r) s
-then_then Less r s = refl
-then_then Equal r s = refl
-then_then Greater r s = refl
-
 one_more : (q p r s : ℕ) → r < 256 → s < 256 → (o : Ordering) → ordering_then (nat_cmp q p) (ordering_then (nat_cmp r s) o) ≡ ordering_then (nat_cmp (q * 256 + r) (p * 256 + s)) o
-one_more q p r s low lower o = then_then (nat_cmp q p) (nat_cmp r s) o ∙ ap (λ x. ordering_then x o) (digit q p r s low lower)
+one_more q p r s low lower o = then_assoc (nat_cmp q p) (nat_cmp r s) o ∙ ap (λ x. ordering_then x o) (digit q p r s low lower)
 
 abbrev AreFour : ℕ → ℕ → ℕ → ℕ → Type 0
 AreFour a b c d = AllByRecursion (λ byte. byte < 256) (a ∷ b ∷ c ∷ d ∷ [])
@@ -140,22 +136,12 @@ hash_below (a ∷ b ∷ []) is = absurd (let some = is.some in omega (arith, som
 hash_below (a ∷ b ∷ c ∷ []) is = absurd (let some = is.some in omega (arith, some))
 
 -- ---- Keys in order have hashes in order.
-lt_first : (o p : Ordering) → is_lt (ordering_then o p) ≡ false → is_lt o ≡ false
-lt_first Less p falls = falls
-lt_first Equal p falls = refl
-lt_first Greater p falls = refl
-
-gt_first : (o p : Ordering) → is_gt (ordering_then o p) ≡ false → is_gt o ≡ false
-gt_first Less p falls = refl
-gt_first Equal p falls = refl
-gt_first Greater p falls = falls
-
 pub hash_up_to : (last key : List ℕ) → IsKeyBytes last → IsKeyBytes key → is_lt (slice_cmp nat_cmp last key) ≡ false → hash_in key ≤ hash_in last
 hash_up_to last key is other falls =
     ge_from_not_lt (hash_in last) (hash_in key)
-    (lt_first (nat_cmp (hash_in last) (hash_in key)) (text_cmp (key_in last).grain (key_in key).grain) (ap is_lt (sym (keys_order last key is other)) ∙ falls))
+    (first_from (nat_cmp (hash_in last) (hash_in key)) (text_cmp (key_in last).grain (key_in key).grain) (ap is_lt (sym (keys_order last key is other)) ∙ falls))
 
 pub hash_from : (first key : List ℕ) → IsKeyBytes first → IsKeyBytes key → is_gt (slice_cmp nat_cmp first key) ≡ false → hash_in first ≤ hash_in key
 hash_from first key is other falls =
     le_from_not_gt (hash_in first) (hash_in key)
-    (gt_first (nat_cmp (hash_in first) (hash_in key)) (text_cmp (key_in first).grain (key_in key).grain) (ap is_gt (sym (keys_order first key is other)) ∙ falls))
+    (first_upto (nat_cmp (hash_in first) (hash_in key)) (text_cmp (key_in first).grain (key_in key).grain) (ap is_gt (sym (keys_order first key is other)) ∙ falls))

@@ -10,7 +10,6 @@ pub mod Stretches
 pub mod Ranges
 pub mod Same
 pub mod Within
-pub mod HashesBelow
 pub mod Outside
 pub mod Ends
 pub mod OnSilos

@@ -9,10 +9,12 @@ use Rattle.std.specs.Ordering.{is_eq, match_ordering}
 use Rattle.std.specs.declared.cmp.Ordering.{Ordering}
 use Rattle.std.specs.declared.cmp.Ordering.TheVariants.{Less, Equal, Greater}
 use Rattle.std.proofs.lemmas.Cmp.{tied_itself}
+use Rattle.std.proofs.lemmas.Bool.{or_right}
+use Rattle.texts.proofs.Orderings.{Equal-from}
 use Rattle.silo_address.specs.Silo.{Silo, silo_cmp}
 use Rattle.silo_address.specs.declared.ActivationId.{ActivationId}
 use Rattle.silo_address.proofs.Order.{silo_cmp_exact, silo_cmp_total}
-use Rattle.membership_view.proofs.Entries.{Equal-from, sorted-nil}
+use Rattle.texts.proofs.Entries.{sorted-nil}
 use Rattle.hash_ring.specs.declared.Hashing.{Hashing}
 use Rattle.grain_table.specs.declared.hashed_grain.HashedGrain.{HashedGrain}
 use Rattle.grain_table.specs.Hashed.{AreKept, Hashed, IsKeyOf, hashed_cmp, is_among}
@@ -20,10 +22,6 @@ use Rattle.grain_table.proofs.ByGrain.{all_insert, hashed_put}
 use Rattle.grain_table.proofs.Filters.{all_passed, passed_are_hashed}
 use Rattle.grain_table.proofs.Order.{hashed_cmp_exact}
 use Rattle.grain_table.proofs.Taken.{all_without, hashed_taken}
-
-or_right : (a b : Bool) → b ≡ true → (a || b) ≡ true
-or_right true b is = refl
-or_right false b is = is
 
 -- ---- One more silo.
 among_added : (silos : List Silo) (new silo : Silo) → is_among silos silo ≡ true → is_among (insert_key silo_cmp silos new) silo ≡ true

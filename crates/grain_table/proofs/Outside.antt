@@ -20,7 +20,7 @@ use Rattle.grain_table.specs.declared.hashed_grain.HashedGrain.{HashedGrain}
 use Rattle.grain_table.specs.Hashed.{AreHashed, Hashed, by_grain, entry_under}
 use Rattle.grain_table.specs.Stretch.{is_between}
 use Rattle.grain_table.proofs.Count.{are_behind, none_behind}
-use Rattle.grain_table.proofs.HashesBelow.{grain_below}
+use Rattle.hash_ring.proofs.HashesBelow.{grain_below}
 use Rattle.grain_table.proofs.Ranges.{passed}
 
 -- ---- What all entries pass.

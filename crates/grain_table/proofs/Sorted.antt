@@ -12,13 +12,14 @@ use Rattle.std.proofs.lemmas.Cmp.{tied_itself}
 use Rattle.std.proofs.lemmas.List.Elements.{All-cons, All-head, All-tail}
 use Rattle.std.proofs.lemmas.List.Sorted.{All-permutation, IsPermutation-sym, sum_by-IsPermutation}
 use Rattle.std.proofs.lemmas.List.Sums.{sum_by-cons}
+use Rattle.texts.proofs.Orderings.{Equal-from}
 use Rattle.silo_address.specs.Activation.{activation_cmp, entry_cmp}
 use Rattle.silo_address.specs.Grain.{Grain, grain_cmp}
 use Rattle.silo_address.specs.declared.Entry.{Entry}
 use Rattle.silo_address.proofs.Order.{grain_cmp_total, grain_cmp_exact}
-use Rattle.membership_view.proofs.Entries.{Equal-from}
 use Rattle.hash_ring.specs.declared.Hashing.{Hashing}
 use Rattle.directory_rules.specs.Table.{Table, entries_of, entry_at, table_of}
+use Rattle.directory_rules.proofs.RisingTables.{entries_again, under_grains}
 use Rattle.grain_table.specs.Hashed.{AreHashed, Hashed, by_grain}
 use Rattle.grain_table.proofs.ByGrain.{IsTable, by_grain_is_table, same_tables}
 use Rattle.grain_table.proofs.Put.{IsOnce, entries_under, found_under, hashed_once, table_again, table_once}
@@ -164,14 +165,6 @@ strictly_sorted (entry ∷ next ∷ entries) once sorted =
     let below : grain_cmp entry.grain next.grain ≡ Less =
     first_below entry next (sorted 0 entry (omega arith) (omega arith)) (not_first (is_at (grain_cmp entry.grain) next.grain) next (entry_at entry.grain (table_of entries)) once.0) in
     ((below, all_above entry.grain next.grain (keys_of (table_of entries)) below behind.0), behind)
-
-under_grains : (entries : List Entry) → AllByRecursion (λ e. e.1.grain ≡ e.0) (table_of entries)
-under_grains [] = tt
-under_grains (entry ∷ entries) = (refl, under_grains entries)
-
-entries_again : (entries : List Entry) → entries_of (table_of entries) ≡ entries
-entries_again [] = refl
-entries_again (entry ∷ entries) = ap (λ l. entry ∷ l) (entries_again entries)
 
 module _ (one : List Entry) (once : IsOnce one) (table : Table) (is : IsTable table) (found : (grain : Grain) → entry_at grain (table_of one) ≡ entry_at grain table) where
   sorted_once : (sorted : List Entry) → IsPermutation one sorted → IsSorted entry_cmp sorted → sorted ≡ entries_of table

@@ -8,10 +8,10 @@ use Rattle.std.specs.List.Sorted.{IsStrictlySortedBy}
 use Rattle.std.specs.Map.{lookup, keys_of, remove_entry}
 use Rattle.std.specs.BTreeMap.{is_at}
 use Rattle.std.specs.declared.cmp.Ordering.{Ordering}
-use Rattle.std.specs.declared.cmp.Ordering.TheVariants.{Less}
 use Rattle.std.proofs.lemmas.Cmp.{eq_by_cmp_equiv}
 use Rattle.std.proofs.lemmas.Map.{lookup-remove_entry}
 use Rattle.std.proofs.lemmas.Map.Keys.{IsDistinct-from_sorted}
+use Rattle.texts.proofs.Entries.{all-remove_entry, sorted-remove_entry}
 use Rattle.silo_address.specs.Grain.{Grain, grain_cmp}
 use Rattle.silo_address.proofs.Order.{grain_cmp_total}
 use Rattle.hash_ring.specs.declared.Hashing.{Hashing}
@@ -30,23 +30,6 @@ module _ {K X : Type 0} (test : K → Bool) where
       by true rest = all.1
       by false rest = (all.0, rest)
 
-  pub all_keys_without : (P : K → Type 0) (es : List (K × X)) → AllByRecursion P (keys_of es) → AllByRecursion P (keys_of (remove_entry test es))
-  all_keys_without P [] all = tt
-  all_keys_without P (e ∷ es) all = by (test e.0) (all_keys_without P es all.1)
-    where
-      by : (b : Bool) → AllByRecursion P (keys_of (remove_entry test es)) → AllByRecursion P (keys_of (cond b es (e ∷ remove_entry test es)))
-      by true rest = all.1
-      by false rest = (all.0, rest)
-
-  pub sorted_without : (R : K → K → Ordering) (es : List (K × X)) → IsStrictlySortedBy R (keys_of es) → IsStrictlySortedBy R (keys_of (remove_entry test es))
-  unfolding IsStrictlySortedBy
-  sorted_without R [] s = tt
-  sorted_without R (e ∷ es) s = by (test e.0) (sorted_without R es s.1)
-    where
-      by : (b : Bool) → IsStrictlySortedBy R (keys_of (remove_entry test es)) → IsStrictlySortedBy R (keys_of (cond b es (e ∷ remove_entry test es)))
-      by true rest = s.1
-      by false rest = (all_keys_without (λ k. R e.0 k ≡ Less) es s.0, rest)
-
 -- what is found once a key is taken out
 found_without : {K X : Type 0} {R : K → K → Ordering} (o : IsTotalOrder R) (k q : K) (es : List (K × X)) → IsStrictlySortedBy R (keys_of es)
     → lookup (is_at (R q)) (remove_entry (is_at (R k)) es) ≡ cond (is_at (R k) q) None (lookup (is_at (R q)) es)
@@ -54,14 +37,14 @@ found_without {R = R} o k q es s = lookup-remove_entry (eq_by_cmp_equiv o) (is_a
 
 pub without_is_table : (grain : Grain) (table : Table) → IsTable table → IsTable (without_grain grain table)
 without_is_table grain table is = record {
-  in_order = sorted_without (is_at (grain_cmp grain)) grain_cmp table is.in_order;
+  in_order = sorted-remove_entry (is_at (grain_cmp grain)) grain_cmp table is.in_order;
   under = all_without (is_at (grain_cmp grain)) (λ e. e.1.grain ≡ e.0) table is.under;
 }
 
 pub hashed_taken : (hashing : Hashing) (test : HashedGrain → Bool) (es : Hashed) → AreHashed hashing es → AreHashed hashing (remove_entry test es)
 hashed_taken hashing test es are = record {
-  in_order = sorted_without test hashed_cmp es are.in_order;
-  keys = all_keys_without test (IsKeyOf hashing) es are.keys;
+  in_order = sorted-remove_entry test hashed_cmp es are.in_order;
+  keys = all-remove_entry test (IsKeyOf hashing) es are.keys;
 }
 
 pub taken_by_grain : (hashing : Hashing) (grain : Grain) (es : Hashed) → AreHashed hashing es

@@ -17,7 +17,6 @@ use std::alloc::{AllocError, Global};
 use std::boxed::BoxedSlice;
 use std::collections::BTreeMap;
 use std::marker::Model;
-pub(crate) use stretch::CIRCLE;
 
 /// Activations under hashed grains. A key is kept as bytes that compare as it does, and read again whenever it is asked for.
 #[derive(Drop)]

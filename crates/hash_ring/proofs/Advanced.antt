@@ -8,12 +8,12 @@ use Rattle.std.specs.Option.{option_map_or}
 use Rattle.std.specs.Ordering.{is_eq}
 use Rattle.std.specs.declared.cmp.Ordering.TheVariants.{Less}
 use Rattle.std.proofs.lemmas.Cmp.{tied_itself}
+use Rattle.texts.proofs.Orderings.{Equal-from}
 use Rattle.silo_address.specs.Silo.{Silo, silo_cmp}
 use Rattle.silo_address.proofs.Order.{silo_cmp_total, silo_cmp_exact}
 use Rattle.membership_view.specs.declared.Status.{Status}
 use Rattle.membership_view.specs.Row.{is_active}
 use Rattle.membership_view.specs.View.{ViewValue, IsByAddress, active_silos}
-use Rattle.membership_view.proofs.Entries.{Equal-from}
 use Rattle.hash_ring.specs.declared.point.Point.{Point}
 use Rattle.hash_ring.specs.Point.{point_cmp}
 use Rattle.hash_ring.specs.Places.{PlacesValue, is_added, places_of}

@@ -1,9 +1,10 @@
 -- The laws of points, rings and owners.
-use Rattle.std.proofs.Common.{◌≡◌, ◌⊎◌, ◌↔◌, ℕ, suc, ◌+◌, ◌-◌, ◌<◌, ◌&&◌, List, [], ◌∷◌, ◌++◌, length, get_or, Bool, true, false, not, cond, if◌then◌else◌, Option, Some, None, Result, Ok, Err, IsTrue, refl, sym, ◌∙◌, ap, subst, inl, inr, ⊎_elim, arith}
+use Rattle.std.proofs.Common.{◌≡◌, ◌⊎◌, ◌↔◌, ℕ, suc, ◌+◌, ◌-◌, ◌<◌, List, [], ◌∷◌, ◌++◌, length, get_or, Bool, true, false, not, cond, if◌then◌else◌, Option, Some, None, Result, Ok, Err, IsTrue, refl, sym, ◌∙◌, ap, subst, inl, inr, ⊎_elim, arith}
 use Rattle.std.specs.List.{All, Contains, flat_map, list_all}
 use Rattle.std.specs.Option.{option_map_or}
 use Rattle.std.specs.Ordering.{is_eq}
-use Rattle.std.proofs.lemmas.Bool.{cases_order}
+use Rattle.std.proofs.lemmas.Bool.{cases_order, and_parts}
+use Rattle.texts.proofs.Orderings.{Equal-from}
 use Rattle.silo_address.specs.Silo.{Silo, silo_cmp}
 use Rattle.silo_address.proofs.Order.{silo_cmp_total, silo_cmp_exact}
 use Rattle.silo_address.proofs.Same.{Decides-silo}
@@ -12,7 +13,7 @@ use Rattle.membership_view.specs.declared.Status.{Status}
 use Rattle.membership_view.specs.declared.Status.TheVariants.{Active, Leaving, Dead}
 use Rattle.membership_view.specs.Row.{is_active}
 use Rattle.membership_view.specs.View.{ViewValue, IsByAddress, active_silos, status_of}
-use Rattle.membership_view.proofs.Entries.{lookup-insert_entry, Equal-from}
+use Rattle.texts.proofs.Entries.{lookup-insert_entry}
 use Rattle.hash_ring.specs.declared.point.Point.{Point}
 use Rattle.hash_ring.specs.Point.{point_cmp, IsOnCircle}
 use Rattle.hash_ring.specs.Places.{PlacesValue, places_of, is_added, is_point_count, has_points, places_for, with_silo, after_add}
@@ -98,15 +99,11 @@ same_places places silo given other absent there =
     lookup-insert_entry silo_cmp_total silo list other places.entries
     ∙ ap (λ b. cond b (Some list) (places_of places other)) (not_that places silo other (is_eq (silo_cmp other silo)) refl absent there)
 
-both_added : (a b : Bool) → (a && b) ≡ true → (a ≡ true) × (b ≡ true)
-both_added true b all = (refl, all)
-both_added false b all = cc
-
 same_points_of : (places : PlacesValue) (silo : Silo) (given : List ℕ) → is_added places silo ≡ false → (silos : List Silo) → list_all (is_added places) silos ≡ true
     → flat_map (silo_points (with_silo places silo given)) silos ≡ flat_map (silo_points places) silos
 same_points_of places silo given absent [] all = refl
 same_points_of places silo given absent (s ∷ ss) all =
-    let parts = both_added (is_added places s) (list_all (is_added places) ss) all in
+    let parts = and_parts (is_added places s) (list_all (is_added places) ss) all in
     let first = ap (λ o. points_if s o) (same_places places silo given s absent parts.0) in
     let rest = same_points_of places silo given absent ss parts.1 in
     λ i. first i ++ rest i

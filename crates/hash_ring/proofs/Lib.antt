@@ -17,3 +17,5 @@ pub mod Advanced
 pub mod Rooms
 pub mod Lawful
 pub mod OwnRanges
+pub mod HashesBelow
+pub mod PlacesBack

@@ -1,13 +1,14 @@
 -- How far back a place lies, and the order of points by it.
 use Rattle.std.proofs.Common.{◌≡◌, ◌⊎◌, ℕ, ◌+◌, ◌-◌, ◌<◌, ◌≤◌, false, refl, sym, ◌∙◌, ap, inl, inr, arith, if◌then◌else◌}
 use Rattle.std.specs.Cmp.{IsTotalOrder}
-use Rattle.std.specs.Ordering.{nat_cmp, ordering_then, ordering_reverse, is_gt}
+use Rattle.std.specs.Ordering.{nat_cmp, ordering_then, is_gt}
 use Rattle.std.specs.declared.cmp.Ordering.{Ordering}
 use Rattle.std.specs.declared.cmp.Ordering.TheVariants.{Less, Equal, Greater}
 use Rattle.std.proofs.lemmas.Bool.{le-leb, lt-leb, cases_lt}
-use Rattle.std.proofs.lemmas.Bool.Decides.{nat_tests}
 use Rattle.std.proofs.lemmas.Cmp.{then_total, on_total, nat_cmp_total, tied_itself}
 use Rattle.std.proofs.lemmas.Map.Lookups.{exact_unsigned}
+use Rattle.std.proofs.lemmas.Map.Keys.{le_from_not_gt}
+use Rattle.texts.proofs.Orderings.{first_upto, level, upto_nat}
 use Rattle.silo_address.specs.Silo.{silo_cmp}
 use Rattle.silo_address.proofs.Order.{silo_cmp_total, silo_cmp_exact}
 use Rattle.ring_range.specs.Range.{circle}
@@ -37,17 +38,6 @@ back_exact hash p q in_p in_q in_hash same = by (cases_lt hash p) (cases_lt hash
 pub nearness_total : (hash : ℕ) → IsTotalOrder (nearness_cmp hash)
 nearness_total hash = then_total (on_total (λ p. back hash p.place) nat_cmp_total) (then_total (on_total (λ p. p.silo) silo_cmp_total) (on_total (λ p. p.index) nat_cmp_total))
 
-first_upto : (r s : Ordering) → is_gt (ordering_then r s) ≡ false → is_gt r ≡ false
-first_upto Less s upto = refl
-first_upto Equal s upto = refl
-first_upto Greater s upto = upto
-
-pub nat_upto : (a b : ℕ) → is_gt (nat_cmp a b) ≡ false → a ≤ b
-nat_upto a b upto = grind (arith, nat_tests)
-
-pub upto_nat : (a b : ℕ) → a ≤ b → is_gt (nat_cmp a b) ≡ false
-upto_nat a b upto = grind (arith, nat_tests)
-
 -- what it says that one point isn't farther back than another
 pub record IsNoFarther (hash : ℕ) (p q : Point) : Type 0 where
   pub nearer : back hash p.place ≤ back hash q.place
@@ -62,11 +52,11 @@ no_farther hash p q upto =
     let silo_upto : q.place ≡ p.place → is_gt (ordering_then (silo_cmp p.silo q.silo) (nat_cmp p.index q.index)) ≡ false =
     λ same. sym (ap (λ r. is_gt (ordering_then r (ordering_then (silo_cmp p.silo q.silo) (nat_cmp p.index q.index)))) (tied_place hash p q same)) ∙ upto in
     record {
-      nearer = nat_upto _ _ (first_upto (nat_cmp (back hash p.place) (back hash q.place)) (ordering_then (silo_cmp p.silo q.silo) (nat_cmp p.index q.index)) upto);
+      nearer = le_from_not_gt _ _ (first_upto (nat_cmp (back hash p.place) (back hash q.place)) (ordering_then (silo_cmp p.silo q.silo) (nat_cmp p.index q.index)) upto);
       silo = λ same. first_upto (silo_cmp p.silo q.silo) (nat_cmp p.index q.index) (silo_upto same);
       index = λ same silo.
           let tied : silo_cmp p.silo q.silo ≡ Equal = ap (λ s. silo_cmp p.silo s) silo ∙ tied_itself silo_cmp_total p.silo in
-          nat_upto _ _ (sym (ap (λ r. is_gt (ordering_then r (nat_cmp p.index q.index))) tied) ∙ silo_upto same);
+          le_from_not_gt _ _ (sym (ap (λ r. is_gt (ordering_then r (nat_cmp p.index q.index))) tied) ∙ silo_upto same);
     }
 
 by_silo : (p q : Point) (r : Ordering) → silo_cmp p.silo q.silo ≡ r → is_gt r ≡ false → (q.silo ≡ p.silo → p.index ≤ q.index) → is_gt (ordering_then r (nat_cmp p.index q.index)) ≡ false
@@ -86,11 +76,6 @@ from_no_farther hash p q on_hash on_p on_q upto =
     by_place hash p q (nat_cmp (back hash p.place) (back hash q.place)) refl (upto_nat _ _ upto.nearer) (λ tied.
     let same : q.place ≡ p.place = sym (back_exact hash p.place q.place on_p on_q on_hash (exact_unsigned _ _ tied)) in
     by_silo p q (silo_cmp p.silo q.silo) refl (upto.silo same) (upto.index same))
-
-level : (r : Ordering) → is_gt r ≡ false → is_gt (ordering_reverse r) ≡ false → r ≡ Equal
-level Less h k = cc
-level Equal h k = refl
-level Greater h k = cc
 
 -- two points neither of which is farther back are one point
 pub one_nearest : (hash : ℕ) (p q : Point) → hash < circle → IsOnCircle p → IsOnCircle q → IsNoFarther hash p q → IsNoFarther hash q p → p ≡ q

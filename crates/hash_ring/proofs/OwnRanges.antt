@@ -4,7 +4,7 @@ use Rattle.std.specs.Prelude.{count_by}
 use Rattle.std.specs.List.{All, filter}
 use Rattle.std.specs.List.Sorted.{IsStrictlySortedBy}
 use Rattle.std.specs.Result.{IfOk}
-use Rattle.std.proofs.lemmas.Bool.{cases_lt, cases_order, ltb-true}
+use Rattle.std.proofs.lemmas.Bool.{cases_lt, cases_order, ltb-true, false_from_ne_true}
 use Rattle.std.proofs.lemmas.Bool.Decides.{Decides-ltb}
 use Rattle.std.proofs.lemmas.List.Recursion.{is_count_by}
 use Rattle.silo_address.specs.Silo.{Silo, silo_eq}
@@ -148,10 +148,6 @@ no_hit points silo hash (p ∷ ps) none =
     ∙ ap (λ b. cond b (1 + hits_of points silo hash ps) (hits_of points silo hash ps)) (none p (inl refl))
     ∙ no_hit points silo hash ps (λ q there. none q (inr there))
 
-not_it : (b : Bool) → (b ≡ true → ⊥) → b ≡ false
-not_it true never = absurd (never refl)
-not_it false never = refl
-
 one_hit : (points : List Point) (silo : Silo) (hash : ℕ) (owner : Point) → has_it points silo hash owner ≡ true → (some : List Point) → Rising point_cmp some → In owner some
     → ((p : Point) → In p some → has_it points silo hash p ≡ true → p ≡ owner) → hits_of points silo hash some ≡ 1
 one_hit points silo hash owner its [] rising there only = absurd there
@@ -160,7 +156,7 @@ one_hit points silo hash owner its (p ∷ ps) rising there only =
   where
     none_later : p ≡ owner → (q : Point) → In q ps → has_it points silo hash q ≡ false
     none_later same q in_q =
-        not_it (has_it points silo hash q) (λ hit.
+        false_from_ne_true (has_it points silo hash q) (λ hit.
         never_itself point_cmp_total p (ap (λ x. point_cmp p x) (same ∙ sym (only q (inr in_q) hit)) ∙ rising.0 q in_q))
 
     by : (b : Bool) → has_it points silo hash p ≡ b → In owner (p ∷ ps) → (In owner ps → hits_of points silo hash ps ≡ 1) → cond b (1 + hits_of points silo hash ps) (hits_of points silo hash ps) ≡ 1
@@ -176,7 +172,7 @@ parts_of false b c all = cc
 covers_one : (points : List Point) (silo : Silo) (hash : ℕ) → hash < circle → IsStrictlySortedBy point_cmp points → All IsOnCircle points → (o : Option Point) → owner_of points hash ≡ o
     → (mine : Bool) → is_of_silo silo o ≡ mine → hits_of points silo hash points ≡ cond mine 1 0
 covers_one points silo hash on_hash sorted on_circle None is mine of =
-    no_hit points silo hash points (λ p there. not_it (has_it points silo hash p) (λ hit.
+    no_hit points silo hash points (λ p there. false_from_ne_true (has_it points silo hash p) (λ hit.
     let parts = parts_of (silo_eq p.silo silo) (owns_its_place points p) (holds (range_of points p) hash) hit in
     let no : None ≡ Some p = sym is ∙ owner_from points hash p on_hash on_circle (owner_by_range points hash p on_hash on_circle parts.1 parts.2) in cc))
     ∙ ap (λ b. cond b 1 0) of
@@ -191,7 +187,7 @@ covers_one points silo hash on_hash sorted on_circle (Some owner) is true of =
     one_owner points hash p owner on_hash on_circle (owner_by_range points hash p on_hash on_circle parts.1 parts.2) owns)
 covers_one points silo hash on_hash sorted on_circle (Some owner) is false of =
     let owns = owner_is points hash owner is in
-    no_hit points silo hash points (λ p there. not_it (has_it points silo hash p) (λ hit.
+    no_hit points silo hash points (λ p there. false_from_ne_true (has_it points silo hash p) (λ hit.
     let parts = parts_of (silo_eq p.silo silo) (owns_its_place points p) (holds (range_of points p) hash) hit in
     let same : p ≡ owner = one_owner points hash p owner on_hash on_circle (owner_by_range points hash p on_hash on_circle parts.1 parts.2) owns in
     let no : true ≡ false = sym parts.0 ∙ ap (λ (x : Point). silo_eq x.silo silo) same ∙ of in cc))

@@ -4,28 +4,24 @@ use Rattle.std.specs.List.{All}
 use Rattle.std.specs.List.Sorted.{IsStrictlySortedBy, IsPartitionPoint}
 use Rattle.std.specs.Ordering.{is_gt, nat_cmp, ordering_then}
 use Rattle.std.specs.declared.cmp.Ordering.{Ordering}
-use Rattle.std.specs.declared.cmp.Ordering.TheVariants.{Less, Equal, Greater}
+use Rattle.std.specs.declared.cmp.Ordering.TheVariants.{Less, Equal}
 use Rattle.std.proofs.lemmas.Bool.{cases_lt}
 use Rattle.std.proofs.lemmas.Cmp.{tied_itself, nat_cmp_total}
 use Rattle.std.proofs.lemmas.List.{get_or_default}
 use Rattle.silo_address.proofs.Order.{silo_cmp_total}
-use Rattle.std.proofs.lemmas.Map.Keys.{Less-from_sorted}
+use Rattle.std.proofs.lemmas.Map.Keys.{Less-from_sorted, le_from_not_gt}
 use Rattle.std.proofs.lemmas.List.Elements.{Contains-get_or}
+use Rattle.texts.proofs.Orderings.{first_of_less}
 use Rattle.silo_address.specs.Silo.{silo_cmp}
 use Rattle.ring_range.specs.Range.{circle}
 use Rattle.hash_ring.specs.declared.point.Point.{Point}
 use Rattle.hash_ring.specs.Point.{back, point_cmp, IsOnCircle}
 use Rattle.hash_ring.specs.Owner.{IsOwner}
 use Rattle.hash_ring.specs.Search.{PlacesRise, IsLastMet, IsFirstThere}
-use Rattle.hash_ring.proofs.Nearness.{back_below, back_above, nat_upto}
-
-first_of : (r s : Ordering) → ordering_then r s ≡ Less → is_gt r ≡ false
-first_of Less s less = refl
-first_of Equal s less = refl
-first_of Greater s less = cc
+use Rattle.hash_ring.proofs.Nearness.{back_below, back_above}
 
 pub place_upto : (p q : Point) → point_cmp p q ≡ Less → p.place ≤ q.place
-place_upto p q less = nat_upto p.place q.place (first_of (nat_cmp p.place q.place) (ordering_then (silo_cmp p.silo q.silo) (nat_cmp p.index q.index)) less)
+place_upto p q less = le_from_not_gt p.place q.place (first_of_less (nat_cmp p.place q.place) (ordering_then (silo_cmp p.silo q.silo) (nat_cmp p.index q.index)) less)
 
 -- points in order stand by place
 pub places_rise : (points : List Point) → IsStrictlySortedBy point_cmp points → PlacesRise points
@@ -119,13 +115,13 @@ tied_place p q o same is =
     sym (ap (λ r. ordering_then r (ordering_then (silo_cmp p.silo q.silo) (nat_cmp p.index q.index))) tied) ∙ is
 
 not_less : (p q : Point) → q.place ≡ p.place → (point_cmp p q ≡ Less) ⊎ (p ≡ q) → is_gt (silo_cmp p.silo q.silo) ≡ false
-not_less p q same (inl less) = first_of (silo_cmp p.silo q.silo) (nat_cmp p.index q.index) (tied_place p q Less same less)
+not_less p q same (inl less) = first_of_less (silo_cmp p.silo q.silo) (nat_cmp p.index q.index) (tied_place p q Less same less)
 not_less p q same (inr one) = ap (λ s. is_gt (silo_cmp p.silo s)) (sym (ap (λ (x : Point). x.silo) one)) ∙ ap is_gt (tied_itself silo_cmp_total p.silo)
 
 index_upto : (p q : Point) → q.place ≡ p.place → q.silo ≡ p.silo → (point_cmp p q ≡ Less) ⊎ (p ≡ q) → p.index ≤ q.index
 index_upto p q same silo (inl less) =
     let tied : silo_cmp p.silo q.silo ≡ Equal = ap (λ s. silo_cmp p.silo s) silo ∙ tied_itself silo_cmp_total p.silo in
-    nat_upto p.index q.index (ap is_gt (sym (ap (λ r. ordering_then r (nat_cmp p.index q.index)) tied) ∙ tied_place p q Less same less))
+    le_from_not_gt p.index q.index (ap is_gt (sym (ap (λ r. ordering_then r (nat_cmp p.index q.index)) tied) ∙ tied_place p q Less same less))
 index_upto p q same silo (inr one) = let e : p.index ≡ q.index = ap (λ (x : Point). x.index) one in omega arith
 
 pub owner_found : (points : List Point) (hash last first : ℕ) (d : Point) → IsStrictlySortedBy point_cmp points → IsLastMet points hash last → IsFirstThere points last first

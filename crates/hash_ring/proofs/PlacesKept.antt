@@ -9,11 +9,12 @@ use Rattle.std.proofs.lemmas.Bool.Decides.{nat_tests}
 use Rattle.std.proofs.lemmas.List.Elements.{All-same, All-get_or}
 use Rattle.std.proofs.lemmas.List.FromFn.{length-map-range_with_len}
 use Rattle.std.proofs.lemmas.Option.{same_Some}
+use Rattle.texts.proofs.Orderings.{Equal-from}
 use Rattle.silo_address.specs.Silo.{Silo, silo_cmp}
 use Rattle.silo_address.proofs.Order.{silo_cmp_total, silo_cmp_exact}
 use Rattle.ring_range.specs.Range.{circle}
 use Rattle.membership_view.specs.View.{ViewValue, active_silos}
-use Rattle.membership_view.proofs.Entries.{lookup-insert_entry, sorted-insert_entry, Equal-from}
+use Rattle.texts.proofs.Entries.{lookup-insert_entry, sorted-insert_entry}
 use Rattle.hash_ring.specs.declared.hashing.Hashing.{Hashing}
 use Rattle.hash_ring.specs.declared.hashing.Hashing.TheVariants.{Sha256, Stated}
 use Rattle.hash_ring.specs.declared.point.Point.{Point}

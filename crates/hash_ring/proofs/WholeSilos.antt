@@ -7,10 +7,11 @@ use Rattle.std.specs.BTreeMap.{is_at}
 use Rattle.std.specs.Ordering.{is_eq}
 use Rattle.std.proofs.lemmas.Bool.Decides.{same_from_decides}
 use Rattle.std.proofs.lemmas.Option.{same_Some}
+use Rattle.std.proofs.lemmas.Bool.{or_right}
+use Rattle.texts.proofs.Orderings.{Equal-from}
 use Rattle.silo_address.specs.Silo.{Silo, silo_cmp, silo_eq}
 use Rattle.silo_address.proofs.Order.{silo_cmp_exact}
 use Rattle.silo_address.proofs.Same.{Decides-silo}
-use Rattle.membership_view.proofs.Entries.{Equal-from}
 use Rattle.membership_view.specs.View.{ViewValue, active_silos}
 use Rattle.hash_ring.specs.declared.point.Point.{Point}
 use Rattle.hash_ring.specs.Point.{point_cmp}
@@ -32,14 +33,10 @@ some_of (p ∷ ps) silo on = by (silo_eq p.silo silo) refl (λ later. some_of ps
     by true its again on = (p, inl refl, (Decides-silo p.silo silo).0 its)
     by false its again on = let found = again on in (found.0, inr found.1, found.2)
 
-or_later : (b c : Bool) → c ≡ true → (b || c) ≡ true
-or_later true c later = refl
-or_later false c later = later
-
 pub has_some : (points : List Point) (q : Point) (silo : Silo) → In q points → q.silo ≡ silo → is_on_ring points silo ≡ true
 has_some [] q silo there its = absurd there
 has_some (p ∷ ps) q silo (inl here) its = ap (λ b. b || is_on_ring ps silo) ((Decides-silo p.silo silo).1 (ap (λ (x : Point). x.silo) here ∙ its))
-has_some (p ∷ ps) q silo (inr later) its = or_later (silo_eq p.silo silo) (is_on_ring ps silo) (has_some ps q silo later its)
+has_some (p ∷ ps) q silo (inr later) its = or_right (silo_eq p.silo silo) (is_on_ring ps silo) (has_some ps q silo later its)
 
 first_in : (points : List Point) (first : Point) → slice_get points 0 ≡ Some first → In first points
 first_in [] first is = cc

@@ -9,12 +9,9 @@ ghost use Rattle.hash_ring.specs.declared.point.Point.{Point as PointSeen};
 
 use crate::ring::up_to;
 use crate::{Point, Ring};
-use ring_range::RingRange;
+use ring_range::{CIRCLE, RingRange};
 use silo_address::SiloAddress;
 use std::alloc::{AllocError, Global};
-
-/// How many hashes the circle has.
-const CIRCLE: u64 = 1 << 32;
 
 impl Ring {
     /// The ranges that a silo owns, in order of place: one for each of its points that is the first at its place, from there up

@@ -8,15 +8,16 @@ use Rattle.std.proofs.lemmas.Cmp.{nat_cmp_total, eq_by_cmp_equiv}
 use Rattle.std.proofs.lemmas.Map.{lookup-remove_entry}
 use Rattle.std.proofs.lemmas.Map.Keys.{IsDistinct-from_sorted}
 use Rattle.std.proofs.lemmas.Option.{same_Some}
+use Rattle.texts.proofs.Orderings.{at_itself}
 use Rattle.silo_address.specs.Grain.{Grain, grain_cmp}
-use Rattle.membership_view.proofs.Entries.{lookup-insert_entry}
+use Rattle.texts.proofs.Entries.{lookup-insert_entry}
 use Rattle.directory_rules.specs.declared.Held.{Held}
 use Rattle.host_activations.proofs.Grains.{at_itself, on_grain}
 use Rattle.host_activations.specs.declared.asked.Asked.{Asked}
 use Rattle.host_activations.specs.declared.asked.Asked.TheVariants.{Activation, Find}
 use Rattle.host_activations.specs.Numbers.{number_of}
 use Rattle.host_activations.specs.Asked.{AreAsked, asked_under}
-use Rattle.host_activations.proofs.Numbers.{GivesNumber, on_number, number_at_itself}
+use Rattle.host_activations.proofs.Numbers.{GivesNumber, on_number}
 
 pub same_activation : (g q : Grain) → Some (Activation g) ≡ Some (Activation q) → g ≡ q
 same_activation g q e = cc
@@ -49,7 +50,7 @@ asks held new out next grain asked below none gives = record {
   there = λ q n is.
       on_grain (λ b. cond b (Some next) (number_of q held) ≡ Some n → asked_under n (insert_entry nat_cmp out next (Activation grain)) ≡ Some (Activation q)) grain q
       (λ same e. subst (λ (k : ℕ). asked_under k (insert_entry nat_cmp out next (Activation grain)) ≡ Some (Activation q)) (same_Some next n e)
-      (asked_put out next (Activation grain) next ∙ ap (λ b. cond b (Some (Activation grain)) (asked_under next out)) (number_at_itself next) ∙ ap (λ (g : Grain). Some (Activation g)) same))
+      (asked_put out next (Activation grain) next ∙ ap (λ b. cond b (Some (Activation grain)) (asked_under next out)) (at_itself next) ∙ ap (λ (g : Grain). Some (Activation g)) same))
       (λ other e. asked_put out next (Activation grain) n
       ∙ on_number (λ b. cond b (Some (Activation grain)) (asked_under n out) ≡ Some (Activation q)) n next
       (λ same. never next n out (Activation q) below same (asked.there q n e)) (λ apart. asked.there q n e))
@@ -103,7 +104,7 @@ rests held new out number grain asked sorted had gives = record {
   apart_from q other same = let h : true ≡ false = sym (at_itself grain) ∙ ap (λ (g : Grain). is_at (grain_cmp grain) g) same ∙ other in cc
 
   other_number : (n : ℕ) → is_at (nat_cmp number) n ≡ false → number ≡ n → ⊥
-  other_number n other same = let h : true ≡ false = sym (number_at_itself number) ∙ ap (λ (k : ℕ). is_at (nat_cmp number) k) same ∙ other in cc
+  other_number n other same = let h : true ≡ false = sym (at_itself number) ∙ ap (λ (k : ℕ). is_at (nat_cmp number) k) same ∙ other in cc
 
 -- an activation with nothing outstanding changes to one with nothing outstanding, or goes
 pub stays : (held new : List (Grain × Held)) (out : List (ℕ × Asked)) (grain : Grain) → AreAsked held out → number_of grain held ≡ None → GivesNumber grain None held new → AreAsked new out

@@ -8,6 +8,7 @@ use Rattle.std.specs.Map.{lookup, keys_of}
 use Rattle.std.specs.BTreeMap.{is_at}
 use Rattle.std.proofs.lemmas.Map.Keys.{sorted_tail}
 use Rattle.std.proofs.lemmas.Option.{same_Some}
+use Rattle.texts.proofs.Orderings.{at_itself}
 use Rattle.silo_address.specs.Silo.{Silo}
 use Rattle.silo_address.specs.Grain.{Grain, grain_cmp}
 use Rattle.directory_rules.specs.declared.Act.{Act}
@@ -25,7 +26,6 @@ use Rattle.host_activations.specs.Renewal.{asked_by}
 use Rattle.host_activations.proofs.Entries.{lookup-map}
 use Rattle.host_activations.proofs.Fields.{meant}
 use Rattle.host_activations.proofs.Found.{all_map}
-use Rattle.host_activations.proofs.Numbers.{number_at_itself}
 use Rattle.host_activations.proofs.OutstandingActs.{acts_are}
 use Rattle.host_activations.proofs.Ranks.{found_behind}
 
@@ -33,7 +33,7 @@ use Rattle.host_activations.proofs.Ranks.{found_behind}
 pub each_asked : (es : List (ℕ × Asked)) → IsStrictlySortedBy nat_cmp (keys_of es) → AllByRecursion (λ e. asked_under e.0 es ≡ Some e.1) es
 each_asked [] sorted = tt
 each_asked (e ∷ es) sorted = (
-  ap (λ b. cond b (Some e.1) (asked_under e.0 es)) (number_at_itself e.0),
+  ap (λ b. cond b (Some e.1) (asked_under e.0 es)) (at_itself e.0),
   all_map (λ x. asked_under x.0 es ≡ Some x.1) (λ x. asked_under x.0 (e ∷ es) ≡ Some x.1) es (λ x found. found_behind e es x.0 x.1 sorted found)
       (each_asked es (sorted_tail nat_cmp e.0 (keys_of es) sorted)),
 )

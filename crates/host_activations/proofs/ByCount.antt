@@ -1,5 +1,5 @@
 -- The activations under their counts, put in one after another, come in the order in which they began.
-use Rattle.std.proofs.Common.{◌≡◌, refl, sym, ap, subst, ◌∙◌, ℕ, ◌+◌, ◌<◌, List, [], ◌∷◌, ◌++◌, append_assoc, drop, slice_get, Some, cond, true, false, arith}
+use Rattle.std.proofs.Common.{◌≡◌, refl, sym, ap, subst, ◌∙◌, ℕ, ◌+◌, ◌<◌, List, [], ◌∷◌, ◌++◌, append_assoc, drop, slice_get, Some, cond, false, arith}
 use Rattle.std.specs.Prelude.{fold, nat_lt, ⊤}
 use Rattle.std.specs.List.{AllByRecursion}
 use Rattle.std.specs.Map.{values_of}
@@ -10,6 +10,7 @@ use Rattle.std.specs.declared.cmp.Ordering.TheVariants.{Less, Equal, Greater}
 use Rattle.std.proofs.lemmas.Bool.Decides.{nat_tests}
 use Rattle.std.proofs.lemmas.Cmp.{ranked}
 use Rattle.std.proofs.lemmas.Option.{same_Some}
+use Rattle.std.proofs.lemmas.Bool.{lt-ltb}
 use Rattle.silo_address.specs.Grain.{Grain}
 use Rattle.directory_rules.specs.declared.Held.{Held}
 use Rattle.host_activations.specs.Begun.{AreApart}
@@ -32,9 +33,6 @@ under_more (e ∷ es) x under = by (nat_cmp x.1.count e.0) refl (under_more es x
     by Equal is later = (sym (ranked x.1.count e.0 Equal is), under.1)
     by Greater is later = (under.0, later)
 
-lt_true : (a b : ℕ) → a < b → nat_lt a b ≡ true
-lt_true a b below = grind (arith, nat_tests)
-
 lt_false : (a b : ℕ) → b < a → nat_lt a b ≡ false
 lt_false a b above = grind (arith, nat_tests)
 
@@ -48,7 +46,7 @@ put_in_place (e ∷ es) x under apart = by (nat_cmp x.1.count e.0) refl (put_in_
         ≡ cond (nat_lt x.1.count e.1.1.count) (x ∷ e.1 ∷ values_of es) (e.1 ∷ placed (values_of es) x)
     by Less is later =
         let below : x.1.count < e.0 = ranked x.1.count e.0 Less is in
-        sym (ap (λ b. cond b (x ∷ e.1 ∷ values_of es) (e.1 ∷ placed (values_of es) x)) (lt_true x.1.count e.1.1.count (subst (λ (n : ℕ). x.1.count < n) under.0 below)))
+        sym (ap (λ b. cond b (x ∷ e.1 ∷ values_of es) (e.1 ∷ placed (values_of es) x)) (lt-ltb x.1.count e.1.1.count (subst (λ (n : ℕ). x.1.count < n) under.0 below)))
     by Equal is later = absurd (apart.0.1 (ranked x.1.count e.0 Equal is ∙ under.0))
     by Greater is later =
         let above : e.0 < x.1.count = ranked x.1.count e.0 Greater is in

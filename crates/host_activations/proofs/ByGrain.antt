@@ -13,18 +13,20 @@ use Rattle.std.proofs.lemmas.Cmp.{eq_by_cmp_equiv}
 use Rattle.std.proofs.lemmas.List.{get_or-map, length-map}
 use Rattle.std.proofs.lemmas.List.Sorted.{IsPermutation-map}
 use Rattle.std.proofs.lemmas.Map.Keys.{IsDistinct-IsPermutation, apart_from_distinct, sorted_from_all_adjacent}
+use Rattle.texts.proofs.Orderings.{first_from}
 use Rattle.indexmap.proofs.MapLemmas.{lookup_permutation}
 use Rattle.silo_address.specs.Silo.{Silo}
 use Rattle.silo_address.specs.Grain.{Grain, grain_cmp}
 use Rattle.silo_address.specs.declared.Entry.{Entry}
 use Rattle.silo_address.proofs.Order.{grain_cmp_total}
-use Rattle.membership_view.proofs.Entries.{sorted-nil}
+use Rattle.texts.proofs.Entries.{sorted-nil}
 use Rattle.ring_range.specs.Range.{Range, holds}
 use Rattle.hash_ring.specs.declared.Hashing.{Hashing}
 use Rattle.hash_ring.specs.Hash.{hash_grain}
 use Rattle.directory_rules.specs.declared.Held.{Held}
 use Rattle.directory_rules.specs.Host.{entry_on, is_firm}
 use Rattle.directory_rules.specs.Table.{entries_of, entry_at, table_of}
+use Rattle.directory_rules.proofs.RisingTables as rule
 use Rattle.host_activations.specs.Begun.{AreApart}
 use Rattle.host_activations.specs.Firm.{AreByGrain, AreFirm, entry_counted, firm_among, firm_count}
 use Rattle.host_activations.specs.InOrder.{in_order}
@@ -32,11 +34,6 @@ use Rattle.host_activations.proofs.Grains.{by_order, on_grain}
 use Rattle.host_activations.proofs.Tables.{firm_in_order, told}
 
 -- ---- What a sort of lent activations gives.
-first_decides : (o p : Ordering) → is_lt (ordering_then o p) ≡ false → is_lt o ≡ false
-first_decides Less p not = not
-first_decides Equal p not = refl
-first_decides Greater p not = refl
-
 abbrev lent_cmp : Bor (Grain × ℕ) → Bor (Grain × ℕ) → Ordering
 lent_cmp x y = ordering_then (grain_cmp x.now.0 y.now.0) (nat_cmp x.now.1 y.now.1)
 
@@ -50,7 +47,7 @@ module _ (silo : Silo) where
   entries_sorted (x ∷ sorted) is = λ k d low within.
       let next : k + 1 < length (x ∷ sorted) = subst (λ n. k + 1 < n) (length-map (x ∷ sorted) (λ y. entry_counted silo y.now)) within in
       (λ i. is_lt (grain_cmp (get_or-map (λ y. entry_counted silo y.now) (x ∷ sorted) (k + 1) x d next i).grain (get_or-map (λ y. entry_counted silo y.now) (x ∷ sorted) k x d (omega (arith, next)) i).grain))
-      ∙ first_decides (grain_cmp (get_or (x ∷ sorted) (k + 1) x).now.0 (get_or (x ∷ sorted) k x).now.0) (nat_cmp (get_or (x ∷ sorted) (k + 1) x).now.1 (get_or (x ∷ sorted) k x).now.1) (is k x low next)
+      ∙ first_from (grain_cmp (get_or (x ∷ sorted) (k + 1) x).now.0 (get_or (x ∷ sorted) k x).now.0) (nat_cmp (get_or (x ∷ sorted) (k + 1) x).now.1 (get_or (x ∷ sorted) k x).now.1) (is k x low next)
 
   pub listed_by_grain : (firm : List (Grain × ℕ)) (lent sorted : List (Bor (Grain × ℕ))) → map (λ x. x.now) lent ≡ firm → IsPermutation lent sorted → IsSorted lent_cmp sorted
       → (entries : List Entry) → entries ≡ map (λ x. entry_counted silo x.now) sorted → AreByGrain silo firm entries
@@ -67,10 +64,6 @@ grains_of entries = map (λ entry. entry.grain) entries
 keys_again : (entries : List Entry) → grains_of entries ≡ keys_of (table_of entries)
 keys_again [] = refl
 keys_again (entry ∷ entries) = ap (λ l. entry.grain ∷ l) (keys_again entries)
-
-values_again : (entries : List Entry) → entries_of (table_of entries) ≡ entries
-values_again [] = refl
-values_again (entry ∷ entries) = ap (λ l. entry ∷ l) (values_again entries)
 
 rises : (a b : Grain) (o : Ordering) → grain_cmp b a ≡ o → is_lt o ≡ false → eq_by_cmp grain_cmp a b ≡ false → grain_cmp a b ≡ Less
 rises a b Less is not apart = cc
@@ -126,7 +119,7 @@ module _ (silo : Silo) (hashing : Hashing) (range : Range) (es : List (Grain × 
 
     pub told_by_grain : entries ≡ firm_among silo hashing range (in_order es)
     told_by_grain =
-        sym (values_again entries)
+        sym (rule.entries_again entries)
         ∙ ap entries_of
         (firm_in_order silo hashing range es are (table_of entries)
         (subst (λ gs. IsStrictlySortedBy grain_cmp gs) (keys_again entries) (rise_strictly entries sorted.in_order distinct)) found)

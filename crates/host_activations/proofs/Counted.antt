@@ -1,36 +1,29 @@
 -- The numbers of a host's requests are distinct and below the next one, as the rule says.
-use Rattle.std.proofs.Common.{arith, ◌≡◌, ◌≢◌, refl, sym, ap, subst, ◌∙◌, ℕ, List, [], ◌∷◌, ◌++◌, ◌+◌, ◌≤◌, ◌<◌, cond, length-append, Bool, true, false, Option, Some, None, option_and_then}
-use Rattle.std.specs.Prelude.{All, AllPairs, nat_lt}
+use Rattle.std.proofs.Common.{arith, ◌≡◌, refl, sym, ap, subst, ◌∙◌, ℕ, List, [], ◌∷◌, ◌+◌, ◌≤◌, cond, Bool, true, false, Option, Some, None, option_and_then}
 use Rattle.std.specs.List.{AllByRecursion, IsDistinct}
 use Rattle.std.specs.List.Sorted.{IsStrictlySortedBy}
 use Rattle.std.specs.Map.{keys_of, lookup}
 use Rattle.std.specs.BTreeMap.{is_at}
 use Rattle.std.specs.Ordering.{nat_cmp}
 use Rattle.std.specs.declared.cmp.Ordering.TheVariants.{Less, Equal}
-use Rattle.std.proofs.lemmas.Bool.{ltb-true, ltb-false}
 use Rattle.std.proofs.lemmas.Cmp.{tied_itself, nat_cmp_total}
-use Rattle.std.proofs.lemmas.List.Elements.{All-nil, All-cons}
-use Rattle.std.proofs.lemmas.List.Kept.{AllPairs-cons}
 use Rattle.std.proofs.lemmas.Map.Keys.{IsDistinct-head, IsDistinct-tail, sorted_head, sorted_tail}
+use Rattle.texts.proofs.Orderings.{at_itself}
 use Rattle.silo_address.specs.Silo.{Silo}
 use Rattle.silo_address.specs.Grain.{Grain, grain_eq}
 use Rattle.silo_address.proofs.Same.{Decides-grain}
-use Rattle.directory_rules.specs.declared.Act.{Act}
-use Rattle.directory_rules.specs.declared.Act.TheVariants as act
 use Rattle.directory_rules.specs.declared.Held.{Held}
 use Rattle.directory_rules.specs.declared.Phase.{Phase}
 use Rattle.directory_rules.specs.declared.Phase.TheVariants.{Asking, Firm, Closing}
-use Rattle.directory_rules.specs.Host.{Host, find_acts, held_acts}
-use Rattle.directory_rules.specs.Laws.{AreNumbered, requests_of}
-use Rattle.directory_rules.proofs.Cases.{on_bool}
-use Rattle.directory_rules.proofs.RequestNumbers.{one, one_same, one_cases, times, times_phase, with_number, numbers}
-use Rattle.directory_rules.proofs.Renewal.{held_numbers, same_keys, length_put_all}
+use Rattle.directory_rules.specs.Host.{Host}
+use Rattle.directory_rules.specs.Laws.{AreNumbered}
+use Rattle.directory_rules.proofs.Numbered as rule
+use Rattle.directory_rules.proofs.RequestNumbers.{one, one_cases, times, times_phase, with_number, numbers}
 use Rattle.host_activations.specs.declared.asked.Asked.{Asked}
 use Rattle.host_activations.specs.declared.asked.Asked.TheVariants.{Activation, Find}
 use Rattle.host_activations.specs.Numbers.{number_in}
 use Rattle.host_activations.specs.Asked.{asked_under, find_in, finds_in}
 use Rattle.host_activations.specs.IsHost.{AreHeld}
-use Rattle.host_activations.proofs.Numbers.{number_at_itself}
 use Rattle.host_activations.proofs.Agreement.{same_activation, no_find, nothing}
 use Rattle.host_activations.proofs.Found.{IsFoundIn, all_map, each_found}
 use Rattle.host_activations.proofs.Finds.{find_under, finds_sorted}
@@ -96,26 +89,7 @@ not_there n (e ∷ es) none = by (is_at (nat_cmp n) e.0) refl none (not_there n 
     by false at none later =
         let rest = later none in
         one_cases (λ r. r + times n (keys_of es) ≡ 0) n e.0
-        (λ same. let h : true ≡ false = sym (number_at_itself n) ∙ ap (λ (j : ℕ). is_at (nat_cmp n) j) (sym same) ∙ at in cc) (omega (rest, arith))
-
--- ---- Entries under numbers that occur once.
-all_so : (P : ℕ → Type 0) (es : List (ℕ × Act)) → ((n : ℕ) → 1 ≤ times n (keys_of es) → P n) → All (λ e. P e.0) es
-all_so P [] so = All-nil _
-all_so P (e ∷ es) so =
-    let same = one_same e.0 in
-    All-cons (λ x. P x.0) e es (so e.0 (omega (same, arith))) (all_so P es (λ n later. so n (omega (later, arith))))
-
-all_apart : (es : List (ℕ × Act)) → ((n : ℕ) → times n (keys_of es) ≤ 1) → AllPairs (λ e later. e.0 ≢ later.0) es
-all_apart [] once = λ i j d lt short. absurd (omega (short, arith))
-all_apart (e ∷ es) once =
-    AllPairs-cons (λ x later. x.0 ≢ later.0) e es
-    (all_so (λ n. e.0 ≢ n) es (λ n later same.
-    let here = subst (λ i. one n i ≡ 1) (sym same) (one_same n) in let few = once n in omega (here, later, few, arith)))
-    (all_apart es (λ n. let few = once n in omega (few, arith)))
-
-keys_append : (n : ℕ) (xs ys : List (ℕ × Act)) → times n (keys_of (xs ++ ys)) ≡ times n (keys_of xs) + times n (keys_of ys)
-keys_append n [] ys = omega arith
-keys_append n (x ∷ xs) ys = let later = keys_append n xs ys in omega (later, arith)
+        (λ same. let h : true ≡ false = sym (at_itself n) ∙ ap (λ (j : ℕ). is_at (nat_cmp n) j) (sym same) ∙ at in cc) (omega (rest, arith))
 
 module _ (silo : Silo) (next count : ℕ) (held : List (Grain × Held)) (out : List (ℕ × Asked)) (are : AreHeld next held out) where
   abbrev host : Host
@@ -154,21 +128,5 @@ module _ (silo : Silo) (next count : ℕ) (held : List (Grain × Held)) (out : L
           let other = not_there n (finds_in out) (find_under out are.in_order n ∙ ap (λ o. option_and_then find_in o) is) in
           omega (none, other, arith)
 
-  held_times : (n : ℕ) → times n (keys_of (held_acts host)) ≡ times n (numbers held)
-  held_times n = ap (times n) (held_numbers host held)
-
-  find_times : (n : ℕ) → times n (keys_of (find_acts host)) ≡ times n (keys_of (finds_in out))
-  find_times n = ap (times n) (same_keys (λ grain. act.Find grain) (finds_in out))
-
-  all_times : (n : ℕ) → times n (keys_of (requests_of host)) ≡ times n (numbers held) + times n (keys_of (finds_in out))
-  all_times n = let both = keys_append n (held_acts host) (find_acts host) in let first = held_times n in let second = find_times n in omega (both, first, second, arith)
-
   pub are_numbered : AreNumbered host
-  are_numbered = record {
-    distinct = all_apart (requests_of host) (λ n. let times = all_times n in let few = once n in omega (times, few, arith));
-    many = length_put_all (find_acts host) (held_acts host) (λ n. let first = held_times n in let second = find_times n in let few = once n in omega (first, second, few, arith))
-        ∙ sym (length-append (held_acts host) (find_acts host));
-    below = all_so (λ n. n < next) (requests_of host) (λ n there.
-        on_bool (λ b. n < next) (nat_lt n next) (λ t. ltb-true n next t)
-        (λ f. let high = ltb-false n next f in let none = past n (omega (high, arith)) in let times = all_times n in omega (there, none, times, arith)));
-  }
+  are_numbered = rule.are_numbered host (record { once = once; below = past })

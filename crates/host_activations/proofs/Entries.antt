@@ -1,11 +1,7 @@
 -- Entries under keys: what is found, and how many there are, after one is put last and after one is taken out.
 use Rattle.std.proofs.Common.{◌≡◌, refl, ap, ◌+◌, List, [], ◌∷◌, ◌++◌, length, cond, Bool, true, false, Some, None, map, arith}
-use Rattle.std.specs.List.{AllByRecursion}
 use Rattle.std.specs.Option.{option_map}
-use Rattle.std.specs.List.Sorted.{IsStrictlySortedBy}
 use Rattle.std.specs.Map.{lookup, remove_entry, keys_of}
-use Rattle.std.specs.declared.cmp.Ordering.{Ordering}
-use Rattle.std.specs.declared.cmp.Ordering.TheVariants.{Less}
 
 module _ {K X : Type 0} (test : K → Bool) where
   -- an entry comes last
@@ -40,24 +36,6 @@ module _ {K X : Type 0} (test : K → Bool) where
       by : (b : Bool) → cond b (Some e.1) (lookup test es) ≡ None → (lookup test es ≡ None → remove_entry test es ≡ es) → cond b es (e ∷ remove_entry test es) ≡ e ∷ es
       by true none later = cc
       by false none later = ap (λ l. e ∷ l) (later none)
-
-  all-remove_entry : (P : K → Type 0) (es : List (K × X)) → AllByRecursion P (keys_of es) → AllByRecursion P (keys_of (remove_entry test es))
-  all-remove_entry P [] all = tt
-  all-remove_entry P (e ∷ es) all = by (test e.0) (all-remove_entry P es all.1)
-    where
-      by : (b : Bool) → AllByRecursion P (keys_of (remove_entry test es)) → AllByRecursion P (keys_of (cond b es (e ∷ remove_entry test es)))
-      by true later = all.1
-      by false later = (all.0, later)
-
-  -- the keys stay in order
-  pub sorted-remove_entry : (R : K → K → Ordering) (es : List (K × X)) → IsStrictlySortedBy R (keys_of es) → IsStrictlySortedBy R (keys_of (remove_entry test es))
-  unfolding IsStrictlySortedBy
-  sorted-remove_entry R [] s = tt
-  sorted-remove_entry R (e ∷ es) s = by (test e.0) (sorted-remove_entry R es s.1)
-    where
-      by : (b : Bool) → IsStrictlySortedBy R (keys_of (remove_entry test es)) → IsStrictlySortedBy R (keys_of (cond b es (e ∷ remove_entry test es)))
-      by true later = s.1
-      by false later = (all-remove_entry (λ y. R e.0 y ≡ Less) es s.0, later)
 
 -- the values, each put through a function
 module _ {K X Y : Type 0} (g : X → Y) where

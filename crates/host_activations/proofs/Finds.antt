@@ -10,13 +10,13 @@ use Rattle.std.proofs.lemmas.Map.{lookup-remove_entry}
 use Rattle.std.proofs.lemmas.Map.Keys.{IsDistinct-from_sorted}
 use Rattle.std.proofs.lemmas.Map.Lookups.{exact_unsigned}
 use Rattle.silo_address.specs.Grain.{Grain}
-use Rattle.membership_view.proofs.Entries.{lookup-insert_entry, sorted-insert_entry, lookup-picked, sorted-picked, length-insert_entry}
+use Rattle.texts.proofs.Entries.{lookup-insert_entry, sorted-insert_entry, lookup-picked, sorted-picked, length-insert_entry, sorted-remove_entry}
 use Rattle.membership_view.proofs.Found.{same_entries}
 use Rattle.host_activations.specs.declared.asked.Asked.{Asked}
 use Rattle.host_activations.specs.declared.asked.Asked.TheVariants.{Activation, Find}
 use Rattle.host_activations.specs.Asked.{asked_under, find_in, finds_in}
 use Rattle.host_activations.proofs.Numbers.{on_number, through}
-use Rattle.host_activations.proofs.Entries.{sorted-remove_entry, length-remove_entry, remove_absent}
+use Rattle.host_activations.proofs.Entries.{length-remove_entry, remove_absent}
 use Rattle.host_activations.proofs.Agreement.{asked_put, asked_taken}
 
 module _ (out : List (ℕ × Asked)) (sorted : IsStrictlySortedBy nat_cmp (keys_of out)) where

@@ -7,7 +7,7 @@ use Rattle.std.specs.BTreeMap.{is_at, insert_entry}
 use Rattle.std.specs.Ordering.{nat_cmp}
 use Rattle.std.proofs.lemmas.Cmp.{nat_cmp_total}
 use Rattle.silo_address.specs.Grain.{Grain, grain_eq}
-use Rattle.membership_view.proofs.Entries.{sorted-insert_entry}
+use Rattle.texts.proofs.Entries.{sorted-insert_entry, sorted-remove_entry}
 use Rattle.directory_rules.specs.declared.Held.{Held}
 use Rattle.host_activations.specs.declared.asked.Asked.{Asked}
 use Rattle.host_activations.specs.declared.asked.Asked.TheVariants.{Activation, Find}
@@ -15,7 +15,6 @@ use Rattle.host_activations.specs.Numbers.{number_of}
 use Rattle.host_activations.specs.Asked.{asked_under}
 use Rattle.host_activations.specs.IsHost.{AreHeld}
 use Rattle.host_activations.proofs.Numbers.{GivesNumber, on_number}
-use Rattle.host_activations.proofs.Entries.{sorted-remove_entry}
 use Rattle.host_activations.proofs.Agreement.{AreBelow, asked_put, asked_taken, nothing, asks, finds, rests, stays, found}
 
 below_more : (next : ℕ) (out : List (ℕ × Asked)) (asked : Asked) → AreBelow next out → AreBelow (next + 1) (insert_entry nat_cmp out next asked)

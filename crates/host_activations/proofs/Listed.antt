@@ -18,9 +18,9 @@ use Rattle.std.proofs.lemmas.List.Elements.{filter_map-append}
 use Rattle.std.proofs.lemmas.Map.Entries.{lookup_from_place, place_from_lookup}
 use Rattle.std.proofs.lemmas.Map.Keys.{IsDistinct-from_sorted}
 use Rattle.std.proofs.lemmas.Option.{same_Some}
+use Rattle.texts.proofs.Orderings.{Equal-from, upto_nat}
 use Rattle.silo_address.specs.Grain.{Grain, grain_cmp, grain_eq}
 use Rattle.silo_address.proofs.Order.{grain_cmp_exact}
-use Rattle.membership_view.proofs.Entries.{Equal-from}
 use Rattle.ring_range.specs.Range.{Range, IsRange, circle, holds}
 use Rattle.hash_ring.specs.declared.Hashing.{Hashing}
 use Rattle.hash_ring.specs.Hash.{hash_grain}
@@ -42,9 +42,6 @@ use Rattle.host_activations.proofs.Indexed.{found_at, hashed_count_cmp_total, is
 abbrev pub is_between : (first end hash : ℕ) → Bool
 is_between first end hash = nat_le first hash && not (nat_lt end circle && nat_le end hash)
 
-not_gt : (a b : ℕ) → a ≤ b → is_gt (nat_cmp a b) ≡ false
-not_gt a b le = grind (arith, nat_tests)
-
 from_first : (first hash : ℕ) (r : Ordering) → is_gt r ≡ false → is_le (ordering_then (nat_cmp first hash) r) ≡ nat_le first hash
 from_first first hash r least = by (nat_cmp first hash) refl r least
   where
@@ -57,10 +54,10 @@ from_first first hash r least = by (nat_cmp first hash) refl r least
 
 stands_between : (first end : ℕ) (key : HashedCount) → range_contains hashed_count_cmp (Included (first_at first)) (end_at end) key ≡ is_between first end key.hash
 stands_between first end key =
-    λ i. from_first first key.hash (nat_cmp 0 key.count) (not_gt 0 key.count (omega arith)) i && not (past (nat_lt end circle) i)
+    λ i. from_first first key.hash (nat_cmp 0 key.count) (upto_nat 0 key.count (omega arith)) i && not (past (nat_lt end circle) i)
   where
     past : (b : Bool) → is_past_end hashed_count_cmp (cond b (Excluded (first_at end)) Unbounded) key ≡ (b && nat_le end key.hash)
-    past true = from_first end key.hash (nat_cmp 0 key.count) (not_gt 0 key.count (omega arith))
+    past true = from_first end key.hash (nat_cmp 0 key.count) (upto_nat 0 key.count (omega arith))
     past false = refl
 
 same_passed : {X : Type 0} (p q : X → Bool) (xs : List X) → ((x : X) → p x ≡ q x) → filter p xs ≡ filter q xs

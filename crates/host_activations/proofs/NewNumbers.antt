@@ -11,6 +11,7 @@ use Rattle.std.proofs.lemmas.Option.{same_Some}
 use Rattle.std.proofs.lemmas.Cmp.{tied_itself, nat_cmp_total}
 use Rattle.std.proofs.lemmas.Map.{none_passes_from_lookup}
 use Rattle.std.proofs.lemmas.Map.Keys.{IsDistinct-head, IsDistinct-tail, sorted_head, sorted_tail}
+use Rattle.texts.proofs.Orderings.{at_itself}
 use Rattle.silo_address.specs.Grain.{Grain, grain_cmp, grain_eq}
 use Rattle.directory_rules.specs.declared.Held.{Held}
 use Rattle.directory_rules.specs.declared.Phase.{Phase}
@@ -19,7 +20,7 @@ use Rattle.host_activations.specs.declared.asked.Asked.{Asked}
 use Rattle.host_activations.specs.declared.asked.Asked.TheVariants.{Activation, Find}
 use Rattle.host_activations.specs.Numbers.{number_in, phase_under}
 use Rattle.host_activations.proofs.Grains.{at_itself, on_grain, same_test}
-use Rattle.host_activations.proofs.Numbers.{on_number, number_at_itself}
+use Rattle.host_activations.proofs.Numbers.{on_number}
 use Rattle.host_activations.proofs.Ranks.{Ranks}
 
 -- the activation, its request under this number, if it has one
@@ -153,5 +154,5 @@ after_asking f q h k m (e ∷ es) sorted ranks only found =
     ∙ after_asking f q h k (m + 1) es (sorted_tail nat_cmp e.0 (keys_of es) sorted) ranks.1 only.1 it) found
   where
     by : (b : Bool) → (b ≡ true → e.0 ≡ k) → is_at (nat_cmp k) e.0 ≡ false → b ≡ false
-    by true same other = let h : true ≡ false = sym (number_at_itself k) ∙ ap (λ (n : ℕ). is_at (nat_cmp k) n) (sym (same refl)) ∙ other in cc
+    by true same other = let h : true ≡ false = sym (at_itself k) ∙ ap (λ (n : ℕ). is_at (nat_cmp k) n) (sym (same refl)) ∙ other in cc
     by false same other = refl

@@ -3,13 +3,13 @@ use Rattle.std.proofs.Common.{◌≡◌, refl, sym, ap, ◌∙◌, ℕ, List, []
 use Rattle.std.specs.List.{IsDistinct}
 use Rattle.std.specs.Map.{lookup, set_value, remove_entry, keys_of}
 use Rattle.std.specs.BTreeMap.{is_at}
-use Rattle.std.specs.Ordering.{is_eq, nat_cmp}
-use Rattle.std.proofs.lemmas.Cmp.{eq_by_cmp_equiv, tied_itself, nat_cmp_total}
+use Rattle.std.specs.Ordering.{nat_cmp}
+use Rattle.std.proofs.lemmas.Cmp.{eq_by_cmp_equiv}
 use Rattle.std.proofs.lemmas.Map.{lookup-set_value, lookup-remove_entry}
 use Rattle.std.proofs.lemmas.Map.Lookups.{exact_unsigned}
+use Rattle.texts.proofs.Orderings.{Equal-from, at_itself}
 use Rattle.silo_address.specs.Grain.{Grain, grain_cmp, grain_eq}
 use Rattle.silo_address.proofs.Order.{grain_cmp_total}
-use Rattle.membership_view.proofs.Entries.{Equal-from}
 use Rattle.directory_rules.specs.declared.Held.{Held}
 use Rattle.host_activations.proofs.Grains.{at_itself, by_order, on_grain, on_test}
 use Rattle.host_activations.specs.Numbers.{number_in, number_of}
@@ -18,9 +18,6 @@ use Rattle.host_activations.proofs.Entries.{lookup_last, lookup_before}
 -- two numbers: one, or not
 pub on_number : (P : Bool → Type 0) (a b : ℕ) → (a ≡ b → P true) → (is_at (nat_cmp a) b ≡ false → P false) → P (is_at (nat_cmp a) b)
 on_number P a b same other = on_test P (is_at (nat_cmp a) b) (λ h. same (exact_unsigned a b (Equal-from (nat_cmp a b) h))) other
-
-pub number_at_itself : (n : ℕ) → is_at (nat_cmp n) n ≡ true
-number_at_itself n = ap is_eq (tied_itself nat_cmp_total n)
 
 -- a function over a choice
 pub through : {A B : Type 0} (f : A → Option B) (b : Bool) (x y : Option A) → option_and_then f (cond b x y) ≡ cond b (option_and_then f x) (option_and_then f y)

@@ -10,9 +10,11 @@ use Rattle.std.proofs.lemmas.Cmp.{nat_cmp_total}
 use Rattle.std.proofs.lemmas.Option.{same_Some}
 use Rattle.std.proofs.lemmas.Map.Lookups.{exact_unsigned}
 use Rattle.std.proofs.lemmas.Map.Entries.{length-keys_of}
+use Rattle.std.proofs.lemmas.Map.Made.{is_some-lookup}
+use Rattle.texts.proofs.Orderings.{at_itself}
 use Rattle.silo_address.specs.Silo.{Silo}
 use Rattle.silo_address.specs.Grain.{Grain, grain_cmp}
-use Rattle.membership_view.proofs.Entries.{lookup-picked, sorted-picked}
+use Rattle.texts.proofs.Entries.{lookup-picked, sorted-picked}
 use Rattle.membership_view.proofs.Found.{same_entries, all_from_found}
 use Rattle.directory_rules.specs.declared.Act.{Act}
 use Rattle.directory_rules.specs.declared.Act.TheVariants as act
@@ -28,13 +30,13 @@ use Rattle.host_activations.specs.Asked.{asked_under, find_in, finds_in}
 use Rattle.directory_rules.specs.Host.{entry_on}
 use Rattle.host_activations.specs.Acts.{act_for, acts_in}
 use Rattle.host_activations.specs.IsHost.{AreHeld}
-use Rattle.host_activations.proofs.Numbers.{on_number, number_at_itself}
+use Rattle.host_activations.proofs.Numbers.{on_number}
 use Rattle.host_activations.proofs.Agreement.{same_activation, no_find, nothing}
 use Rattle.host_activations.proofs.Entries.{keys-map, lookup-map}
 use Rattle.host_activations.proofs.Found.{IsFoundIn, all_map, each_found}
 use Rattle.host_activations.proofs.Finds.{find_under, finds_sorted}
 use Rattle.host_activations.proofs.Fields.{meant}
-use Rattle.host_activations.proofs.PutAll.{at, put_none, put_some, sorted_put_all, all_given, keys-picked, is_some-lookup}
+use Rattle.host_activations.proofs.PutAll.{at, put_none, put_some, sorted_put_all, all_given, keys-picked}
 
 -- what an activation asks in the phase
 abbrev act_in_phase : Phase → Silo → Grain → Held → Option Act
@@ -66,7 +68,7 @@ one_act f n a g h [] only there is = cc
 one_act f n a g h (e ∷ es) only there is =
     on_grain (λ b. cond b (Some e.1) (lookup (is_at (grain_cmp g)) es) ≡ Some h → at n (cons_option (f e) (filter_map f es)) ≡ Some a) g e.0
     (λ same it. let here : e ≡ (g, h) = (λ i. (sym same i, same_Some e.1 h it i)) in
-    ap (λ o. at n (cons_option o (filter_map f es))) (ap f here ∙ is) ∙ ap (λ b. cond b (Some a) (at n (filter_map f es))) (number_at_itself n))
+    ap (λ o. at n (cons_option o (filter_map f es))) (ap f here ∙ is) ∙ ap (λ b. cond b (Some a) (at n (filter_map f es))) (at_itself n))
     (λ other it. by (f e) only (λ rest. one_act f n a g h es rest it is)) there
   where
     by : (o : Option (ℕ × Act)) → AllByRecursion (λ e. is_at (nat_cmp n) e.0 ≡ true → e.1 ≡ a) (cons_option o (filter_map f es))

@@ -1,7 +1,6 @@
 -- Entries put in under their numbers, one after another: what is found then.
 use Rattle.std.proofs.Common.{◌≡◌, refl, ap, ◌∙◌, ℕ, List, [], ◌∷◌, cond, Bool, true, false, Option, Some, None, fold, is_some}
-use Rattle.std.specs.Prelude.{◌||◌}
-use Rattle.std.specs.List.{AllByRecursion, filter_map, cons_option, list_any, list_all}
+use Rattle.std.specs.List.{AllByRecursion, filter_map, cons_option, list_all}
 use Rattle.std.specs.Option.{option_map}
 use Rattle.std.specs.List.Sorted.{IsStrictlySortedBy}
 use Rattle.std.specs.Map.{lookup, keys_of}
@@ -9,7 +8,7 @@ use Rattle.std.specs.BTreeMap.{is_at, insert_entry}
 use Rattle.std.specs.Ordering.{nat_cmp}
 use Rattle.std.proofs.lemmas.Cmp.{nat_cmp_total}
 use Rattle.std.proofs.lemmas.Bool.{and_parts}
-use Rattle.membership_view.proofs.Entries.{lookup-insert_entry, sorted-insert_entry}
+use Rattle.texts.proofs.Entries.{lookup-insert_entry, sorted-insert_entry}
 
 module _ {X : Type 0} where
   abbrev pub put_all : List (ℕ × X) → List (ℕ × X) → List (ℕ × X)
@@ -74,12 +73,3 @@ keys-picked {X} {Y} pick (e ∷ es) all =
         → keys_of (cons_option (option_map (λ y. (e.0, y)) o) (filter_map (λ e. option_map (λ y. (e.0, y)) (pick e.1)) es)) ≡ e.0 ∷ keys_of es
     by None some later = cc
     by (Some y) some later = ap (λ l. e.0 ∷ l) later
-
--- whether something is found is told by the keys alone
-pub is_some-lookup : {K X : Type 0} (test : K → Bool) (es : List (K × X)) → is_some (lookup test es) ≡ list_any test (keys_of es)
-is_some-lookup test [] = refl
-is_some-lookup test (e ∷ es) = by (test e.0) (is_some-lookup test es)
-  where
-    by : (b : Bool) → is_some (lookup test es) ≡ list_any test (keys_of es) → is_some (cond b (Some e.1) (lookup test es)) ≡ (b || list_any test (keys_of es))
-    by true later = refl
-    by false later = later

@@ -13,11 +13,12 @@ use Rattle.std.proofs.lemmas.Bool.{ltb-true, ltb-false}
 use Rattle.std.proofs.lemmas.Cmp.{ranked, tied_itself, nat_cmp_total}
 use Rattle.std.proofs.lemmas.List.Sums.{sum_by-cons}
 use Rattle.std.proofs.lemmas.Map.Keys.{sorted_head, sorted_tail}
+use Rattle.texts.proofs.Orderings.{at_itself}
 use Rattle.silo_address.specs.Grain.{Grain}
 use Rattle.directory_rules.proofs.Cases.{on_bool}
 use Rattle.host_activations.specs.declared.asked.Asked.{Asked}
 use Rattle.host_activations.specs.Asked.{find_in, finds_in}
-use Rattle.host_activations.proofs.Numbers.{on_number, number_at_itself}
+use Rattle.host_activations.proofs.Numbers.{on_number}
 
 -- ---- Numbers in order.
 pub less_is : (j k : ℕ) → j < k → nat_cmp j k ≡ Less
@@ -133,7 +134,7 @@ module _ {X : Type 0} where
         low = omega (is, arith);
         high = omega (is, arith);
         found = ap (λ (n : ℕ). lookup (is_at (nat_cmp n)) (enumerate_from m (values_of (e ∷ es)))) is
-            ∙ ap (λ b. cond b (Some e.1) (lookup (is_at (nat_cmp m)) (enumerate_from (m + 1) (values_of es)))) (number_at_itself m) ∙ it;
+            ∙ ap (λ b. cond b (Some e.1) (lookup (is_at (nat_cmp m)) (enumerate_from (m + 1) (values_of es)))) (at_itself m) ∙ it;
       }
 
       later : IsRanked f (m + 1) es k x → IsRanked f m (e ∷ es) k x
@@ -151,7 +152,7 @@ module _ {X : Type 0} where
   rank_back f m (e ∷ es) n x sorted ranks found =
       on_number (λ b. cond b (Some e.1) (lookup (is_at (nat_cmp n)) (enumerate_from (m + 1) (values_of es))) ≡ Some x
       → (k : ℕ) × (lookup (is_at (nat_cmp k)) (e ∷ es) ≡ Some x) × (f k ≡ n)) n m
-      (λ same it. (e.0, ap (λ b. cond b (Some e.1) (lookup (is_at (nat_cmp e.0)) es)) (number_at_itself e.0) ∙ it, ranks.0 ∙ sym same))
+      (λ same it. (e.0, ap (λ b. cond b (Some e.1) (lookup (is_at (nat_cmp e.0)) es)) (at_itself e.0) ∙ it, ranks.0 ∙ sym same))
       (λ other it. let back = rank_back f (m + 1) es n x (sorted_tail nat_cmp e.0 (keys_of es) sorted) ranks.1 it in
       (back.0, found_behind e es back.0 x sorted back.1, back.2)) found
 

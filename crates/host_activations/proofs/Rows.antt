@@ -5,6 +5,7 @@ use Rattle.std.specs.List.{AllByRecursion}
 use Rattle.std.specs.Map.{lookup, set_value, remove_entry}
 use Rattle.std.specs.BTreeMap.{is_at}
 use Rattle.std.proofs.lemmas.Bool.Decides.{nat_tests}
+use Rattle.std.proofs.lemmas.Bool.{ltb-true}
 use Rattle.silo_address.specs.Grain.{Grain, grain_cmp}
 use Rattle.directory_rules.specs.declared.Held.{Held}
 use Rattle.host_activations.specs.InOrder.{placed}
@@ -28,9 +29,6 @@ AllApart (x ∷ xs) = AllByRecursion (Apart x) xs × AllApart xs
 
 pub flip : (x y : Grain × Held) → Apart x y → Apart y x
 flip x y apart = (λ same. apart.0 (sym same), λ same. apart.1 (sym same))
-
-is_below : (a b : ℕ) → nat_lt a b ≡ true → a < b
-is_below a b is = grind (arith, nat_tests)
 
 is_above : (a b : ℕ) → nat_lt a b ≡ false → (a ≡ b → ⊥) → b < a
 is_above a b is apart = grind (arith, nat_tests)
@@ -57,7 +55,7 @@ row_placed (x ∷ xs) e row apart = by (nat_lt e.1.count x.1.count) refl (row_pl
   where
     by : (b : Bool) → nat_lt e.1.count x.1.count ≡ b → IsRow (placed xs e) → IsRow (cond b (e ∷ x ∷ xs) (x ∷ placed xs e))
     by true is later =
-        let below : e.1.count < x.1.count = is_below e.1.count x.1.count is in
+        let below : e.1.count < x.1.count = ltb-true e.1.count x.1.count is in
         (((apart.0.0, below), before_all e x xs below row.0 apart.1), row)
     by false is later = (all_placed (Before x) xs e row.0 ((λ same. apart.0.0 (sym same)), is_above e.1.count x.1.count is apart.0.1), later)
 

@@ -7,9 +7,10 @@ use Rattle.std.specs.BTreeMap.{is_at, insert_entry}
 use Rattle.std.specs.Ordering.{nat_cmp}
 use Rattle.std.proofs.lemmas.Cmp.{nat_cmp_total}
 use Rattle.std.proofs.lemmas.Map.Lookups.{exact_unsigned}
+use Rattle.texts.proofs.Orderings.{at_itself}
 use Rattle.silo_address.specs.Grain.{Grain, grain_cmp}
 use Rattle.silo_address.specs.declared.ActivationId.{ActivationId}
-use Rattle.membership_view.proofs.Entries.{sorted-insert_entry}
+use Rattle.texts.proofs.Entries.{sorted-insert_entry, sorted-remove_entry}
 use Rattle.membership_view.proofs.Found.{same_entries}
 use Rattle.directory_rules.specs.declared.Held.{Held}
 use Rattle.directory_rules.specs.declared.Phase.{Phase}
@@ -17,8 +18,7 @@ use Rattle.host_activations.specs.Activations.{ActivationsValue}
 use Rattle.host_activations.specs.declared.asked.Asked.{Asked}
 use Rattle.host_activations.specs.Asked.{asked_under}
 use Rattle.host_activations.proofs.Agreement.{asked_put, asked_taken}
-use Rattle.host_activations.proofs.Entries.{sorted-remove_entry}
-use Rattle.host_activations.proofs.Numbers.{on_number, number_at_itself}
+use Rattle.host_activations.proofs.Numbers.{on_number}
 
 abbrev pub set_to : Grain → ActivationsValue → Held → Phase → Option ActivationId → ActivationsValue
 set_to g old held phase previous = record old { entries = set_value (is_at (grain_cmp g)) old.entries (record held { phase = phase; previous = previous }) }
@@ -37,7 +37,7 @@ put_back n asked out sorted none =
     (λ same. sym (ap (λ (k : ℕ). asked_under k out) (sym same) ∙ none))
     (λ other. asked_put out n asked q
     ∙ on_number (λ b. cond b (Some asked) (asked_under q out) ≡ asked_under q out) q n
-    (λ same. let h : true ≡ false = sym (number_at_itself n) ∙ ap (λ (k : ℕ). is_at (nat_cmp n) k) (sym same) ∙ other in cc) (λ also. refl)))
+    (λ same. let h : true ≡ false = sym (at_itself n) ∙ ap (λ (k : ℕ). is_at (nat_cmp n) k) (sym same) ∙ other in cc) (λ also. refl)))
   where
     more : List (ℕ × Asked)
     more = insert_entry nat_cmp out n asked

@@ -10,7 +10,7 @@ use Rattle.silo_address.specs.Silo.{Silo}
 use Rattle.silo_address.specs.Grain.{Grain, grain_cmp, grain_eq}
 use Rattle.silo_address.specs.declared.Entry.{Entry}
 use Rattle.silo_address.proofs.Order.{grain_cmp_total, grain_cmp_exact}
-use Rattle.membership_view.proofs.Entries.{lookup-insert_entry, sorted-insert_entry, sorted-nil}
+use Rattle.texts.proofs.Entries.{lookup-insert_entry, sorted-insert_entry, sorted-nil}
 use Rattle.membership_view.proofs.Found.{same_entries}
 use Rattle.ring_range.specs.Range.{Range, holds}
 use Rattle.hash_ring.specs.declared.Hashing.{Hashing}

@@ -2,11 +2,9 @@
 ghost use Rattle.std.specs.Prelude.{◌≡◌};
 ghost use Rattle.host_activations.specs.Stretch.{end_at, first_at};
 
+use ring_range::CIRCLE;
 use std::collections::BTreeMap;
 use std::ops::Bound;
-
-/// How many hashes the circle has.
-pub(crate) const CIRCLE: u64 = 1 << 32;
 
 /// The hash of an activation's grain, and the activation's count. They are in order of hash, then count.
 #[derive(Clone, Copy, PartialEq, Eq, PartialOrd, Ord)]

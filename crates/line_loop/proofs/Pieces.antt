@@ -1,19 +1,18 @@
 -- Bytes cut at their line feeds: more bytes behind them, and where the first line feed was found.
-use Rattle.std.proofs.Common.{◌≡◌, ◌≢◌, ◌+◌, ◌-◌, ◌<◌, ◌≤◌, ◌∙◌, ◌==◌, ℕ, suc, Bool, true, false, List, [], ◌∷◌, ◌++◌, length, get_or, take, drop, Option, None, Some, ap, arith, refl, subst, sym}
-use Rattle.std.specs.List.{onto_first}
+use Rattle.std.proofs.Common.{◌≡◌, ◌+◌, ◌-◌, ◌<◌, ◌≤◌, ◌∙◌, ◌==◌, ℕ, suc, Bool, true, false, List, [], ◌∷◌, ◌++◌, length, take, drop, Option, None, Some, ap, arith, refl, subst, sym}
 use Rattle.std.proofs.lemmas.Bool.{eq-eqb, eqb-true}
 use Rattle.std.proofs.lemmas.List.{drop-drop, get_or-take, length-append, length-take}
 use Rattle.std.proofs.Math.Seq.{drop-append-add, drop-cons, take-add, take-append-add}
 use Rattle.memchr.specs.Find.{IsFirstByte, is_byte}
 use Rattle.texts.specs.Words.{line_feed, pieces_at, with_byte}
-use Rattle.script_lines.proofs.Pieces.{pieces_at-front, pieces_at-whole}
+use Rattle.script_lines.proofs.Pieces.{pieces_at-some, pieces_at-whole}
 use Rattle.line_loop.specs.Pieces.{IsEndedAfter, IsOnePiece}
 
 -- ---- Bytes behind bytes.
 
 -- there is a first piece
 pub first_piece : (bytes : List ℕ) → (first : List ℕ) × (others : List (List ℕ)) × (pieces_at line_feed bytes ≡ first ∷ others)
-first_piece bytes = pieces_at-front line_feed [] bytes (λ k below is. absurd (omega arith))
+first_piece bytes = pieces_at-some line_feed bytes
 
 -- the last piece goes on with another one, and others stand behind it
 joined : (pieces : List (List ℕ)) → (first : List ℕ) → (others : List (List ℕ)) → List (List ℕ)

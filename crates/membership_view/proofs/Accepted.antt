@@ -3,6 +3,7 @@ use Rattle.std.proofs.Common.{◌≡◌, ◌≢◌, ◌⊎◌, inl, inr, ℕ, �
 use Rattle.std.proofs.lemmas.Cmp.{tied_itself}
 use Rattle.std.specs.BTreeMap.{is_at}
 use Rattle.std.specs.Ordering.{is_eq}
+use Rattle.texts.proofs.Orderings.{Equal-from}
 use Rattle.silo_address.specs.Silo.{Silo, silo_cmp, IsSameEndpoint}
 use Rattle.membership_view.specs.declared.row.Row.{Row}
 use Rattle.membership_view.specs.declared.status.Status.{Status}
@@ -14,7 +15,6 @@ use Rattle.membership_view.specs.Changes.{Change, Join, Leave, Die, after, share
 use Rattle.membership_view.specs.Whole.{IsViews}
 use Rattle.membership_view.specs.Step.{Joins, Leaves, Dies}
 use Rattle.membership_view.specs.Laws.{StepsAreChanges}
-use Rattle.membership_view.proofs.Entries.{Equal-from}
 use Rattle.membership_view.proofs.Order.{Decides-shares}
 use Rattle.membership_view.proofs.Statuses.{there_from}
 use Rattle.membership_view.proofs.Known.{status_at-made}

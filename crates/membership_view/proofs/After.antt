@@ -5,6 +5,7 @@ use Rattle.std.specs.BTreeMap.{is_at}
 use Rattle.std.specs.List.Sorted.{IsStrictlySortedBy}
 use Rattle.std.specs.Map.{keys_of}
 use Rattle.std.specs.Option.{option_map}
+use Rattle.texts.proofs.Orderings.{Equal-from}
 use Rattle.silo_address.specs.Silo.{Silo, silo_cmp}
 use Rattle.membership_view.specs.declared.row.Row.{Row}
 use Rattle.membership_view.specs.declared.status.Status.{Status}
@@ -12,7 +13,7 @@ use Rattle.membership_view.specs.declared.status.Status.TheVariants.{Active}
 use Rattle.membership_view.specs.Row.{has_come, status_in, joining, dying}
 use Rattle.membership_view.specs.Views.{ViewsValue, view_at, rows_in}
 use Rattle.membership_view.specs.Changes.{is_newest, occupant, changed, without, next_views, joined_rows}
-use Rattle.membership_view.proofs.Entries.{Equal-from, lookup-changed, lookup-insert_entry, lookup-picked, sorted-picked}
+use Rattle.texts.proofs.Entries.{lookup-changed, lookup-insert_entry, lookup-picked, sorted-picked}
 use Rattle.membership_view.proofs.Found.{same_entries}
 use Rattle.membership_view.proofs.Statuses.{status_before_dying}
 use Rattle.membership_view.proofs.SameEndpoint.{found_row, occupant_is}

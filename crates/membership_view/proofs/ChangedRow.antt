@@ -6,13 +6,14 @@ use Rattle.std.specs.List.Sorted.{IsStrictlySortedBy}
 use Rattle.std.specs.Map.{keys_of, values_of, set_value}
 use Rattle.std.specs.BTreeMap.{is_at}
 use Rattle.std.specs.Option.{option_map}
+use Rattle.texts.proofs.Orderings.{Equal-from}
 use Rattle.silo_address.specs.Silo.{Silo, silo_cmp, IsSameEndpoint}
 use Rattle.membership_view.specs.declared.row.Row.{Row}
 use Rattle.membership_view.specs.Row.{has_come}
 use Rattle.membership_view.specs.Views.{ViewsValue, row_of}
 use Rattle.membership_view.specs.Changes.{changed, next_views}
 use Rattle.membership_view.specs.Whole.{IsInTime, IsViews, changes_of}
-use Rattle.membership_view.proofs.Entries.{Equal-from, lookup-changed, keys-changed, length-changed, set_value-changed}
+use Rattle.texts.proofs.Entries.{lookup-changed, keys-changed, length-changed, set_value-changed}
 use Rattle.membership_view.proofs.SameEndpoint.{found_row}
 use Rattle.silo_address.proofs.Order.{silo_cmp_exact, silo_cmp_total}
 

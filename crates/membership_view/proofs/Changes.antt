@@ -17,7 +17,7 @@ use Rattle.membership_view.specs.Changes.{Join, Leave, Die, is_newest, occupant,
 use Rattle.membership_view.specs.Whole.{IsViews}
 use Rattle.membership_view.specs.Step.{Joins, Leaves, Dies}
 use Rattle.membership_view.specs.Laws.{ChangesAreSteps}
-use Rattle.membership_view.proofs.Entries.{lookup-changed, lookup-insert_entry}
+use Rattle.texts.proofs.Entries.{lookup-changed, lookup-insert_entry}
 use Rattle.membership_view.proofs.Order.{Decides-shares}
 use Rattle.membership_view.proofs.Statuses.{status_next, dead_by, there_from}
 use Rattle.membership_view.proofs.Known.{status_at-made}

@@ -9,13 +9,14 @@ use Rattle.std.specs.Map.{keys_of, values_of}
 use Rattle.std.specs.BTreeMap.{is_at, insert_entry}
 use Rattle.std.specs.Option.{option_map}
 use Rattle.std.specs.Ordering.{is_eq}
+use Rattle.texts.proofs.Orderings.{Equal-from}
 use Rattle.silo_address.specs.Silo.{Silo, silo_cmp, IsSameEndpoint}
 use Rattle.membership_view.specs.declared.row.Row.{Row}
 use Rattle.membership_view.specs.Row.{has_come, joining, dying}
 use Rattle.membership_view.specs.Views.{ViewsValue}
 use Rattle.membership_view.specs.Changes.{shares_endpoint, is_newest, occupant, without, next_views, joined_rows}
 use Rattle.membership_view.specs.Whole.{IsInTime, IsViews, changes_of}
-use Rattle.membership_view.proofs.Entries.{Equal-from, lookup-insert_entry, length-insert_entry, sorted-insert_entry, length-changed, keys-changed}
+use Rattle.texts.proofs.Entries.{lookup-insert_entry, length-insert_entry, sorted-insert_entry, length-changed, keys-changed}
 use Rattle.membership_view.proofs.Order.{shares_itself, shares_back, Decides-shares}
 use Rattle.membership_view.proofs.Statuses.{changes_dying, come}
 use Rattle.membership_view.proofs.SameEndpoint.{found_row, lower_generation, IsOccupant, occupant_is, occupant_some}

@@ -7,7 +7,7 @@ use Rattle.std.specs.BTreeMap.{is_at}
 use Rattle.silo_address.specs.Silo.{Silo, silo_cmp}
 use Rattle.membership_view.specs.Row.{status_in}
 use Rattle.membership_view.specs.Views.{ViewsValue, row_of, rows_in, status_at}
-use Rattle.membership_view.proofs.Entries.{lookup-picked}
+use Rattle.texts.proofs.Entries.{lookup-picked}
 use Rattle.silo_address.proofs.Order.{silo_cmp_total}
 
 -- the status in a view of a version is that of the row in this version, and none in a version that has not been made

@@ -1,4 +1,3 @@
-pub mod Entries
 pub mod Found
 pub mod Order
 pub mod Statuses

@@ -8,20 +8,18 @@ use Rattle.std.specs.Map.{keys_of}
 use Rattle.std.specs.Ordering.{is_gt, is_lt, nat_cmp, ordering_reverse}
 use Rattle.std.specs.declared.cmp.Ordering.{Ordering}
 use Rattle.std.specs.declared.cmp.Ordering.TheVariants.{Less, Equal, Greater}
+use Rattle.texts.proofs.Orderings.{upto_nat, less_is}
 use Rattle.silo_address.specs.Silo.{Silo, silo_cmp}
 use Rattle.membership_view.specs.declared.row.Row.{Row}
 use Rattle.membership_view.specs.Row.{has_come}
 use Rattle.membership_view.specs.Changes.{shares_endpoint, is_newest, occupant}
 use Rattle.membership_view.specs.Whole.{OlderAreDead}
-use Rattle.membership_view.proofs.Order.{shares_back, shares_between, same_generation, by_generation, nat_upto, Decides-shares}
+use Rattle.membership_view.proofs.Order.{shares_back, shares_between, same_generation, by_generation, Decides-shares}
 use Rattle.membership_view.proofs.SameEndpoint.{found_row, lower_generation, newest_from, IsOccupant, occupant_is, occupant_none}
 use Rattle.silo_address.proofs.Order.{silo_cmp_total}
 
 above : (a b : ℕ) → b < a → is_gt (nat_cmp a b) ≡ true
 above a b h = grind (arith, nat_tests)
-
-less : (a b : ℕ) → a < b → nat_cmp a b ≡ Less
-less a b h = grind (arith, nat_tests)
 
 -- where no row is the silo's or after it, the silo is the newest
 pub newest_none : (silo : Silo) (rows : List (Silo × Row)) → IsStrictlySortedBy silo_cmp (keys_of rows)
@@ -32,7 +30,7 @@ newest_none silo rows s none = newest_from silo rows s lower
     lower other row found shares = elim (cases_lt other.generation silo.generation) [
       | inl h ↦ h
       | inr h ↦
-          let after : is_gt (silo_cmp silo other) ≡ false = ap is_gt (by_generation silo other shares) ∙ nat_upto silo.generation other.generation h in
+          let after : is_gt (silo_cmp silo other) ≡ false = ap is_gt (by_generation silo other shares) ∙ upto_nat silo.generation other.generation h in
           let e : Some row ≡ None = sym found ∙ none other after in
           cc
     ]
@@ -54,7 +52,7 @@ newest_next silo rows s next row found inside first = by (shares_endpoint silo n
     lower apart other row found shares = elim (cases_lt other.generation silo.generation) [
       | inl h ↦ h
       | inr h ↦
-          let after : is_gt (silo_cmp silo other) ≡ false = ap is_gt (by_generation silo other shares) ∙ nat_upto silo.generation other.generation h in
+          let after : is_gt (silo_cmp silo other) ≡ false = ap is_gt (by_generation silo other shares) ∙ upto_nat silo.generation other.generation h in
           let e : shares_endpoint silo next ≡ true = shares_between silo next other inside (first other after (ap is_some found)) shares in
           cc
     ]
@@ -74,7 +72,7 @@ upto_from Greater h = refl
 occupant_before : (silo : Silo) (rows : List (Silo × Row)) → is_newest silo rows ≡ true → (old : Silo) → IsOccupant silo rows old → silo_cmp old silo ≡ Less
 occupant_before silo rows newest old is =
     by_generation old silo (shares_back silo old is.shares)
-    ∙ less old.generation silo.generation (lower_generation silo rows newest old is.row is.found is.shares)
+    ∙ less_is old.generation silo.generation (lower_generation silo rows newest old is.row is.found is.shares)
 
 -- where no row is before a silo, its endpoint has no occupant
 pub occupant_first : (silo : Silo) (rows : List (Silo × Row)) → IsStrictlySortedBy silo_cmp (keys_of rows) → is_newest silo rows ≡ true
@@ -109,7 +107,7 @@ occupant_last silo rows s newest older_dead last row found before greatest = by 
 
     not_behind : (old : Silo) (is : IsOccupant silo rows old) → last.generation < old.generation → ⊥
     not_behind old is higher =
-        let lt : silo_cmp last old ≡ Less = by_generation last old (shares_back old last (shares_last old is)) ∙ less last.generation old.generation higher in
+        let lt : silo_cmp last old ≡ Less = by_generation last old (shares_back old last (shares_last old is)) ∙ less_is last.generation old.generation higher in
         let e : is_lt (silo_cmp last old) ≡ false = greatest old (occupant_before silo rows newest old is) (ap is_some is.found) in
         let f : is_lt (silo_cmp last old) ≡ true = ap is_lt lt in
         cc

@@ -1,7 +1,7 @@
 -- Silos by address: endpoint first, then generation. So the silos of one endpoint are neighbours.
-use Rattle.std.proofs.Common.{◌≡◌, ℕ, ◌≤◌, Bool, true, false, refl, sym, ◌∙◌, ap, arith}
+use Rattle.std.proofs.Common.{◌≡◌, Bool, true, false, refl, sym, ◌∙◌, ap}
 use Rattle.std.specs.Bool.{Decides}
-use Rattle.std.proofs.lemmas.Bool.Decides.{Decides-and, Decides-eqb, nat_tests, same_from_decides}
+use Rattle.std.proofs.lemmas.Bool.Decides.{Decides-and, Decides-eqb, same_from_decides}
 use Rattle.std.proofs.lemmas.Slice.Eq.{bytes_eq-Decides}
 use Rattle.std.specs.Cmp.{IsTotalOrder}
 use Rattle.std.proofs.lemmas.Cmp.{alike_right, tied_itself, then_total, on_total, nat_cmp_total, nat_list_cmp_total}
@@ -9,7 +9,8 @@ use Rattle.std.proofs.lemmas.Map.Lookups.{exact_bytes, exact_unsigned}
 use Rattle.std.specs.Ordering.{is_gt, nat_cmp, on, then_cmp, ordering_then, ordering_reverse}
 use Rattle.std.specs.Cmp.Lexicographic.{slice_cmp}
 use Rattle.std.specs.declared.cmp.Ordering.{Ordering}
-use Rattle.std.specs.declared.cmp.Ordering.TheVariants.{Less, Equal, Greater}
+use Rattle.std.specs.declared.cmp.Ordering.TheVariants.{Equal}
+use Rattle.texts.proofs.Orderings.{then_assoc, first_upto, level}
 use Rattle.silo_address.specs.Silo.{Silo, silo_cmp}
 use Rattle.membership_view.specs.Changes.{shares_endpoint}
 use Rattle.silo_address.proofs.Order.{both_tie}
@@ -54,11 +55,6 @@ shares_tied a b h =
     let e = both_tie (slice_cmp nat_cmp a.ip b.ip) (nat_cmp a.port b.port) h in
     (Decides-shares a b).1 (exact_bytes a.ip b.ip e.0, exact_unsigned a.port b.port e.1)
 
-then_assoc : (r s t : Ordering) → ordering_then r (ordering_then s t) ≡ ordering_then (ordering_then r s) t
-then_assoc Less s t = refl
-then_assoc Equal s t = refl
-then_assoc Greater s t = refl
-
 by_endpoint : (a b : Silo) → silo_cmp a b ≡ ordering_then (endpoint_cmp a b) (nat_cmp a.generation b.generation)
 by_endpoint a b = then_assoc (slice_cmp nat_cmp a.ip b.ip) (nat_cmp a.port b.port) (nat_cmp a.generation b.generation)
 
@@ -66,18 +62,8 @@ by_endpoint a b = then_assoc (slice_cmp nat_cmp a.ip b.ip) (nat_cmp a.port b.por
 pub by_generation : (a b : Silo) → shares_endpoint a b ≡ true → silo_cmp a b ≡ nat_cmp a.generation b.generation
 by_generation a b h = by_endpoint a b ∙ ap (λ r. ordering_then r (nat_cmp a.generation b.generation)) (tied_endpoint a b h)
 
-first_upto : (r s : Ordering) → is_gt (ordering_then r s) ≡ false → is_gt r ≡ false
-first_upto Less s h = refl
-first_upto Equal s h = refl
-first_upto Greater s h = h
-
 endpoint_upto : (a b : Silo) → is_gt (silo_cmp a b) ≡ false → is_gt (endpoint_cmp a b) ≡ false
 endpoint_upto a b h = first_upto (endpoint_cmp a b) (nat_cmp a.generation b.generation) (sym (ap is_gt (by_endpoint a b)) ∙ h)
-
-level : (r : Ordering) → is_gt r ≡ false → is_gt (ordering_reverse r) ≡ false → r ≡ Equal
-level Less h k = cc
-level Equal h k = refl
-level Greater h k = cc
 
 -- what is between two silos of one endpoint is of that endpoint
 pub shares_between : (a b c : Silo) → is_gt (silo_cmp a b) ≡ false → is_gt (silo_cmp b c) ≡ false → shares_endpoint a c ≡ true → shares_endpoint a b ≡ true
@@ -85,10 +71,6 @@ shares_between a b c ab bc ac =
     let back : endpoint_cmp b a ≡ endpoint_cmp b c = alike_right endpoint_total a c b (tied_endpoint a c ac) in
     let turned : endpoint_cmp b a ≡ ordering_reverse (endpoint_cmp a b) = endpoint_total.antisymm b a in
     shares_tied a b (level (endpoint_cmp a b) (endpoint_upto a b ab) (ap is_gt (sym turned ∙ back) ∙ endpoint_upto b c bc))
-
--- the order of numbers, as `nat_cmp` tells it
-pub nat_upto : (a b : ℕ) → a ≤ b → is_gt (nat_cmp a b) ≡ false
-nat_upto a b h = grind (arith, nat_tests)
 
 -- what a test that decides it answers
 pub shares_is : (a b : Silo) (r : Bool) → Decides r ((a.ip ≡ b.ip) × (a.port ≡ b.port)) → r ≡ shares_endpoint a b

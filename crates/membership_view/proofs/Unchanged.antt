@@ -11,7 +11,7 @@ use Rattle.membership_view.specs.Views.{ViewsValue, row_of, view_at, rows_in, st
 use Rattle.membership_view.specs.Changes.{Change, Join, Leave, Die, changed, next_views, joined_rows}
 use Rattle.membership_view.specs.Whole.{IsViews}
 use Rattle.membership_view.specs.Laws.{Accepts, VersionsRise, ViewsStart, ViewsStay, ViewsAreKept, FirstIsEmpty, DeadStaysDead, RowsStay, JoinedFrom, OneIsLive}
-use Rattle.membership_view.proofs.Entries.{sorted-nil}
+use Rattle.texts.proofs.Entries.{sorted-nil}
 use Rattle.membership_view.proofs.Order.{Decides-shares, same_generation}
 use Rattle.membership_view.proofs.Statuses.{has_come_later, joined_since, there_from, nothing_before, dead_later, there_later, status_before_leaving, status_before_dying}
 use Rattle.membership_view.proofs.Known.{status_at-row, status_at-made}

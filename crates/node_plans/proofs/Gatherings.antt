@@ -11,7 +11,7 @@ use Rattle.std.proofs.lemmas.Cmp.{nat_cmp_total, tied_itself}
 use Rattle.silo_address.specs.declared.Entry.{Entry}
 use Rattle.ring_range.specs.Range.{Range}
 use Rattle.ring_range.proofs.Same.{Decides-range}
-use Rattle.membership_view.proofs.Entries.{lookup-insert_entry}
+use Rattle.texts.proofs.Entries.{lookup-insert_entry}
 use Rattle.directory_rules.proofs.Cases.{on_bool}
 use Rattle.directory_rules.specs.declared.Effect.TheVariants as effect
 use Rattle.directory_rules.specs.declared.PieceState.{PieceState}

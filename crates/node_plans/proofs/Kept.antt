@@ -17,8 +17,9 @@ use Rattle.directory_rules.specs.Piece.{Piece, Holding}
 use Rattle.directory_rules.specs.Recovery.{Recovery}
 use Rattle.directory_rules.specs.Answer.{with_piece, serving_piece, serving_by_piece, serving_by_state, serving_by_number, answered, answered_from, served_by, piece_with, is_numbered, last_served}
 use Rattle.std.proofs.lemmas.Map.Lookups.{exact_unsigned}
+use Rattle.texts.proofs.Orderings.{Equal-from}
 use Rattle.silo_address.proofs.Order.{apart_in_order}
-use Rattle.membership_view.proofs.Entries.{Equal-from, lookup-insert_entry}
+use Rattle.texts.proofs.Entries.{lookup-insert_entry}
 use Rattle.directory_rules.proofs.Cases.{on_bool}
 use Rattle.directory_rules.proofs.Tables.{lookup-remove_other}
 use Rattle.node_plans.specs.Node.{HasRecovery, HaveRecoveries}

@@ -7,7 +7,7 @@ use Rattle.ring_range.specs.Range.{range_eq}
 use Rattle.ring_range.proofs.Same.{Decides-range}
 use Rattle.directory_rules.specs.Gatherings.{Gathering, Gathered, Wants_page, Has_all, Refuses, gathered, is_in_turn, new_gathering, with_page}
 use Rattle.directory_rules.specs.Snapshot.{Page, digest_of}
-use Rattle.std.proofs.lemmas.Bool.{ltb-true}
+use Rattle.std.proofs.lemmas.Bool.{ltb-true, and_parts}
 use Rattle.std.proofs.lemmas.Bool.Decides.{Decides-eqb}
 use Rattle.seal_snapshot.specs.Progress.{progress_of}
 use Rattle.seal_snapshot.specs.declared.progress.Progress.{Progress}
@@ -47,10 +47,6 @@ wrong_of true true true d g more anew es is = absurd (cc (is))
 wrong_of true true false true g more anew es is = absurd (cc (is))
 wrong_of true true false false g more anew es is = (refl, refl)
 
-both : (a b : Bool) → (a && b) ≡ true → (a ≡ true) × (b ≡ true)
-both true b is = (refl, is)
-both false b is = absurd (cc (is))
-
 abbrev is_of : Gathering → Page → Bool
 is_of g page = (page.version == g.version) && range_eq page.range g.range
 
@@ -59,10 +55,10 @@ is_right g page = pointwise ◌==◌ (digest_of (g.entries ++ page.entries)) pag
 
 -- a page that is the gathering's has its range
 its_range : (g : Gathering) (page : Page) → is_of g page ≡ true → page.range ≡ g.range
-its_range g page is = (Decides-range page.range g.range).0 (both _ _ is).1
+its_range g page is = (Decides-range page.range g.range).0 (and_parts _ _ is).1
 
 in_turn_is : (g : Gathering) (page : Page) → is_in_turn g page ≡ true → page.page ≡ g.next
-in_turn_is g page is = (Decides-eqb page.page g.next).0 (both _ _ (both _ _ (both _ _ is).0).0).0
+in_turn_is g page is = (Decides-eqb page.page g.next).0 (and_parts _ _ (and_parts _ _ (and_parts _ _ is).0).0).0
 
 -- more are wanted
 pub record WantsMore (g : Gathering) (page : Page) : Type 0 where

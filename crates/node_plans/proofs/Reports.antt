@@ -1,6 +1,6 @@
 -- A report that counts finds the piece that recovers, and its recovery.
 use Rattle.std.proofs.Common.{◌≡◌, refl, sym, ap, ◌∙◌, ℕ, List}
-use Rattle.std.specs.Prelude.{Bool, true, false, cond, ◌&&◌, Option, Some, None, length}
+use Rattle.std.specs.Prelude.{true, cond, Option, Some, None, length}
 use Rattle.std.specs.Ordering.{nat_cmp}
 use Rattle.std.specs.Map.{lookup}
 use Rattle.std.specs.BTreeMap.{is_at}
@@ -17,15 +17,12 @@ use Rattle.directory_rules.specs.Step.{silently}
 use Rattle.directory_rules.specs.Node.{Node}
 use Rattle.directory_rules.specs.Transfer.{has_range, is_recovering, is_report_awaited, piece_at, recovered_by, reported}
 use Rattle.std.proofs.lemmas.Map.Lookups.{exact_unsigned}
-use Rattle.membership_view.proofs.Entries.{Equal-from}
+use Rattle.std.proofs.lemmas.Bool.{and_parts}
+use Rattle.texts.proofs.Orderings.{Equal-from}
 use Rattle.directory_rules.proofs.Cases.{on_bool}
 use Rattle.node_plans.proofs.Kept.{apart_from, other_than_written, written_is_found}
 use Rattle.node_plans.proofs.TakenReports.{with_taken}
 use Rattle.node_plans.specs.Node.{HasRecovery, HaveRecoveries, IsNode}
-
-both : (a b : Bool) → (a && b) ≡ true → (a ≡ true) × (b ≡ true)
-both true b is = (refl, is)
-both false b is = absurd (cc (is))
 
 recovering_is : (state : PieceState) → is_recovering state ≡ true → state ≡ Recovering
 recovering_is Settled is = absurd (cc (is))
@@ -44,8 +41,8 @@ found_piece node range None at is = absurd (cc (is))
 found_piece node range (Some piece) at is = record {
   piece = piece;
   there = at;
-  its_range = (Decides-range piece.range range).0 (both _ _ is).0;
-  state = recovering_is piece.state (both _ _ is).1;
+  its_range = (Decides-range piece.range range).0 (and_parts _ _ is).0;
+  state = recovering_is piece.state (and_parts _ _ is).1;
 }
 
 range_recovers : (node : Node) (range : Range) → has_range is_recovering range (piece_at node range) ≡ true → RecoversPiece node range

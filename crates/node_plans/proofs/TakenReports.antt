@@ -4,6 +4,7 @@ use Rattle.std.specs.Prelude.{Bool, true, false, cond, Result, Ok, Err, is_ok}
 use Rattle.std.specs.Ordering.{nat_cmp}
 use Rattle.std.specs.Map.{set_value}
 use Rattle.std.specs.BTreeMap.{is_at}
+use Rattle.std.proofs.lemmas.Bool.{false_from_ne_true}
 use Rattle.silo_address.specs.Silo.{Silo}
 use Rattle.directory_rules.specs.Recovery.{Recovery, Report, Recovered, Awaits_more, Has_union, Rejects, awaits_still, recovered, with_report}
 use Rattle.range_recovery.specs.declared.Progress.{Progress}
@@ -41,16 +42,12 @@ recovered_is recovery report =
     not_refused _ _ _ (with_report recovery report) (awaits_still (with_report recovery report).awaiting (with_report recovery report))
     (still (with_report recovery report).awaiting (with_report recovery report))
 
-not_true : (b : Bool) → (b ≡ true → ⊥) → b ≡ false
-not_true true never = absurd (never refl)
-not_true false never = refl
-
 -- whether it is complete now, and the recoveries after it, tell all that came of it
 taken_by : (outcome : Recovered) (recovery : Recovery) (report : Report) (old new : List (ℕ × Recovery)) (complete : Bool) → IsOf (with_report recovery report) outcome
     → (complete ≡ true) ↔ (progress_of outcome ≡ Ok Complete) → new ≡ cond (is_ok (progress_of outcome)) (with_taken recovery report old) old → IsTaken outcome recovery report old new complete
-taken_by (Awaits_more more) recovery report old new complete is whole new_is = (not_true complete (λ t. cc (whole.0 t)), (is, new_is))
+taken_by (Awaits_more more) recovery report old new complete is whole new_is = (false_from_ne_true complete (λ t. cc (whole.0 t)), (is, new_is))
 taken_by (Has_union table) recovery report old new complete is whole new_is = (whole.1 refl, (is, new_is))
-taken_by (Rejects number) recovery report old new complete is whole new_is = (not_true complete (λ t. cc (whole.0 t)), new_is)
+taken_by (Rejects number) recovery report old new complete is whole new_is = (false_from_ne_true complete (λ t. cc (whole.0 t)), new_is)
 
 pub taken_is : (recovery : Recovery) (report : Report) (old new : List (ℕ × Recovery)) (complete : Bool) → (complete ≡ true) ↔ (progress_of (recovered recovery report) ≡ Ok Complete)
     → new ≡ cond (is_ok (progress_of (recovered recovery report))) (with_taken recovery report old) old → IsTaken (recovered recovery report) recovery report old new complete

@@ -11,7 +11,7 @@ use crate::fault::write_fault;
 use crate::{JoinToken, answer};
 use directory_silo::Silo;
 use line_loop::LinePlayer;
-use process_lines::{LineError, read_line, unended_fault};
+use process_lines::{LONGEST_LINE, LineError, read_line, unended_fault};
 use script_lines::without_return;
 use std::alloc::{AllocError, Global};
 
@@ -67,7 +67,7 @@ impl LinePlayer for Player {
 
     ghost countable = { Prim.omega arith };
 
-    const MOST_KEPT: usize = 16_777_217;
+    const MOST_KEPT: usize = LONGEST_LINE + 1;
 
     const MOST_READ: u64 = 9_223_372_036_854_775_807;
 

@@ -23,6 +23,6 @@ mod write;
 pub use asked::Asked;
 pub use fault::{LineError, LineFault};
 pub use read::read_letter;
-pub use reading::{read_line, unended_fault};
+pub use reading::{LONGEST_LINE, read_line, unended_fault};
 pub use words::{grain_word, number_word, silo_word};
 pub use write::write_letter;

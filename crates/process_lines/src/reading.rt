@@ -12,7 +12,7 @@ use script_lines::{is_remark, is_text, split_word};
 use std::alloc::Global;
 
 /// How many bytes a line may have.
-const LONGEST_LINE: usize = 16_777_216;
+pub const LONGEST_LINE: usize = 16_777_216;
 
 /// Reads a line of a silo's process, given without its end, grains being hashed so: what it asks for, nothing, or its first
 /// fault. Memory may run out only at a join with places, or at a page or a report that tells an entry, and that it does is told only where

@@ -8,6 +8,7 @@ use Rattle.std.specs.Map.{lookup}
 use Rattle.std.specs.BTreeMap.{is_at}
 use Rattle.std.proofs.lemmas.Cmp.{nat_cmp_total}
 use Rattle.std.proofs.lemmas.Map.Lookups.{exact_unsigned}
+use Rattle.texts.proofs.Orderings.{at_itself, at_lower}
 use Rattle.silo_address.specs.Silo.{Silo, silo_cmp, silo_eq}
 use Rattle.silo_address.proofs.Order.{silo_cmp_total, silo_cmp_exact}
 use Rattle.silo_address.proofs.Same.{Decides-silo}
@@ -24,7 +25,6 @@ use Rattle.directory_rules.specs.declared.outcome.Happening.{Happening}
 use Rattle.directory_rules.specs.Happens.{happens, node_of, with_node, counted, taken, is_deliverable, least_deliverable, delivers, delivers_to, does_at, done_by}
 use Rattle.directory_rules.proofs.Cases.{on_bool}
 use Rattle.directory_rules.specs.declared.own_step.OwnStep.TheVariants.{Nudge}
-use Rattle.directory_rules.proofs.FreshLetters.{at_itself, at_lower}
 use Rattle.directory_facts.proofs.Lookups.{found_put, found_beside_put, found_beside_set}
 use Rattle.progress_rules.specs.InFlight.{InFlight}
 

@@ -17,7 +17,7 @@ use Rattle.directory_rules.specs.Recovery.{is_among}
 use Rattle.directory_rules.specs.World.{World, current_view}
 use Rattle.directory_rules.proofs.Cases.{on_bool}
 use Rattle.directory_facts.proofs.Entries.{same_key}
-use Rattle.progress_rules.proofs.Members.{view_by_address}
+use Rattle.directory_headline.proofs.Settings.{view_by_address}
 use Rattle.progress_rules.proofs.Resting.{IsResting, rest_live, rest_carried}
 
 -- ---- some of a sorted list are sorted

@@ -9,11 +9,11 @@ use Rattle.std.proofs.Math.Nat.{mul-add}
 use Rattle.std.proofs.lemmas.List.Elements.{All-head, All-tail}
 use Rattle.std.proofs.lemmas.List.Sums.{sum_by-cons}
 use Rattle.std.proofs.lemmas.Map.Lookups.{exact_unsigned}
+use Rattle.texts.proofs.Orderings.{at_itself}
 use Rattle.ring_range.specs.Range.{Range}
 use Rattle.directory_rules.specs.declared.piece_state.PieceState.{PieceState}
 use Rattle.directory_rules.specs.Piece.{Piece}
 use Rattle.directory_rules.proofs.Cases.{on_bool}
-use Rattle.directory_rules.proofs.FreshLetters.{at_itself}
 use Rattle.directory_facts.specs.Whole.{StandUnderStarts, outline_of}
 use Rattle.directory_facts.proofs.Entries.{same_key}
 

@@ -2,10 +2,11 @@
 use Rattle.std.proofs.Common.{◌≡◌, ℕ, ◌<◌, ◌≤◌, ◌==◌, Bool, true, false, cond, List, [], ◌∷◌, ◌++◌, All, Option, Some, refl, sym, ◌∙◌, ap, subst, inl, inr, ⊎_elim, arith, append_assoc}
 use Rattle.std.specs.Ordering.{nat_cmp, ordering_then, is_gt}
 use Rattle.std.specs.declared.cmp.Ordering.{Ordering}
-use Rattle.std.specs.declared.cmp.Ordering.TheVariants.{Less, Equal, Greater}
+use Rattle.std.specs.declared.cmp.Ordering.TheVariants.{Less}
 use Rattle.std.specs.Option.{option_map}
 use Rattle.std.proofs.lemmas.Bool.Decides.{nat_tests, Decides-eqb}
 use Rattle.std.proofs.lemmas.Cmp.{tied_itself}
+use Rattle.hash_ring.proofs.OwnerSearch.{place_upto}
 use Rattle.silo_address.specs.Silo.{Silo, silo_cmp}
 use Rattle.ring_range.specs.Range.{circle}
 use Rattle.hash_ring.specs.declared.Point.{Point}
@@ -13,7 +14,7 @@ use Rattle.hash_ring.specs.Point.{IsOnCircle, point_cmp, back}
 use Rattle.hash_ring.specs.Owner.{nearness_cmp, owner_of}
 use Rattle.hash_ring.proofs.Members.{In, In-right, In-either, All-of}
 use Rattle.hash_ring.proofs.StrictOrder.{Rising}
-use Rattle.hash_ring.proofs.Nearness.{nearness_total, nat_upto}
+use Rattle.hash_ring.proofs.Nearness.{nearness_total}
 use Rattle.hash_ring.proofs.Ownership.{IsOwner-from_nearest, owner_from}
 use Rattle.range_moves.specs.Arcs.{owner_silo}
 use Rattle.range_moves.specs.Walk.{passed, owner_at}
@@ -27,14 +28,6 @@ pub record IsSide (points : List Point) (place : ℕ) (owner : Option Silo) (ahe
   pub after : (p : Point) → In p ahead → place < p.place
 
 -- ---- points in order
-first_not_above : (r s : Ordering) → ordering_then r s ≡ Less → is_gt r ≡ false
-first_not_above Less s e = refl
-first_not_above Equal s e = refl
-first_not_above Greater s e = cc
-
-pub place_upto : (a b : Point) → point_cmp a b ≡ Less → a.place ≤ b.place
-place_upto a b less = nat_upto a.place b.place (first_not_above (nat_cmp a.place b.place) (ordering_then (silo_cmp a.silo b.silo) (nat_cmp a.index b.index)) less)
-
 pub head_least : (p : Point) (ps : List Point) → Rising point_cmp (p ∷ ps) → (q : Point) → In q (p ∷ ps) → p.place ≤ q.place
 head_least p ps rising q (inl here) = omega (arith, ap (λ (p : Point). p.place) here)
 head_least p ps rising q (inr later) = place_upto p q (rising.0 q later)

@@ -6,11 +6,8 @@ ghost use Rattle.range_moves.specs.Moves.{moves_of, AreMoves};
 use crate::walk::{Side, next_place};
 use crate::{Move, RingArc};
 use hash_ring::Ring;
-use ring_range::RingRange;
+use ring_range::{CIRCLE, RingRange};
 use std::alloc::{AllocError, Global};
-
-/// How many hashes the circle has.
-const CIRCLE: u64 = 1 << 32;
 
 /// The arcs between two rings, by start: the circle cut at every place of either, each part with its owner before and its
 /// owner after. Where the rings have one place in all the arc is the full circle; where they have none there is no arc.

@@ -4,7 +4,6 @@ pub mod Counts
 pub mod Covered
 pub mod FirmOnTwo
 pub mod Grains
-pub mod HashesBelow
 pub mod HeldAsOwned
 pub mod Kept
 pub mod LeastMoved

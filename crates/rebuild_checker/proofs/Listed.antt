@@ -6,6 +6,7 @@ use Rattle.std.specs.Global.{Vec}
 use Rattle.std.proofs.lemmas.List.{map-append}
 use Rattle.std.proofs.lemmas.Result.{IfOk-weaker}
 use Rattle.std.proofs.lemmas.List.Folds.{flat_map-map}
+use Rattle.std.proofs.lemmas.List.Elements.{filter-append}
 use Rattle.dump_rules.specs.Dump.{DumpNode, DumpPiece, DumpValue}
 use Rattle.dump_rules.specs.Verdict.{is_settled_state, live_nodes, current_pieces}
 use Rattle.rebuild_checker.specs.Lent.{nodes_lent, pieces_lent}
@@ -13,10 +14,6 @@ use Rattle.rebuild_checker.specs.Lent.{nodes_lent, pieces_lent}
 front_kept : {X : Type 0} (t : Bool) (x : X) (all xs ys : List X) → all ≡ xs ++ ys → cond t (x ∷ all) all ≡ cond t (x ∷ xs) xs ++ ys
 front_kept true x all xs ys is = ap (λ zs. x ∷ zs) is
 front_kept false x all xs ys is = is
-
-filter-append : {X : Type 0} (p : X → Bool) (xs ys : List X) → filter p (xs ++ ys) ≡ filter p xs ++ filter p ys
-filter-append p [] ys = refl
-filter-append p (x ∷ xs) ys = front_kept (p x) x (filter p (xs ++ ys)) (filter p xs) (filter p ys) (filter-append p xs ys)
 
 pub map-map : {X Y Z : Type 0} (g : Y → Z) (f : X → Y) (xs : List X) → map g (map f xs) ≡ map (λ x. g (f x)) xs
 map-map g f [] = refl

@@ -27,7 +27,7 @@ use Rattle.rebuild_checker.specs.Lent.{entries_in, held_on, nodes_lent, pieces_l
 use Rattle.rebuild_checker.specs.Ready.{is_by_grain}
 use Rattle.rebuild_checker.specs.declared.cover.Cover.{Cover}
 use Rattle.rebuild_checker.proofs.Covered.{covering_is_count}
-use Rattle.rebuild_checker.proofs.HashesBelow.{hash_is_below}
+use Rattle.hash_ring.proofs.HashesBelow.{grain_below}
 use Rattle.rebuild_checker.proofs.Listed.{filter-flat_map, filter-map, map-flat_map, map-map}
 use Rattle.rebuild_checker.proofs.Named.{count_index}
 use Rattle.rebuild_checker.proofs.RightPieces.{is_right}
@@ -149,7 +149,7 @@ lacking_told dump cover names pieces current right covers index entry =
 
     held : covering cover (hash_grain dump.hashing entry.grain) ≡ count_by (λ (piece : DumpPiece). holds piece.range (hash_grain dump.hashing entry.grain)) (current_pieces dump)
     held =
-        covering_is_count (map (λ (piece : Bor DumpPiece). piece.now.range) pieces) cover (hash_grain dump.hashing entry.grain) (hash_is_below dump.hashing entry.grain) covers
+        covering_is_count (map (λ (piece : Bor DumpPiece). piece.now.range) pieces) cover (hash_grain dump.hashing entry.grain) (grain_below dump.hashing entry.grain) covers
         ∙ (ap (count_by (λ (range : Range). holds range (hash_grain dump.hashing entry.grain)))
         (sym (map-map (λ (piece : DumpPiece). piece.range) (λ (piece : Bor DumpPiece). piece.now) pieces) ∙ ap (map (λ (piece : DumpPiece). piece.range)) current)
         ∙ fold-map (λ a (range : Range). a + cond (holds range (hash_grain dump.hashing entry.grain)) 1 0) (λ (piece : DumpPiece). piece.range) 0 (current_pieces dump))

@@ -6,11 +6,12 @@ use Rattle.std.specs.Cmp.{IsTotalOrder}
 use Rattle.std.specs.List.{list_any}
 use Rattle.std.specs.List.Sorted.{IsNonDecreasingBy, IsPartitionedBy, IsPartitionPoint, IsSorted}
 use Rattle.std.specs.Ordering.{is_eq, is_ge, is_gt, is_le, is_lt, ordering_index, ordering_reverse, ordering_then}
-use Rattle.std.proofs.lemmas.Bool.{cases_lt}
+use Rattle.std.proofs.lemmas.Bool.{cases_lt, or_right}
 use Rattle.std.proofs.lemmas.List.{get_or_default}
 use Rattle.std.proofs.lemmas.Cmp.{on_total, then_total}
 use Rattle.std.proofs.lemmas.List.Sorted.{searchable_from_sorted, list_any-IsPermutation, sum_by-IsPermutation}
 use Rattle.std.proofs.lemmas.List.Sums.{sum_by-cons}
+use Rattle.texts.proofs.Orderings.{Equal-from}
 use Rattle.silo_address.specs.Activation.{activation_cmp, entry_cmp, entry_eq}
 use Rattle.silo_address.specs.Grain.{grain_cmp}
 use Rattle.silo_address.specs.declared.Entry.{Entry}
@@ -50,14 +51,10 @@ pub named_alike : (one other : Named) → is_eq (named_cmp other one) ≡ true �
 named_alike one other ties = (Decides-entry (entry_named one) (entry_named other)).0 (sym (tied_as_entry one other ∙ entry_tie (entry_named one) (entry_named other)) ∙ ties)
 
 -- ---- Whether one is among them.
-pub or_so : (b t : Bool) → t ≡ true → (b || t) ≡ true
-or_so true t is = refl
-or_so false t is = is
-
 some_at : {X : Type 0} (p : X → Bool) (xs : List X) (index : ℕ) → index < length xs → ((d : X) → p (get_or xs index d) ≡ true) → list_any p xs ≡ true
 some_at p [] index within passes = absurd (omega (arith, within))
 some_at p (x ∷ xs) zero within passes = ap (λ b. b || list_any p xs) (passes x)
-some_at p (x ∷ xs) (suc index) within passes = or_so (p x) (list_any p xs) (some_at p xs index (omega (arith, within)) passes)
+some_at p (x ∷ xs) (suc index) within passes = or_right (p x) (list_any p xs) (some_at p xs index (omega (arith, within)) passes)
 
 none_at : {X : Type 0} (p : X → Bool) (xs : List X) → ((index : ℕ) (d : X) → index < length xs → p (get_or xs index d) ≡ false) → list_any p xs ≡ false
 none_at p [] fails = refl
@@ -74,15 +71,10 @@ pub named_hit : (one : Named) (names : List Named) (index : ℕ) → index < len
 named_hit one names index within hit =
     sym (some_at (λ other. is_eq (named_cmp other one)) names index within (λ d. ap is_eq (hit d))) ∙ among_alike one names
 
-tied : (o : Ordering) → is_eq o ≡ true → o ≡ Equal
-tied Less is = absurd (cc)
-tied Equal is = refl
-tied Greater is = absurd (cc)
-
 pub named_at : (one : Named) (names : List Named) (index : ℕ) → index < length names → (here : Named) → here ≡ get_or names index here
     → is_eq (named_cmp here one) ≡ true → is_entry_among (entries_named names) (entry_named one) ≡ true
 named_at one names index within here is_here ties =
-    sym (named_hit one names index within (λ d. ap (λ n. named_cmp n one) (get_or_default names index d here within ∙ sym is_here) ∙ tied (named_cmp here one) ties))
+    sym (named_hit one names index within (λ d. ap (λ n. named_cmp n one) (get_or_default names index d here within ∙ sym is_here) ∙ Equal-from (named_cmp here one) ties))
 
 rises : (one : Named) (names : List Named) → IsSorted named_cmp names → IsNonDecreasingBy (λ other. ordering_index (named_cmp other one)) names
 rises one names in_order = searchable_from_sorted named_total (λ (n : Named). n) names one in_order

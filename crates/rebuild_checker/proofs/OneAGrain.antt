@@ -25,7 +25,7 @@ use Rattle.rebuild_checker.specs.Ready.{is_by_grain, ranges_of}
 use Rattle.rebuild_checker.specs.declared.cover.Cover.{Cover}
 use Rattle.rebuild_checker.proofs.Covered.{covering_is_count}
 use Rattle.rebuild_checker.proofs.Grains.{grains_in}
-use Rattle.rebuild_checker.proofs.HashesBelow.{hash_is_below}
+use Rattle.hash_ring.proofs.HashesBelow.{grain_below}
 
 -- ---- In one piece: entries that rise by grain are of different grains.
 by_entries : (entries : List Entry) → are_distinct_by (λ (one other : Entry). is_at (grain_cmp one.grain) other.grain) entries ≡ are_distinct (map (λ (one : Entry). one.grain) entries)
@@ -169,7 +169,7 @@ one_a_grain dump node cover covers apart all by_grain = apart_pieces dump node.p
   where
     once : (grain : Grain) → count_by (λ p. holds p.range (hash_grain dump.hashing grain)) node.pieces ≤ 1
     once grain =
-        let at_most = apart (hash_grain dump.hashing grain) (hash_is_below dump.hashing grain) in
-        let told = covering_is_count (ranges_of node) cover (hash_grain dump.hashing grain) (hash_is_below dump.hashing grain) covers
+        let at_most = apart (hash_grain dump.hashing grain) (grain_below dump.hashing grain) in
+        let told = covering_is_count (ranges_of node) cover (hash_grain dump.hashing grain) (grain_below dump.hashing grain) covers
         ∙ fold-map (λ a (range : Range). a + cond (holds range (hash_grain dump.hashing grain)) 1 0) (λ (p : DumpPiece). p.range) 0 node.pieces in
         omega (arith, at_most, told)

@@ -3,7 +3,7 @@ use Rattle.std.proofs.Common.{◌≡◌, ltb, leb, All, Bool, true, false, cond,
 use Rattle.std.specs.Prelude.{◌&&◌, ◌||◌, ◌==◌}
 use Rattle.std.specs.List.{list_all, list_any}
 use Rattle.std.specs.Borrow.{Bor}
-use Rattle.std.proofs.lemmas.Bool.{ltb-true, leb-true}
+use Rattle.std.proofs.lemmas.Bool.{ltb-true, leb-true, and_from}
 use Rattle.std.proofs.lemmas.List.{map-append}
 use Rattle.std.proofs.lemmas.List.Elements.{All-nil, All-cons}
 use Rattle.std.proofs.lemmas.List.Folds.{list_all-map, list_any-append}
@@ -23,11 +23,8 @@ use Rattle.rebuild_checker.specs.Ready.{is_by_grain}
 abbrev pub is_right : DumpValue → DumpPiece → Bool
 is_right dump piece = has_piece_numbers piece && (has_entries_inside dump piece && is_by_grain piece)
 
-joined : (a b : Bool) → a ≡ true → b ≡ true → (a && b) ≡ true
-joined a b first second = ap (λ t. t && b) first ∙ second
-
 filtered : {X : Type 0} (t : Bool) (p : X → Bool) (x : X) (rest : List X) → p x ≡ true → list_all p rest ≡ true → list_all p (cond t (x ∷ rest) rest) ≡ true
-filtered true p x rest here there = joined (p x) (list_all p rest) here there
+filtered true p x rest here there = and_from (p x) (list_all p rest) here there
 filtered false p x rest here there = there
 
 list_all-filter : {X : Type 0} (p q : X → Bool) (xs : List X) → list_all p xs ≡ true → list_all p (filter q xs) ≡ true
@@ -41,13 +38,13 @@ list_all-joined p q [] first second = refl
 list_all-joined p q (x ∷ xs) first second =
     let a = both (p x) (list_all p xs) first in
     let b = both (q x) (list_all q xs) second in
-    joined (p x && q x) (list_all (λ y. p y && q y) xs) (joined (p x) (q x) a.0 b.0) (list_all-joined p q xs a.1 b.1)
+    and_from (p x && q x) (list_all (λ y. p y && q y) xs) (and_from (p x) (q x) a.0 b.0) (list_all-joined p q xs a.1 b.1)
 
 list_all-implied : {X : Type 0} (p q : X → Bool) → ((x : X) → p x ≡ true → q x ≡ true) → (xs : List X) → list_all p xs ≡ true → list_all q xs ≡ true
 list_all-implied p q implies [] all = refl
 list_all-implied p q implies (x ∷ xs) all =
     let parts = both (p x) (list_all p xs) all in
-    joined (q x) (list_all q xs) (implies x parts.0) (list_all-implied p q implies xs parts.1)
+    and_from (q x) (list_all q xs) (implies x parts.0) (list_all-implied p q implies xs parts.1)
 
 none_of_more : (a b : Bool) → not (a || b) ≡ true → not a ≡ true
 none_of_more true b is = is
@@ -59,7 +56,7 @@ distinct_parts (x ∷ xs) ys apart =
     let parts = both (not (list_any (grain_eq x) (xs ++ ys))) (are_distinct (xs ++ ys)) apart in
     let rest = distinct_parts xs ys parts.1 in
     let front = none_of_more (list_any (grain_eq x) xs) (list_any (grain_eq x) ys) (ap not (sym (list_any-append (grain_eq x) xs ys)) ∙ parts.0) in
-    (joined (not (list_any (grain_eq x) xs)) (are_distinct xs) front rest.0, rest.1)
+    (and_from (not (list_any (grain_eq x) xs)) (are_distinct xs) front rest.0, rest.1)
 
 each_by_grain : (pieces : List DumpPiece) → are_distinct (map (λ entry. entry.grain) (flat_map (λ (piece : DumpPiece). piece.entries) pieces)) ≡ true
     → list_all is_by_grain pieces ≡ true
@@ -67,7 +64,7 @@ each_by_grain [] apart = refl
 each_by_grain (piece ∷ pieces) apart =
     let parts = distinct_parts (map (λ (entry : Entry). entry.grain) piece.entries) (map (λ (entry : Entry). entry.grain) (flat_map (λ (p : DumpPiece). p.entries) pieces))
     (ap are_distinct (sym (map-append (λ (entry : Entry). entry.grain) piece.entries (flat_map (λ (p : DumpPiece). p.entries) pieces))) ∙ apart) in
-    joined (is_by_grain piece) (list_all is_by_grain pieces) parts.0 (each_by_grain pieces parts.1)
+    and_from (is_by_grain piece) (list_all is_by_grain pieces) parts.0 (each_by_grain pieces parts.1)
 
 -- the pieces of a node
 node_right : (dump : DumpValue) (node : DumpNode) → (has_right_pieces dump node && has_node_numbers node) ≡ true → list_all (is_right dump) node.pieces ≡ true

@@ -18,7 +18,7 @@ use Rattle.silo_address.proofs.Order.{silo_cmp_total, silo_cmp_exact}
 use Rattle.membership_view.specs.declared.row.Row.{Row}
 use Rattle.membership_view.specs.declared.status.Status.TheVariants.{Active, Leaving, Dead}
 use Rattle.membership_view.specs.Row.{has_come, is_active, status_in}
-use Rattle.membership_view.proofs.Entries.{lookup-picked, sorted-nil}
+use Rattle.texts.proofs.Entries.{lookup-picked, sorted-nil}
 use Rattle.membership_view.proofs.Search.{lookup_hit, lookup_miss}
 use Rattle.hash_ring.specs.Ring.{is_active_in}
 use Rattle.directory_rules.specs.Members.{is_dead_in, is_known_dead}

@@ -18,7 +18,7 @@ use Rattle.membership_view.specs.declared.status.Status.{Status}
 use Rattle.membership_view.specs.declared.status.Status.TheVariants.{Active}
 use Rattle.membership_view.specs.Row.{is_active, status_in}
 use Rattle.membership_view.specs.View.{ViewValue, IsByAddress}
-use Rattle.membership_view.proofs.Entries.{lookup-picked, sorted-picked}
+use Rattle.texts.proofs.Entries.{lookup-picked, sorted-picked}
 use Rattle.hash_ring.specs.declared.point.Point.{Point}
 use Rattle.hash_ring.specs.Places.{PlacesValue, places_of, places_for}
 use Rattle.hash_ring.specs.Point.{point_cmp, point_eq}

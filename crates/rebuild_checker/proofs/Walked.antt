@@ -7,6 +7,7 @@ use Rattle.std.specs.Result.{is_ok}
 use Rattle.std.specs.List.Sorted.{IsSorted}
 use Rattle.std.proofs.lemmas.List.{append_assoc, drop-take, take_all}
 use Rattle.std.proofs.lemmas.List.Elements.{filter-append}
+use Rattle.std.proofs.lemmas.Bool.{or_right}
 use Rattle.silo_address.specs.Activation.{entry_eq}
 use Rattle.silo_address.specs.declared.Entry.{Entry}
 use Rattle.silo_address.proofs.Same.{Decides-entry}
@@ -15,7 +16,7 @@ use Rattle.dump_rules.specs.Verdict.{entry_of_held, is_entry_among}
 use Rattle.rebuild_checker.specs.Lent.{held_lent}
 use Rattle.rebuild_checker.specs.Named.{Named, entry_named, named_apart_from, named_cmp}
 use Rattle.rebuild_checker.specs.Tallies.{count_below, count_up_to}
-use Rattle.rebuild_checker.proofs.Named.{alike_between, or_so}
+use Rattle.rebuild_checker.proofs.Named.{alike_between}
 
 -- ---- What fails a test may be left out.
 left_out : {X : Type 0} (p : X → Bool) (xs : List X) (done from next : ℕ) → done ≤ next → from ≤ next
@@ -67,7 +68,7 @@ among_held (one ∷ activations) zero held within is =
     ap (λ b. b || list_any (entry_eq (entry_of_held held.now)) (map entry_of_held (held_lent activations)))
     ((Decides-entry (entry_of_held held.now) (entry_of_held one.now)).1 (ap (λ (h : Bor DumpHeld). entry_of_held h.now) is))
 among_held (one ∷ activations) (suc index) held within is =
-    or_so (entry_eq (entry_of_held held.now) (entry_of_held one.now)) _ (among_held activations index held (omega (arith, within)) is)
+    or_right (entry_eq (entry_of_held held.now) (entry_of_held one.now)) _ (among_held activations index held (omega (arith, within)) is)
 
 -- ---- One activation more: what was passed over, and what is to come, has all that names none of them.
 pub passed_more : (activations : List (Bor DumpHeld)) (index : ℕ) (held : Bor DumpHeld) → index < length activations → held ≡ get_or activations index held

@@ -8,11 +8,8 @@ ghost use Rattle.rebuild_checker.specs.Covers.{AreInTurn, IsApart, IsCover, coun
 
 use dumps::LentGrain;
 use hash_ring::Hashing;
-use ring_range::RingRange;
+use ring_range::{CIRCLE, RingRange};
 use std::alloc::{AllocError, Global};
-
-/// How many hashes there are.
-pub(crate) const CIRCLE: u64 = 4_294_967_296;
 
 /// Where some ranges begin, and where they end, each in order. An end is counted on beyond the circle, where a range
 /// goes on behind its highest hash.

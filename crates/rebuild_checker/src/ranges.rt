@@ -9,11 +9,11 @@ ghost use Rattle.rebuild_checker.specs.Covers.{IsCover};
 ghost use Rattle.rebuild_checker.specs.Lent.{nodes_lent};
 ghost use Rattle.rebuild_checker.specs.Ready.{IsReady, is_right_at_bounds, ranges_of};
 
-use crate::cover::{CIRCLE, Cover, count_holding, cover_of, is_apart};
+use crate::cover::{Cover, count_holding, cover_of, is_apart};
 use crate::entries::{has_one_entry_a_grain, have_entries_inside, have_rising_entries};
 use crate::owners::owns;
 use dumps::{Dump, ListedNode};
-use ring_range::RingRange;
+use ring_range::{CIRCLE, RingRange};
 use silo_address::SiloAddress;
 use std::alloc::{AllocError, Global};
 

@@ -2,7 +2,8 @@
 use Rattle.std.proofs.Common.{◌≡◌, ℕ, ◌+◌, ◌-◌, ◌<◌, ◌≤◌, ◌&&◌, ◌||◌, ◌⊎◌, ◌==◌, nat_lt, nat_le, min, All, Bool, true, false, cond, List, [], ◌∷◌, refl, sym, ◌∙◌, ap, arith, inl, inr}
 use Rattle.std.specs.List.{list_any}
 use Rattle.std.proofs.lemmas.List.Elements.{All-nil, All-cons}
-use Rattle.std.proofs.lemmas.Bool.Decides.{Decides-eqb, nat_tests}
+use Rattle.std.proofs.lemmas.Bool.Decides.{nat_tests}
+use Rattle.std.proofs.lemmas.Bool.{eqb-true}
 use Rattle.ring_range.specs.Range.{circle, Range, IsRange, holds, distance, ahead, nothing_of}
 use Rattle.ring_range.specs.Meet.{meet_of, meet_at_start, meet_further_on, AreCommon, AreApart, AreFewest, AreNearerFirst, AreAbsentAtStart}
 use Rattle.ring_range.proofs.Circle.{distance-lt, distance-turn, distance-ahead}
@@ -43,9 +44,6 @@ by_tests P true whole none a b c d p q r s = p refl
 by_tests P false true none a b c d p q r s = q refl refl
 by_tests P false false true a b c d p q r s = r refl refl refl
 by_tests P false false false a b c d p q r s = s refl refl refl
-
-test_equal : (m n : ℕ) → (m == n) ≡ true → m ≡ n
-test_equal m n e = (Decides-eqb m n).0 e
 
 test_less : (m n : ℕ) → m ≤ n → (m == n) ≡ false → m < n
 test_less m n le e = grind (arith, nat_tests)
@@ -165,9 +163,9 @@ module _ (this other : Range) (t : IsRange this) (o : IsRange other) where
   unfolding meet_of
   meet_by_pairs P each =
       by_tests P (other.size == circle) ((this.size == circle) && nat_lt 0 other.size) (at_start.size == 0) _ _ _ _
-      (λ full. each this (nothing_of this) (pair_full_other (test_equal _ _ full)))
+      (λ full. each this (nothing_of this) (pair_full_other (eqb-true _ _ full)))
       (λ short full. let whole = test_whole _ _ full in each other (nothing_of this) (pair_full_this whole.0 whole.1))
-      (λ short not_whole none. each further at_start (pair_one_part (test_less _ _ o.size_within short) (test_equal _ _ none)))
+      (λ short not_whole none. each further at_start (pair_one_part (test_less _ _ o.size_within short) (eqb-true _ _ none)))
       (λ short not_whole some. each at_start further (pair_parts (test_less _ _ o.size_within short) (test_open _ _ t.size_within not_whole) (test_some _ some)))
 
 pub common : (this other : Range) → IsRange this → IsRange other → AreCommon this other (meet_of this other)

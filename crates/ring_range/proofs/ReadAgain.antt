@@ -10,6 +10,7 @@ use Rattle.std.proofs.lemmas.Bool.Decides.{Decides-eqb, Decides-and, not_from_De
 use Rattle.std.proofs.lemmas.Fmt.{decimal_nonempty}
 use Rattle.std.proofs.lemmas.List.{take_at, get_or_append_left, get_or-take, length-take, length-drop}
 use Rattle.std.proofs.lemmas.List.Sums.{position_or_len_is, split_at_first, passes_at_first, fails_before_first}
+use Rattle.texts.proofs.Decided.{false_from_not}
 use Rattle.ring_range.specs.Range.{circle, Range, IsRange}
 use Rattle.ring_range.specs.declared.text.RangeTextError.{RangeTextError}
 use Rattle.ring_range.specs.declared.text.RangeTextError.TheVariants.{Shape, NotANumber, OutOfRange}
@@ -132,10 +133,6 @@ of_range made p q r = rw (p, q, r) refl
 of_ok : {shape numbers fits : Bool} {made range : Range} → shape ≡ true → numbers ≡ true → fits ≡ true → made ≡ range → answer shape numbers fits made ≡ Ok range
 of_ok p q r e = rw (p, q, r, e) refl
 
-false_by : {P : Type 0} (b : Bool) → Decides b P → ¬ P → b ≡ false
-false_by true d none = absurd (none (d.0 refl))
-false_by false d none = refl
-
 abbrev range_at : ℕ → ℕ → Range
 range_at start size = record { start = start; size = size }
 
@@ -171,7 +168,7 @@ module _ (text : List ℕ) where
         (start_word text, size_word text, words_of text told.0, not_from_Decides numbers (Decides-numerals (start_word text) (size_word text)) told.1),
     λ (start, size, words, other).
         let none = by_words (λ s z. ¬ (IsNumeral s × IsNumeral z)) start size words other in
-        of_number (is_range made) made (has_words_is text start size words) (false_by numbers (Decides-numerals (start_word text) (size_word text)) none),
+        of_number (is_range made) made (has_words_is text start size words) (false_from_not numbers (Decides-numerals (start_word text) (size_word text)) none),
   )
 
   pub range_fault : (read_range text ≡ Err OutOfRange) ↔ IsOutOfRange text
@@ -183,7 +180,7 @@ module _ (text : List ℕ) where
     λ (start, size, words, numerals, other).
         let both = by_words (λ s z. IsNumeral s × IsNumeral z) start size words numerals in
         let none = by_words (λ s z. ¬ (IsRange (range_by_words s z))) start size words other in
-        of_range made (has_words_is text start size words) ((Decides-numerals (start_word text) (size_word text)).1 both) (false_by (is_range made) (Decides-is_range made) none),
+        of_range made (has_words_is text start size words) ((Decides-numerals (start_word text) (size_word text)).1 both) (false_from_not (is_range made) (Decides-is_range made) none),
   )
 
   -- a text that is read is the spelling of its range

@@ -1,8 +1,6 @@
 -- A range of hashes. The hashes stand on a circle: after the highest, 4294967295, comes 0 again. A range is some hashes
 -- that follow one another there.
 use Rattle.std.specs.Prelude.{◌≡◌, ℕ, ◌+◌, ◌-◌, ◌%◌, ◌<◌, ◌≤◌, ◌==◌, ◌&&◌, ◌||◌, nat_lt, nat_le, if◌then◌else◌, Bool}
-use Rattle.std.specs.Ordering.{nat_cmp, on, then_cmp}
-use Rattle.std.specs.declared.cmp.Ordering.{Ordering}
 
 -- how many hashes there are
 abbrev pub circle : ℕ
@@ -61,10 +59,6 @@ nothing_of range = record { start = range.start; size = 0 }
 abbrev pub part_of : Range → ℕ → ℕ → Range
 part_of range from to =
     if nat_lt from to then record { start = ahead range.start from; size = to - from } else nothing_of range
-
--- ranges by start, then size
-abbrev pub range_cmp : Range → Range → Ordering
-range_cmp = then_cmp (on (λ r. r.start) nat_cmp) (on (λ r. r.size) nat_cmp)
 
 abbrev pub range_eq : Range → Range → Bool
 range_eq a b = (a.start == b.start) && (a.size == b.size)

@@ -9,5 +9,5 @@ pub mod laws;
 mod range;
 mod text;
 
-pub use range::{RangeError, RingRange};
+pub use range::{CIRCLE, RangeError, RingRange};
 pub use text::RangeTextError;

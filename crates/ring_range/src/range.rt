@@ -9,7 +9,7 @@ use std::marker::Model;
 use thiserror::Error;
 
 /// How many hashes the circle has.
-const CIRCLE: u64 = 1 << 32;
+pub const CIRCLE: u64 = 1 << 32;
 
 /// Why there is no range with a start and a size.
 #[derive(Clone, Copy, Debug, PartialEq, Eq, Error)]

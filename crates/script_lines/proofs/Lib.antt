@@ -1,7 +1,6 @@
 pub mod Pieces
 pub mod WordLaws
 pub mod Placed
-pub mod LineLaws
 pub mod VerbLaws
 pub mod Fronts
 pub mod SpacedWords

@@ -29,7 +29,7 @@ pieces_at-cut mark (suc n) (byte ∷ bytes) more within others is =
     ∙ ap (onto_first byte) (pieces_at-cut mark n bytes more (omega arith) (λ k below. others (suc k) (omega arith)) is)
 
 -- there is a first piece
-pieces_at-some : (mark : ℕ) (bytes : List ℕ) → (first : List ℕ) × (others : List (List ℕ)) × (pieces_at mark bytes ≡ first ∷ others)
+pub pieces_at-some : (mark : ℕ) (bytes : List ℕ) → (first : List ℕ) × (others : List (List ℕ)) × (pieces_at mark bytes ≡ first ∷ others)
 pieces_at-some mark [] = ([], [], refl)
 pieces_at-some mark (byte ∷ bytes) =
     let behind = pieces_at-some mark bytes in
@@ -37,11 +37,3 @@ pieces_at-some mark (byte ∷ bytes) =
       | true ↦ ([], pieces_at mark bytes, refl)
       | false ↦ (byte ∷ behind.0, behind.1, ap (onto_first byte) behind.2)
     ]
-
--- bytes without a mark begin the first piece, whatever comes behind them
-pub pieces_at-front : (mark : ℕ) (bytes more : List ℕ) → ((k : ℕ) → k < length bytes → get_or bytes k 0 ≢ mark)
-    → (rest : List ℕ) × (others : List (List ℕ)) × (pieces_at mark (bytes ++ more) ≡ (bytes ++ rest) ∷ others)
-pieces_at-front mark [] more none = pieces_at-some mark more
-pieces_at-front mark (byte ∷ bytes) more none =
-    let behind = pieces_at-front mark bytes more (λ k below. none (suc k) (omega arith)) in
-    (behind.0, behind.1, pieces_at-other mark byte (bytes ++ more) (none 0 (omega arith)) ∙ ap (onto_first byte) behind.2)

@@ -1,9 +1,6 @@
-//! Laws of lines and commands: each function has a law as its contract, and does nothing.
+//! Laws of lines: each function has a law as its contract, and does nothing.
 
-ghost use Rattle.std.specs.Prelude.{◌≡◌, ◌<◌, ◌+◌, ◌++◌, ℕ, List, Contains, length, ◌∷◌, MatchOption, Option};
-ghost use Rattle.texts.specs.Words.{line_feed};
-ghost use Rattle.script_rules.specs.Script.{lines_of, longest_line};
-ghost use Rattle.script_lines.specs.Laws.{BeginsTooLong, BeginsWithFault};
+ghost use Rattle.std.specs.Prelude.{◌≡◌, ℕ, ◌∷◌, MatchOption, Option};
 ghost use Rattle.std.specs.Option.{option_map};
 ghost use Rattle.silo_address.specs.Grain.{Grain};
 ghost use Rattle.silo_address.specs.Silo.{Silo};
@@ -18,14 +15,6 @@ ghost use Rattle.directory_rules.specs.World.{World, current_ring};
 ghost use Rattle.script_rules.specs.Lines.{refusal_line};
 ghost use Rattle.script_rules.specs.Show.{chosen_place, held_lines, letter_line, owner_line, place_line, range_line, silo_lines, version_line};
 ghost use Rattle.script_lines.specs.Shown.{line_of_letter, line_of_owner, line_of_place, line_of_range, line_of_silo, line_of_version, figures_of, settled_entries};
-
-/// More than 8193 bytes without a line feed begin a line that is too long, whatever comes behind them: who reads a script
-/// piece by piece need hold no more of a line.
-#[tactic(auto, using(crate::proofs::LineLaws::begins_too_long, crate::proofs::LineLaws::begins_with_fault))]
-pub fn long_lines()
-    ensures fault { (bytes more : List ℕ) → ¬ (Contains bytes line_feed) → longest_line + 1 < length bytes → BeginsWithFault (lines_of (bytes ++ more)) 924 }
-    ensures too_long { (bytes more : List ℕ) → ¬ (Contains bytes line_feed) → longest_line + 1 < length bytes → BeginsTooLong (lines_of (bytes ++ more)) }
-{}
 
 /// The lines of `show` and `owner` are the rule's, by what they tell of the world: its current version, the figures of a
 /// silo's node, the entries of a range that is settled at its owner, and the point that owns a hash in the current ring.

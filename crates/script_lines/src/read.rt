@@ -10,7 +10,7 @@ use crate::{Command, ReadError, ScriptFault};
 use std::alloc::Global;
 
 /// How many bytes a line may have.
-const LONGEST_LINE: usize = 8192;
+pub const LONGEST_LINE: usize = 8192;
 
 /// Reads a line, given without its end: a command, nothing, or the first fault of the line. Memory is taken for the places
 /// of a join alone, and that it runs out is told only of a join with places, where the line has no fault. (`docs/RULES.md#scripts`)

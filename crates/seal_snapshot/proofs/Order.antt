@@ -1,9 +1,9 @@
 -- The order of a shelf's snapshots.
-use Rattle.std.proofs.Common.{◌≡◌, ◌⊎◌, ℕ, zero, suc, ◌<◌, Bool, true, false, cond, List, [], ◌∷◌, ◌++◌, length, get_or, refl, ◌∙◌, ap, inl, inr, arith, ltb-true, lt-ltb, eqb-true, eq-eqb}
+use Rattle.std.proofs.Common.{◌≡◌, ◌⊎◌, ℕ, zero, suc, ◌<◌, Bool, true, cond, List, [], ◌∷◌, ◌++◌, length, get_or, ◌∙◌, ap, inl, inr, arith, ltb-true, lt-ltb, eqb-true, eq-eqb}
 use Rattle.std.specs.List.{All, filter}
 use Rattle.std.specs.List.Sorted.{IsPartitionedBy}
 use Rattle.std.specs.Prelude.{nat_lt, ◌==◌, ◌&&◌, ◌||◌}
-use Rattle.std.proofs.lemmas.Bool.{and_parts, or_cases, cases_eq}
+use Rattle.std.proofs.lemmas.Bool.{and_parts, or_cases, cases_eq, or_right, and_from}
 use Rattle.std.proofs.lemmas.List.Elements.{All-filter, All-append}
 use Rattle.directory_rules.specs.Snapshot.{Snapshot}
 use Rattle.directory_rules.proofs.Cases.{on_bool}
@@ -21,18 +21,11 @@ of_before version start s before = by (or_cases (nat_lt s.version version) ((s.v
     by (inl less) = inl (ltb-true s.version version less)
     by (inr more) = let parts = and_parts (s.version == version) (nat_lt s.range.start start) more in inr (eqb-true s.version version parts.0, ltb-true s.range.start start parts.1)
 
-either : (x y : Bool) → y ≡ true → (x || y) ≡ true
-either true y holds = refl
-either false y holds = holds
-
-both : (x y : Bool) → x ≡ true → y ≡ true → (x && y) ≡ true
-both x y one other = ap (λ b. b && y) one ∙ other
-
 pub before_of : (version start : ℕ) (s : Snapshot) → IsBefore version start s → is_before version start s ≡ true
 before_of version start s (inl less) = ap (λ b. b || ((s.version == version) && nat_lt s.range.start start)) (lt-ltb s.version version less)
 before_of version start s (inr more) =
-    either (nat_lt s.version version) ((s.version == version) && nat_lt s.range.start start)
-    (both (s.version == version) (nat_lt s.range.start start) (eq-eqb s.version version more.0) (lt-ltb s.range.start start more.1))
+    or_right (nat_lt s.version version) ((s.version == version) && nat_lt s.range.start start)
+    (and_from (s.version == version) (nat_lt s.range.start start) (eq-eqb s.version version more.0) (lt-ltb s.range.start start more.1))
 
 -- what comes before what is before a place is before it too
 pub before_both : (version start : ℕ) (a b : Snapshot) → comes_before a b ≡ true → is_before version start b ≡ true → is_before version start a ≡ true

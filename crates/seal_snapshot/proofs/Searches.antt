@@ -3,17 +3,13 @@ use Rattle.std.proofs.Common.{◌≡◌, ◌⊎◌, ℕ, zero, suc, ◌<◌, ◌
 use Rattle.std.specs.List.{All, HoldsAt, filter, list_any}
 use Rattle.std.specs.List.Sorted.{IsPartitionPoint}
 use Rattle.std.specs.Prelude.{◌==◌, ◌&&◌, ◌||◌}
-use Rattle.std.proofs.lemmas.Bool.{and_parts, cases_order}
+use Rattle.std.proofs.lemmas.Bool.{and_parts, cases_order, false_from_ne_true}
 use Rattle.std.proofs.lemmas.List.Elements.{All-head, All-tail}
 use Rattle.silo_address.specs.Silo.{Silo, silo_eq}
 use Rattle.ring_range.specs.Range.{Range, range_eq}
 use Rattle.directory_rules.specs.Snapshot.{Snapshot, is_snapshot, shelf_answer, page_from, Has_none, Is_behind}
 use Rattle.seal_snapshot.specs.Shelf.{AreInOrder, IsAt, comes_before, is_before}
 use Rattle.seal_snapshot.proofs.Order.{apart, ordered_at}
-
-not_true : (b : Bool) → (b ≡ true → ⊥) → b ≡ false
-not_true true never = absurd (never refl)
-not_true false never = refl
 
 module _ (version : ℕ) (range : Range) (to : Silo) where
   abbrev test : Snapshot → Bool
@@ -36,7 +32,7 @@ module _ (version : ℕ) (range : Range) (to : Silo) where
 
   -- ---- where there is one, it is found
   front_fails : (x : Snapshot) (shelf : List Snapshot) (i : ℕ) → AreInOrder (x ∷ shelf) → i < length shelf → HoldsAt (λ s. test s ≡ true) shelf i → test x ≡ false
-  front_fails x shelf i order within passes = not_true (test x) (λ p. never_both x (get_or shelf i x) (order.0 i x within) p (passes x))
+  front_fails x shelf i order within passes = false_from_ne_true (test x) (λ p. never_both x (get_or shelf i x) (order.0 i x within) p (passes x))
 
   find_at : (shelf : List Snapshot) (i : ℕ) (s : Snapshot) → AreInOrder shelf → i < length shelf → HoldsAt (λ s. test s ≡ true) shelf i → s ≡ get_or shelf i s
       → find test shelf ≡ Some s
@@ -55,7 +51,7 @@ module _ (version : ℕ) (range : Range) (to : Silo) where
       either false b holds = holds
 
   none_behind : (x : Snapshot) (shelf : List Snapshot) → AreInOrder (x ∷ shelf) → test x ≡ true → All (λ s. test s ≡ false) shelf
-  none_behind x shelf order passes k d within = not_true (test (get_or shelf k d)) (λ p. never_both x (get_or shelf k d) (order.0 k d within) passes p)
+  none_behind x shelf order passes k d within = false_from_ne_true (test (get_or shelf k d)) (λ p. never_both x (get_or shelf k d) (order.0 k d within) passes p)
 
   -- ---- where there is none
   find_none : (shelf : List Snapshot) → All (λ s. test s ≡ false) shelf → find test shelf ≡ None
@@ -104,9 +100,9 @@ module _ (version : ℕ) (range : Range) (to : Silo) where
 
       by : (k ≡ i) ⊎ ((k < i) ⊎ (i < k)) → test (get_or shelf k d) ≡ false
       by (inl same) = ap (λ j. test (get_or shelf j d)) same ∙ misses d (omega arith)
-      by (inr (inl below)) = not_true (test (get_or shelf k d)) (λ passes. itself passes (split.0 k d (omega arith) below))
+      by (inr (inl below)) = false_from_ne_true (test (get_or shelf k d)) (λ passes. itself passes (split.0 k d (omega arith) below))
       by (inr (inr above)) =
-          not_true (test (get_or shelf k d)) (λ passes.
+          false_from_ne_true (test (get_or shelf k d)) (λ passes.
           clash (is_before version range.start (get_or shelf i d)) (sym (placed passes (get_or shelf i d)) ∙ ordered_at shelf i k d order above within) (split.1 i d (omega arith) (omega arith)))
 
 -- ---- what is answered once the version was seen

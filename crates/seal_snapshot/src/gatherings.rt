@@ -9,6 +9,7 @@ ghost use Rattle.seal_snapshot.specs.Steps.{IsWanted, Rejects};
 
 use crate::lines::{copy_of, take_entries};
 use crate::page::same_entries;
+use crate::snapshot::PAGE_SIZE;
 use crate::whole::{Whole, same_wholes};
 use crate::{GatheringError, Page, Progress};
 use ring_range::RingRange;
@@ -16,9 +17,6 @@ use sha2::{Digest, Sha256};
 use silo_address::Entry;
 use std::alloc::{AllocError, Global};
 use std::marker::Model;
-
-/// How many entries a page has, unless it is the last one.
-const PAGE_SIZE: usize = 64;
 
 /// What a new owner has of a snapshot so far: its pages, taken one after the other (`docs/RULES.md#transfer`).
 #[derive(Drop)]

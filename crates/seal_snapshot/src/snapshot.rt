@@ -12,7 +12,7 @@ use std::alloc::{AllocError, Global};
 use std::marker::Model;
 
 /// How many entries a page has, unless it is the last one.
-const PAGE_SIZE: usize = 64;
+pub(crate) const PAGE_SIZE: usize = 64;
 
 /// What a silo gave up when it saw a version: the entries of a range, sealed for the range's new owner
 /// (`docs/RULES.md#pieces`).

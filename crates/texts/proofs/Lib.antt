@@ -1,3 +1,5 @@
 pub mod Decided
 pub mod NumeralLaws
 pub mod Cuts
+pub mod Orderings
+pub mod Entries

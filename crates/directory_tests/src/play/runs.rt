@@ -10,8 +10,9 @@ use crate::play::rows::{
 use directory_core::{EventRefusal, EventResult, World};
 use directory_rules::{Event, Outcome, Settings};
 use hash_ring::Hashing;
+use memchr::memchr;
 use rebuild_checker::write_dump;
-use script_lines::{Command, first_line, read_command, write_outcome, write_refusal};
+use script_lines::{Command, read_command, write_outcome, write_refusal};
 use std::alloc::{AllocError, Global};
 use std::process::Abort;
 
@@ -151,6 +152,12 @@ fn play_line(rt: &(impl Abort + Eprint), alloc: Global, story: &mut Story, line:
         Some(Command::Sync) => sync(rt, alloc, story),
         _ => {}
     }
+}
+
+// The first line, without its line feed, and what follows it.
+fn first_line(text: &[u8]) -> Option<(&[u8], &[u8])> {
+    let end = memchr(b'\n', text)?;
+    Some((&text[..end], &text[end + 1..]))
 }
 
 // The script's lines are played.

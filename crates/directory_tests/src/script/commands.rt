@@ -1,6 +1,6 @@
 //! Lines of a script, read as commands.
 use directory_rules::Event;
-use script_lines::{Command, ReadError, ScriptFault, first_line, read_command, without_return};
+use script_lines::{Command, ReadError, ScriptFault, read_command, without_return};
 use silo_address::{GrainError, SiloError};
 use std::alloc::Global;
 use std::process::Abort;
@@ -201,10 +201,6 @@ fn many_places(rt: HostRuntime) {
 
 #[test]
 fn ends_of_lines(rt: HostRuntime) {
-    assert!(rt; first_line(b"show\r").is_none());
-    let (first, rest) = first_line(b"show\r\r\nb\r\n").expect(&rt, "a line");
-    assert!(rt; first == b"show\r".as_slice());
-    assert!(rt; rest == b"b\r\n".as_slice());
     assert!(rt; without_return(b"show\r\r") == b"show\r".as_slice());
 }
 

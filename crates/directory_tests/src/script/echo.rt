@@ -5,8 +5,8 @@ ghost use Rattle.line_loop.specs.Scripts.{PlaysLine, most_begun, most_read};
 ghost use Rattle.line_loop.specs.TooLong.{too_long as plays_as_it_begins};
 ghost use Rattle.directory_tests.specs.Echoes.{echoed, long_lines_fault};
 
-use line_loop::{LineFault, LinePlayer};
-use script_lines::{ScriptFault, without_return, write_fault};
+use line_loop::{LineFault, LinePlayer, MOST_BEGUN, MOST_OF_SCRIPT};
+use script_lines::{LONGEST_LINE, ScriptFault, without_return, write_fault};
 use std::alloc::{AllocError, Global};
 
 #[derive(Drop)]
@@ -25,9 +25,9 @@ impl LinePlayer for Echo {
 
     ghost countable = { Prim.omega arith };
 
-    const MOST_KEPT: usize = 8193;
+    const MOST_KEPT: usize = MOST_BEGUN;
 
-    const MOST_READ: u64 = 268_435_456;
+    const MOST_READ: u64 = MOST_OF_SCRIPT;
 
     fn play_line(
         &mut self,
@@ -38,7 +38,7 @@ impl LinePlayer for Echo {
         out: &mut Vec<u8>,
     ) -> Result<Option<LineFault>, AllocError> {
         let line = without_return(line);
-        if line.len() > 8192 {
+        if line.len() > LONGEST_LINE {
             let fault = ScriptFault::LineTooLong;
             write_fault(out, number, fault.number())?;
             return Ok(Some(LineFault {

@@ -2,7 +2,7 @@
 
 use crate::fakes::{Counter, Refusal, Remarks, SparseReader, SparseWriter};
 use crate::script::echo::Echo;
-use line_loop::{Ended, LineFault, Sink, Source, play, send};
+use line_loop::{Ended, LineFault, MOST_OF_SCRIPT, Sink, Source, play, send};
 use script_lines::ScriptFault;
 use std::alloc::Global;
 use std::process::Abort;
@@ -101,9 +101,6 @@ fn a_long_line_needs_no_end(rt: HostRuntime) {
     }
 }
 
-// How many bytes a script may have.
-const MOST_READ: u64 = 268_435_456;
-
 // Lines of 8,192 bytes, so many bytes in all: the ending, how many bytes are printed, and how many are left.
 fn play_remarks(alloc: Global, length: u64) -> (Ended<LineFault>, u64, u64) {
     let mut reader = Remarks::of(length);
@@ -115,12 +112,12 @@ fn play_remarks(alloc: Global, length: u64) -> (Ended<LineFault>, u64, u64) {
 // Behind the last line feed stands a line without a byte.
 #[test]
 fn the_longest_script(rt: HostRuntime) {
-    let played = play_remarks(rt.alloc(), MOST_READ);
-    assert!(rt; played == (Ended::AtEnd, MOST_READ + 1, 0));
+    let played = play_remarks(rt.alloc(), MOST_OF_SCRIPT);
+    assert!(rt; played == (Ended::AtEnd, MOST_OF_SCRIPT + 1, 0));
 }
 
 #[test]
 fn a_byte_too_many(rt: HostRuntime) {
-    let played = play_remarks(rt.alloc(), MOST_READ + 1);
-    assert!(rt; played == (Ended::TooLong, MOST_READ, 0));
+    let played = play_remarks(rt.alloc(), MOST_OF_SCRIPT + 1);
+    assert!(rt; played == (Ended::TooLong, MOST_OF_SCRIPT, 0));
 }

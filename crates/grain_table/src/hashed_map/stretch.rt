@@ -9,12 +9,10 @@ ghost use Rattle.grain_table.specs.Stretch.{end_at, is_between};
 
 use super::HashedMap;
 use super::entries::Entries;
+use ring_range::CIRCLE;
 use std::alloc::{AllocError, Global};
 use std::boxed::BoxedSlice;
 use std::ops::Bound;
-
-/// How many hashes the circle has.
-pub(crate) const CIRCLE: u64 = 1 << 32;
 
 impl HashedMap {
     /// What stands under hashes from the first one on and before the end. Fails only when memory runs out, for its bounds.

@@ -8,9 +8,9 @@ ghost use Rattle.grain_table.specs.declared.hashed_grain.HashedGrain.{HashedGrai
 ghost use Rattle.grain_table.specs.Hashed.{Hashed};
 
 use super::Table;
-use crate::hashed_map::{CIRCLE, HashedMap};
+use crate::hashed_map::HashedMap;
 use hash_ring::Hashing;
-use ring_range::RingRange;
+use ring_range::{CIRCLE, RingRange};
 
 impl Table {
     /// Takes out the entries whose grains are hashed outside the range, and copies none. Those behind the range are split off, which

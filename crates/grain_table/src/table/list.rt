@@ -11,10 +11,10 @@ ghost use Rattle.grain_table.specs.Stretch.{is_between};
 
 use super::Table;
 use crate::alive::is_dead_in;
-use crate::hashed_map::{CIRCLE, HashedMap};
+use crate::hashed_map::HashedMap;
 use hash_ring::Hashing;
 use membership_view::View;
-use ring_range::RingRange;
+use ring_range::{CIRCLE, RingRange};
 use silo_address::Entry;
 use std::alloc::{AllocError, Global};
 

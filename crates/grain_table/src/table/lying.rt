@@ -8,9 +8,9 @@ ghost use Rattle.ring_range.specs.Range.{circle, holds};
 ghost use Rattle.grain_table.specs.Stretch.{is_between};
 
 use super::Table;
-use crate::hashed_map::{CIRCLE, HashedMap};
+use crate::hashed_map::HashedMap;
 use hash_ring::Hashing;
-use ring_range::RingRange;
+use ring_range::{CIRCLE, RingRange};
 
 impl Table {
     /// Whether all grains that have entries are hashed into the range. Costs a logarithm where they are hashed here in this way:

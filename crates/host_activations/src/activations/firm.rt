@@ -9,12 +9,12 @@ ghost use Rattle.host_activations.specs.Stretch.{standing_at};
 ghost use Rattle.ring_range.specs.Range.{circle, holds};
 
 use super::Activations;
-use crate::by_hash::{ByHash, CIRCLE, HashedCount, end_at, first_at};
+use crate::by_hash::{ByHash, HashedCount, end_at, first_at};
 use crate::kept::{Kept, held_at};
 use directory_rules::{Held, Phase};
 use grain_names::GrainMap;
 use hash_ring::Hashing;
-use ring_range::RingRange;
+use ring_range::{CIRCLE, RingRange};
 use silo_address::{ActivationId, Entry, GrainId, SiloAddress};
 use std::alloc::{AllocError, Global};
 use std::collections::btree_map::Range;

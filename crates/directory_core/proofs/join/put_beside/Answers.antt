@@ -1,12 +1,12 @@
 use Rattle.std.proofs.Common.{◌∙◌, ap, List, Option}
 use Rattle.std.specs.Map.{remove_entry}
 use Rattle.std.specs.BTreeMap.{is_at}
+use Rattle.texts.proofs.Entries.{remove-insert_entry}
 use Rattle.silo_address.specs.Silo.{Silo, silo_cmp}
 use Rattle.silo_address.proofs.Order.{silo_cmp_total}
 use Rattle.membership_view.specs.Changes.{occupant}
 use Rattle.directory_rules.specs.Node.{Node}
 use Rattle.directory_core.specs.Join.{nodes_without}
-use Rattle.directory_core.proofs.Entries.{taken_back}
 use Rattle.directory_core.proofs.Kept.{no_node, nodes_put}
 use Rattle.directory_core.proofs.join.put_beside.Goals as goal
 
@@ -14,7 +14,7 @@ pub returns-in-Err-clause-nodes_unchanged : goal.returns-in-Err-clause-nodes_unc
 returns-in-Err-clause-nodes_unchanged c =
     c.remove_node.ensures
     ∙ ap (λ (l : List (Silo × Node)). remove_entry (is_at (silo_cmp c.args.silo)) l) c.in_ok-put_new_node.ensures.put
-    ∙ taken_back silo_cmp silo_cmp_total c.args.silo _ c.args.nodes.now.entries
+    ∙ remove-insert_entry silo_cmp_total c.args.silo _ c.args.nodes.now.entries
     (no_node c.args.views.now c.args.nodes.now.entries c.args.silo c.requires.peopled c.requires.may)
 
 pub returns-in-Ok-clause-nodes : goal.returns-in-Ok-clause-nodes

@@ -1,5 +1,5 @@
 use Rattle.std.proofs.Common.{rules}
-use Rattle.directory_core.proofs.Kept.{places_back}
+use Rattle.hash_ring.proofs.PlacesBack.{places_back}
 use Rattle.directory_core.proofs.join.put_in.Goals as goal
 
 pub returns-in-Err-put_beside-clause-places_unchanged : goal.returns-in-Err-put_beside-clause-places_unchanged

@@ -1,4 +1,4 @@
-use Rattle.directory_silo.proofs.Back.{places_back}
+use Rattle.hash_ring.proofs.PlacesBack.{places_back}
 use Rattle.directory_silo.proofs.membership.put_in.Goals as goal
 
 pub returns-in-Err-join-clause-places_unchanged : goal.returns-in-Err-join-clause-places_unchanged

@@ -1,7 +1,7 @@
 use Rattle.std.proofs.Common.{◌≡◌, sym, ap, ◌∙◌, []}
 use Rattle.std.specs.Prelude.{filter, flat_map, fold}
 use Rattle.silo_address.specs.Grain.{grain_cmp}
-use Rattle.membership_view.proofs.Entries.{sorted-nil}
+use Rattle.texts.proofs.Entries.{sorted-nil}
 use Rattle.ring_range.specs.Range.{holds}
 use Rattle.hash_ring.specs.Hash.{hash_grain}
 use Rattle.directory_rules.specs.Piece.{Piece}

@@ -1,6 +1,6 @@
 use Rattle.std.proofs.Common.{sym, ◌∙◌, ap}
 use Rattle.membership_view.specs.Row.{dying}
-use Rattle.membership_view.proofs.Entries.{changed_absent, set_value-changed}
+use Rattle.texts.proofs.Entries.{changed_absent, set_value-changed}
 use Rattle.membership_view.proofs.views.set_dead.Goals as goal
 use Rattle.silo_address.proofs.Order.{silo_cmp_total}
 

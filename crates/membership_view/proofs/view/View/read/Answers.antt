@@ -4,7 +4,7 @@ use Rattle.std.specs.Map.{keys_of}
 use Rattle.silo_address.specs.Silo.{silo_cmp}
 use Rattle.membership_view.specs.Row.{status_in}
 use Rattle.membership_view.specs.Views.{rows_in}
-use Rattle.membership_view.proofs.Entries.{sorted-picked}
+use Rattle.texts.proofs.Entries.{sorted-picked}
 use Rattle.membership_view.proofs.view.View.read.Goals as goal
 use Rattle.silo_address.proofs.Order.{silo_cmp_total}
 

@@ -1,32 +1,28 @@
--- Entries in the order of their keys: what is found after one is put in, after one is changed, and among those of them that a
+-- Entries in the order of their keys: what is found after one is put in, taken out or changed, and among those of them that a
 -- function picks.
 use Rattle.std.proofs.Common.{◌≡◌, suc, ◌+◌, List, [], ◌∷◌, length, cond, Bool, true, false, if◌then◌else◌, refl, sym, ◌∙◌, ap, map, Option, Some, None, option_and_then, arith}
 use Rattle.std.specs.Cmp.{IsTotalOrder}
-use Rattle.std.proofs.lemmas.Cmp.{alike_right}
+use Rattle.std.proofs.lemmas.Cmp.{alike_right, tied_itself}
 use Rattle.std.proofs.lemmas.Map.Keys.{sorted_head, sorted_tail}
 use Rattle.std.proofs.lemmas.Option.{same_Some}
 use Rattle.std.specs.Option.{option_map}
 use Rattle.std.specs.List.{AllByRecursion, filter_map, cons_option}
 use Rattle.std.specs.List.Sorted.{IsStrictlySortedBy}
-use Rattle.std.specs.Map.{lookup, keys_of, set_value}
+use Rattle.std.specs.Map.{lookup, keys_of, remove_entry, set_value}
 use Rattle.std.specs.BTreeMap.{is_at, insert_entry}
 use Rattle.std.specs.Ordering.{is_eq, match_ordering, ordering_reverse}
 use Rattle.std.specs.declared.cmp.Ordering.{Ordering}
 use Rattle.std.specs.declared.cmp.Ordering.TheVariants.{Less, Equal, Greater}
+use Rattle.texts.proofs.Orderings.{Equal-from}
 
 twice : {A : Type 0} (b : Bool) (x y z : A) → cond b x z ≡ cond b x (cond b y z)
 twice true x y z = refl
 twice false x y z = refl
 
-swapped : {A : Type 0} (b c : Bool) (x y z : A) → (b ≡ true → c ≡ true → ⊥) → cond b x (cond c y z) ≡ cond c y (cond b x z)
+pub swapped : {A : Type 0} (b c : Bool) (x y z : A) → (b ≡ true → c ≡ true → ⊥) → cond b x (cond c y z) ≡ cond c y (cond b x z)
 swapped true true x y z never = absurd (never refl refl)
 swapped true false x y z never = refl
 swapped false c x y z never = refl
-
-pub Equal-from : (r : Ordering) → is_eq r ≡ true → r ≡ Equal
-Equal-from Less h = cc
-Equal-from Equal h = refl
-Equal-from Greater h = cc
 
 apart : (r : Ordering) → r ≡ Greater → r ≡ Equal → ⊥
 apart r g e = let h : Greater ≡ Equal = sym g ∙ e in cc
@@ -37,6 +33,25 @@ below r h = ap is_eq h
 pub sorted-nil : {K : Type 0} (R : K → K → Ordering) → IsStrictlySortedBy R []
 unfolding IsStrictlySortedBy
 sorted-nil R = tt
+
+module _ {K X : Type 0} (test : K → Bool) where
+  pub all-remove_entry : (P : K → Type 0) (es : List (K × X)) → AllByRecursion P (keys_of es) → AllByRecursion P (keys_of (remove_entry test es))
+  all-remove_entry P [] all = tt
+  all-remove_entry P (e ∷ es) all = by (test e.0) (all-remove_entry P es all.1)
+    where
+      by : (b : Bool) → AllByRecursion P (keys_of (remove_entry test es)) → AllByRecursion P (keys_of (cond b es (e ∷ remove_entry test es)))
+      by true later = all.1
+      by false later = (all.0, later)
+
+  -- the keys stay in order where one is taken out
+  pub sorted-remove_entry : (R : K → K → Ordering) (es : List (K × X)) → IsStrictlySortedBy R (keys_of es) → IsStrictlySortedBy R (keys_of (remove_entry test es))
+  unfolding IsStrictlySortedBy
+  sorted-remove_entry R [] s = tt
+  sorted-remove_entry R (e ∷ es) s = by (test e.0) (sorted-remove_entry R es s.1)
+    where
+      by : (b : Bool) → IsStrictlySortedBy R (keys_of (remove_entry test es)) → IsStrictlySortedBy R (keys_of (cond b es (e ∷ remove_entry test es)))
+      by true later = s.1
+      by false later = (all-remove_entry (λ y. R e.0 y ≡ Less) es s.0, later)
 
 module _ {K X : Type 0} {R : K → K → Ordering} (o : IsTotalOrder R) where
   -- what is found where an entry is put in
@@ -75,7 +90,7 @@ module _ {K X : Type 0} {R : K → K → Ordering} (o : IsTotalOrder R) where
       by Equal later = all
       by Greater later = (all.0, later)
 
-  all_above : (j k : K) (es : List (K × X)) → R j k ≡ Less → AllByRecursion (λ y. R k y ≡ Less) (keys_of es) → AllByRecursion (λ y. R j y ≡ Less) (keys_of es)
+  pub all_above : (j k : K) (es : List (K × X)) → R j k ≡ Less → AllByRecursion (λ y. R k y ≡ Less) (keys_of es) → AllByRecursion (λ y. R j y ≡ Less) (keys_of es)
   all_above j k [] below above = tt
   all_above j k (e ∷ es) below above = (o.trans j k e.0 below above.0, all_above j k es below above.1)
 
@@ -93,6 +108,19 @@ module _ {K X : Type 0} {R : K → K → Ordering} (o : IsTotalOrder R) where
         where
           less_from : R k e.0 ≡ Greater → R e.0 k ≡ Less
           less_from g = o.antisymm e.0 k ∙ ap ordering_reverse g
+
+  -- what was put in at a new key and is taken out again leaves the entries as they were
+  pub remove-insert_entry : (k : K) (v : X) (es : List (K × X)) → lookup (is_at (R k)) es ≡ None → remove_entry (is_at (R k)) (insert_entry R es k v) ≡ es
+  remove-insert_entry k v [] none = ap (λ r. cond (is_eq r) [] ((k, v) ∷ [])) (tied_itself o k)
+  remove-insert_entry k v (e ∷ es) none = by (R k e.0) refl none (remove-insert_entry k v es)
+    where
+      by : (r : Ordering) → R k e.0 ≡ r → cond (is_eq r) (Some e.1) (lookup (is_at (R k)) es) ≡ None
+          → (lookup (is_at (R k)) es ≡ None → remove_entry (is_at (R k)) (insert_entry R es k v) ≡ es)
+          → remove_entry (is_at (R k)) (match_ordering r ((k, v) ∷ e ∷ es) ((e.0, v) ∷ es) (e ∷ insert_entry R es k v)) ≡ e ∷ es
+      by Less is none later = ap (λ r. cond (is_eq r) (e ∷ es) ((k, v) ∷ remove_entry (is_at (R k)) (e ∷ es))) (tied_itself o k)
+      by Equal is none later = cc
+      by Greater is none later =
+          ap (λ r. cond (is_eq r) (insert_entry R es k v) (e ∷ remove_entry (is_at (R k)) (insert_entry R es k v))) is ∙ ap (λ l. e ∷ l) (later none)
 
   -- the values, with a change made to that at one key
   abbrev changed_at : (X → X) → K → List (K × X) → List (K × X)
