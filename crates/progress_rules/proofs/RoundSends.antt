@@ -107,7 +107,7 @@ module _ (n sends asks events : ℕ) where
   Keeping those world = NudgingWithin n sends asks events those world
 
   pub within_nudged : (world : World) (e : Silo × Node) (es : List (Silo × Node)) (accepted : Accepted) → IsSilo e.0 → Keeping (e ∷ es) world
-      → happens world (Do e Nudge.0) ≡ Ok accepted → Keeping es accepted.world
+      → happens world (Do e.0 Nudge) ≡ Ok accepted → Keeping es accepted.world
   within_nudged world e es accepted is_silo w ok =
       let s = nudged world e.0 accepted ok in
       let mine = All-head (λ (x : Silo × Node). node_of world x.0 ≡ Some x.1) e es w.there in
