@@ -241,7 +241,7 @@ nudge_on world e es accepted is_silo n ok =
     let s = nudged world e.0 accepted ok in
     let seen_then : AllSeen accepted.world = subst AllSeen (sym s.is)
     (still_seen world e.0 s.node s.stepped s.its (view_kept s.node (Does Nudge) s.stepped s.made) n.answering.rests.seen) in
-    let rests = rests_on world n.answering.rests (Do e.0 Nudge) accepted is_silo ok seen_then in
+    let rests = rests_on world n.answering.rests (Do e.0 Nudge) accepted (is_silo, tt) ok seen_then in
     let all : Everywhere sorted_facts accepted.world = subst (Everywhere sorted_facts) (sym rests.is)
     (everywhere sorted_facts sorted_keep rests.settings rests.events tt (λ k d below. tt)) in
     let there : node_of accepted.world e.0 ≡ Some s.stepped.node = ap (λ w. node_of w e.0) s.is ∙ its_node world e.0 s.stepped in

@@ -100,7 +100,7 @@ pub record NudgingWithin (n sends asks events : ℕ) (those : List (Silo × Node
 pub nudged_rests : (world : World) (silo : Silo) (accepted : Accepted) → IsResting world → IsSilo silo → happens world (Do silo Nudge) ≡ Ok accepted → IsResting accepted.world
 nudged_rests world silo accepted r is_silo ok =
     let s = nudged world silo accepted ok in
-    rests_on world r (Do silo Nudge) accepted is_silo ok (subst AllSeen (sym s.is) (still_seen world silo s.node s.stepped s.its (view_kept s.node (Does Nudge) s.stepped s.made) r.seen))
+    rests_on world r (Do silo Nudge) accepted (is_silo, tt) ok (subst AllSeen (sym s.is) (still_seen world silo s.node s.stepped s.its (view_kept s.node (Does Nudge) s.stepped s.made) r.seen))
 
 module _ (n sends asks events : ℕ) where
   abbrev Keeping : List (Silo × Node) → World → Type 0
