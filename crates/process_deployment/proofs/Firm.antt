@@ -48,7 +48,7 @@ use Rattle.process_rules.specs.Happened.{received_words, own_words, body_words, 
 use Rattle.process_rules.specs.Output.{answered_to, said, fault_line}
 use Rattle.process_rules.specs.Show.{show_lines, dump_line, grain_owner_line, grain_place_line}
 use Rattle.process_deployment.specs.Cluster.{first_cluster}
-use Rattle.process_deployment.specs.Firm.{HasFirm, BecomesFirm, its_firm_line, AsksToEnd, TellsFirm, LinesTellFirm}
+use Rattle.process_deployment.specs.Firm.{IsToEnd, HasFirm, BecomesFirm, its_firm_line, AsksToEnd, TellsFirm, LinesTellFirm}
 use Rattle.process_deployment.specs.Steps.{after_all}
 use Rattle.process_deployment.proofs.FirmLines.{IsOther, AreOther, by_words, is_other, alone, letters_other, refusal_other, fault_other, pong_other, news_other, saw_other, did_other, delivered_other, owner_other, place_other, show_other, dump_other}
 use Rattle.process_deployment.proofs.FirmSteps.{EndsIt, ConfirmsOne, Confirmed, shown, asked_before, firm_after, becomes, keeps}

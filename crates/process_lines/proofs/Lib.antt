@@ -2,3 +2,4 @@ pub mod Commands
 pub mod EachEntry
 pub mod Forms
 pub mod Written
+pub mod KindNames
