@@ -6,7 +6,7 @@ use crate::steps::{
 };
 use directory_letters::{Body, Letter};
 use directory_node::{Input, Node};
-use directory_rules::Effect;
+use directory_rules::{Effect, OwnStep};
 use range_recovery::Report;
 use ring_range::RingRange;
 use seal_snapshot::Page;
@@ -146,7 +146,13 @@ fn a_page_with_another_count_is_refused(rt: HostRuntime) {
 
 // The second silo asks once more, and gets what the first one has sealed.
 fn nudge(rt: &impl Abort, alloc: Global, old: &mut Node, new: &mut Node) {
-    let ask = does_one(rt, alloc, new, &Input::Nudges, Effect::Nudged);
+    let ask = does_one(
+        rt,
+        alloc,
+        new,
+        &Input::Does(&OwnStep::Nudge),
+        Effect::Nudged,
+    );
     let page = sends(rt, alloc, old, &ask, Effect::Page);
     hand_over(rt, alloc, old, new, &page);
     assert!(rt; is_handed_over(old, new, &range(rt)));
@@ -259,7 +265,7 @@ fn learns(rt: &impl Abort, alloc: Global, node: &mut Node) {
         rt,
         alloc,
         node,
-        &Input::Finds(&grain),
+        &Input::Does(&OwnStep::Find(grain)),
         Effect::Finding(grain),
     );
     let found = sends(rt, alloc, node, &find, Effect::Found);
@@ -278,7 +284,13 @@ fn a_find_is_cached(rt: HostRuntime) {
 fn forgets(rt: &impl Abort, alloc: Global, node: &mut Node) {
     let grain = moved(rt);
     let cached = Effect::Cached(entry_on(rt, first(rt)));
-    does_alone(rt, alloc, node, &Input::Finds(&grain), cached);
+    does_alone(rt, alloc, node, &Input::Does(&OwnStep::Find(grain)), cached);
     let forgot = Effect::Forgot(grain);
-    does_alone(rt, alloc, node, &Input::Forgets(&grain), forgot);
+    does_alone(
+        rt,
+        alloc,
+        node,
+        &Input::Does(&OwnStep::Forget(grain)),
+        forgot,
+    );
 }

@@ -2,7 +2,7 @@
 use crate::limits::{accept, boxed, refuses};
 use crate::worlds::{has_one_point, see, sees, silo};
 use directory_core::{EventRefusal, World};
-use directory_rules::{Event, Settings};
+use directory_rules::{Event, OwnStep, Settings};
 use hash_ring::Hashing;
 use membership_view::ViewsError;
 use silo_address::SiloAddress;
@@ -93,7 +93,8 @@ fn is_lost(world: &mut World) -> bool {
 fn a_lost_letter(rt: HostRuntime) {
     let mut world = two_silos(&rt, rt.alloc());
     assert!(rt; is_sent(&world, &silo(&rt)) && is_lost(&mut world));
-    accept(&rt, &mut world, Event::Nudge { silo: second(&rt) });
+    let (silo, step) = (second(&rt), OwnStep::Nudge);
+    accept(&rt, &mut world, Event::Do { silo, step });
     all_come(&rt, &mut world, 4, 6);
     assert!(rt; world.sent() == 6);
 }

@@ -1,7 +1,7 @@
 //! The limits of a directory, each met: what comes next is refused, and changes nothing.
 use directory_core::{EventRefusal, World};
 use directory_node::StepRefusal;
-use directory_rules::{Event, Settings};
+use directory_rules::{Event, OwnStep, Settings};
 use hash_ring::{Hashing, RingError};
 use membership_view::ViewsError;
 use silo_address::{GrainId, SiloAddress};
@@ -51,16 +51,16 @@ fn join(rt: &impl Abort, alloc: Global, number: u32, places: usize) -> Event {
 }
 
 fn wake(rt: &impl Abort, alloc: Global, number: u32) -> Event {
-    Event::Wake {
+    Event::Do {
         silo: silo(rt, alloc, 0),
-        grain: grain(rt, alloc, number),
+        step: OwnStep::Wake(grain(rt, alloc, number)),
     }
 }
 
 fn find(rt: &impl Abort, alloc: Global, number: u32) -> Event {
-    Event::Find {
+    Event::Do {
         silo: silo(rt, alloc, 0),
-        grain: grain(rt, alloc, number),
+        step: OwnStep::Find(grain(rt, alloc, number)),
     }
 }
 
@@ -129,7 +129,8 @@ fn accept_all(rt: &impl Abort, world: &mut World, event: Event) {
 fn as_many_events_as_ever_may_be(rt: HostRuntime) {
     let mut world = alone(&rt, rt.alloc(), &[0]);
     let silo = silo(&rt, rt.alloc(), 0);
-    accept_all(&rt, &mut world, Event::Nudge { silo });
+    let step = OwnStep::Nudge;
+    accept_all(&rt, &mut world, Event::Do { silo, step });
     let lose = Event::Lose { number: 2 };
     refuse(&rt, &mut world, lose, EventRefusal::JournalFull, 908);
 }
@@ -146,7 +147,8 @@ fn send_all(rt: &impl Abort, world: &mut World, nudge: Event) {
 fn as_many_letters_as_ever_may_be(rt: HostRuntime) {
     let mut world = joined(&rt, rt.alloc(), &[0, 2_147_483_648]);
     let silo = silo(&rt, rt.alloc(), 0);
-    send_all(&rt, &mut world, Event::Nudge { silo });
+    let step = OwnStep::Nudge;
+    send_all(&rt, &mut world, Event::Do { silo, step });
 }
 
 #[test]

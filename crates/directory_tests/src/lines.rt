@@ -1,4 +1,5 @@
 //! Lines of a silo's process: each command, lines that ask for nothing, faults, and what no line feed ended.
+use directory_rules::OwnStep;
 use hash_ring::Hashing;
 use process_lines::{Asked, LineError, read_line, unended_fault};
 use std::alloc::Global;
@@ -24,18 +25,24 @@ fn name_of(asked: &Asked<'_>) -> &'static str {
         Asked::Leaving { .. } => "leaving",
         Asked::Dead { .. } => "dead",
         Asked::See { .. } => "see",
-        Asked::Wake { .. } => "wake",
-        Asked::Close { .. } => "close",
-        Asked::Offer { .. } => "offer",
-        Asked::Find { .. } => "find",
-        Asked::Forget { .. } => "forget",
-        Asked::Nudge => "nudge",
+        Asked::Do(step) => step_name(step),
         Asked::Receive(_) => "letter",
         Asked::Ping(_) => "ping",
         Asked::Owner { .. } => "owner",
         Asked::Place { .. } => "place",
         Asked::Show => "show",
         Asked::Dump => "dump",
+    }
+}
+
+pub(crate) fn step_name(step: &OwnStep) -> &'static str {
+    match step {
+        OwnStep::Wake(_) => "wake",
+        OwnStep::Close(_) => "close",
+        OwnStep::Find(_) => "find",
+        OwnStep::Forget(_) => "forget",
+        OwnStep::Nudge => "nudge",
+        OwnStep::Offer { .. } => "offer",
     }
 }
 

@@ -4,14 +4,15 @@ use crate::handing::handed;
 use crate::steps::{does_one, entry_on, first, joined, moved, second, sees, sends, settled, takes};
 use directory_letters::Letter;
 use directory_node::{Input, Node};
-use directory_rules::Effect;
+use directory_rules::{Effect, OwnStep};
 use std::alloc::Global;
 use std::process::Abort;
 
 // The activation on the first silo is entered no more, and ends, of which it is told twice.
 fn closes(rt: &impl Abort, alloc: Global, node: &mut Node) {
     let closing = Effect::Closing(entry_on(rt, first(rt)));
-    let deregister = does_one(rt, alloc, node, &Input::Closes(&moved(rt)), closing);
+    let close = OwnStep::Close(moved(rt));
+    let deregister = does_one(rt, alloc, node, &Input::Does(&close), closing);
     let removed = sends(rt, alloc, node, &deregister, Effect::Removed);
     takes(rt, alloc, node, &removed, Effect::Ended);
     takes(rt, alloc, node, &removed, Effect::Ignored);
@@ -27,12 +28,15 @@ fn an_activation_closes(rt: HostRuntime) {
 // What the first silo offers to the second one.
 fn offers(rt: &impl Abort, alloc: Global, node: &mut Node) -> Box<Letter> {
     let (grain, to) = (moved(rt), second(rt));
-    let input = Input::Offers {
-        grain: &grain,
-        to: &to,
-    };
+    let offer = OwnStep::Offer { grain, to };
     let entry = entry_on(rt, first(rt));
-    does_one(rt, alloc, node, &input, Effect::Offered { entry, to })
+    does_one(
+        rt,
+        alloc,
+        node,
+        &Input::Does(&offer),
+        Effect::Offered { entry, to },
+    )
 }
 
 // The offer comes twice: an activation starts, and is entered.

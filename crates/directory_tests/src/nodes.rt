@@ -4,7 +4,7 @@ ghost use Rattle.directory_node.specs.InputModel.{input_of};
 use crate::steps::{copy_of, does_one};
 use directory_letters::{Body, Letter};
 use directory_node::{Input, Node};
-use directory_rules::{Effect, Settings};
+use directory_rules::{Effect, OwnStep, Settings};
 use hash_ring::{Hashing, Places, Ring};
 use membership_view::{View, Views};
 use ring_range::RingRange;
@@ -101,11 +101,11 @@ fn a_silo_that_has_seen_nothing(rt: HostRuntime) {
 }
 
 fn check_refusals(rt: &impl Abort, alloc: Global, node: &Node, grain: &GrainId) {
-    let to = &node.host().silo();
+    let (grain, to) = (*grain, node.host().silo());
     assert!(rt;
-        refusal_of(rt, alloc, node, &Input::Wakes(grain)) == Some(804)
-            && refusal_of(rt, alloc, node, &Input::Closes(grain)) == Some(802)
-            && refusal_of(rt, alloc, node, &Input::Offers { grain, to }) == Some(802)
+        refusal_of(rt, alloc, node, &Input::Does(&OwnStep::Wake(grain))) == Some(804)
+            && refusal_of(rt, alloc, node, &Input::Does(&OwnStep::Close(grain))) == Some(802)
+            && refusal_of(rt, alloc, node, &Input::Does(&OwnStep::Offer { grain, to })) == Some(802)
     );
 }
 

@@ -8,7 +8,7 @@ ghost use Rattle.directory_node.specs.Plans.{Fits};
 use crate::nodes::check_placed;
 use directory_letters::Letter;
 use directory_node::{Change, Input, Node, Plan};
-use directory_rules::{Effect, Settings};
+use directory_rules::{Effect, OwnStep, Settings};
 use hash_ring::{Hashing, Places};
 use membership_view::{View, Views};
 use silo_address::{ActivationId, Entry, GrainId, SiloAddress};
@@ -269,7 +269,8 @@ fn settle(rt: &impl Abort, alloc: Global, node: &mut Node) {
 // The moved grain's activation starts on the node, and is entered there.
 fn start(rt: &impl Abort, alloc: Global, node: &mut Node) {
     let started = Effect::Started(entry_on(rt, first(rt)));
-    let register = does_one(rt, alloc, node, &Input::Wakes(&moved(rt)), started);
+    let wake = OwnStep::Wake(moved(rt));
+    let register = does_one(rt, alloc, node, &Input::Does(&wake), started);
     let registered = sends(rt, alloc, node, &register, Effect::Registered);
     takes(rt, alloc, node, &registered, Effect::Firm);
 }

@@ -1,6 +1,6 @@
 use crate::limits::{accept, boxed, refuse};
 use directory_core::{EventRefusal, EventResult, World};
-use directory_rules::{Effect, Event, Happening, LetterKind, Outcome, Settings, Span};
+use directory_rules::{Effect, Event, Happening, LetterKind, Outcome, OwnStep, Settings, Span};
 use hash_ring::Hashing;
 use silo_address::{ActivationId, Entry, GrainId, SiloAddress};
 use std::alloc::Global;
@@ -43,16 +43,16 @@ pub(crate) fn see(rt: &impl Abort, version: u64) -> Event {
 }
 
 fn wake(rt: &impl Abort) -> Event {
-    Event::Wake {
+    Event::Do {
         silo: silo(rt),
-        grain: grain(rt),
+        step: OwnStep::Wake(grain(rt)),
     }
 }
 
 fn find(rt: &impl Abort) -> Event {
-    Event::Find {
+    Event::Do {
         silo: silo(rt),
-        grain: grain(rt),
+        step: OwnStep::Find(grain(rt)),
     }
 }
 

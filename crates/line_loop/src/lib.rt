@@ -4,9 +4,9 @@
 
 mod ended;
 mod fault;
+mod limits;
 mod player;
 mod playing;
-mod scripts;
 mod session;
 mod sink;
 mod source;
@@ -17,9 +17,9 @@ mod turn;
 
 pub use ended::Ended;
 pub use fault::ScriptLineFault;
+pub use limits::{MOST_BEGUN, MOST_OF_SCRIPT};
 pub use player::LinePlayer;
 pub use playing::play;
-pub use scripts::{MOST_BEGUN, MOST_OF_SCRIPT};
 pub use sink::Sink;
 pub use source::Source;
 pub use text_writes::send;

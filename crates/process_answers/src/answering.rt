@@ -13,7 +13,7 @@ use crate::letters::answer_letter;
 use crate::lines::write_pong;
 use crate::questions::{write_grain_owner, write_grain_place};
 use crate::show::write_show;
-use crate::steps::{Step, answer_see, answer_step};
+use crate::steps::{answer_see, answer_step};
 use directory_silo::Silo;
 use process_lines::Asked;
 use script_lines::write_refusal;
@@ -104,12 +104,7 @@ fn answer_asked(
             silo: dead,
         } => answer_change(silo, *version, &Change::Die(dead), out),
         Asked::See { version } => answer_see(silo, *version, out),
-        Asked::Wake { grain } => answer_step(silo, &Step::Wake(grain), out),
-        Asked::Close { grain } => answer_step(silo, &Step::Close(grain), out),
-        Asked::Offer { grain, to } => answer_step(silo, &Step::Offer { grain, to }, out),
-        Asked::Find { grain } => answer_step(silo, &Step::Find(grain), out),
-        Asked::Forget { grain } => answer_step(silo, &Step::Forget(grain), out),
-        Asked::Nudge => answer_step(silo, &Step::Nudge, out),
+        Asked::Do(step) => answer_step(silo, step, out),
         Asked::Receive(letter) => answer_letter(silo, letter, out),
         Asked::Ping(word) => {
             write_pong(out, word)?;

@@ -12,7 +12,7 @@ use Rattle.silo_rules.specs.SiloValue.{SiloValue, own_status}
 use Rattle.silo_rules.specs.Steps.{receives}
 use Rattle.silo_rules.specs.Told.{Heard, told}
 use Rattle.script_rules.specs.Lines.{refusal_line}
-use Rattle.process_rules.specs.ReadLine.{Asked, Joined, Leaving, Dead, See, Wake, Close, Offer, Find, Forget, Nudge, Receive, Ping, Owner, Place, Show, Dump}
+use Rattle.process_rules.specs.ReadLine.{Asked, Joined, Leaving, Dead, See, Do, Receive, Ping, Owner, Place, Show, Dump}
 use Rattle.process_rules.specs.Happened.{news_words, received_words}
 use Rattle.process_rules.specs.Answer.{printing, heard, told_so, stepped, received_so, is_anothers_join, answered, answered_as}
 use Rattle.process_rules.specs.Show.{dump_line, grain_owner_line, grain_place_line}
@@ -44,12 +44,7 @@ module _ (hashing : Hashing) where
   dead_answers (Leaving version who) s may = dead_told version (Leave who) s
   dead_answers (Dead version who) s may = dead_told version (Die who) s
   dead_answers (See version) s may = absurd may
-  dead_answers (Wake grain) s may = absurd may
-  dead_answers (Close grain) s may = absurd may
-  dead_answers (Offer grain to) s may = absurd may
-  dead_answers (Find grain) s may = absurd may
-  dead_answers (Forget grain) s may = absurd may
-  dead_answers Nudge s may = absurd may
+  dead_answers (Do step) s may = absurd may
   dead_answers (Receive letter) s may = dead_received letter s may
   dead_answers (Ping word) s may = silent_alone hashing (sentence (codes "pong" ∷ word ∷ [])) (pong_silent hashing word)
   dead_answers (Owner grain) s may = silent_alone hashing (grain_owner_line s grain) (owner_silent hashing s grain)

@@ -14,7 +14,8 @@ use Rattle.membership_view.specs.declared.status.Status.TheVariants as status
 use Rattle.membership_view.proofs.Unchanged.{dead_stays_dead}
 use Rattle.directory_rules.specs.declared.effect.Effect.{Effect}
 use Rattle.directory_rules.specs.declared.outcome.Happening.TheVariants.{Saw, Did}
-use Rattle.directory_rules.specs.Input.{Input, Wakes, Closes, Finds, Forgets, Nudges, Offers}
+use Rattle.directory_rules.specs.declared.own_step.OwnStep.{OwnStep}
+use Rattle.directory_rules.specs.Input.{Does}
 use Rattle.directory_rules.specs.Laws.{is_live, ArePeopled}
 use Rattle.directory_rules.specs.Letter.{Letter}
 use Rattle.directory_rules.specs.Settings.{Settings, AreSettings}
@@ -33,7 +34,7 @@ use Rattle.deployment_headline.specs.Steps as deployment
 use Rattle.deployment_headline.proofs.Lists.{over, lookup-over}
 use Rattle.deployment_headline.proofs.Runs.{made_so, processes_are_behind, processes_are_own}
 use Rattle.deployment_headline.proofs.Worlds.{its_node}
-use Rattle.process_rules.specs.ReadLine.{Asked, Joined, Leaving, Dead, See, Wake, Close, Offer, Find, Forget, Nudge, Receive, Ping, Owner, Place, Show, Dump}
+use Rattle.process_rules.specs.ReadLine.{Asked, Joined, Leaving, Dead, See, Do, Receive, Ping, Owner, Place, Show, Dump}
 use Rattle.process_rules.specs.Happened.{news_words, received_words}
 use Rattle.process_rules.specs.Answer.{Answered, printing, unless_dead, heard, told_so, stepped, seen_so, done_so, received_so, is_anothers_join, answered, answered_as}
 use Rattle.process_rules.specs.Output.{answered_to, said}
@@ -68,8 +69,8 @@ steps_end happened (Ok it) s = refl
 goes_on : (ends : Bool) (s : SiloValue) → ends ≡ false → EndsDead ends s
 goes_on ends s is so = absurd (cc (is, so))
 
-done_ends : (input : Input) (s : SiloValue) → EndsDead (done_so input s).ends (done_so input s).silo
-done_ends input s = goes_on (done_so input s).ends (done_so input s).silo (steps_end (λ made. happening_words (Did s.node.host.silo made)) (does s input) s)
+done_ends : (step : OwnStep) (s : SiloValue) → EndsDead (done_so step s).ends (done_so step s).silo
+done_ends step s = goes_on (done_so step s).ends (done_so step s).silo (steps_end (λ made. happening_words (Did s.node.host.silo made)) (does s (Does step)) s)
 
 received_ends : (letter : Letter) (s : SiloValue) → (received_so letter s).ends ≡ false
 received_ends letter s = by (silo_eq letter.to s.node.host.silo)
@@ -84,12 +85,7 @@ answers_end (Joined version who token places) s = news_ends version (Join who pl
 answers_end (Leaving version who) s = news_ends version (Leave who) s
 answers_end (Dead version who) s = news_ends version (Die who) s
 answers_end (See version) s = goes_on (seen_so version s).ends (seen_so version s).silo (steps_end (λ made. happening_words (Saw s.node.host.silo version made)) (sees s version) s)
-answers_end (Wake grain) s = done_ends (Wakes grain) s
-answers_end (Close grain) s = done_ends (Closes grain) s
-answers_end (Offer grain to) s = done_ends (Offers grain to) s
-answers_end (Find grain) s = done_ends (Finds grain) s
-answers_end (Forget grain) s = done_ends (Forgets grain) s
-answers_end Nudge s = done_ends Nudges s
+answers_end (Do step) s = done_ends step s
 answers_end (Receive letter) s = goes_on (received_so letter s).ends (received_so letter s).silo (received_ends letter s)
 answers_end (Ping word) s = goes_on false s refl
 answers_end (Owner grain) s = goes_on false s refl

@@ -17,7 +17,8 @@ use Rattle.directory_rules.specs.declared.outcome.Happening.TheVariants.{Saw, Di
 use Rattle.directory_rules.specs.declared.reply.Reply.TheVariants as reply
 use Rattle.directory_rules.specs.Happens.{node_of}
 use Rattle.directory_rules.specs.Host.{asking_under}
-use Rattle.directory_rules.specs.Input.{Input, Wakes, Closes, Finds, Forgets, Nudges, Offers, Receives, step, sight_of}
+use Rattle.directory_rules.specs.declared.own_step.OwnStep.{OwnStep}
+use Rattle.directory_rules.specs.Input.{Input, Does, Receives, step, sight_of}
 use Rattle.directory_rules.specs.Letter.{Letter, Body, Request_letter, Reply_letter, Ask_letter, Page_letter, Missing_letter, Done_letter, Query_letter, Report_letter, Behind_letter, Ahead_letter, Offer_letter}
 use Rattle.directory_rules.specs.Node.{Node}
 use Rattle.directory_rules.specs.PlainMachine.{Life, Is_asking, Is_firm, life_on, step_of_effect}
@@ -41,13 +42,13 @@ use Rattle.deployment_headline.proofs.Runs.{made_so, processes_are_own}
 use Rattle.deployment_headline.proofs.Worlds.{its_node}
 use Rattle.process_rules.proofs.StaysWhole.{silo_kept}
 use Rattle.process_rules.specs.LetterText.{letter_line}
-use Rattle.process_rules.specs.ReadLine.{Asked, Joined, Leaving, Dead, See, Wake, Close, Offer, Find, Forget, Nudge, Receive, Ping, Owner, Place, Show, Dump}
+use Rattle.process_rules.specs.ReadLine.{Asked, Joined, Leaving, Dead, See, Do, Receive, Ping, Owner, Place, Show, Dump}
 use Rattle.process_rules.specs.Answer.{Answered, printing, unless_dead, heard, told_so, stepped, seen_so, done_so, received_so, is_anothers_join, answered, answered_as}
 use Rattle.process_rules.specs.Happened.{received_words, own_words, body_words, delivered_words, is_ignored, news_words}
 use Rattle.process_rules.specs.Output.{answered_to, said, fault_line}
 use Rattle.process_rules.specs.Show.{show_lines, dump_line, grain_owner_line, grain_place_line}
 use Rattle.process_deployment.specs.Cluster.{first_cluster}
-use Rattle.process_deployment.specs.Firm.{HasFirm, BecomesFirm, its_firm_line, AsksToEnd, TellsFirm, LinesTellFirm}
+use Rattle.process_deployment.specs.Firm.{IsToEnd, HasFirm, BecomesFirm, its_firm_line, AsksToEnd, TellsFirm, LinesTellFirm}
 use Rattle.process_deployment.specs.Steps.{after_all}
 use Rattle.process_deployment.proofs.FirmLines.{IsOther, AreOther, by_words, is_other, alone, letters_other, refusal_other, fault_other, pong_other, news_other, saw_other, did_other, delivered_other, owner_other, place_other, show_other, dump_other}
 use Rattle.process_deployment.proofs.FirmSteps.{EndsIt, ConfirmsOne, Confirmed, shown, asked_before, firm_after, becomes, keeps}
@@ -133,8 +134,9 @@ module _ (s : SiloValue) (once : HoldsOnce s.node.host) (own : IsSilo s.node.hos
   seen_so_step version true false r it is = absurd (cc is)
   seen_so_step version true true r it is = is
 
-  done : (input : Input) → ((grain : Grain) → EndsIt input grain → AsksToEnd grain read) → ((it : Stepped) → ConfirmsOne s.node input it → ⊥) → TellsFirm s read (done_so input s)
-  done input asks never = own_step input asks (λ made. happening_words (Did s.node.host.silo made)) never (did_other s.node.host.silo) (does s input) (λ it is. unbarred (barred s) (step s.node input) it is)
+  done : (asked : OwnStep) → ((grain : Grain) → IsToEnd grain asked → AsksToEnd grain read) → ((it : Stepped) → ConfirmsOne s.node (Does asked) it → ⊥) → TellsFirm s read (done_so asked s)
+  done asked asks never =
+      own_step (Does asked) asks (λ made. happening_words (Did s.node.host.silo made)) never (did_other s.node.host.silo) (does s (Does asked)) (λ it is. unbarred (barred s) (step s.node (Does asked)) it is)
 
   saw : (version : ℕ) → TellsFirm s read (seen_so version s)
   saw version =
@@ -281,12 +283,7 @@ module _ (s : SiloValue) (once : HoldsOnce s.node.host) (own : IsSilo s.node.hos
   tells_asked (Leaving version silo) = hears s once own (Ok (Some (Leaving version silo))) version (Leave silo)
   tells_asked (Dead version silo) = hears s once own (Ok (Some (Dead version silo))) version (Die silo)
   tells_asked (See version) = saw s once own (Ok (Some (See version))) version
-  tells_asked (Wake grain) = done s once own (Ok (Some (Wake grain))) (Wakes grain) (λ its ends. absurd ends) (λ it c. cc c.comes)
-  tells_asked (Close grain) = done s once own (Ok (Some (Close grain))) (Closes grain) (λ its ends. ends) (λ it c. cc c.comes)
-  tells_asked (Offer grain to) = done s once own (Ok (Some (Offer grain to))) (Offers grain to) (λ its ends. ends) (λ it c. cc c.comes)
-  tells_asked (Find grain) = done s once own (Ok (Some (Find grain))) (Finds grain) (λ its ends. absurd ends) (λ it c. cc c.comes)
-  tells_asked (Forget grain) = done s once own (Ok (Some (Forget grain))) (Forgets grain) (λ its ends. absurd ends) (λ it c. cc c.comes)
-  tells_asked Nudge = done s once own (Ok (Some Nudge)) Nudges (λ its ends. absurd ends) (λ it c. cc c.comes)
+  tells_asked (Do asked) = done s once own (Ok (Some (Do asked))) asked (λ its ends. ends) (λ it c. cc c.comes)
   tells_asked (Receive letter) = comes s once own (Ok (Some (Receive letter))) letter
   tells_asked (Ping word) = quiet s once own (Ok (Some (Ping word))) (printing (sentence (codes "pong" ∷ word ∷ []) ∷ []) s) refl (alone (sentence (codes "pong" ∷ word ∷ [])) (pong_other word))
   tells_asked (Owner grain) = quiet s once own (Ok (Some (Owner grain))) (printing (grain_owner_line s grain ∷ []) s) refl (alone (grain_owner_line s grain) (owner_other s grain))

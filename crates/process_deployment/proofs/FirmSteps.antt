@@ -20,18 +20,18 @@ use Rattle.directory_rules.specs.Answer.{answered}
 use Rattle.directory_rules.specs.Receive.{reply_effect}
 use Rattle.directory_rules.specs.Sight.{is_next}
 use Rattle.directory_rules.specs.Step.{Stepped, silently}
-use Rattle.directory_rules.specs.Input.{Input, Closes, Offers, Receives, step}
+use Rattle.directory_rules.specs.Input.{Input, Does, Receives, step}
 use Rattle.directory_rules.specs.PlainMachine.{Life, Is_asking, Is_firm, Is_closing, life_by, life_of, life_on, PlainStep, Change_view, Begin, Make_firm, Yield, Begin_closing, End, Nothing_changes, step_of_effect}
 use Rattle.directory_facts.specs.Own.{HoldsOnce}
 use Rattle.directory_facts.proofs.Ways.{Ways}
 use Rattle.directory_facts.proofs.EachStep.{by_way}
 use Rattle.directory_facts.proofs.Lookups.{found_set, found_beside_set, find_looked}
 use Rattle.directory_headline.proofs.PlainWays.{IsNodeStep, steps_plainly}
+use Rattle.process_deployment.specs.Firm.{IsToEnd}
 
 -- the input asks that the grain's activation end
 abbrev pub EndsIt : Input → Grain → Type 0
-EndsIt (Closes its) grain = its ≡ grain
-EndsIt (Offers its to) grain = its ≡ grain
+EndsIt (Does asked) grain = IsToEnd grain asked
 EndsIt other grain = ⊥
 
 -- an activation of the grain is closing from now on

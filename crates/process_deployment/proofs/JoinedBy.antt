@@ -8,20 +8,21 @@ use Rattle.silo_address.specs.Silo.{Silo, silo_eq}
 use Rattle.directory_rules.specs.declared.effect.Effect.{Effect}
 use Rattle.directory_rules.specs.declared.effect.Effect.TheVariants.{Ignored}
 use Rattle.directory_rules.specs.declared.outcome.Happening.TheVariants.{Saw, Did}
-use Rattle.directory_rules.specs.Input.{Input, Wakes, Closes, Finds, Forgets, Nudges, Offers, Receives, step}
+use Rattle.directory_rules.specs.declared.own_step.OwnStep.{OwnStep}
+use Rattle.directory_rules.specs.Input.{Input, Does, Receives, step, sight_of}
 use Rattle.directory_rules.specs.Letter.{Letter}
 use Rattle.directory_rules.specs.Node.{Node}
 use Rattle.directory_rules.specs.Settings.{Settings, AreSettings}
 use Rattle.directory_rules.specs.Step.{Stepped, silently}
 use Rattle.script_rules.specs.Lines.{happening_words, refusal_line}
-use Rattle.directory_rules.specs.Membership.{Change, Join, Leave, Die, Membership, changed}
+use Rattle.directory_rules.specs.Membership.{Change, Join, Leave, Die, Membership, changed, is_seeable}
 use Rattle.silo_rules.specs.SiloValue.{SiloValue, own_status, told_of_its_join}
-use Rattle.silo_rules.specs.Steps.{barred, unless_barred, is_seeable, sight_of, seen, does, sees}
+use Rattle.silo_rules.specs.Steps.{barred, unless_barred, seen, does, sees}
 use Rattle.silo_rules.specs.Told.{Heard, told}
 use Rattle.silo_rules.specs.Whole.{IsWhole}
 use Rattle.silo_rules.proofs.Own.{StaysOwn, stays_own}
 use Rattle.silo_rules.proofs.Whole.{first_whole}
-use Rattle.process_rules.specs.ReadLine.{Asked, Joined, Leaving, Dead, See, Wake, Close, Offer, Find, Forget, Nudge, Receive, Ping, Owner, Place, Show, Dump, read_silo_line}
+use Rattle.process_rules.specs.ReadLine.{Asked, Joined, Leaving, Dead, See, Do, Receive, Ping, Owner, Place, Show, Dump, read_silo_line}
 use Rattle.process_rules.specs.Happened.{news_words, received_words}
 use Rattle.process_rules.specs.Answer.{Answered, printing, heard, told_so, stepped, seen_so, done_so, received_so, is_anothers_join, answered, answered_as}
 use Rattle.process_rules.specs.Output.{answered_to, said}
@@ -52,8 +53,8 @@ module _ (s : SiloValue) where
   does_own : (input : Input) (it : Stepped) → does s input ≡ Ok it → StaysOwn s.node it.node
   does_own input it is = stays_own s.node input it (unbarred (barred s) (step s.node input) it is)
 
-  done_own : (input : Input) → Own (done_so input s)
-  done_own input = step_own (λ made. happening_words (Did s.node.host.silo made)) (does s input) (does_own input)
+  done_own : (asked : OwnStep) → Own (done_so asked s)
+  done_own asked = step_own (λ made. happening_words (Did s.node.host.silo made)) (does s (Does asked)) (does_own (Does asked))
 
   by_sight : (newer seeable : Bool) (r : Result Stepped ℕ) (it : Stepped) → ◌≡◌ {A = Result Stepped ℕ} (if not newer then Err 903 else (if not seeable then Err 904 else r)) (Ok it) → r ≡ Ok it
   by_sight false seeable r it is = absurd (cc is)
@@ -89,12 +90,7 @@ module _ (s : SiloValue) where
   asked_own (Leaving version who) = told_own version (Leave who)
   asked_own (Dead version who) = told_own version (Die who)
   asked_own (See version) = seen_own version
-  asked_own (Wake grain) = done_own (Wakes grain)
-  asked_own (Close grain) = done_own (Closes grain)
-  asked_own (Offer grain to) = done_own (Offers grain to)
-  asked_own (Find grain) = done_own (Finds grain)
-  asked_own (Forget grain) = done_own (Forgets grain)
-  asked_own Nudge = done_own Nudges
+  asked_own (Do asked) = done_own asked
   asked_own (Receive letter) = received_own letter
   asked_own (Ping word) = still (answered (Ping word) s) refl
   asked_own (Owner grain) = still (answered (Owner grain) s) refl

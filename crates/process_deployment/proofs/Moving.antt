@@ -14,7 +14,9 @@ use Rattle.hash_ring.specs.declared.hashing.Hashing.{Hashing}
 use Rattle.directory_rules.specs.declared.effect.Effect.{Effect}
 use Rattle.directory_rules.specs.declared.effect.Effect.TheVariants.{Ignored}
 use Rattle.directory_rules.specs.declared.outcome.Happening.TheVariants.{Saw, Did}
-use Rattle.directory_rules.specs.Input.{Input, Wakes, Closes, Finds, Forgets, Nudges, Offers, Receives, step}
+use Rattle.directory_rules.specs.declared.own_step.OwnStep.{OwnStep}
+use Rattle.directory_rules.specs.OwnStep.{IsOwnStep}
+use Rattle.directory_rules.specs.Input.{Does, Receives, step}
 use Rattle.directory_rules.specs.Letter.{Letter}
 use Rattle.directory_rules.specs.Settings.{Settings}
 use Rattle.directory_rules.specs.Step.{Stepped, silently}
@@ -30,7 +32,7 @@ use Rattle.deployment_headline.specs.Steps as deployment
 use Rattle.deployment_headline.specs.Calls.{TakesItsSteps}
 use Rattle.deployment_headline.proofs.Called.{calls_are_steps}
 use Rattle.deployment_headline.proofs.Sound.{Sound, its_process}
-use Rattle.process_rules.specs.ReadLine.{Asked, Joined, Leaving, Dead, See, Wake, Close, Offer, Find, Forget, Nudge, Receive, Ping, Owner, Place, Show, Dump, read_silo_line}
+use Rattle.process_rules.specs.ReadLine.{Asked, Joined, Leaving, Dead, See, Do, Receive, Ping, Owner, Place, Show, Dump, read_silo_line}
 use Rattle.process_rules.specs.InRange.{IsInRange}
 use Rattle.process_rules.proofs.LinesInRange.{line_in_range}
 use Rattle.process_rules.proofs.StaysWhole.{silo_kept}
@@ -98,8 +100,9 @@ module _ (d : Deployment) (silo : Silo) (s : SiloValue) (there : process_of d si
     says = λ hashing reads. step_says hashing it.letters (sentence (happened it.effect)) (silent hashing it.effect) reads;
   }
 
-  done_moves : (input : Input) (step : deployment.Step) → deployment.IsStep step → deployment.after d step ≡ deployment.took (does s input) d silo s → Moved d silo (done_so input s)
-  done_moves input step named is = stepped_moves (λ made. happening_words (Did s.node.host.silo made)) (does s input) step named is (λ hashing made. did_silent hashing s.node.host.silo made)
+  done_moves : (asked : OwnStep) → IsOwnStep asked → Moved d silo (done_so asked s)
+  done_moves asked named =
+      stepped_moves (λ made. happening_words (Did s.node.host.silo made)) (does s (Does asked)) (deployment.Do silo asked) (is_silo, named) (takes.asks asked) (λ hashing made. did_silent hashing s.node.host.silo made)
 
   seen_moves : (version : ℕ) → Moved d silo (seen_so version s)
   seen_moves version =
@@ -182,12 +185,7 @@ module _ (c : Cluster) (letters : List Letter) (told_there : (letter : Letter) �
     asked_moves (Leaving version who) named may taken = told_moves d silo s there sound is_silo version (Leave who) may
     asked_moves (Dead version who) named may taken = told_moves d silo s there sound is_silo version (Die who) may
     asked_moves (See version) named may taken = seen_moves d silo s there sound is_silo version
-    asked_moves (Wake grain) named may taken = done_moves d silo s there sound is_silo (Wakes grain) (deployment.Wake silo grain) (is_silo, named) ((calls_are_steps.takes d silo s there).wakes grain)
-    asked_moves (Close grain) named may taken = done_moves d silo s there sound is_silo (Closes grain) (deployment.Close silo grain) (is_silo, named) ((calls_are_steps.takes d silo s there).closes grain)
-    asked_moves (Offer grain to) named may taken = done_moves d silo s there sound is_silo (Offers grain to) (deployment.Offer silo grain to) (is_silo, named.0, named.1) ((calls_are_steps.takes d silo s there).offers grain to)
-    asked_moves (Find grain) named may taken = done_moves d silo s there sound is_silo (Finds grain) (deployment.Find silo grain) (is_silo, named) ((calls_are_steps.takes d silo s there).finds grain)
-    asked_moves (Forget grain) named may taken = done_moves d silo s there sound is_silo (Forgets grain) (deployment.Forget silo grain) (is_silo, named) ((calls_are_steps.takes d silo s there).forgets grain)
-    asked_moves Nudge named may taken = done_moves d silo s there sound is_silo Nudges (deployment.Nudge silo) is_silo (calls_are_steps.takes d silo s there).nudges
+    asked_moves (Do asked) named may taken = done_moves d silo s there sound is_silo asked named
     asked_moves (Receive letter) named may taken = received_moves d silo s there sound is_silo letter (λ own joined. told_there letter (may own joined))
     asked_moves (Ping word) named may taken = stays d silo s there sound is_silo (sentence (codes "pong" ∷ word ∷ []) ∷ []) false (λ hashing. silent_alone hashing (sentence (codes "pong" ∷ word ∷ [])) (pong_silent hashing word))
     asked_moves (Owner grain) named may taken = stays d silo s there sound is_silo (grain_owner_line s grain ∷ []) false (λ hashing. silent_alone hashing (grain_owner_line s grain) (owner_silent hashing s grain))

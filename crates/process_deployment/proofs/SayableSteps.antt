@@ -173,7 +173,7 @@ module _ (settings : Settings) (views : ViewsValue) (places : PlacesValue) (silo
       closed grain held may.found,
       request_goes node its node.host.next_number (act.Deregister (entry_of node.host grain held)) (named grain held may.found),
     );
-    offers = λ grain held to may active other brings goes so. (closed grain held may.found, one_goes _ (sent node its to (Offer_letter (entry_of node.host grain held)) goes.2 tt));
+    offers = λ grain held to may active other brings goes so. (closed grain held may.found, one_goes _ (sent node its to (Offer_letter (entry_of node.host grain held)) goes.1.1 tt));
     uses_hint = λ grain activation hint brings goes so. (sends, none_goes);
     finds = λ grain room numbers brings goes so. (looking grain goes.1, request_goes node its node.host.next_number (act.Find grain) goes.1);
     forgets = λ grain activation hint brings goes so. (sends, none_goes);

@@ -16,8 +16,8 @@ use Rattle.silo_address.proofs.SiloLaws.{words_are_numerals}
 use Rattle.hash_ring.specs.declared.hashing.Hashing.{Hashing}
 use Rattle.directory_rules.specs.Letter.{Letter}
 use Rattle.directory_rules.proofs.Cases.{on_bool}
-use Rattle.script_rules.specs.Script.{is_text, is_remark}
-use Rattle.process_rules.specs.ReadLine.{Asked, Grammar, Receive, longest_line, commands, asked_if_known, asked_of_words, read_silo_line}
+use Rattle.script_rules.specs.Script.{Grammar, is_text, is_remark}
+use Rattle.process_rules.specs.ReadLine.{Asked, Receive, longest_line, commands, asked_if_known, asked_of_words, read_silo_line}
 
 -- a line that isn't read as a letter
 abbrev pub IsSilent : Hashing → List ℕ → Type 0
@@ -40,7 +40,7 @@ silent_by_words hashing line silent letter = by (nat_lt longest_line (length lin
 none_asked : (hashing : Hashing) (word : List ℕ) (words : List (List ℕ)) → lookup (bytes_eq word) (commands hashing) ≡ None → AreSilentWords hashing (word ∷ words)
 none_asked hashing word words none letter = by (is_remark word) (lookup (bytes_eq word) (commands hashing)) none
   where
-    by : (remark : Bool) (o : Option Grammar) → o ≡ None → ◌≡◌ {A = Result (Option Asked) ℕ} (if remark then Ok None else asked_if_known o words) (Ok (Some (Receive letter))) → ⊥
+    by : (remark : Bool) (o : Option (Grammar Asked)) → o ≡ None → ◌≡◌ {A = Result (Option Asked) ℕ} (if remark then Ok None else asked_if_known o words) (Ok (Some (Receive letter))) → ⊥
     by true o nothing is = cc is
     by false None nothing is = cc is
     by false (Some grammar) nothing is = cc nothing
@@ -49,7 +49,7 @@ none_asked hashing word words none letter = by (is_remark word) (lookup (bytes_e
 abbrev is_inner : ℕ → Bool
 is_inner byte = not (byte == space)
 
-abbrev is_none_known : Option Grammar → Bool
+abbrev is_none_known : Option (Grammar Asked) → Bool
 is_none_known None = true
 is_none_known (Some grammar) = false
 
@@ -83,7 +83,7 @@ first_is word [] some inner = ap (filter is_some_bytes) (pieces_alone word inner
 first_is word (next ∷ words) some inner =
     ap (filter is_some_bytes) (pieces_front word (sentence (next ∷ words)) inner) ∙ kept word (pieces_at space (sentence (next ∷ words))) some
 
-none_is : (o : Option Grammar) → is_none_known o ≡ true → o ≡ None
+none_is : (o : Option (Grammar Asked)) → is_none_known o ≡ true → o ≡ None
 none_is None is = refl
 none_is (Some grammar) is = cc is
 
@@ -118,10 +118,10 @@ abbrev begins_small : List ℕ → Bool
 begins_small [] = false
 begins_small (byte ∷ bytes) = is_small byte
 
-abbrev are_small : List (List ℕ × Grammar) → Bool
+abbrev are_small : List (List ℕ × Grammar Asked) → Bool
 are_small es = list_all (λ e. begins_small e.0) es
 
-no_command : (word : List ℕ) → begins_small word ≡ false → (es : List (List ℕ × Grammar)) → are_small es ≡ true → lookup (bytes_eq word) es ≡ None
+no_command : (word : List ℕ) → begins_small word ≡ false → (es : List (List ℕ × Grammar Asked)) → are_small es ≡ true → lookup (bytes_eq word) es ≡ None
 no_command word other [] small = refl
 no_command word other (e ∷ es) small =
     let parts = both (begins_small e.0) (are_small es) small in

@@ -15,7 +15,7 @@ use Rattle.directory_rules.proofs.Cases.{on_bool}
 use Rattle.directory_rules.specs.Settings.{Settings}
 use Rattle.directory_facts.proofs.Lookups.{found_put, found_beside_put, found_beside_removed}
 use Rattle.directory_rules.specs.Membership.{Change, Join, Leave, Die, Membership, changed}
-use Rattle.process_rules.specs.ReadLine.{Asked, Joined, Leaving, Dead, See, Wake, Close, Offer, Find, Forget, Nudge, Receive, Ping, Owner, Place, Show, Dump}
+use Rattle.process_rules.specs.ReadLine.{Asked, Joined, Leaving, Dead, See, Do, Receive, Ping, Owner, Place, Show, Dump}
 use Rattle.process_rules.specs.Output.{said}
 use Rattle.process_deployment.specs.Allowed.{IsLine, MayAsk, MayAskDead, IfAsks, May, MayAll}
 use Rattle.process_deployment.specs.Cluster.{JoinTokens, Process, started, answer_to, having_read, reads, Cluster, first_cluster, process_at}
@@ -94,12 +94,7 @@ early_asked c p (Joined version silo token places) early = early
 early_asked c p (Leaving version silo) early = early
 early_asked c p (Dead version silo) early = early
 early_asked c p (See version) early = tt
-early_asked c p (Wake grain) early = tt
-early_asked c p (Close grain) early = tt
-early_asked c p (Offer grain to) early = tt
-early_asked c p (Find grain) early = tt
-early_asked c p (Forget grain) early = tt
-early_asked c p Nudge early = tt
+early_asked c p (Do step) early = tt
 early_asked c p (Receive letter) early = λ own joined. absurd (cc (early, joined))
 early_asked c p (Ping word) early = tt
 early_asked c p (Owner grain) early = tt
@@ -117,12 +112,7 @@ more_asked changes more p (Joined version silo token places) early = λ takes ma
 more_asked changes more p (Leaving version silo) early = λ makes. more_changes changes more _ _ (early makes)
 more_asked changes more p (Dead version silo) early = λ makes. more_changes changes more _ _ (early makes)
 more_asked changes more p (See version) early = tt
-more_asked changes more p (Wake grain) early = tt
-more_asked changes more p (Close grain) early = tt
-more_asked changes more p (Offer grain to) early = tt
-more_asked changes more p (Find grain) early = tt
-more_asked changes more p (Forget grain) early = tt
-more_asked changes more p Nudge early = tt
+more_asked changes more p (Do step) early = tt
 more_asked changes more p (Receive letter) early = early
 more_asked changes more p (Ping word) early = tt
 more_asked changes more p (Owner grain) early = tt

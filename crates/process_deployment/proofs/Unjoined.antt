@@ -10,19 +10,19 @@ use Rattle.hash_ring.specs.declared.hashing.Hashing.{Hashing}
 use Rattle.directory_rules.specs.declared.effect.Effect.{Effect}
 use Rattle.directory_rules.specs.declared.effect.Effect.TheVariants.{Ignored}
 use Rattle.directory_rules.specs.declared.outcome.Happening.TheVariants.{Saw, Did}
-use Rattle.directory_rules.specs.Input.{Input, Wakes, Closes, Finds, Forgets, Nudges, Offers, Receives, step}
+use Rattle.directory_rules.specs.Input.{Input, Does, Receives, step}
 use Rattle.directory_rules.specs.Letter.{Letter}
 use Rattle.directory_rules.specs.Node.{Node, new_node}
 use Rattle.directory_rules.specs.Settings.{Settings}
 use Rattle.directory_rules.specs.Step.{Stepped, silently}
 use Rattle.script_rules.specs.Lines.{happening_words, refusal_line}
-use Rattle.directory_rules.specs.Membership.{Change, Join, Leave, Die}
+use Rattle.directory_rules.specs.Membership.{Change, Join, Leave, Die, barred_by}
 use Rattle.silo_rules.specs.SiloValue.{SiloValue, own_status, told_of_its_join}
-use Rattle.silo_rules.specs.Steps.{barred, barred_by, unless_barred, seen, does}
+use Rattle.silo_rules.specs.Steps.{barred, unless_barred, seen, does}
 use Rattle.silo_rules.specs.Told.{Heard, told}
 use Rattle.silo_rules.specs.Whole.{IsWhole}
 use Rattle.silo_rules.proofs.Whole.{first_whole}
-use Rattle.process_rules.specs.ReadLine.{Asked, Joined, Leaving, Dead, See, Wake, Close, Offer, Find, Forget, Nudge, Receive, Ping, Owner, Place, Show, Dump, read_silo_line}
+use Rattle.process_rules.specs.ReadLine.{Asked, Joined, Leaving, Dead, See, Do, Receive, Ping, Owner, Place, Show, Dump, read_silo_line}
 use Rattle.process_rules.specs.Happened.{news_words, received_words}
 use Rattle.process_rules.specs.Answer.{Answered, printing, heard, told_so, stepped, received_so, is_anothers_join, answered, answered_as}
 use Rattle.process_rules.specs.Show.{dump_line, grain_owner_line, grain_place_line}
@@ -79,12 +79,7 @@ module _ (hashing : Hashing) (s : SiloValue) (untold : own_status s ≡ None) wh
   asked_idle (Leaving version who) = told_idle version (Leave who)
   asked_idle (Dead version who) = told_idle version (Die who)
   asked_idle (See version) = step_idle (λ made. happening_words (Saw s.node.host.silo version made)) (seen s version)
-  asked_idle (Wake grain) = done_idle (Wakes grain)
-  asked_idle (Close grain) = done_idle (Closes grain)
-  asked_idle (Offer grain to) = done_idle (Offers grain to)
-  asked_idle (Find grain) = done_idle (Finds grain)
-  asked_idle (Forget grain) = done_idle (Forgets grain)
-  asked_idle Nudge = done_idle Nudges
+  asked_idle (Do asked) = done_idle (Does asked)
   asked_idle (Receive letter) = received_idle letter
   asked_idle (Ping word) = one_line (sentence (codes "pong" ∷ word ∷ [])) (pong_silent hashing word)
   asked_idle (Owner grain) = one_line (grain_owner_line s grain) (owner_silent hashing s grain)

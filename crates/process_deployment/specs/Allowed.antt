@@ -7,7 +7,7 @@ use Rattle.directory_rules.specs.Membership.{Change, Join, Leave, Die}
 use Rattle.silo_rules.specs.SiloValue.{SiloValue, told_of_its_join}
 use Rattle.silo_rules.specs.Told.{MakesVersion, told}
 use Rattle.deployment_headline.specs.Steps.{IsChange}
-use Rattle.process_rules.specs.ReadLine.{Asked, Joined, Leaving, Dead, See, Wake, Close, Offer, Find, Forget, Nudge, Receive, read_silo_line}
+use Rattle.process_rules.specs.ReadLine.{Asked, Joined, Leaving, Dead, See, Do, Receive, read_silo_line}
 use Rattle.process_rules.specs.Answer.{is_anothers_join}
 use Rattle.process_rules.specs.Output.{said}
 use Rattle.process_deployment.specs.Cluster.{Process, Cluster, process_at, all_lines}
@@ -40,12 +40,7 @@ MayAsk c p other = ⊤
 -- what may be asked of one that is Dead by them: neither a step of its own nor a letter to it
 abbrev pub MayAskDead : SiloValue → Asked → Type 0
 MayAskDead s (See version) = ⊥
-MayAskDead s (Wake grain) = ⊥
-MayAskDead s (Close grain) = ⊥
-MayAskDead s (Offer grain to) = ⊥
-MayAskDead s (Find grain) = ⊥
-MayAskDead s (Forget grain) = ⊥
-MayAskDead s Nudge = ⊥
+MayAskDead s (Do step) = ⊥
 MayAskDead s (Receive letter) = letter.to ≢ s.node.host.silo
 MayAskDead s other = ⊤
 

@@ -5,10 +5,12 @@ use Rattle.std.specs.Fmt.{decimal}
 use Rattle.texts.specs.Words.{sentence}
 use Rattle.silo_address.specs.Silo.{Silo, IsSilo}
 use Rattle.silo_address.specs.Grain.{Grain}
+use Rattle.directory_rules.specs.declared.own_step.OwnStep.{OwnStep}
+use Rattle.directory_rules.specs.declared.own_step.OwnStep.TheVariants.{Close, Offer}
 use Rattle.directory_rules.specs.PlainMachine.{Is_firm, life_on}
 use Rattle.silo_rules.specs.SiloValue.{SiloValue}
 use Rattle.script_rules.specs.Lines.{entry_words}
-use Rattle.process_rules.specs.ReadLine.{Asked, Close, Offer}
+use Rattle.process_rules.specs.ReadLine.{Asked, Do}
 use Rattle.process_rules.specs.Answer.{Answered}
 use Rattle.process_rules.specs.Output.{said}
 use Rattle.process_deployment.specs.Allowed.{May}
@@ -37,10 +39,15 @@ its_firm_line s grain count = firm_line s.node.host.silo grain count s.node.view
 abbrev pub SaysFirm : List ℕ → Type 0
 SaysFirm line = (rest : List ℕ) × (line ≡ codes "firm " ++ rest)
 
--- the application asks that the grain's activation end
+-- by the step the grain's activation is to end
+abbrev pub IsToEnd : Grain → OwnStep → Type 0
+IsToEnd grain (Close its) = its ≡ grain
+IsToEnd grain (Offer its to) = its ≡ grain
+IsToEnd grain other = ⊥
+
+-- the application asks that it end
 abbrev pub AsksToEnd : Grain → Result (Option Asked) ℕ → Type 0
-AsksToEnd grain (Ok (Some (Close its))) = its ≡ grain
-AsksToEnd grain (Ok (Some (Offer its to))) = its ≡ grain
+AsksToEnd grain (Ok (Some (Do step))) = IsToEnd grain step
 AsksToEnd grain other = ⊥
 
 -- what a silo answers to a line that says this

@@ -1,5 +1,5 @@
 pub mod Commands
-pub mod PlaceFaults
 pub mod EachEntry
 pub mod Forms
 pub mod Written
+pub mod KindNames

@@ -2,7 +2,7 @@
 use Rattle.std.specs.Option.{option_copied}
 use Rattle.process_rules.specs.ReadLine as rule
 use Rattle.process_lines.specs.declared.asked.Asked.{Asked}
-use Rattle.process_lines.specs.declared.asked.Asked.TheVariants.{Joined, Leaving, Dead, See, Wake, Close, Offer, Find, Forget, Nudge, Receive, Ping, Owner, Place, Show, Dump}
+use Rattle.process_lines.specs.declared.asked.Asked.TheVariants.{Joined, Leaving, Dead, See, Do, Receive, Ping, Owner, Place, Show, Dump}
 
 -- what is asked for, in the rule's words
 abbrev pub asked_of : Asked → rule.Asked
@@ -10,12 +10,7 @@ asked_of (Joined version silo token places) = rule.Joined version silo (option_c
 asked_of (Leaving version silo) = rule.Leaving version silo
 asked_of (Dead version silo) = rule.Dead version silo
 asked_of (See version) = rule.See version
-asked_of (Wake grain) = rule.Wake grain
-asked_of (Close grain) = rule.Close grain
-asked_of (Offer grain to) = rule.Offer grain to
-asked_of (Find grain) = rule.Find grain
-asked_of (Forget grain) = rule.Forget grain
-asked_of Nudge = rule.Nudge
+asked_of (Do step) = rule.Do step
 asked_of (Receive letter) = rule.Receive letter
 asked_of (Ping word) = rule.Ping word.now
 asked_of (Owner grain) = rule.Owner grain

@@ -1,37 +1,17 @@
--- The commands but for a join and a letter, by what they are about: together with these, all that the rule has.
-use Rattle.std.specs.Prelude.{ℕ, List, [], ◌∷◌, ◌++◌, codes}
-use Rattle.process_rules.specs.ReadLine.{Grammar}
-use Rattle.process_lines.specs.Named.{grammar_of}
-use Rattle.process_lines.specs.declared.names.CommandName.TheVariants as name
+-- The commands but for a join and a letter, and for the steps that its application asks of the silo: together with these, all that the
+-- rule has.
+use Rattle.std.specs.Prelude.{ℕ, List, [], ◌∷◌, codes}
+use Rattle.script_rules.specs.Script.{Grammar, a_grain, no_word}
+use Rattle.process_rules.specs.ReadLine.{Asked, Leaving, Dead, Owner, Show, Dump, a_version_and_a_silo, a_version, a_word, a_grain_and_a_policy}
 
--- changes of membership that the silo is told
-abbrev pub change_commands : List (List ℕ × Grammar)
-change_commands =
-    (codes "leaving", grammar_of name.Leaving)
-    ∷ (codes "dead", grammar_of name.Dead)
+abbrev pub other_commands : List (List ℕ × Grammar Asked)
+other_commands =
+    (codes "leaving", a_version_and_a_silo Leaving)
+    ∷ (codes "dead", a_version_and_a_silo Dead)
+    ∷ (codes "see", a_version)
+    ∷ (codes "ping", a_word)
+    ∷ (codes "owner", a_grain Owner)
+    ∷ (codes "place", a_grain_and_a_policy)
+    ∷ (codes "show", no_word Show)
+    ∷ (codes "dump", no_word Dump)
     ∷ []
-
--- steps of its own
-abbrev pub step_commands : List (List ℕ × Grammar)
-step_commands =
-    (codes "see", grammar_of name.See)
-    ∷ (codes "wake", grammar_of name.Wake)
-    ∷ (codes "close", grammar_of name.Close)
-    ∷ (codes "offer", grammar_of name.Offer)
-    ∷ (codes "find", grammar_of name.Find)
-    ∷ (codes "forget", grammar_of name.Forget)
-    ∷ (codes "nudge", grammar_of name.Nudge)
-    ∷ []
-
--- what changes nothing
-abbrev pub question_commands : List (List ℕ × Grammar)
-question_commands =
-    (codes "ping", grammar_of name.Ping)
-    ∷ (codes "owner", grammar_of name.Owner)
-    ∷ (codes "place", grammar_of name.Place)
-    ∷ (codes "show", grammar_of name.Show)
-    ∷ (codes "dump", grammar_of name.Dump)
-    ∷ []
-
-abbrev pub other_commands : List (List ℕ × Grammar)
-other_commands = change_commands ++ (step_commands ++ question_commands)

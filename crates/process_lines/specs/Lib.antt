@@ -1,7 +1,6 @@
 pub mod AskedModel
 pub mod Known
 pub mod Memory
-pub mod Named
 pub mod FaultNumbers
 pub mod ReadAs
 pub mod Fronts

@@ -1,5 +1,5 @@
 use directory_letters::Letter;
-use directory_rules::Policy;
+use directory_rules::{OwnStep, Policy};
 use silo_address::{GrainId, SiloAddress};
 
 /// What a line of a silo's process asks for (`docs/RULES.md#lines-of-a-silos-process`).
@@ -27,29 +27,8 @@ pub enum Asked<'a> {
     See {
         version: u64,
     },
-    /// The silo starts an activation of a grain.
-    Wake {
-        grain: GrainId,
-    },
-    /// The silo closes its activation of a grain.
-    Close {
-        grain: GrainId,
-    },
-    /// The silo closes its activation of a grain, and offers its place to another silo.
-    Offer {
-        grain: GrainId,
-        to: SiloAddress,
-    },
-    /// The silo looks a grain up.
-    Find {
-        grain: GrainId,
-    },
-    /// The silo drops what its cache has of a grain.
-    Forget {
-        grain: GrainId,
-    },
-    /// The silo sends again what it has outstanding.
-    Nudge,
+    /// The silo does what its application asks of it.
+    Do(OwnStep),
     /// A letter comes, which may be another silo's.
     Receive(Letter),
     /// An answer is asked for, with the word, which stands in the line.

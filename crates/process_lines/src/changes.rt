@@ -1,8 +1,7 @@
 //! Changes of membership that a silo is told.
 
-ghost use Rattle.std.specs.Map.{lookup};
 ghost use Rattle.std.specs.Option.{option_copied};
-ghost use Rattle.std.specs.Prelude.{◌≡◌, ℕ, IsErrOf, Some, None, bytes_eq, drop, if◌then◌else◌, length, option_map};
+ghost use Rattle.std.specs.Prelude.{◌≡◌, ℕ, IsErrOf, Some, None, drop, if◌then◌else◌, length};
 ghost use Rattle.silo_address.specs.Silo.{Silo};
 ghost use Rattle.texts.specs.Words.{words_in};
 ghost use Rattle.script_rules.specs.Script.{places_in};
@@ -10,28 +9,12 @@ ghost use Rattle.script_lines.specs.ReadAs.{HasPlaces};
 ghost use Rattle.process_rules.specs.ReadLine as rule;
 ghost use Rattle.process_lines.specs.ReadAs.{Reads, told};
 ghost use Rattle.process_lines.specs.AskedModel.{asked_of};
-ghost use Rattle.process_lines.specs.Known.{change_commands};
 ghost use Rattle.process_lines.specs.Memory.{WordsNeedMemory};
-ghost use Rattle.process_lines.specs.Named.{grammar_of};
 
-use crate::names::CommandName;
 use crate::{Asked, LineError, LineFault, number_word, silo_word};
 use script_lines::{ReadError, only_two_words, places_in, split_word};
 use silo_address::SiloAddress;
 use std::alloc::Global;
-
-/// The change of that name, but for a join.
-pub(crate) fn change_name(name: &[u8]) -> Option<CommandName>
-    ensures { option_map grammar_of result ≡ lookup (bytes_eq name.now) change_commands }
-{
-    if name == b"leaving".as_slice() {
-        return Some(CommandName::Leaving);
-    }
-    if name == b"dead".as_slice() {
-        return Some(CommandName::Dead);
-    }
-    None
-}
 
 /// A version, a silo, perhaps a token, and any number of places.
 pub(crate) fn joined(alloc: Global, words: &[u8]) -> Result<Asked<'_>, LineError>
@@ -84,7 +67,7 @@ fn places_of(alloc: Global, words: &[u8]) -> Result<Vec<u32>, LineError>
 {
     match places_in(alloc, words) {
         Ok(places) => Ok(places),
-        Err(ReadError::Fault(_)) => Err(LineError::Fault(LineFault::NotANumber)),
+        Err(ReadError::Fault(fault)) => Err(LineError::Fault(LineFault::of_script(fault))),
         Err(ReadError::OutOfMemory) => Err(LineError::OutOfMemory),
     }
 }

@@ -1,7 +1,9 @@
 ghost use Rattle.std.specs.Prelude.{◌≡◌};
+ghost use Rattle.script_lines.specs.Numbers.{script_fault_number};
 ghost use Rattle.process_lines.specs.FaultNumbers.{line_fault_number};
 ghost use Rattle.process_lines.specs.declared.fault.LineError.TheVariants.{Fault};
 
+use script_lines::ScriptFault;
 use silo_address::{GrainError, SiloError};
 use thiserror::Error;
 
@@ -54,6 +56,22 @@ pub enum LineFault {
 }
 
 impl LineFault {
+    /// The fault of a line in the words for one of a script.
+    pub(crate) fn of_script(fault: ScriptFault) -> LineFault
+        ensures { line_fault_number result ≡ script_fault_number fault }
+    {
+        match fault {
+            ScriptFault::LineTooLong => LineFault::LineTooLong,
+            ScriptFault::NotText => LineFault::NotText,
+            ScriptFault::UnknownCommand => LineFault::UnknownCommand,
+            ScriptFault::WordCount => LineFault::WordCount,
+            ScriptFault::Silo(fault) => LineFault::Silo(fault),
+            ScriptFault::Grain(fault) => LineFault::Grain(fault),
+            ScriptFault::NotANumber => LineFault::NotANumber,
+            ScriptFault::UnknownPolicy => LineFault::Policy,
+        }
+    }
+
     /// The number by which users know the fault: 921 to 931, 101 to 103 of a silo, 111 to 113 of a grain.
     pub fn number(self) -> u16
         ensures { result ≡ line_fault_number self }

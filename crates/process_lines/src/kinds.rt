@@ -22,76 +22,44 @@ pub(crate) fn kind_of_word(word: &[u8]) -> Option<LetterKind>
 fn request_kind(word: &[u8]) -> Option<LetterKind>
     ensures { result ≡ kind_among request_kinds word.now }
 {
-    if word == b"register".as_slice() {
-        return Some(LetterKind::Register);
+    match word {
+        b"register" => Some(LetterKind::Register),
+        b"deregister" => Some(LetterKind::Deregister),
+        b"find" => Some(LetterKind::Find),
+        b"offer" => Some(LetterKind::Offer),
+        _ => None,
     }
-    if word == b"deregister".as_slice() {
-        return Some(LetterKind::Deregister);
-    }
-    if word == b"find".as_slice() {
-        return Some(LetterKind::Find);
-    }
-    if word == b"offer".as_slice() {
-        return Some(LetterKind::Offer);
-    }
-    None
 }
 
 /// Of replies.
 fn reply_kind(word: &[u8]) -> Option<LetterKind>
     ensures { result ≡ kind_among reply_kinds word.now }
 {
-    if word == b"registered".as_slice() {
-        return Some(LetterKind::Registered);
+    match word {
+        b"registered" => Some(LetterKind::Registered),
+        b"taken" => Some(LetterKind::Taken),
+        b"removed" => Some(LetterKind::Removed),
+        b"absent" => Some(LetterKind::Absent),
+        b"found" => Some(LetterKind::Found),
+        b"nothing" => Some(LetterKind::Nothing),
+        b"retry" => Some(LetterKind::Retry),
+        _ => None,
     }
-    if word == b"taken".as_slice() {
-        return Some(LetterKind::Taken);
-    }
-    if word == b"removed".as_slice() {
-        return Some(LetterKind::Removed);
-    }
-    if word == b"absent".as_slice() {
-        return Some(LetterKind::Absent);
-    }
-    if word == b"found".as_slice() {
-        return Some(LetterKind::Found);
-    }
-    if word == b"nothing".as_slice() {
-        return Some(LetterKind::Nothing);
-    }
-    if word == b"retry".as_slice() {
-        return Some(LetterKind::Retry);
-    }
-    None
 }
 
 /// Of transfers and recoveries.
 fn transfer_kind(word: &[u8]) -> Option<LetterKind>
     ensures { result ≡ kind_among transfer_kinds word.now }
 {
-    if word == b"ask".as_slice() {
-        return Some(LetterKind::Ask);
+    match word {
+        b"ask" => Some(LetterKind::Ask),
+        b"page" => Some(LetterKind::Page),
+        b"missing" => Some(LetterKind::Missing),
+        b"done" => Some(LetterKind::Done),
+        b"query" => Some(LetterKind::Query),
+        b"report" => Some(LetterKind::Report),
+        b"behind" => Some(LetterKind::Behind),
+        b"ahead" => Some(LetterKind::Ahead),
+        _ => None,
     }
-    if word == b"page".as_slice() {
-        return Some(LetterKind::Page);
-    }
-    if word == b"missing".as_slice() {
-        return Some(LetterKind::Missing);
-    }
-    if word == b"done".as_slice() {
-        return Some(LetterKind::Done);
-    }
-    if word == b"query".as_slice() {
-        return Some(LetterKind::Query);
-    }
-    if word == b"report".as_slice() {
-        return Some(LetterKind::Report);
-    }
-    if word == b"behind".as_slice() {
-        return Some(LetterKind::Behind);
-    }
-    if word == b"ahead".as_slice() {
-        return Some(LetterKind::Ahead);
-    }
-    None
 }

@@ -9,7 +9,6 @@ mod fault;
 mod head;
 mod kinds;
 mod known;
-mod names;
 mod questions;
 mod read;
 mod reading;

@@ -1,41 +1,17 @@
 //! What is asked of a silo's process, and changes nothing.
 
-ghost use Rattle.std.specs.Map.{lookup};
-ghost use Rattle.std.specs.Prelude.{◌≡◌, bytes_eq, option_map};
+ghost use Rattle.std.specs.Prelude.{◌≡◌};
+ghost use Rattle.silo_address.specs.Grain.{Grain};
 ghost use Rattle.texts.specs.Words.{words_in};
+ghost use Rattle.script_rules.specs.Script as script;
 ghost use Rattle.process_rules.specs.ReadLine as rule;
 ghost use Rattle.process_lines.specs.ReadAs.{told};
 ghost use Rattle.process_lines.specs.AskedModel.{asked_of};
-ghost use Rattle.process_lines.specs.Known.{question_commands};
-ghost use Rattle.process_lines.specs.Named.{grammar_of};
 
-use crate::names::CommandName;
-use crate::steps::{a_grain, no_word};
 use crate::words::own_policy_word;
 use crate::{Asked, LineFault, grain_word};
-use script_lines::{only_two_words, only_word};
-
-/// The question of that name.
-pub(crate) fn question_name(name: &[u8]) -> Option<CommandName>
-    ensures { option_map grammar_of result ≡ lookup (bytes_eq name.now) question_commands }
-{
-    if name == b"ping".as_slice() {
-        return Some(CommandName::Ping);
-    }
-    if name == b"owner".as_slice() {
-        return Some(CommandName::Owner);
-    }
-    if name == b"place".as_slice() {
-        return Some(CommandName::Place);
-    }
-    if name == b"show".as_slice() {
-        return Some(CommandName::Show);
-    }
-    if name == b"dump".as_slice() {
-        return Some(CommandName::Dump);
-    }
-    None
-}
+use script_lines::{only_two_words, only_word, split_word};
+use silo_address::GrainId;
 
 /// Any one word.
 pub(crate) fn ping(words: &[u8]) -> Result<Asked<'_>, LineFault>
@@ -48,7 +24,7 @@ pub(crate) fn ping(words: &[u8]) -> Result<Asked<'_>, LineFault>
 }
 
 pub(crate) fn owner(words: &[u8]) -> Result<Asked<'_>, LineFault>
-    ensures { told asked_of result ≡ rule.a_grain rule.Owner (words_in words.now) }
+    ensures { told asked_of result ≡ script.a_grain rule.Owner (words_in words.now) }
 {
     let grain = a_grain(words)?;
     Ok(Asked::Owner { grain })
@@ -67,15 +43,35 @@ pub(crate) fn place(words: &[u8]) -> Result<Asked<'_>, LineFault>
 }
 
 pub(crate) fn show(words: &[u8]) -> Result<Asked<'_>, LineFault>
-    ensures { told asked_of result ≡ rule.no_word rule.Show (words_in words.now) }
+    ensures { told asked_of result ≡ script.no_word rule.Show (words_in words.now) }
 {
     no_word(words)?;
     Ok(Asked::Show)
 }
 
 pub(crate) fn dump(words: &[u8]) -> Result<Asked<'_>, LineFault>
-    ensures { told asked_of result ≡ rule.no_word rule.Dump (words_in words.now) }
+    ensures { told asked_of result ≡ script.no_word rule.Dump (words_in words.now) }
 {
     no_word(words)?;
     Ok(Asked::Dump)
+}
+
+/// A grain.
+fn a_grain(words: &[u8]) -> Result<GrainId, LineFault>
+    ensures { (of : Grain → rule.Asked) → told of result ≡ script.a_grain of (words_in words.now) }
+{
+    match only_word(words) {
+        Some(grain) => grain_word(grain),
+        None => Err(LineFault::WordCount),
+    }
+}
+
+/// No word.
+fn no_word(words: &[u8]) -> Result<(), LineFault>
+    ensures { (asked : rule.Asked) → told (λ _. asked) result ≡ script.no_word asked (words_in words.now) }
+{
+    match split_word(words) {
+        None => Ok(()),
+        Some(_) => Err(LineFault::WordCount),
+    }
 }

@@ -102,19 +102,13 @@ fn retry_for(
 fn reason_name(word: &[u8]) -> Option<ReasonName>
     ensures { option_map reason_of result ≡ lookup (bytes_eq word.now) rule.reasons }
 {
-    if word == b"601".as_slice() {
-        return Some(ReasonName::View);
+    match word {
+        b"601" => Some(ReasonName::View),
+        b"602" => Some(ReasonName::Unsettled),
+        b"603" => Some(ReasonName::OldNumber),
+        b"604" => Some(ReasonName::NotOwner),
+        _ => None,
     }
-    if word == b"602".as_slice() {
-        return Some(ReasonName::Unsettled);
-    }
-    if word == b"603".as_slice() {
-        return Some(ReasonName::OldNumber);
-    }
-    if word == b"604".as_slice() {
-        return Some(ReasonName::NotOwner);
-    }
-    None
 }
 
 /// What stands behind a reason; none where there are too few words or too many.

@@ -20,18 +20,18 @@ use Rattle.directory_rules.specs.Settings.{Settings}
 use Rattle.directory_rules.specs.declared.effect.Effect.{Effect}
 use Rattle.directory_rules.specs.declared.effect.Effect.TheVariants.{Ignored}
 use Rattle.directory_rules.specs.declared.outcome.Happening.TheVariants.{Saw, Did}
-use Rattle.directory_rules.specs.Input.{Input, Receives, Wakes, Closes, Finds, Forgets, Nudges, Offers, step}
+use Rattle.directory_rules.specs.Input.{Input, Does, Receives, step}
 use Rattle.directory_rules.specs.Letter.{Letter}
 use Rattle.directory_rules.specs.Step.{Stepped, silently}
 use Rattle.script_rules.specs.Lines.{happening_words, refusal_line}
 use Rattle.silo_rules.specs.declared.news.News.TheVariants.{Known}
 use Rattle.silo_rules.specs.Known.{is_known}
-use Rattle.directory_rules.specs.Membership.{Change, Join, Leave, Die, Membership, changed, joined, placed, replaced_by, with_places, with_views}
+use Rattle.directory_rules.specs.Membership.{Change, Join, Leave, Die, Membership, barred_by, changed, joined, placed, replaced_by, with_places, with_views}
 use Rattle.silo_rules.specs.SiloValue.{SiloValue, own_status, told_of_its_join}
-use Rattle.silo_rules.specs.Steps.{barred_by, unless_barred, does, receives, seen, sees}
+use Rattle.silo_rules.specs.Steps.{unless_barred, does, receives, seen, sees}
 use Rattle.silo_rules.specs.Told.{Heard, heard_by, told}
 use Rattle.silo_rules.specs.Whole.{IsWhole}
-use Rattle.process_rules.specs.ReadLine.{Asked, Joined, Leaving, See, Wake, Close, Offer, Find, Forget, Nudge, Receive, Ping, Owner, Place, Show, Dump}
+use Rattle.process_rules.specs.ReadLine.{Asked, Joined, Leaving, See, Do, Receive, Ping, Owner, Place, Show, Dump}
 use Rattle.process_rules.specs.ReadLine as line
 use Rattle.process_rules.specs.Happened.{news_words, received_words}
 use Rattle.process_rules.specs.Answer.{printing, heard, told_so, stepped, received_so, carries, answered, answered_as}
@@ -152,12 +152,7 @@ module _ (s : SiloValue) (whole : IsWhole s) (untold : IsUntold s) where
   answered_untold (line.Dead version silo) other = told_untold version (Die silo) tt
   answered_untold (See version) other =
       by_refusal (λ effect. happening_words (Saw s.node.host.silo version effect)) (sees s version) (ap (λ (o : Option Status). unless_barred (barred_by o) (seen s version)) untold)
-  answered_untold (Wake grain) other = done_untold (Wakes grain)
-  answered_untold (Close grain) other = done_untold (Closes grain)
-  answered_untold (Offer grain to) other = done_untold (Offers grain to)
-  answered_untold (Find grain) other = done_untold (Finds grain)
-  answered_untold (Forget grain) other = done_untold (Forgets grain)
-  answered_untold Nudge other = done_untold Nudges
+  answered_untold (Do step) other = done_untold (Does step)
   answered_untold (Receive letter) other = received_untold letter
   answered_untold (Ping word) other = untold
   answered_untold (Owner grain) other = untold
@@ -204,12 +199,7 @@ joins_by_its_token token asked s whole before after = by asked after
     by (Leaving version silo) after = by_other (Leaving version silo) tt after
     by (line.Dead version silo) after = by_other (line.Dead version silo) tt after
     by (See version) after = by_other (See version) tt after
-    by (Wake grain) after = by_other (Wake grain) tt after
-    by (Close grain) after = by_other (Close grain) tt after
-    by (Offer grain to) after = by_other (Offer grain to) tt after
-    by (Find grain) after = by_other (Find grain) tt after
-    by (Forget grain) after = by_other (Forget grain) tt after
-    by Nudge after = by_other Nudge tt after
+    by (Do step) after = by_other (Do step) tt after
     by (Receive letter) after = by_other (Receive letter) tt after
     by (Ping word) after = by_other (Ping word) tt after
     by (Owner grain) after = by_other (Owner grain) tt after

@@ -12,9 +12,12 @@ use Rattle.silo_address.specs.Silo.{Silo, IsSilo}
 use Rattle.silo_address.specs.Grain.{Grain, IsGrain}
 use Rattle.ring_range.specs.Range.{circle}
 use Rattle.hash_ring.specs.declared.hashing.Hashing.{Hashing}
-use Rattle.script_rules.specs.Script.{silo_word, grain_word, number_word, number_or_fault, hash_word, places_in, is_text, is_remark, ◌>>=◌}
+use Rattle.directory_rules.specs.declared.own_step.OwnStep.{OwnStep}
+use Rattle.directory_rules.specs.declared.own_step.OwnStep.TheVariants as own
+use Rattle.directory_rules.specs.OwnStep.{IsOwnStep}
+use Rattle.script_rules.specs.Script.{silo_word, grain_word, number_word, number_or_fault, hash_word, places_in, Grammar, no_word, a_grain, a_grain_and_a_silo, own_steps, is_text, is_remark, ◌>>=◌}
 use Rattle.process_rules.specs.ReadLetter.{read_letter}
-use Rattle.process_rules.specs.ReadLine.{Asked, Joined, Leaving, Dead, See, Wake, Close, Offer, Find, Forget, Nudge, Receive, Owner, Place, Show, Dump, Grammar, no_word, a_word, token_in, behind_token, a_join, a_version_and_a_silo, a_version, a_grain, a_grain_and_a_silo, own_policy_word, a_grain_and_a_policy, a_letter, commands, longest_line, asked_if_known, asked_of_words, read_silo_line}
+use Rattle.process_rules.specs.ReadLine.{Asked, Joined, Leaving, Dead, See, Do, Receive, Owner, Place, Show, Dump, a_word, token_in, behind_token, a_join, a_version_and_a_silo, a_version, own_policy_word, a_grain_and_a_policy, a_letter, a_step, step_commands, commands, longest_line, asked_if_known, asked_of_words, read_silo_line}
 use Rattle.process_rules.specs.Told.{IsNumber, IsTold}
 use Rattle.process_rules.specs.InRange.{IsInRange}
 use Rattle.process_rules.proofs.LettersAgain.{was_told}
@@ -72,14 +75,33 @@ all_in : (words : List (List ℕ)) → IfOk (places_in words) (All IsHash)
 all_in [] = All-nil IsHash
 all_in (word ∷ words) = two_in IsHash (All IsHash) (All IsHash) more (hash_word word) (places_in words) (λ place places is are. All-cons IsHash place places is are) (hash_in word) (all_in words)
 
+-- ---- what stands behind a name
+module _ {A : Type 0} (Is : A → Type 0) where
+  abbrev Makes : Grammar A → Type 0
+  Makes grammar = (words : List (List ℕ)) → IfOk (grammar words) Is
+
+  none_makes : (value : A) → Is value → Makes (no_word value)
+  none_makes value is [] = is
+  none_makes value is (word ∷ words) = tt
+
+  grain_makes : (of : Grain → A) → ((grain : Grain) → IsGrain grain → Is (of grain)) → Makes (a_grain of)
+  grain_makes of makes [] = tt
+  grain_makes of makes (grain ∷ []) = one_in IsGrain Is of (grain_word grain) makes (grain_in grain)
+  grain_makes of makes (one ∷ two ∷ words) = tt
+
+  offer_makes : (of : Grain → Silo → A) → ((grain : Grain) (silo : Silo) → IsGrain grain → IsSilo silo → Is (of grain silo)) → Makes (a_grain_and_a_silo of)
+  offer_makes of makes [] = tt
+  offer_makes of makes (one ∷ []) = tt
+  offer_makes of makes (grain ∷ silo ∷ []) = two_in IsGrain IsSilo Is of (grain_word grain) (silo_word silo) makes (grain_in grain) (silo_in silo)
+  offer_makes of makes (one ∷ two ∷ three ∷ words) = tt
+
 -- ---- commands
 module _ (hashing : Hashing) where
-  abbrev Asks : Grammar → Type 0
-  Asks grammar = (words : List (List ℕ)) → IfOk (grammar words) (IsInRange hashing)
+  abbrev Asks : Grammar Asked → Type 0
+  Asks grammar = Makes (IsInRange hashing) grammar
 
   none_asks : (asked : Asked) → IsInRange hashing asked → Asks (no_word asked)
-  none_asks asked is [] = is
-  none_asks asked is (word ∷ words) = tt
+  none_asks = none_makes (IsInRange hashing)
 
   word_asks : Asks a_word
   word_asks [] = tt
@@ -104,16 +126,11 @@ module _ (hashing : Hashing) where
   version_asks (version ∷ []) = one_in IsNumber (IsInRange hashing) See (number_word version) (λ v is. is) (number_in version)
   version_asks (one ∷ two ∷ words) = tt
 
-  grain_asks : (of : Grain → Asked) → ((grain : Grain) → IsGrain grain → IsInRange hashing (of grain)) → Asks (a_grain of)
-  grain_asks of makes [] = tt
-  grain_asks of makes (grain ∷ []) = one_in IsGrain (IsInRange hashing) of (grain_word grain) makes (grain_in grain)
-  grain_asks of makes (one ∷ two ∷ words) = tt
+  step_asks : (grammar : Grammar OwnStep) → Makes IsOwnStep grammar → Asks (a_step grammar)
+  step_asks grammar makes words = one_in IsOwnStep (IsInRange hashing) Do (grammar words) (λ step is. is) (makes words)
 
-  offer_asks : Asks a_grain_and_a_silo
-  offer_asks [] = tt
-  offer_asks (one ∷ []) = tt
-  offer_asks (grain ∷ silo ∷ []) = two_in IsGrain IsSilo (IsInRange hashing) Offer (grain_word grain) (silo_word silo) (λ g s first second. (first, second)) (grain_in grain) (silo_in silo)
-  offer_asks (one ∷ two ∷ three ∷ words) = tt
+  grain_step_asks : (of : Grain → OwnStep) → ((grain : Grain) → IsGrain grain → IsOwnStep (of grain)) → Asks (a_step (a_grain of))
+  grain_step_asks of makes = step_asks (a_grain of) (grain_makes IsOwnStep of makes)
 
   policy_asks : Asks a_grain_and_a_policy
   policy_asks [] = tt
@@ -125,12 +142,12 @@ module _ (hashing : Hashing) where
   letter_asks : Asks (a_letter hashing)
   letter_asks words = one_in (IsTold hashing) (IsInRange hashing) Receive (read_letter hashing words) (λ l is. is) (of_given (IsTold hashing) (read_letter hashing words) (λ l given. (was_told hashing words l given).told))
 
-  abbrev AskAll : List (List ℕ × Grammar) → Type 0
+  abbrev AskAll : List (List ℕ × Grammar Asked) → Type 0
   AskAll named = All (λ e. Asks e.1) named
 
   commands_ask : AskAll (commands hashing)
   commands_ask =
-      All-from_recursion (λ (e : List ℕ × Grammar). Asks e.1) (commands hashing) (
+      All-from_recursion (λ (e : List ℕ × Grammar Asked). Asks e.1) (commands hashing) (
         join_asks,
         (
           change_asks Leaving (λ v s first second. (first, second)),
@@ -138,22 +155,7 @@ module _ (hashing : Hashing) where
             change_asks Dead (λ v s first second. (first, second)),
             (
               version_asks,
-              (
-                grain_asks Wake (λ g is. is),
-                (
-                  grain_asks Close (λ g is. is),
-                  (
-                    offer_asks,
-                    (
-                      grain_asks Find (λ g is. is),
-                      (
-                        grain_asks Forget (λ g is. is),
-                        (none_asks Nudge tt, (letter_asks, (word_asks, (grain_asks Owner (λ g is. is), (policy_asks, (none_asks Show tt, (none_asks Dump tt, tt))))))),
-                      ),
-                    ),
-                  ),
-                ),
-              ),
+              (letter_asks, (word_asks, (grain_makes (IsInRange hashing) Owner (λ g is. is), (policy_asks, (none_asks Show tt, (none_asks Dump tt, (grain_step_asks own.Wake (λ g is. is), (grain_step_asks own.Close (λ g is. is), (grain_step_asks own.Find (λ g is. is), (grain_step_asks own.Forget (λ g is. is), (step_asks (no_word own.Nudge) (none_makes IsOwnStep own.Nudge tt), (step_asks (a_grain_and_a_silo own.Offer) (offer_makes IsOwnStep own.Offer (λ g s first second. (first, second))), tt)))))))))))),
             ),
           ),
         ),
@@ -170,13 +172,13 @@ module _ (hashing : Hashing) where
       same equal = cc
   given_says (Err fault) is asked given = cc given
 
-  known_says : (test : List ℕ → Bool) (named : List (List ℕ × Grammar)) → AskAll named → (words : List (List ℕ)) → Says (asked_if_known (lookup test named) words)
+  known_says : (test : List ℕ → Bool) (named : List (List ℕ × Grammar Asked)) → AskAll named → (words : List (List ℕ)) → Says (asked_if_known (lookup test named) words)
   known_says test [] all words asked given = cc given
   known_says test (e ∷ named) all words asked given =
-      by (test e.0) (known_says test named (All-tail (λ (x : List ℕ × Grammar). Asks x.1) e named all) words) asked given
+      by (test e.0) (known_says test named (All-tail (λ (x : List ℕ × Grammar Asked). Asks x.1) e named all) words) asked given
     where
       by : (b : Bool) → Says (asked_if_known (lookup test named) words) → Says (asked_if_known (cond b (Some e.1) (lookup test named)) words)
-      by true later = given_says (e.1 words) (All-head (λ (x : List ℕ × Grammar). Asks x.1) e named all words)
+      by true later = given_says (e.1 words) (All-head (λ (x : List ℕ × Grammar Asked). Asks x.1) e named all words)
       by false later = later
 
   words_say : (words : List (List ℕ)) → Says (asked_of_words hashing words)

@@ -8,17 +8,17 @@ use Rattle.directory_rules.specs.declared.effect.Effect.{Effect}
 use Rattle.texts.specs.Words.{sentence}
 use Rattle.directory_rules.specs.declared.outcome.Happening.TheVariants.{Saw, Did}
 use Rattle.script_rules.specs.Lines.{happening_words, refusal_line}
-use Rattle.directory_rules.specs.Input.{Input, Wakes, Closes, Finds, Forgets, Nudges, Offers}
+use Rattle.directory_rules.specs.declared.own_step.OwnStep.{OwnStep}
+use Rattle.directory_rules.specs.Input.{Does}
 use Rattle.directory_rules.specs.Letter.{Letter}
 use Rattle.directory_rules.specs.Step.{Stepped}
 use Rattle.directory_rules.specs.Membership.{Change, Join, Leave, Die}
 use Rattle.silo_rules.specs.SiloValue.{SiloValue, own_status}
 use Rattle.silo_rules.specs.Steps.{does, sees, receives}
-use Rattle.silo_rules.specs.NodeInputs.{IsNoSight}
 use Rattle.silo_rules.specs.Told.{Heard, told}
 use Rattle.silo_rules.specs.Whole.{IsWhole}
 use Rattle.silo_rules.proofs.Lawful.{stays_whole}
-use Rattle.process_rules.specs.ReadLine.{Asked, Joined, Leaving, Dead, See, Wake, Close, Offer, Find, Forget, Nudge, Receive, Ping, Owner, Place, Show, Dump}
+use Rattle.process_rules.specs.ReadLine.{Asked, Joined, Leaving, Dead, See, Do, Receive, Ping, Owner, Place, Show, Dump}
 use Rattle.process_rules.specs.Happened.{news_words, received_words}
 use Rattle.process_rules.specs.Answer.{Answered, printing, unless_dead, heard, told_so, stepped, seen_so, done_so, is_anothers_join, answered, answered_as}
 use Rattle.process_rules.specs.Output.{answered_to}
@@ -45,8 +45,8 @@ step_whole happened s (Ok it) whole each = each it refl
 seen_whole : (version : ℕ) (s : SiloValue) → IsWhole s → IsWhole (seen_so version s).silo
 seen_whole version s whole = step_whole (λ effect. happening_words (Saw s.node.host.silo version effect)) s (sees s version) whole (λ it is. stays_whole.sees_so s version it whole is)
 
-done_whole : (input : Input) (s : SiloValue) → IsNoSight input → IsWhole s → IsWhole (done_so input s).silo
-done_whole input s other whole = step_whole (λ effect. happening_words (Did s.node.host.silo effect)) s (does s input) whole (λ it is. stays_whole.does_so s input it other whole is)
+done_whole : (step : OwnStep) (s : SiloValue) → IsWhole s → IsWhole (done_so step s).silo
+done_whole step s whole = step_whole (λ effect. happening_words (Did s.node.host.silo effect)) s (does s (Does step)) whole (λ it is. stays_whole.does_so s (Does step) it tt whole is)
 
 received_by : (letter : Letter) (s : SiloValue) (own : Bool) → IsWhole s → IsWhole (cond own (stepped (received_words s.node.host s.node.view.version letter) (receives s letter) s) (printing [] s)).silo
 received_by letter s true whole = step_whole (received_words s.node.host s.node.view.version letter) s (receives s letter) whole (λ it is. stays_whole.receives_so s letter it whole is)
@@ -58,12 +58,7 @@ answered_whole (Joined version silo token places) s whole = told_whole version (
 answered_whole (Leaving version silo) s whole = told_whole version (Leave silo) s whole
 answered_whole (Dead version silo) s whole = told_whole version (Die silo) s whole
 answered_whole (See version) s whole = seen_whole version s whole
-answered_whole (Wake grain) s whole = done_whole (Wakes grain) s tt whole
-answered_whole (Close grain) s whole = done_whole (Closes grain) s tt whole
-answered_whole (Offer grain to) s whole = done_whole (Offers grain to) s tt whole
-answered_whole (Find grain) s whole = done_whole (Finds grain) s tt whole
-answered_whole (Forget grain) s whole = done_whole (Forgets grain) s tt whole
-answered_whole Nudge s whole = done_whole Nudges s tt whole
+answered_whole (Do step) s whole = done_whole step s whole
 answered_whole (Receive letter) s whole = received_by letter s (silo_eq letter.to s.node.host.silo) whole
 answered_whole (Ping word) s whole = whole
 answered_whole (Owner grain) s whole = whole

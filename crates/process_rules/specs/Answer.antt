@@ -6,7 +6,8 @@ use Rattle.membership_view.specs.declared.status.Status.{Status}
 use Rattle.membership_view.specs.declared.status.Status.TheVariants as status
 use Rattle.directory_rules.specs.declared.effect.Effect.{Effect}
 use Rattle.directory_rules.specs.declared.outcome.Happening.TheVariants.{Saw, Did}
-use Rattle.directory_rules.specs.Input.{Input, Wakes, Closes, Finds, Forgets, Nudges, Offers}
+use Rattle.directory_rules.specs.declared.own_step.OwnStep.{OwnStep}
+use Rattle.directory_rules.specs.Input.{Does}
 use Rattle.directory_rules.specs.Letter.{Letter}
 use Rattle.directory_rules.specs.Step.{Stepped}
 use Rattle.silo_rules.specs.declared.news.News.{News}
@@ -16,7 +17,7 @@ use Rattle.silo_rules.specs.Steps.{does, sees, receives}
 use Rattle.silo_rules.specs.Told.{Heard, told}
 use Rattle.script_rules.specs.Lines.{happening_words, refusal_line}
 use Rattle.process_rules.specs.LetterText.{letter_line}
-use Rattle.process_rules.specs.ReadLine.{Asked, Joined, Leaving, Dead, See, Wake, Close, Offer, Find, Forget, Nudge, Receive, Ping, Owner, Place, Show, Dump}
+use Rattle.process_rules.specs.ReadLine.{Asked, Joined, Leaving, Dead, See, Do, Receive, Ping, Owner, Place, Show, Dump}
 use Rattle.process_rules.specs.Happened.{news_words, received_words}
 use Rattle.process_rules.specs.Show.{show_lines, dump_line, grain_owner_line, grain_place_line}
 
@@ -58,9 +59,9 @@ stepped happened (Ok it) s = printing (sentence (happened it.effect) ∷ map let
 abbrev pub seen_so : (version : ℕ) → SiloValue → Answered
 seen_so version s = stepped (λ effect. happening_words (Saw s.node.host.silo version effect)) (sees s version) s
 
--- it takes another step of its own
-abbrev pub done_so : Input → SiloValue → Answered
-done_so input s = stepped (λ effect. happening_words (Did s.node.host.silo effect)) (does s input) s
+-- it does what its application asks of it
+abbrev pub done_so : OwnStep → SiloValue → Answered
+done_so step s = stepped (λ effect. happening_words (Did s.node.host.silo effect)) (does s (Does step)) s
 
 -- a letter comes; nothing is said of one to another silo
 abbrev pub received_so : Letter → SiloValue → Answered
@@ -86,12 +87,7 @@ answered (Joined version silo token places) s = told_so version (Join silo place
 answered (Leaving version silo) s = told_so version (Leave silo) s
 answered (Dead version silo) s = told_so version (Die silo) s
 answered (See version) s = seen_so version s
-answered (Wake grain) s = done_so (Wakes grain) s
-answered (Close grain) s = done_so (Closes grain) s
-answered (Offer grain to) s = done_so (Offers grain to) s
-answered (Find grain) s = done_so (Finds grain) s
-answered (Forget grain) s = done_so (Forgets grain) s
-answered Nudge s = done_so Nudges s
+answered (Do step) s = done_so step s
 answered (Receive letter) s = received_so letter s
 answered (Ping word) s = printing (sentence (codes "pong" ∷ word ∷ []) ∷ []) s
 answered (Owner grain) s = printing (grain_owner_line s grain ∷ []) s

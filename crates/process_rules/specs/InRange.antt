@@ -4,7 +4,8 @@ use Rattle.silo_address.specs.Silo.{IsSilo}
 use Rattle.silo_address.specs.Grain.{IsGrain}
 use Rattle.ring_range.specs.Range.{circle}
 use Rattle.hash_ring.specs.declared.hashing.Hashing.{Hashing}
-use Rattle.process_rules.specs.ReadLine.{Asked, Joined, Leaving, Dead, See, Wake, Close, Offer, Find, Forget, Nudge, Receive, Ping, Owner, Place, Show, Dump}
+use Rattle.directory_rules.specs.OwnStep.{IsOwnStep}
+use Rattle.process_rules.specs.ReadLine.{Asked, Joined, Leaving, Dead, See, Do, Receive, Ping, Owner, Place, Show, Dump}
 use Rattle.process_rules.specs.Told.{IsNumber, IsTold}
 
 -- versions are below 2^64, silos and grains are such, places are hashes, and a letter is one that a line can tell
@@ -13,12 +14,7 @@ IsInRange hashing (Joined version silo token places) = IsNumber version × IsSil
 IsInRange hashing (Leaving version silo) = IsNumber version × IsSilo silo
 IsInRange hashing (Dead version silo) = IsNumber version × IsSilo silo
 IsInRange hashing (See version) = IsNumber version
-IsInRange hashing (Wake grain) = IsGrain grain
-IsInRange hashing (Close grain) = IsGrain grain
-IsInRange hashing (Offer grain to) = IsGrain grain × IsSilo to
-IsInRange hashing (Find grain) = IsGrain grain
-IsInRange hashing (Forget grain) = IsGrain grain
-IsInRange hashing Nudge = ⊤
+IsInRange hashing (Do step) = IsOwnStep step
 IsInRange hashing (Receive letter) = IsTold hashing letter
 IsInRange hashing (Ping word) = ⊤
 IsInRange hashing (Owner grain) = IsGrain grain

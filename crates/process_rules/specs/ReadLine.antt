@@ -1,6 +1,6 @@
 -- What a line of a silo's process asks for, or the number of its first fault. It is a function of the line alone: what a letter to
 -- another silo says is read as well.
-use Rattle.std.specs.Prelude.{ℕ, nat_lt, Bool, List, [], ◌∷◌, length, take, drop, codes, bytes_eq, if◌then◌else◌, Option, Some, None, Result, Ok, Err}
+use Rattle.std.specs.Prelude.{ℕ, nat_lt, Bool, List, [], ◌∷◌, length, map, take, drop, codes, bytes_eq, if◌then◌else◌, Option, Some, None, Result, Ok, Err}
 use Rattle.std.specs.List.{list_all}
 use Rattle.std.specs.Map.{lookup}
 use Rattle.texts.specs.Words.{words_in}
@@ -9,8 +9,9 @@ use Rattle.silo_address.specs.Grain.{Grain}
 use Rattle.hash_ring.specs.declared.hashing.Hashing.{Hashing}
 use Rattle.directory_rules.specs.declared.policy.Policy.{Policy}
 use Rattle.directory_rules.specs.declared.policy.Policy.TheVariants.{LeastHeld}
+use Rattle.directory_rules.specs.declared.own_step.OwnStep.{OwnStep}
 use Rattle.directory_rules.specs.Letter.{Letter}
-use Rattle.script_rules.specs.Script.{silo_word, grain_word, number_word, places_in, policy_word, is_text, is_remark, ◌>>=◌}
+use Rattle.script_rules.specs.Script.{silo_word, grain_word, number_word, places_in, policy_word, Grammar, no_word, a_grain, own_steps, is_text, is_remark, ◌>>=◌}
 use Rattle.process_rules.specs.ReadLetter.{read_letter}
 
 -- what a line may ask for
@@ -20,14 +21,9 @@ pub data Asked : Type 0 where
   Joined : (version : ℕ) → Silo → (token : Option (List ℕ)) → (places : List ℕ) → Asked
   Leaving : (version : ℕ) → Silo → Asked
   Dead : (version : ℕ) → Silo → Asked
-  -- it is to take a step of its own
+  -- it sees a version, or does what its application asks of it
   See : (version : ℕ) → Asked
-  Wake : Grain → Asked
-  Close : Grain → Asked
-  Offer : Grain → (to : Silo) → Asked
-  Find : Grain → Asked
-  Forget : Grain → Asked
-  Nudge : Asked
+  Do : OwnStep → Asked
   -- a letter comes, which may be another silo's
   Receive : Letter → Asked
   -- what is asked of it changes nothing
@@ -37,18 +33,10 @@ pub data Asked : Type 0 where
   Show : Asked
   Dump : Asked
 
--- ---- What stands behind the name of a command: 922 where there are too many words or too few, and then from the left the first word
--- with a fault.
-abbrev pub Grammar : Type 0
-Grammar = List (List ℕ) → Result Asked ℕ
-
--- no word
-abbrev pub no_word : Asked → Grammar
-no_word asked [] = Ok asked
-no_word asked (word ∷ words) = Err 922
+-- ---- What stands behind the name of a command.
 
 -- any one word
-abbrev pub a_word : Grammar
+abbrev pub a_word : Grammar Asked
 a_word (word ∷ []) = Ok (Ping word)
 a_word words = Err 922
 
@@ -71,7 +59,7 @@ behind_token [] = []
 behind_token (word ∷ words) = if is_token_word word then words else word ∷ words
 
 -- a version, a silo, perhaps a token, and any number of places
-abbrev pub a_join : Grammar
+abbrev pub a_join : Grammar Asked
 a_join (version ∷ silo ∷ words) = do
   version ← number_word version
   silo ← silo_word silo
@@ -80,7 +68,7 @@ a_join (version ∷ silo ∷ words) = do
 a_join words = Err 922
 
 -- a version and a silo
-abbrev pub a_version_and_a_silo : (ℕ → Silo → Asked) → Grammar
+abbrev pub a_version_and_a_silo : (ℕ → Silo → Asked) → Grammar Asked
 a_version_and_a_silo of (version ∷ silo ∷ []) = do
   version ← number_word version
   silo ← silo_word silo
@@ -88,26 +76,11 @@ a_version_and_a_silo of (version ∷ silo ∷ []) = do
 a_version_and_a_silo of words = Err 922
 
 -- a version
-abbrev pub a_version : Grammar
+abbrev pub a_version : Grammar Asked
 a_version (version ∷ []) = do
   version ← number_word version
   Ok (See version)
 a_version words = Err 922
-
--- a grain
-abbrev pub a_grain : (Grain → Asked) → Grammar
-a_grain of (grain ∷ []) = do
-  grain ← grain_word grain
-  Ok (of grain)
-a_grain of words = Err 922
-
--- a grain and a silo
-abbrev pub a_grain_and_a_silo : Grammar
-a_grain_and_a_silo (grain ∷ silo ∷ []) = do
-  grain ← grain_word grain
-  silo ← silo_word silo
-  Ok (Offer grain silo)
-a_grain_and_a_silo words = Err 922
 
 -- a policy that a silo can follow by itself: 926 where it is `least_held`, since a silo knows of no other how many it has
 abbrev pub if_by_itself : Policy → Result Policy ℕ
@@ -119,7 +92,7 @@ abbrev pub own_policy_word : List ℕ → Result Policy ℕ
 own_policy_word word = policy_word word >>= if_by_itself
 
 -- a grain and a policy
-abbrev pub a_grain_and_a_policy : Grammar
+abbrev pub a_grain_and_a_policy : Grammar Asked
 a_grain_and_a_policy (grain ∷ policy ∷ []) = do
   grain ← grain_word grain
   policy ← own_policy_word policy
@@ -127,31 +100,34 @@ a_grain_and_a_policy (grain ∷ policy ∷ []) = do
 a_grain_and_a_policy words = Err 922
 
 -- the words of a letter
-abbrev pub a_letter : Hashing → Grammar
+abbrev pub a_letter : Hashing → Grammar Asked
 a_letter hashing words = do
   letter ← read_letter hashing words
   Ok (Receive letter)
 
+-- what its application asks of the silo: what stands behind the name of that step
+abbrev pub a_step : Grammar OwnStep → Grammar Asked
+a_step grammar words = do
+  step ← grammar words
+  Ok (Do step)
+
+abbrev pub step_commands : List (List ℕ × Grammar Asked)
+step_commands = map (λ row. (row.0, a_step row.1)) own_steps
+
 -- each command under its name, with what stands behind the name
-abbrev pub commands : Hashing → List (List ℕ × Grammar)
+abbrev pub commands : Hashing → List (List ℕ × Grammar Asked)
 commands hashing =
     (codes "joined", a_join)
     ∷ (codes "leaving", a_version_and_a_silo Leaving)
     ∷ (codes "dead", a_version_and_a_silo Dead)
     ∷ (codes "see", a_version)
-    ∷ (codes "wake", a_grain Wake)
-    ∷ (codes "close", a_grain Close)
-    ∷ (codes "offer", a_grain_and_a_silo)
-    ∷ (codes "find", a_grain Find)
-    ∷ (codes "forget", a_grain Forget)
-    ∷ (codes "nudge", no_word Nudge)
     ∷ (codes "letter", a_letter hashing)
     ∷ (codes "ping", a_word)
     ∷ (codes "owner", a_grain Owner)
     ∷ (codes "place", a_grain_and_a_policy)
     ∷ (codes "show", no_word Show)
     ∷ (codes "dump", no_word Dump)
-    ∷ []
+    ∷ step_commands
 
 -- ---- Lines.
 
@@ -160,7 +136,7 @@ abbrev pub longest_line : ℕ
 longest_line = 16777216
 
 -- the words behind the name of a command that was looked up
-abbrev pub asked_if_known : Option Grammar → List (List ℕ) → Result (Option Asked) ℕ
+abbrev pub asked_if_known : Option (Grammar Asked) → List (List ℕ) → Result (Option Asked) ℕ
 asked_if_known None words = Err 921
 asked_if_known (Some grammar) words = do
   asked ← grammar words

@@ -128,33 +128,6 @@ pub(crate) fn a_silo_and_version(words: &[u8]) -> Result<(SiloAddress, u64), Scr
     Ok((silo, version))
 }
 
-/// A silo and a grain.
-pub(crate) fn a_silo_and_grain(words: &[u8]) -> Result<(SiloAddress, GrainId), ScriptFault>
-    ensures { (of : Silo → Grain → rule.Event) → told (λ parts. script.Happen (of parts.0 parts.1)) result ≡ script.a_silo_and_grain of (words_in words.now) }
-{
-    let Some((silo, grain)) = only_two_words(words) else {
-        return Err(ScriptFault::WordCount);
-    };
-    let silo = silo_word(silo)?;
-    let grain = grain_word(grain)?;
-    Ok((silo, grain))
-}
-
-/// A silo, a grain and another silo.
-pub(crate) fn a_silo_a_grain_and_a_silo(
-    words: &[u8],
-) -> Result<(SiloAddress, GrainId, SiloAddress), ScriptFault>
-    ensures { (of : Silo → Grain → Silo → rule.Event) → told (λ parts. script.Happen (of parts.0 parts.1 parts.2)) result ≡ script.a_silo_a_grain_and_a_silo of (words_in words.now) }
-{
-    let Some((silo, grain, other)) = only_three_words(words) else {
-        return Err(ScriptFault::WordCount);
-    };
-    let silo = silo_word(silo)?;
-    let grain = grain_word(grain)?;
-    let other = silo_word(other)?;
-    Ok((silo, grain, other))
-}
-
 /// A silo, a policy and a grain.
 pub(crate) fn a_silo_a_policy_and_a_grain(
     words: &[u8],

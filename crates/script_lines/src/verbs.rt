@@ -1,8 +1,8 @@
-//! The verbs of commands: the one table of the code, as `commands` of `Script.antt` is that of the rule, and below it what reads
-//! the words behind each verb.
+//! The verbs of commands: the one table of the code but for the steps that an application asks of its silo, as `commands` of
+//! `Script.antt` is that of the rule, and below it what reads the words behind each verb.
 
 ghost use Rattle.std.specs.Map.{lookup};
-ghost use Rattle.std.specs.Prelude.{◌≡◌, ◌≢◌, IsErrOf, Some, bytes_eq, codes};
+ghost use Rattle.std.specs.Prelude.{◌≡◌, ◌≢◌, IsErrOf, Some, bytes_eq, codes, option_map};
 ghost use Rattle.directory_rules.specs.Event as event;
 ghost use Rattle.texts.specs.Words.{words_in};
 ghost use Rattle.script_rules.specs.Script as script;
@@ -10,11 +10,13 @@ ghost use Rattle.script_lines.specs.CommandModel.{command_of};
 ghost use Rattle.script_lines.specs.ReadAs.{IsJoinWithPlaces, ListsPlaces, Reads, told};
 
 use crate::grammar::{
-    a_hash, a_letter, a_silo, a_silo_a_grain_and_a_silo, a_silo_a_policy_and_a_grain,
-    a_silo_and_grain, a_silo_and_places, a_silo_and_version, no_word,
+    a_hash, a_letter, a_silo, a_silo_a_policy_and_a_grain, a_silo_and_places, a_silo_and_version,
+    no_word, silo_word,
 };
+use crate::own_steps::own_step;
+use crate::words::split_word;
 use crate::{Command, ReadError, ScriptFault};
-use directory_rules::Event;
+use directory_rules::{Event, OwnStep};
 use std::alloc::Global;
 
 /// What each command is written as.
@@ -29,37 +31,70 @@ pub(crate) fn command_named(alloc: Global, verb: &[u8], words: &[u8]) -> Result<
     if verb == b"join".as_slice() {
         return join(alloc, words);
     }
-    let command = other_command(verb, words)?;
+    let command = command_without_memory(verb, words)?;
     Ok(command)
 }
 
-/// The command of a verb other than that of a join. Each choice hands on what it reads: what one held would be cleared at every line.
-fn other_command(verb: &[u8], words: &[u8]) -> Result<Command, ScriptFault>
+/// The command of a verb other than that of a join.
+fn command_without_memory(verb: &[u8], words: &[u8]) -> Result<Command, ScriptFault>
     requires other { verb.now ≢ codes "join" }
     ensures { told (λ command. Some (command_of command)) result ≡ script.command_if_known (lookup (bytes_eq verb.now) script.commands) (words_in words.now) }
 {
-    match verb {
-        b"leave" => leave(words),
-        b"kill" => kill(words),
-        b"nudge" => nudge(words),
-        b"see" => see(words),
-        b"sync" => sync(words),
-        b"wake" => wake(words),
-        b"close" => close(words),
-        b"find" => find(words),
-        b"forget" => forget(words),
-        b"offer" => offer(words),
-        b"deliver" => deliver(words),
-        b"lose" => lose(words),
-        b"settle" => settle(words),
-        b"owner" => owner(words),
-        b"place" => place(words),
-        b"show" => show(words),
-        b"mail" => mail(words),
-        b"dump" => dump(words),
-        b"check" => check(words),
-        _ => Err(ScriptFault::UnknownCommand),
+    match other_command(verb, words) {
+        Some(read) => read,
+        None => step_of_a_silo(verb, words),
     }
+}
+
+/// The command of a verb that is neither that of a join nor that of a step of one silo.
+fn other_command(verb: &[u8], words: &[u8]) -> Option<Result<Command, ScriptFault>>
+    requires other { verb.now ≢ codes "join" }
+    ensures { option_map (told command_of) result ≡ option_map (λ grammar. grammar (words_in words.now)) (lookup (bytes_eq verb.now) script.other_commands) }
+{
+    match verb {
+        b"leave" => Some(leave(words)),
+        b"kill" => Some(kill(words)),
+        b"see" => Some(see(words)),
+        b"sync" => Some(sync(words)),
+        b"deliver" => Some(deliver(words)),
+        b"lose" => Some(lose(words)),
+        b"settle" => Some(settle(words)),
+        b"owner" => Some(owner(words)),
+        b"place" => Some(place(words)),
+        b"show" => Some(show(words)),
+        b"mail" => Some(mail(words)),
+        b"dump" => Some(dump(words)),
+        b"check" => Some(check(words)),
+        _ => None,
+    }
+}
+
+/// What a silo's application asks of it, where the verb is that of such a step.
+fn step_of_a_silo(verb: &[u8], words: &[u8]) -> Result<Command, ScriptFault>
+    ensures { told (λ command. Some (command_of command)) result ≡ script.command_if_known (lookup (bytes_eq verb.now) script.step_commands) (words_in words.now) }
+{
+    let Some((silo, behind)) = split_word(words) else {
+        return match own_step(verb, words) {
+            Some(_) => Err(ScriptFault::WordCount),
+            None => Err(ScriptFault::UnknownCommand),
+        };
+    };
+    match own_step(verb, behind) {
+        Some(read) => with_a_silo(silo, read),
+        None => Err(ScriptFault::UnknownCommand),
+    }
+}
+
+/// A silo, and the step that it is to take.
+fn with_a_silo(silo: &[u8], read: Result<OwnStep, ScriptFault>) -> Result<Command, ScriptFault>
+    ensures { told command_of result ≡ script.with_a_silo silo.now (told (λ step. step) read) }
+{
+    if let Err(ScriptFault::WordCount) = read {
+        return Err(ScriptFault::WordCount);
+    }
+    let silo = silo_word(silo)?;
+    let step = read?;
+    Ok(Command::Happen(Event::Do { silo, step }))
 }
 
 fn join(alloc: Global, words: &[u8]) -> Result<Command, ReadError>
@@ -84,13 +119,6 @@ fn kill(words: &[u8]) -> Result<Command, ScriptFault>
     Ok(Command::Happen(Event::Kill { silo }))
 }
 
-fn nudge(words: &[u8]) -> Result<Command, ScriptFault>
-    ensures { told command_of result ≡ script.a_silo event.Nudge (words_in words.now) }
-{
-    let silo = a_silo(words)?;
-    Ok(Command::Happen(Event::Nudge { silo }))
-}
-
 fn see(words: &[u8]) -> Result<Command, ScriptFault>
     ensures { told command_of result ≡ script.a_silo_and_version event.See (words_in words.now) }
 {
@@ -103,41 +131,6 @@ fn sync(words: &[u8]) -> Result<Command, ScriptFault>
 {
     no_word(words)?;
     Ok(Command::Sync)
-}
-
-fn wake(words: &[u8]) -> Result<Command, ScriptFault>
-    ensures { told command_of result ≡ script.a_silo_and_grain event.Wake (words_in words.now) }
-{
-    let (silo, grain) = a_silo_and_grain(words)?;
-    Ok(Command::Happen(Event::Wake { silo, grain }))
-}
-
-fn close(words: &[u8]) -> Result<Command, ScriptFault>
-    ensures { told command_of result ≡ script.a_silo_and_grain event.Close (words_in words.now) }
-{
-    let (silo, grain) = a_silo_and_grain(words)?;
-    Ok(Command::Happen(Event::Close { silo, grain }))
-}
-
-fn find(words: &[u8]) -> Result<Command, ScriptFault>
-    ensures { told command_of result ≡ script.a_silo_and_grain event.Find (words_in words.now) }
-{
-    let (silo, grain) = a_silo_and_grain(words)?;
-    Ok(Command::Happen(Event::Find { silo, grain }))
-}
-
-fn forget(words: &[u8]) -> Result<Command, ScriptFault>
-    ensures { told command_of result ≡ script.a_silo_and_grain event.Forget (words_in words.now) }
-{
-    let (silo, grain) = a_silo_and_grain(words)?;
-    Ok(Command::Happen(Event::Forget { silo, grain }))
-}
-
-fn offer(words: &[u8]) -> Result<Command, ScriptFault>
-    ensures { told command_of result ≡ script.a_silo_a_grain_and_a_silo event.Offer (words_in words.now) }
-{
-    let (silo, grain, to) = a_silo_a_grain_and_a_silo(words)?;
-    Ok(Command::Happen(Event::Offer { silo, grain, to }))
 }
 
 fn deliver(words: &[u8]) -> Result<Command, ScriptFault>

@@ -1,5 +1,5 @@
 -- Scripts: bytes, cut into lines; each line a command, or none, or a fault.
-use Rattle.std.specs.Prelude.{ℕ, ◌==◌, ◌&&◌, nat_lt, nat_le, Bool, false, if◌then◌else◌, List, [], ◌∷◌, map, length, codes, bytes_eq, Option, Some, None, Result, Ok, Err}
+use Rattle.std.specs.Prelude.{ℕ, ◌==◌, ◌&&◌, nat_lt, nat_le, Bool, false, if◌then◌else◌, List, [], ◌∷◌, ◌++◌, map, length, codes, bytes_eq, Option, Some, None, Result, Ok, Err}
 use Rattle.std.specs.List.{list_all}
 use Rattle.std.specs.Map.{lookup}
 use Rattle.std.specs.Io.BufRead.{strip_last}
@@ -14,6 +14,8 @@ use Rattle.silo_address.specs.Grain.{Grain}
 use Rattle.silo_address.specs.ReadGrain.{read_grain}
 use Rattle.directory_rules.specs.declared.policy.Policy.{Policy}
 use Rattle.directory_rules.specs.declared.policy.Policy.TheVariants.{PreferLocal, HashBased, LeastHeld}
+use Rattle.directory_rules.specs.declared.own_step.OwnStep.{OwnStep}
+use Rattle.directory_rules.specs.declared.own_step.OwnStep.TheVariants as own
 use Rattle.directory_rules.specs.Event.{Event}
 use Rattle.directory_rules.specs.Event as event
 use Rattle.texts.specs.Words.{line_feed, carriage_return, space, semicolon, tilde, pieces_at, words_in}
@@ -94,25 +96,39 @@ policy_or_fault (Some policy) = Ok policy
 abbrev pub policy_word : List ℕ → Result Policy ℕ
 policy_word word = policy_or_fault (lookup (bytes_eq word) policies)
 
--- ---- What stands behind the name of a command: 922 where there are too many words or too few, and then from the left
--- the first word with a fault.
-abbrev pub Grammar : Type 0
-Grammar = List (List ℕ) → Result Command ℕ
+-- ---- What stands behind a name: 922 where there are too many words or too few, and then from the left the first word with a fault.
+abbrev pub Grammar : Type 0 → Type 0
+Grammar A = List (List ℕ) → Result A ℕ
 
 -- no word
-abbrev pub no_word : Command → Grammar
-no_word command [] = Ok command
-no_word command (word ∷ words) = Err 922
+abbrev pub no_word : {A : Type 0} → A → Grammar A
+no_word value [] = Ok value
+no_word value (word ∷ words) = Err 922
+
+-- a grain
+abbrev pub a_grain : {A : Type 0} → (Grain → A) → Grammar A
+a_grain of (grain ∷ []) = do
+  grain ← grain_word grain
+  Ok (of grain)
+a_grain of words = Err 922
+
+-- a grain and a silo
+abbrev pub a_grain_and_a_silo : {A : Type 0} → (Grain → Silo → A) → Grammar A
+a_grain_and_a_silo of (grain ∷ silo ∷ []) = do
+  grain ← grain_word grain
+  silo ← silo_word silo
+  Ok (of grain silo)
+a_grain_and_a_silo of words = Err 922
 
 -- a silo
-abbrev pub a_silo : (Silo → Event) → Grammar
+abbrev pub a_silo : (Silo → Event) → Grammar Command
 a_silo of (silo ∷ []) = do
   silo ← silo_word silo
   Ok (Happen (of silo))
 a_silo of words = Err 922
 
 -- a silo, and any number of places
-abbrev pub a_silo_and_places : (Silo → List ℕ → Event) → Grammar
+abbrev pub a_silo_and_places : (Silo → List ℕ → Event) → Grammar Command
 a_silo_and_places of (silo ∷ places) = do
   silo ← silo_word silo
   places ← places_in places
@@ -120,46 +136,29 @@ a_silo_and_places of (silo ∷ places) = do
 a_silo_and_places of words = Err 922
 
 -- a silo and a version
-abbrev pub a_silo_and_version : (Silo → ℕ → Event) → Grammar
+abbrev pub a_silo_and_version : (Silo → ℕ → Event) → Grammar Command
 a_silo_and_version of (silo ∷ version ∷ []) = do
   silo ← silo_word silo
   version ← number_word version
   Ok (Happen (of silo version))
 a_silo_and_version of words = Err 922
 
--- a silo and a grain
-abbrev pub a_silo_and_grain : (Silo → Grain → Event) → Grammar
-a_silo_and_grain of (silo ∷ grain ∷ []) = do
-  silo ← silo_word silo
-  grain ← grain_word grain
-  Ok (Happen (of silo grain))
-a_silo_and_grain of words = Err 922
-
--- a silo, a grain and another silo
-abbrev pub a_silo_a_grain_and_a_silo : (Silo → Grain → Silo → Event) → Grammar
-a_silo_a_grain_and_a_silo of (silo ∷ grain ∷ other ∷ []) = do
-  silo ← silo_word silo
-  grain ← grain_word grain
-  other ← silo_word other
-  Ok (Happen (of silo grain other))
-a_silo_a_grain_and_a_silo of words = Err 922
-
 -- the number of a letter
-abbrev pub a_letter : (ℕ → Event) → Grammar
+abbrev pub a_letter : (ℕ → Event) → Grammar Command
 a_letter of (number ∷ []) = do
   number ← number_word number
   Ok (Happen (of number))
 a_letter of words = Err 922
 
 -- a hash
-abbrev pub a_hash : (ℕ → Command) → Grammar
+abbrev pub a_hash : (ℕ → Command) → Grammar Command
 a_hash of (hash ∷ []) = do
   hash ← hash_word hash
   Ok (of hash)
 a_hash of words = Err 922
 
 -- a silo, a policy and a grain
-abbrev pub a_silo_a_policy_and_a_grain : (Silo → Policy → Grain → Command) → Grammar
+abbrev pub a_silo_a_policy_and_a_grain : (Silo → Policy → Grain → Command) → Grammar Command
 a_silo_a_policy_and_a_grain of (silo ∷ policy ∷ grain ∷ []) = do
   silo ← silo_word silo
   policy ← policy_word policy
@@ -167,20 +166,50 @@ a_silo_a_policy_and_a_grain of (silo ∷ policy ∷ grain ∷ []) = do
   Ok (of silo policy grain)
 a_silo_a_policy_and_a_grain of words = Err 922
 
--- each command under its name, with what stands behind the name
-abbrev pub commands : List (List ℕ × Grammar)
-commands =
+-- ---- What an application asks of its silo.
+
+-- each such step under its name, with what stands behind the name
+abbrev pub own_steps : List (List ℕ × Grammar OwnStep)
+own_steps =
+    (codes "wake", a_grain own.Wake)
+    ∷ (codes "close", a_grain own.Close)
+    ∷ (codes "find", a_grain own.Find)
+    ∷ (codes "forget", a_grain own.Forget)
+    ∷ (codes "nudge", no_word own.Nudge)
+    ∷ (codes "offer", a_grain_and_a_silo own.Offer)
+    ∷ []
+
+-- whether there are too many words or too few
+abbrev pub is_miscounted : {A : Type 0} → Result A ℕ → Bool
+is_miscounted (Ok value) = false
+is_miscounted (Err fault) = fault == 922
+
+-- a silo, and the step that it is to take: where there are too many words or too few, that is the fault
+abbrev pub with_a_silo : List ℕ → Result OwnStep ℕ → Result Command ℕ
+with_a_silo silo read = if is_miscounted read then Err 922 else (do
+  silo ← silo_word silo
+  step ← read
+  Ok (Happen (event.Do silo step)))
+
+-- a silo, and what stands behind the name of a step
+abbrev pub behind_a_silo : Grammar OwnStep → Grammar Command
+behind_a_silo grammar [] = Err 922
+behind_a_silo grammar (silo ∷ words) = with_a_silo silo (grammar words)
+
+-- in a script the silo stands in front
+abbrev pub step_commands : List (List ℕ × Grammar Command)
+step_commands = map (λ row. (row.0, behind_a_silo row.1)) own_steps
+
+-- ---- Commands.
+
+-- those that are no step of one silo, each under its name, with what stands behind the name
+abbrev pub other_commands : List (List ℕ × Grammar Command)
+other_commands =
     (codes "join", a_silo_and_places event.Join)
     ∷ (codes "leave", a_silo event.Leave)
     ∷ (codes "kill", a_silo event.Kill)
-    ∷ (codes "nudge", a_silo event.Nudge)
     ∷ (codes "see", a_silo_and_version event.See)
     ∷ (codes "sync", no_word Sync)
-    ∷ (codes "wake", a_silo_and_grain event.Wake)
-    ∷ (codes "close", a_silo_and_grain event.Close)
-    ∷ (codes "find", a_silo_and_grain event.Find)
-    ∷ (codes "forget", a_silo_and_grain event.Forget)
-    ∷ (codes "offer", a_silo_a_grain_and_a_silo event.Offer)
     ∷ (codes "deliver", a_letter event.Deliver)
     ∷ (codes "lose", a_letter event.Lose)
     ∷ (codes "settle", no_word Settle)
@@ -191,6 +220,10 @@ commands =
     ∷ (codes "dump", no_word Dump)
     ∷ (codes "check", no_word Check)
     ∷ []
+
+-- each command under its name
+abbrev pub commands : List (List ℕ × Grammar Command)
+commands = other_commands ++ step_commands
 
 -- ---- Lines.
 
@@ -213,7 +246,7 @@ is_remark [] = false
 is_remark (byte ∷ bytes) = byte == semicolon
 
 -- the words behind the name of a command that was looked up
-abbrev pub command_if_known : Option Grammar → List (List ℕ) → Result (Option Command) ℕ
+abbrev pub command_if_known : Option (Grammar Command) → List (List ℕ) → Result (Option Command) ℕ
 command_if_known None words = Err 921
 command_if_known (Some grammar) words = do
   command ← grammar words

@@ -1,4 +1,5 @@
 //! Lines of a script, read as commands.
+use crate::lines::step_name;
 use directory_rules::Event;
 use script_lines::{Command, ReadError, ScriptFault, read_command, without_return};
 use silo_address::{GrainError, SiloError};
@@ -44,13 +45,8 @@ fn event_name(event: &Event) -> &'static str {
         Event::Join { .. } => "join",
         Event::Leave { .. } => "leave",
         Event::Kill { .. } => "kill",
-        Event::Nudge { .. } => "nudge",
         Event::See { .. } => "see",
-        Event::Wake { .. } => "wake",
-        Event::Close { .. } => "close",
-        Event::Find { .. } => "find",
-        Event::Forget { .. } => "forget",
-        Event::Offer { .. } => "offer",
+        Event::Do { step, .. } => step_name(step),
         Event::Deliver { .. } => "deliver",
         Event::Lose { .. } => "lose",
     }
