@@ -5,7 +5,7 @@ use crate::fault::Fault;
 use crate::naming::{places, silo};
 use crate::stopwatch::Stopwatch;
 use directory_core::World;
-use directory_rules::{Event, Settings};
+use directory_rules::{Event, OwnStep, Settings};
 use grain_partition::Holding;
 use hash_ring::{Hashing, Ring};
 use membership_view::View;
@@ -119,18 +119,23 @@ impl Cluster {
     pub(crate) fn does(&mut self, deed: Deed, turn: u64, grain: GrainId) -> Result<(), Fault> {
         let silo = self.in_turn(turn)?;
         match deed {
-            Deed::Wake => self.happens(&Event::Wake { silo, grain }),
-            Deed::Close => self.happens(&Event::Close { silo, grain }),
-            Deed::Find => self.happens(&Event::Find { silo, grain }),
+            Deed::Wake => self.asks(silo, OwnStep::Wake(grain)),
+            Deed::Close => self.asks(silo, OwnStep::Close(grain)),
+            Deed::Find => self.asks(silo, OwnStep::Find(grain)),
             Deed::Renew => self.renew(silo, grain),
         }
     }
 
     // An activation ends and another one begins.
     fn renew(&mut self, silo: SiloAddress, grain: GrainId) -> Result<(), Fault> {
-        self.happens(&Event::Close { silo, grain })?;
+        self.asks(silo, OwnStep::Close(grain))?;
         self.settle()?;
-        self.happens(&Event::Wake { silo, grain })
+        self.asks(silo, OwnStep::Wake(grain))
+    }
+
+    // A silo does what its application asks of it.
+    fn asks(&mut self, silo: SiloAddress, step: OwnStep) -> Result<(), Fault> {
+        self.happens(&Event::Do { silo, step })
     }
 
     /// The letters that were never delivered are delivered, the least first, until there is none.
