@@ -5,7 +5,7 @@ ghost use Rattle.cluster_board.specs.Due.{IsDismissed};
 ghost use Rattle.cluster_journal.specs.Journal.{IsJournaled};
 
 use crate::{Charter, Dismissal, Hand, Mark, Marks, Tokens};
-use cluster_journal::{Entry, Front, Keeper};
+use cluster_journal::{Front, JournalEntry, Keeper};
 use directory_core::World;
 use directory_node::SharedNode;
 use directory_rules::Settings;
@@ -22,10 +22,10 @@ use std::sync::ledger::{Book, Share};
 pub struct Board<L: Charter> {
     pub(crate) alloc: Global,
     pub(crate) world: World,
-    pub(crate) journal: Vec<Entry>,
+    pub(crate) journal: Vec<JournalEntry>,
     pub(crate) book: Book<L>,
     // The log of the journal, of which others have beginnings.
-    pub(crate) keeper: Keeper<Entry, L>,
+    pub(crate) keeper: Keeper<JournalEntry, L>,
     // Where marks of nodes are made; none where there was no memory for it.
     pub(crate) marks: Option<Marks<SharedNode, L>>,
     // Of the silos whose nodes are as they were marked, the marks.
@@ -86,7 +86,7 @@ impl<L: Charter> Board<L> {
     }
 
     /// The accepted events, in order, each with what it told.
-    pub fn journal(&self) -> &[Entry]
+    pub fn journal(&self) -> &[JournalEntry]
         ensures { result.now ≡ self.now.journal }
     {
         &self.journal
@@ -132,7 +132,7 @@ impl<L: Charter> Board<L> {
     }
 
     /// The journal as it is, to be kept outside the lock: a beginning of what it will be.
-    pub fn front(&mut self) -> Front<Entry, L>
+    pub fn front(&mut self) -> Front<JournalEntry, L>
         ensures front { result ≡ self.old.journal }
         ensures unchanged { self.new ≡ self.old }
     {
@@ -140,7 +140,7 @@ impl<L: Charter> Board<L> {
     }
 
     /// The front, which was seen of the journal, is the journal as it is from now on.
-    pub fn renew(&mut self, seen: &mut Front<Entry, L>)
+    pub fn renew(&mut self, seen: &mut Front<JournalEntry, L>)
         ensures begins { IsPrefix seen.old self.old.journal }
         ensures front { seen.new ≡ self.old.journal }
         ensures unchanged { self.new ≡ self.old }
@@ -164,7 +164,7 @@ impl<L: Charter> Board<L> {
     }
 
     /// A law: what was seen of the journal is a beginning of it.
-    pub fn began(&mut self, seen: Front<Entry, L>)
+    pub fn began(&mut self, seen: Front<JournalEntry, L>)
         ensures begins { IsPrefix seen self.old.journal }
         ensures unchanged { self.new ≡ self.old }
     {

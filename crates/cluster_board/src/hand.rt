@@ -1,7 +1,7 @@
 ghost use Rattle.std.specs.Prelude.{◌≡◌, IfOk};
 
 use crate::{Blocks, Names};
-use cluster_journal::{Entry, Front, LogName, NewLog};
+use cluster_journal::{Front, JournalEntry, LogName, NewLog};
 use directory_node::SharedNode;
 use silo_address::SiloAddress;
 use std::alloc::{AllocError, Global};
@@ -27,7 +27,7 @@ impl Charter for Brand {
 pub struct Tokens {
     pub ledger: Blank,
     pub marks: Blocks<SharedNode>,
-    pub log: NewLog<Entry>,
+    pub log: NewLog<JournalEntry>,
 }
 
 impl Tokens {
@@ -50,7 +50,7 @@ impl Tokens {
 #[derive(Drop)]
 pub struct Hand<L: Charter> {
     pub share: Share<L>,
-    pub seen: Front<Entry, L>,
+    pub seen: Front<JournalEntry, L>,
 }
 
 /// Shows that a board dismissed a silo's worker: clauses see it as the silo. A board alone can make it.

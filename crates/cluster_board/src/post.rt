@@ -8,7 +8,7 @@ ghost use Rattle.directory_core.specs.Numbers.{IsNumberedUnlessMemory, event_ref
 
 use crate::marks::forget_by;
 use crate::{Board, Charter, Hand};
-use cluster_journal::{Draft, Entry, Receipt};
+use cluster_journal::{Draft, JournalEntry, Receipt};
 use directory_core::EventRefusal;
 use directory_rules::{Event, Outcome};
 use std::alloc::{AllocError, Global};
@@ -60,7 +60,7 @@ pub(crate) fn drafts(alloc: Global, event: &Event) -> Result<(Draft, Draft), All
 
 /// The entry of an event that told this is the journal's last one. There is room for it.
 pub(crate) fn entered(
-    journal: &mut Vec<Entry>,
+    journal: &mut Vec<JournalEntry>,
     kept: Draft,
     told: Draft,
     outcome: &Outcome,

@@ -3,13 +3,17 @@ ghost use Rattle.std.specs.Option.{option_copied};
 ghost use Rattle.cluster_journal.specs.Agreement.{Agree, HaveTwoNumbers, Stands};
 ghost use Rattle.cluster_journal.specs.Journal.{entry_at};
 
-use crate::{Entry, Receipt};
+use crate::{JournalEntry, Receipt};
 use std::alloc::{AllocError, Global};
 
 /// Whether the receipts are just those of the journal: each one's event and outcome are the journal's at its number, no two have
 /// one number, and there are as many as entries. Two looks at each. Fails only when memory runs out, of which it takes a byte an entry,
 /// where all is right but that two may have one number.
-pub fn agree(alloc: Global, journal: &[Entry], receipts: &[Receipt]) -> Result<bool, AllocError>
+pub fn agree(
+    alloc: Global,
+    journal: &[JournalEntry],
+    receipts: &[Receipt],
+) -> Result<bool, AllocError>
     ensures agree { IfOk result (λ agree. IsTrue agree ↔ Agree journal.now receipts.now) }
     ensures stand { OnErr result (All (Stands journal.now) receipts.now) }
     ensures many { OnErr result (length receipts.now ≡ length journal.now) }
@@ -22,14 +26,14 @@ pub fn agree(alloc: Global, journal: &[Entry], receipts: &[Receipt]) -> Result<b
 }
 
 // Whether each receipt's entry is the journal's at its number.
-fn all_stand(journal: &[Entry], receipts: &[Receipt]) -> bool
+fn all_stand(journal: &[JournalEntry], receipts: &[Receipt]) -> bool
     ensures { IsTrue result ↔ All (Stands journal.now) receipts.now }
 {
     receipts.iter().all(|receipt| stands(journal, receipt))
 }
 
 // Whether no two receipts, whose entries are the journal's, have one number: an entry is marked as given once its receipt has come.
-fn are_apart(journal: &[Entry], receipts: &[Receipt], given: &mut [bool]) -> bool
+fn are_apart(journal: &[JournalEntry], receipts: &[Receipt], given: &mut [bool]) -> bool
     requires stand { All (Stands journal.now) receipts.now }
     requires none { given.old ≡ replicate (length journal.now) false }
     ensures { IsTrue result ↔ AllPairs HaveTwoNumbers receipts.now }
@@ -45,7 +49,7 @@ fn are_apart(journal: &[Entry], receipts: &[Receipt], given: &mut [bool]) -> boo
 }
 
 // Whether the receipt's entry is the journal's at its number.
-fn stands(journal: &[Entry], receipt: &Receipt) -> bool
+fn stands(journal: &[JournalEntry], receipt: &Receipt) -> bool
     ensures { IsTrue result ↔ Stands journal.now receipt.now }
 {
     match entry_at(journal, receipt.number) {
@@ -55,7 +59,7 @@ fn stands(journal: &[Entry], receipt: &Receipt) -> bool
 }
 
 // The entry of that number, if there is one.
-fn entry_at(journal: &[Entry], number: u64) -> Option<&Entry>
+fn entry_at(journal: &[JournalEntry], number: u64) -> Option<&JournalEntry>
     ensures { option_copied result ≡ entry_at journal.now number }
 {
     if number == 0 {

@@ -10,7 +10,7 @@ use std::mem::size_of;
 
 /// An accepted event, and what it told (`docs/RULES.md#the-board`).
 #[derive(Drop)]
-pub struct Entry {
+pub struct JournalEntry {
     form: Form,
 }
 
@@ -29,9 +29,9 @@ struct Whole {
 }
 
 // A journal has an entry for each event that was ever accepted.
-const _: () = prove!(size_of::<Entry>() == 72);
+const _: () = prove!(size_of::<JournalEntry>() == 72);
 
-impl Model for Entry {
+impl Model for JournalEntry {
     ghost use Rattle.cluster_journal.specs.Entry.{EntryValue};
 
     ghost Value = { EntryValue };
@@ -41,7 +41,7 @@ impl Model for Entry {
     ghost view = { λ e. entry_of e.form };
 }
 
-impl Entry {
+impl JournalEntry {
     /// The event, copied. Fails only when memory runs out, and only at a join, whose places are copied.
     pub fn event(&self) -> Result<Event, AllocError>
         ensures copied { IfOk result (λ event. event_of event ≡ self.now.event) }
@@ -66,14 +66,14 @@ impl Entry {
     }
 
     /// Whether the two are of one event that told the same.
-    pub fn same(&self, other: &Entry) -> bool
+    pub fn same(&self, other: &JournalEntry) -> bool
         ensures { IsTrue result ↔ (self.now ≡ other.now) }
     {
         self.has_event_of(other) && self.outcome().same(&other.outcome())
     }
 
     // Whether the two are of one event.
-    fn has_event_of(&self, other: &Entry) -> bool
+    fn has_event_of(&self, other: &JournalEntry) -> bool
         ensures { IsTrue result ↔ (self.now.event ≡ other.now.event) }
     {
         match (&self.form, &other.form) {
@@ -115,17 +115,17 @@ impl Draft {
     }
 
     /// The event told this.
-    pub fn told(self, outcome: &Outcome) -> Entry
+    pub fn told(self, outcome: &Outcome) -> JournalEntry
         ensures { result ≡ record { event = self; outcome = outcome.now } }
     {
         let Draft { mut whole } = self;
         if let Some(delivery) = Delivery::of(&whole.event, outcome) {
-            return Entry {
+            return JournalEntry {
                 form: Form::Short(delivery),
             };
         }
         whole.outcome = *outcome;
-        Entry {
+        JournalEntry {
             form: Form::Long(whole),
         }
     }
@@ -135,5 +135,5 @@ impl Draft {
 #[derive(Drop)]
 pub struct Receipt {
     pub number: u64,
-    pub entry: Entry,
+    pub entry: JournalEntry,
 }

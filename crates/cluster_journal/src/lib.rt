@@ -13,6 +13,6 @@ mod short;
 
 pub use agreement::agree;
 pub use comparison::compare;
-pub use entry::{Draft, Entry, Receipt};
+pub use entry::{Draft, JournalEntry, Receipt};
 pub use log::{Front, Keeper, LogName, NewLog};
 pub use refusal::CloseRefusal;

@@ -11,7 +11,7 @@ use Rattle.line_loop.specs.Endings.{Ends, EndsInTurn}
 use Rattle.line_loop.specs.Lines.{PlaysLines, Prints, PrintsLine}
 use Rattle.line_loop.specs.Scripts.{PlaysInTurn, PlaysLine, PrintsLines, PrintsOne, WritesScript, most_begun, most_read, stripped, told_fault}
 use Rattle.line_loop.specs.declared.ended.Ended.{Ended}
-use Rattle.line_loop.specs.declared.fault.LineFault.{LineFault}
+use Rattle.line_loop.specs.declared.fault.ScriptLineFault.{ScriptLineFault}
 use Rattle.line_loop.proofs.Calls.{in_turn_so}
 use Rattle.line_loop.proofs.Scripts.{prints_lines, prints_one, writes_script}
 use Rattle.console_command.specs.Commands.{Performs, in_session}
@@ -19,7 +19,7 @@ use Rattle.console_command.specs.Play.{lines_played, nothing_is_played}
 use Rattle.console_command.specs.declared.cluster.Cluster.{Cluster}
 
 -- what a cluster does with a line
-abbrev pub plays : Cluster → ℕ → List ℕ → Bool → List ℕ → Option LineFault → Cluster → Type 0
+abbrev pub plays : Cluster → ℕ → List ℕ → Bool → List ℕ → Option ScriptLineFault → Cluster → Type 0
 plays old number line feed text fault new = PlaysLine (lines_played old.world) (lines_played new.world) number line text fault
 
 module _ (old new : Cluster) (number : ℕ) (line : List ℕ) (feed : Bool) where
@@ -48,7 +48,7 @@ module _ (old new : Cluster) (number : ℕ) (line : List ℕ) (feed : Bool) wher
       }
 
   -- a fault
-  pub fault_told : (before after : List ℕ) (fault : LineFault) → fault.line ≡ number → read_line (stripped line) ≡ Err (script_fault_number fault.fault)
+  pub fault_told : (before after : List ℕ) (fault : ScriptLineFault) → fault.line ≡ number → read_line (stripped line) ≡ Err (script_fault_number fault.fault)
       → after ≡ before ++ printed (fault_line number (script_fault_number fault.fault)) → Prints (plays old number line feed) before after (Some fault) new
   unfolding played
   fault_told before after fault its_line is written =
@@ -68,14 +68,14 @@ module _ (old new : Cluster) (number : ℕ) (line : List ℕ) (feed : Bool) wher
 -- ---- Scripts.
 
 -- the output of a script that is played to a cluster
-pub script_written : (first last : Cluster) (read rest begun written : Option (List ℕ)) (ending : Ended LineFault) → IfSome read (λ script. Ends plays most_read first last script rest begun written ending)
+pub script_written : (first last : Cluster) (read rest begun written : Option (List ℕ)) (ending : Ended ScriptLineFault) → IfSome read (λ script. Ends plays most_read first last script rest begun written ending)
     → IfSome read (λ script. WritesScript (lines_played first.world 1) script rest begun written ending)
 script_written first last None rest begun written ending ends = tt
 script_written first last (Some script) rest begun written ending ends =
     writes_script plays (λ (c : Cluster). lines_played c.world) (λ a b number line feed text fault made. made) (λ c number. nothing_is_played c.world number) first last script rest begun written ending ends
 
 -- and in turn
-pub script_in_turn : {R W : Type 0} (reads : R → Option (List ℕ) → R → Type 0) (writes : W → List ℕ → Option ℕ → W → Type 0) (old new : R × W) (first : Cluster) (ending : Ended LineFault)
+pub script_in_turn : {R W : Type 0} (reads : R → Option (List ℕ) → R → Type 0) (writes : W → List ℕ → Option ℕ → W → Type 0) (old new : R × W) (first : Cluster) (ending : Ended ScriptLineFault)
     → EndsInTurn reads writes most_begun most_read (PlaysLines plays first) (PrintsLine plays) old new ending → PlaysInTurn reads writes lines_played first.world old new ending
 script_in_turn reads writes old new first ending turn =
     in_turn_so reads writes old most_begun most_read (PlaysLines plays first) (PrintsLines (lines_played first.world 1)) (PrintsLine plays) (PrintsOne lines_played)

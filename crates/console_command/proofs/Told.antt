@@ -6,7 +6,7 @@ use Rattle.std.specs.declared.io.ErrorKind.TheVariants as kinds
 use Rattle.line_loop.specs.Calls.{wrote_all}
 use Rattle.line_loop.specs.declared.ended.Ended.{Ended}
 use Rattle.line_loop.specs.declared.ended.Ended.TheVariants as ends
-use Rattle.line_loop.specs.declared.fault.LineFault.{LineFault}
+use Rattle.line_loop.specs.declared.fault.ScriptLineFault.{ScriptLineFault}
 use Rattle.console_command.specs.declared.exit.Exit.{Exit}
 use Rattle.console_command.specs.declared.exit.Exit.TheVariants.{Played, Refused}
 use Rattle.console_command.specs.Exits.{exit_without_words}
@@ -18,8 +18,8 @@ pub nothing_told : {E : Type 0} (writes : E → List ℕ → Option ℕ → E �
 nothing_told writes contents exit errors tells = ([], tells, (true, Appends-nil (contents errors), wrote_all))
 
 -- of a whole play there is nothing to tell
-pub all_played : (ended : Ended LineFault) → ended ≡ ends.AtEnd → Tells (Played ended) []
-all_played ended is = let P : Ended LineFault → Type 0 = λ e. TellsEnd e [] in subst P (sym is) refl
+pub all_played : (ended : Ended ScriptLineFault) → ended ≡ ends.AtEnd → Tells (Played ended) []
+all_played ended is = let P : Ended ScriptLineFault → Type 0 = λ e. TellsEnd e [] in subst P (sym is) refl
 
 -- words that can't be had, though there is memory, are refused
 pub refused_without : (kind : ErrorKind) → kind ≢ kinds.OutOfMemory → Refused ≡ exit_without_words kind
@@ -33,7 +33,7 @@ told_so writes contents kinds.OutOfMemory old new not told = absurd (not refl)
 told_so writes contents _ old new not told = told
 
 -- a fault is told in those words
-pub in_words : {E : Type 0} (fault : LineFault) (words : List ℕ) (told : Result (String Global) E) → 0 < length words → IfOk told (λ text. string_bytes text ≡ fault_text fault.line words)
+pub in_words : {E : Type 0} (fault : ScriptLineFault) (words : List ℕ) (told : Result (String Global) E) → 0 < length words → IfOk told (λ text. string_bytes text ≡ fault_text fault.line words)
     → IfOk told (λ text. TellsFault fault (string_bytes text))
 in_words fault words (Ok text) some is = (words, some, is)
 in_words fault words (Err error) some is = tt
@@ -50,7 +50,7 @@ joined a b c d e none one two three four five is0 is1 is2 is3 is4 is5 =
     ∙ (append_assoc ((a ++ b) ++ c) d e ∙ (append_assoc (a ++ b) c (d ++ e) ∙ append_assoc a b (c ++ (d ++ e)))))
 
 -- and by its line alone
-pub by_line : (fault : LineFault) (words digits said none one two three four five : List ℕ) → 0 < length words → digits ≡ decimal fault.line → said ≡ words → none ≡ []
+pub by_line : (fault : ScriptLineFault) (words digits said none one two three four five : List ℕ) → 0 < length words → digits ≡ decimal fault.line → said ≡ words → none ≡ []
     → one ≡ none ++ codes "error: line " → two ≡ one ++ digits → three ≡ two ++ codes ": " → four ≡ three ++ said → five ≡ four ++ codes "\n" → TellsFault fault five
 by_line fault words digits said none one two three four five some digits_are words_are is0 is1 is2 is3 is4 is5 = (
   words,

@@ -6,7 +6,7 @@ use Rattle.std.specs.declared.io.ErrorKind.TheVariants as kind
 use Rattle.script_lines.specs.Printed.{printed}
 use Rattle.line_loop.specs.declared.ended.Ended.{Ended}
 use Rattle.line_loop.specs.declared.ended.Ended.TheVariants as ended
-use Rattle.line_loop.specs.declared.fault.LineFault.{LineFault}
+use Rattle.line_loop.specs.declared.fault.ScriptLineFault.{ScriptLineFault}
 use Rattle.threaded_play.specs.Endings.{IsSent}
 use Rattle.threaded_play.specs.declared.ended.ThreadsEnded.{ThreadsEnded}
 use Rattle.threaded_play.specs.declared.ended.ThreadsEnded.TheVariants as threads
@@ -29,11 +29,11 @@ abbrev pub fault_text : (line : ℕ) → (words : List ℕ) → List ℕ
 fault_text line words = codes "error: line " ++ (decimal line ++ (codes ": " ++ printed words))
 
 -- a fault is told by its line, in some words
-abbrev pub TellsFault : LineFault → (text : List ℕ) → Type 0
+abbrev pub TellsFault : ScriptLineFault → (text : List ℕ) → Type 0
 TellsFault fault text = (words : List ℕ) × (0 < length words) × (text ≡ fault_text fault.line words)
 
 -- what a play's end tells: nothing where all was played
-abbrev pub TellsEnd : Ended LineFault → (text : List ℕ) → Type 0
+abbrev pub TellsEnd : Ended ScriptLineFault → (text : List ℕ) → Type 0
 TellsEnd ended.AtEnd text = text ≡ []
 TellsEnd (ended.Stopped fault) text = TellsFault fault text
 TellsEnd ended.TooLong text = text ≡ printed (codes "error: the script has more than 268435456 bytes")

@@ -8,7 +8,7 @@ use Rattle.directory_rules.specs.World.{first_world}
 use Rattle.line_loop.specs.Scripts.{PlaysInTurn, WritesScript}
 use Rattle.line_loop.specs.Sent.{WritesFront}
 use Rattle.line_loop.specs.declared.ended.Ended.{Ended}
-use Rattle.line_loop.specs.declared.fault.LineFault.{LineFault}
+use Rattle.line_loop.specs.declared.fault.ScriptLineFault.{ScriptLineFault}
 use Rattle.silo_address.specs.Silo.{Silo as SiloValue}
 use Rattle.silo_rules.specs.SiloValue.{first_silo}
 use Rattle.process_answers.specs.ProcessSettings.{process_settings}
@@ -35,7 +35,7 @@ abbrev pub chosen_settings : Options → Settings
 chosen_settings options = directory_settings options.hashing options.points options.cache
 
 -- the source's script is played to a new cluster, with those settings
-abbrev pub Plays : Options → (old new : Streams) → Ended LineFault → Type 0
+abbrev pub Plays : Options → (old new : Streams) → Ended ScriptLineFault → Type 0
 Plays options old new ended = IfSome old.rest (λ script.
     WritesScript (lines_played (first_world (chosen_settings options)) 1) script new.rest old.output new.output ended)
 

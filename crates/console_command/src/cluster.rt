@@ -7,7 +7,7 @@ ghost use Rattle.console_command.specs.Play.{lines_played, long_lines_are_faults
 
 use crate::commands::perform;
 use directory_core::World;
-use line_loop::{LineFault, LinePlayer, MOST_BEGUN, MOST_OF_SCRIPT};
+use line_loop::{LinePlayer, MOST_BEGUN, MOST_OF_SCRIPT, ScriptLineFault};
 use script_lines::{ReadError, read_command, without_return, write_fault};
 use std::alloc::{AllocError, Global};
 
@@ -18,7 +18,7 @@ pub(crate) struct Cluster {
 }
 
 impl LinePlayer for Cluster {
-    type Stop = LineFault;
+    type Stop = ScriptLineFault;
 
     ghost plays = { λ old number line _ text fault new. PlaysLine (lines_played old.world) (lines_played new.world) number line text fault };
 
@@ -41,7 +41,7 @@ impl LinePlayer for Cluster {
         line: &[u8],
         _ended: bool,
         out: &mut Vec<u8>,
-    ) -> Result<Option<LineFault>, AllocError> {
+    ) -> Result<Option<ScriptLineFault>, AllocError> {
         match read_command(alloc, without_return(line)) {
             Ok(None) => Ok(None),
             Ok(Some(command)) => {
@@ -50,7 +50,7 @@ impl LinePlayer for Cluster {
             }
             Err(ReadError::Fault(fault)) => {
                 write_fault(out, number, fault.number())?;
-                Ok(Some(LineFault {
+                Ok(Some(ScriptLineFault {
                     line: number,
                     fault,
                 }))

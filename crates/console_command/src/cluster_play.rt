@@ -11,7 +11,7 @@ use crate::cluster::Cluster;
 use directory_core::World;
 use directory_rules::Settings;
 use hash_ring::Hashing;
-use line_loop::{Ended, LineFault, Sink, Source};
+use line_loop::{Ended, ScriptLineFault, Sink, Source};
 use std::alloc::Global;
 
 /// Plays a script to a new cluster, under a way of hashing, with a number of points, 1 to 128, and of hints that a silo's cache
@@ -24,7 +24,7 @@ pub fn play_to_new_cluster<R: Source, W: Sink>(
     cache: usize,
     reader: &mut R,
     writer: &mut W,
-) -> Option<Ended<LineFault>>
+) -> Option<Ended<ScriptLineFault>>
     ensures in_range { IsSome result ↔ ((1 ≤ points) × (points ≤ 128) × (cache ≤ 65536)) }
     ensures ends { IfSome result (λ ended. IfSome (R.remaining reader.old) (λ script.
         WritesScript (lines_played (first_world (directory_settings hashing points cache)) 1) script
@@ -44,7 +44,7 @@ pub fn play<R: Source, W: Sink>(
     world: World,
     reader: &mut R,
     writer: &mut W,
-) -> Ended<LineFault>
+) -> Ended<ScriptLineFault>
     ensures ends { IfSome (R.remaining reader.old) (λ script.
         WritesScript (lines_played world 1) script (R.remaining reader.new) (W.contents writer.old) (W.contents writer.new) result) }
     ensures calls { MakesCalls R.reads W.writes (reader.old, writer.old) (reader.new, writer.new) result }

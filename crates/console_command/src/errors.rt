@@ -6,7 +6,7 @@ ghost use Rattle.console_command.specs.Errors.{IsTold, TellsFault, failed_call, 
 
 use crate::{Checked, Exit};
 use itoa::Buffer;
-use line_loop::{Ended, LineFault, Sink, send};
+use line_loop::{Ended, ScriptLineFault, Sink, send};
 use process_answers::Dead;
 use std::alloc::{AllocError, Global};
 use threaded_play::ThreadsEnded;
@@ -18,7 +18,7 @@ const UNEXPLAINED: &str = "a fault, whose number stands on the output";
 const MOST_TOLD: usize = 128;
 
 /// Tells what ended a play too early; nothing where all was played.
-pub(crate) fn tell_end<E: Sink>(alloc: Global, ended: Ended<LineFault>, errors: &mut E)
+pub(crate) fn tell_end<E: Sink>(alloc: Global, ended: Ended<ScriptLineFault>, errors: &mut E)
     ensures { IsTold E.writes E.contents (Exit.Played ended) errors.old errors.new }
 {
     match ended {
@@ -74,7 +74,7 @@ pub(crate) fn tell_silo<E: Sink>(ended: Ended<Dead>, errors: &mut E)
 }
 
 // Tells the fault of a line: in words, and where there is no memory for them, by the line alone.
-fn tell_fault<E: Sink>(alloc: Global, fault: LineFault, errors: &mut E)
+fn tell_fault<E: Sink>(alloc: Global, fault: ScriptLineFault, errors: &mut E)
     ensures { IsTold E.writes E.contents (Exit.Played (Ended.Stopped fault)) errors.old errors.new }
 {
     match fault_text(alloc, fault) {
@@ -84,7 +84,7 @@ fn tell_fault<E: Sink>(alloc: Global, fault: LineFault, errors: &mut E)
 }
 
 // The line of a fault, and what is wrong with it.
-fn fault_text(alloc: Global, fault: LineFault) -> Result<String, AllocError>
+fn fault_text(alloc: Global, fault: ScriptLineFault) -> Result<String, AllocError>
     ensures { IfOk result (λ text. TellsFault fault (string_bytes text)) }
 {
     let words = fault.fault.to_string(alloc)?;
@@ -98,7 +98,7 @@ fn line_and_words(alloc: Global, line: u64, words: &str) -> Result<String, Alloc
 }
 
 // Tells a fault by its line, without an allocator.
-fn tell_line<E: Sink>(fault: LineFault, errors: &mut E)
+fn tell_line<E: Sink>(fault: ScriptLineFault, errors: &mut E)
     ensures { IsTold E.writes E.contents (Exit.Played (Ended.Stopped fault)) errors.old errors.new }
 {
     let mut digits = Buffer::new();

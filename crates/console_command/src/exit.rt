@@ -2,7 +2,7 @@ ghost use Rattle.std.specs.Prelude.{◌≡◌};
 ghost use Rattle.console_command.specs.Exits.{status_of};
 
 use crate::Checked;
-use line_loop::{Ended, LineFault};
+use line_loop::{Ended, ScriptLineFault};
 use process_answers::Dead;
 use threaded_play::ThreadsEnded;
 
@@ -10,7 +10,7 @@ use threaded_play::ThreadsEnded;
 #[derive(Clone, Copy, PartialEq, Eq)]
 pub enum Exit {
     /// The script was played, up to its end or to what ended it before.
-    Played(Ended<LineFault>),
+    Played(Ended<ScriptLineFault>),
     /// The script was played with a thread per silo, up to its end or to what ended it before.
     Threaded(ThreadsEnded),
     /// The dump was judged, or what ended it before.

@@ -23,7 +23,7 @@ use crate::{
     CommandLineError, Exit, Line, Options, judge, play_new_silo, play_to_new_cluster, read_line,
 };
 use directory_rules::Settings;
-use line_loop::{Ended, LineFault, Sink, Source, send};
+use line_loop::{Ended, ScriptLineFault, Sink, Source, send};
 use process_answers::{Dead, JoinToken};
 use silo_address::SiloAddress;
 use std::alloc::Global;
@@ -125,7 +125,7 @@ fn play<R: Source, W: Sink>(
     options: Options,
     source: &mut R,
     output: &mut W,
-) -> Ended<LineFault>
+) -> Ended<ScriptLineFault>
     requires { AreInRange options }
     ensures plays { Plays options
         (record { rest = R.remaining source.old; output = W.contents output.old })

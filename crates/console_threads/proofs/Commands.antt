@@ -13,7 +13,7 @@ use Rattle.line_loop.specs.Lines.{PlaysOn, PlaysTo, no_line, then_line}
 use Rattle.line_loop.specs.Scripts.{WritesScript, most_read, stripped}
 use Rattle.line_loop.specs.declared.ended.Ended.{Ended}
 use Rattle.line_loop.specs.declared.ended.Ended.TheVariants as ended
-use Rattle.line_loop.specs.declared.fault.LineFault.{LineFault}
+use Rattle.line_loop.specs.declared.fault.ScriptLineFault.{ScriptLineFault}
 use Rattle.line_loop.proofs.Scripts.{writes_script}
 use Rattle.threaded_play.specs.CarriedOut.{CarriesOut, command_in, commands_of}
 use Rattle.threaded_play.specs.Faults.{faults_alone, nothing_is_wrong}
@@ -45,7 +45,7 @@ abbrev pub kept_by : Script → List rule.Command
 kept_by script = map command_of script.commands.items
 
 -- what a script that is read does with a line
-abbrev pub plays : Script → ℕ → List ℕ → Bool → List ℕ → Option LineFault → Script → Type 0
+abbrev pub plays : Script → ℕ → List ℕ → Bool → List ℕ → Option ScriptLineFault → Script → Type 0
 plays old number line feed text fault new = PlaysAndKeeps number line text fault (kept_by old) (kept_by new)
 
 commands_behind : (lines others : List (List ℕ)) → commands_of (map stripped (lines ++ others)) ≡ commands_of (map stripped lines) ++ commands_of (map stripped others)
@@ -73,7 +73,7 @@ kept_to_the_end first last script text to =
     ∙ (sym (commands_behind to.lines (to.line ∷ [])) ∙ ap (λ (ps : List (List ℕ)). commands_of (map stripped ps)) (sym cut)))))
 
 -- so the commands of a script are kept
-pub lines_kept : (first last : Script) (read rest begun written : Option (List ℕ)) (end : Ended LineFault) → IfSome read (λ script. Ends plays most_read first last script rest begun written end)
+pub lines_kept : (first last : Script) (read rest begun written : Option (List ℕ)) (end : Ended ScriptLineFault) → IfSome read (λ script. Ends plays most_read first last script rest begun written end)
     → IfSome read (λ script. KeepsLines script (kept_by first) (kept_by last) end)
 lines_kept first last None rest begun written end ends = tt
 lines_kept first last (Some script) rest begun written ended.AtEnd ends = kept_to_the_end first last script ends.text ends.concludes
@@ -83,14 +83,14 @@ lines_kept first last (Some script) rest begun written ended.OutOfMemory ends = 
 lines_kept first last (Some script) rest begun written ended.Broken ends = tt
 
 -- and its fault is printed
-pub lines_end : (first last : Script) (read rest begun written : Option (List ℕ)) (end : Ended LineFault) → IfSome read (λ script. Ends plays most_read first last script rest begun written end)
+pub lines_end : (first last : Script) (read rest begun written : Option (List ℕ)) (end : Ended ScriptLineFault) → IfSome read (λ script. Ends plays most_read first last script rest begun written end)
     → IfSome read (λ script. WritesScript (faults_alone 1) script rest begun written end)
 lines_end first last None rest begun written end ends = tt
 lines_end first last (Some script) rest begun written end ends =
     writes_script plays (λ s. faults_alone) (λ a b number line feed text fault made. made.0) (λ s number. nothing_is_wrong number) first last script rest begun written end ends
 
 -- those of a player that kept none before are the script's
-pub carried_whole : (settings : Settings) (journal : List EntryValue) (script : List ℕ) (before after : Script) (end : Ended LineFault) → before.commands.items ≡ [] → KeepsLines script (kept_by before) (kept_by after) end
+pub carried_whole : (settings : Settings) (journal : List EntryValue) (script : List ℕ) (before after : Script) (end : Ended ScriptLineFault) → before.commands.items ≡ [] → KeepsLines script (kept_by before) (kept_by after) end
     → CarriesOut settings journal (kept_by after) → HasCarriedOut settings journal script end
 carried_whole settings journal script before after ended.AtEnd none keeps carried =
     subst (CarriesOut settings journal) (keeps ∙ ap (λ (l : List Command). map command_of l ++ commands_of (rule.lines_of script)) none) carried

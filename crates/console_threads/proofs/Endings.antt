@@ -13,7 +13,7 @@ use Rattle.line_loop.specs.Scripts.{WritesScript, no_output}
 use Rattle.line_loop.specs.Sent.{Sends}
 use Rattle.line_loop.specs.declared.ended.Ended.{Ended}
 use Rattle.line_loop.specs.declared.ended.Ended.TheVariants as ended
-use Rattle.line_loop.specs.declared.fault.LineFault.{LineFault}
+use Rattle.line_loop.specs.declared.fault.ScriptLineFault.{ScriptLineFault}
 use Rattle.threaded_play.specs.CarriedOut.{CarriesOut}
 use Rattle.threaded_play.specs.Endings.{Ends}
 use Rattle.threaded_play.specs.Faults.{faults_alone, line_told}
@@ -37,7 +37,7 @@ silent number (line ∷ lines) text is = go (read_line line) (silent (number + 1
     go (Ok command) later same = later same
     go (Err fault) later same = absurd (omega (arith, ap (λ (o : Output). o.status) same))
 
-module _ (script : List ℕ) (rest : Option (List ℕ)) (text : List ℕ) (end : Ended LineFault) (lines : LinesEnd script rest text end) where
+module _ (script : List ℕ) (rest : Option (List ℕ)) (text : List ℕ) (end : Ended ScriptLineFault) (lines : LinesEnd script rest text end) where
   -- so the script ends, whatever the sink had
   abbrev alone : WritesScript (faults_alone 1) script rest None None end
   alone = record { text = lines.text; writes = tt; concludes = lines.concludes; reads = lines.reads }
@@ -46,7 +46,7 @@ module _ (script : List ℕ) (rest : Option (List ℕ)) (text : List ℕ) (end :
 whole : (text : List ℕ) → BeginsWith text text
 whole text = record { more = []; joined = sym (append-nil text) }
 
-broken : (script : List ℕ) (rest : Option (List ℕ)) (text : List ℕ) (end : Ended LineFault) → BeginsWith text (faults_alone 1 (lines_of script)).text
+broken : (script : List ℕ) (rest : Option (List ℕ)) (text : List ℕ) (end : Ended ScriptLineFault) → BeginsWith text (faults_alone 1 (lines_of script)).text
     → (lines : WritesScript (faults_alone 1) script rest None None end) → lines.text ≡ text → WritesScript (faults_alone 1) script rest None None ended.Broken
 broken script rest text end begins lines is = record {
   text = lines.text;
@@ -56,11 +56,11 @@ broken script rest text end begins lines is = record {
 }
 
 -- what is sent lacks nothing
-sent_never_lacks : (end : Ended LineFault) (whole : Bool) → sent_ending end whole ≡ Lacking → ⊥
+sent_never_lacks : (end : Ended ScriptLineFault) (whole : Bool) → sent_ending end whole ≡ Lacking → ⊥
 sent_never_lacks end true is = absurd (cc)
 sent_never_lacks end false is = absurd (cc)
 
-pub written_never_lacks : {W : Type 0} (writes : W → List ℕ → Option ℕ → W → Type 0) (contents : W → Option (List ℕ)) (text : List ℕ) (end : Ended LineFault) (old new : W) (result : ThreadsEnded)
+pub written_never_lacks : {W : Type 0} (writes : W → List ℕ → Option ℕ → W → Type 0) (contents : W → Option (List ℕ)) (text : List ℕ) (end : Ended ScriptLineFault) (old new : W) (result : ThreadsEnded)
     → IsWritten writes contents text end old new result → LacksOnlyAfter end result
 written_never_lacks writes contents text end old new result written = λ lacks. absurd (sent_never_lacks end written.0 (sym written.1 ∙ lacks))
 
@@ -68,7 +68,7 @@ written_never_lacks writes contents text end old new result written = λ lacks. 
 
 module _ {W : Type 0} (writes : W → List ℕ → Option ℕ → W → Type 0) (contents : W → Option (List ℕ)) (settings : Settings) (journal : List EntryValue) (world : World) where
   -- the line of a fault
-  fault_ends : (text : List ℕ) (fault : LineFault) (old new : W) (well : Bool) → Sends text (contents old) (contents new) well
+  fault_ends : (text : List ℕ) (fault : ScriptLineFault) (old new : W) (well : Bool) → Sends text (contents old) (contents new) well
       → EndsBy settings journal world text (ended.Stopped fault) (contents old) (contents new) (sent_ending (ended.Stopped fault) well)
   fault_ends text fault old new true sent = λ script rest journaled carried lines.
       let output : faults_alone 1 (lines_of script) ≡ record { text = lines.text; status = 2 } = lines.concludes.0 in
@@ -91,11 +91,11 @@ module _ {W : Type 0} (writes : W → List ℕ → Option ℕ → W → Type 0) 
       let none : faults_alone 1 (lines_of script) ≡ no_output = silent 1 (lines_of script) lines.text output in
       (broken script rest lines.text _ begins (alone script rest printed _ lines) refl, inr (text, inr (none, tells script journaled carried), sent))
 
-  pub fault_written : (text : List ℕ) (fault : LineFault) (end : Ended LineFault) (old new : W) (result : ThreadsEnded) → end ≡ ended.Stopped fault
+  pub fault_written : (text : List ℕ) (fault : ScriptLineFault) (end : Ended ScriptLineFault) (old new : W) (result : ThreadsEnded) → end ≡ ended.Stopped fault
       → IsWritten writes contents text end old new result → EndsBy settings journal world text end (contents old) (contents new) result
   fault_written text fault end old new result is written =
       subst (λ (r : ThreadsEnded). EndsBy settings journal world text end (contents old) (contents new) r) (sym written.1)
-      (subst (λ (e : Ended LineFault). EndsBy settings journal world text e (contents old) (contents new) (sent_ending e written.0)) (sym is)
+      (subst (λ (e : Ended ScriptLineFault). EndsBy settings journal world text e (contents old) (contents new) (sent_ending e written.0)) (sym is)
       (fault_ends text fault old new written.0 written.2))
 
   pub world_written : (printed text : List ℕ) (old new : W) (result : ThreadsEnded) → Tells settings journal world text
@@ -107,7 +107,7 @@ module _ {W : Type 0} (writes : W → List ℕ → Option ℕ → W → Type 0) 
 -- ---- A script that was read.
 
 -- so it ends, if it is known, whose lines were played, and whose kept commands were carried out
-pub script_ends : (known : Option (List ℕ)) (settings : Settings) (journal : List EntryValue) (world : World) (text : List ℕ) (end : Ended LineFault) (before after : Script)
+pub script_ends : (known : Option (List ℕ)) (settings : Settings) (journal : List EntryValue) (world : World) (text : List ℕ) (end : Ended ScriptLineFault) (before after : Script)
     → (rest begun written : Option (List ℕ)) (result : ThreadsEnded) → before.commands.items ≡ [] → IsJournaled settings journal world → CarriesOut settings journal (kept_by after)
     → IfSome known (λ script. LinesEnd script rest text end) → IfSome known (λ script. KeepsLines script (kept_by before) (kept_by after) end)
     → EndsBy settings journal world text end begun written result → IfSome known (λ script. Ends settings script rest begun written result)

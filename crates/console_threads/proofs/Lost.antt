@@ -3,7 +3,7 @@ use Rattle.std.proofs.Common.{◌≡◌, ℕ, true, false, true≢false, List, l
 use Rattle.line_loop.specs.Calls.{ReadsInTurn, WritesKnown, WritesText, WritesTexts, wrote_some, wrote_nothing, write_failed, text_written, text_broken}
 use Rattle.line_loop.specs.Endings.{MakesCalls}
 use Rattle.line_loop.specs.declared.ended.Ended.{Ended}
-use Rattle.line_loop.specs.declared.fault.LineFault.{LineFault}
+use Rattle.line_loop.specs.declared.fault.ScriptLineFault.{ScriptLineFault}
 use Rattle.line_loop.specs.declared.ended.Ended.TheVariants as ended
 use Rattle.console_threads.specs.Held.{Holds, is_read_well}
 use Rattle.console_threads.specs.declared.held.Held.{Held}
@@ -23,7 +23,7 @@ texts_lost old new (text_written text written after) = texts_lost _ new after
 texts_lost old new (text_broken text broken) = text_lost text old new broken
 
 -- so the reads were well, unless the play is broken
-pub read_well : {R : Type 0} (reads : R → Option (List ℕ) → R → Type 0) (source rest : R) (old new : Held) (end : Ended LineFault) → new.lost ≡ false
+pub read_well : {R : Type 0} (reads : R → Option (List ℕ) → R → Type 0) (source rest : R) (old new : Held) (end : Ended ScriptLineFault) → new.lost ≡ false
     → MakesCalls reads keeps (source, old) (rest, new) end → ReadsInTurn reads source rest (is_read_well end)
 read_well reads source rest old new ended.Broken all (inl calls) = calls.0
 read_well reads source rest old new ended.Broken all (inr calls) = absurd (true≢false (sym (texts_lost old new calls.1) ∙ all))

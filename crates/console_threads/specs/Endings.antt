@@ -10,7 +10,7 @@ use Rattle.line_loop.specs.Scripts.{WritesScript}
 use Rattle.line_loop.specs.Sent.{Sends}
 use Rattle.line_loop.specs.declared.ended.Ended.{Ended}
 use Rattle.line_loop.specs.declared.ended.Ended.TheVariants as ended
-use Rattle.line_loop.specs.declared.fault.LineFault.{LineFault}
+use Rattle.line_loop.specs.declared.fault.ScriptLineFault.{ScriptLineFault}
 use Rattle.threaded_play.specs.CarriedOut.{CarriesOut, commands_of}
 use Rattle.threaded_play.specs.Endings.{Ends, WritesSome}
 use Rattle.threaded_play.specs.Faults.{faults_alone}
@@ -33,7 +33,7 @@ unclosed_by refusal.ReceiptDiffers = threads.ReceiptDiffers
 unclosed_by refusal.OutOfMemory = threads.Lacking
 
 -- the script's lines end so, and print that text by themselves
-abbrev pub LinesEnd : (script : List ℕ) → (rest : Option (List ℕ)) → (text : List ℕ) → Ended LineFault → Type 0
+abbrev pub LinesEnd : (script : List ℕ) → (rest : Option (List ℕ)) → (text : List ℕ) → Ended ScriptLineFault → Type 0
 LinesEnd script rest text end = WritesScript (faults_alone 1) script rest (Some []) (Some text) end
 
 -- the text tells the world that its journal made under these settings, of whatever script it carries out
@@ -42,28 +42,28 @@ Tells settings journal world text =
     (script : List ℕ) → IsJournaled settings journal world → CarriesOut settings journal (commands_of (lines_of script)) → TellsWorld settings script text
 
 -- where all lines of a script were played, its commands were carried out
-abbrev pub HasCarriedOut : Settings → List EntryValue → (script : List ℕ) → Ended LineFault → Type 0
+abbrev pub HasCarriedOut : Settings → List EntryValue → (script : List ℕ) → Ended ScriptLineFault → Type 0
 HasCarriedOut settings journal script ended.AtEnd = CarriesOut settings journal (commands_of (lines_of script))
 HasCarriedOut settings journal script other = ⊤
 
 -- so a script ends, whatever it was, whose lines end so and print that text, and whose cluster carried it out and came to that world
-abbrev pub EndsBy : Settings → List EntryValue → World → (text : List ℕ) → Ended LineFault → (begun written : Option (List ℕ)) → ThreadsEnded → Type 0
+abbrev pub EndsBy : Settings → List EntryValue → World → (text : List ℕ) → Ended ScriptLineFault → (begun written : Option (List ℕ)) → ThreadsEnded → Type 0
 EndsBy settings journal world text end begun written result =
     (script : List ℕ) (rest : Option (List ℕ)) → IsJournaled settings journal world → HasCarriedOut settings journal script end
     → LinesEnd script rest text end → Ends settings script rest begun written result
 
 -- the ending once its text was sent, by whether all of it was taken
-abbrev pub sent_ending : Ended LineFault → (whole : Bool) → ThreadsEnded
+abbrev pub sent_ending : Ended ScriptLineFault → (whole : Bool) → ThreadsEnded
 sent_ending end true = Played end
 sent_ending end false = Played ended.Broken
 
 -- the text was sent, and so it ends
-abbrev pub IsWritten : {W : Type 0} → (writes : W → List ℕ → Option ℕ → W → Type 0) → (contents : W → Option (List ℕ)) → (text : List ℕ) → Ended LineFault → (old new : W) → ThreadsEnded → Type 0
+abbrev pub IsWritten : {W : Type 0} → (writes : W → List ℕ → Option ℕ → W → Type 0) → (contents : W → Option (List ℕ)) → (text : List ℕ) → Ended ScriptLineFault → (old new : W) → ThreadsEnded → Type 0
 IsWritten writes contents text end old new result =
     (whole : Bool) × (result ≡ sent_ending end whole) × Sends text (contents old) (contents new) whole × WritesText writes text old new whole
 
 -- the writes by which it ends so: of one text, or none
-abbrev pub WritesOnce : {W : Type 0} → (writes : W → List ℕ → Option ℕ → W → Type 0) → (old new : W) → Ended LineFault → ThreadsEnded → Type 0
+abbrev pub WritesOnce : {W : Type 0} → (writes : W → List ℕ → Option ℕ → W → Type 0) → (old new : W) → Ended ScriptLineFault → ThreadsEnded → Type 0
 WritesOnce writes old new end (Played ended.Broken) =
     ((is_read_well end ≡ false) × (new ≡ old)) ⊎ ((is_read_well end ≡ true) × WritesSome writes old new false)
 WritesOnce writes old new end (Played ended.AtEnd) = (is_read_well end ≡ true) × WritesSome writes old new true
@@ -72,5 +72,5 @@ WritesOnce writes old new end (Played other) = (is_read_well end ≡ true) × (n
 WritesOnce writes old new end other = new ≡ old
 
 -- something lacks only where the lines were all played, or memory ran out for them
-abbrev pub LacksOnlyAfter : Ended LineFault → ThreadsEnded → Type 0
+abbrev pub LacksOnlyAfter : Ended ScriptLineFault → ThreadsEnded → Type 0
 LacksOnlyAfter end result = (result ≡ threads.Lacking) → (end ≡ ended.AtEnd) ⊎ (end ≡ ended.OutOfMemory)

@@ -13,7 +13,7 @@ use crate::driver::Driver;
 use cluster_board::{Board, Charter};
 use cluster_journal::CloseRefusal;
 use line_loop::{Sink, send};
-use silo_threads::{Ended, PARTS};
+use silo_threads::{EndedCluster, PARTS};
 use silo_workers::OpenGate;
 use std::alloc::{AllocError, Global};
 use std::sync::Wait;
@@ -55,7 +55,7 @@ impl<L: Charter> Driver<L, OpenGate> {
 }
 
 // The board of a cluster that has ended, if its receipts are those of its journal.
-fn closed<L: Charter>(ended: Ended<L>) -> Result<Board<L>, ThreadsEnded>
+fn closed<L: Charter>(ended: EndedCluster<L>) -> Result<Board<L>, ThreadsEnded>
     requires { ended.hand.share.parts ≡ L.parts }
     ensures same { IfOk result (λ board. board ≡ ended.board) }
     ensures agree { IfOk result (λ board. Agree board.journal ended.receipts.items) }
@@ -81,7 +81,7 @@ fn unclosed(refusal: CloseRefusal) -> ThreadsEnded
 }
 
 // Tells why workers gave up.
-fn tell_causes<L: Charter, E: Sink>(alloc: Global, ended: &Ended<L>, errors: &mut E)
+fn tell_causes<L: Charter, E: Sink>(alloc: Global, ended: &EndedCluster<L>, errors: &mut E)
     ensures { (text : List ℕ) × IsSent E.writes E.contents text errors.old errors.new }
 {
     match causes(alloc, ended) {
@@ -95,7 +95,7 @@ fn tell_causes<L: Charter, E: Sink>(alloc: Global, ended: &Ended<L>, errors: &mu
 }
 
 // A line for each worker that gave up, in words.
-fn causes<L: Charter>(alloc: Global, ended: &Ended<L>) -> Result<Vec<u8>, AllocError> {
+fn causes<L: Charter>(alloc: Global, ended: &EndedCluster<L>) -> Result<Vec<u8>, AllocError> {
     let mut text = Vec::new(alloc);
     for ending in &ended.endings {
         if let Some(cause) = ending.cause() {

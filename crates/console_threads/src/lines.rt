@@ -9,13 +9,13 @@ ghost use Rattle.console_threads.specs.Kept.{KeepsLines};
 
 use crate::held::Held;
 use crate::script::Script;
-use line_loop::{Ended, LineFault, Source, play};
+use line_loop::{Ended, ScriptLineFault, Source, play};
 use std::alloc::{AllocError, Global};
 
 /// How the lines of a script end, and what they print.
 #[derive(Drop)]
 pub(crate) struct Lines {
-    pub(crate) ended: Ended<LineFault>,
+    pub(crate) ended: Ended<ScriptLineFault>,
     pub(crate) text: Vec<u8>,
 }
 

@@ -6,7 +6,7 @@ ghost use Rattle.console_threads.specs.Endings.{EndsBy, IsWritten, LacksOnlyAfte
 use crate::lines::Lines;
 use cluster_board::{Board, Charter};
 use console_command::{show, tell_verdict};
-use line_loop::{Ended, LineFault, Sink, send};
+use line_loop::{Ended, ScriptLineFault, Sink, send};
 use std::alloc::{AllocError, Global};
 use threaded_play::ThreadsEnded;
 
@@ -47,7 +47,7 @@ fn print_world<L: Charter, W: Sink>(
 }
 
 // Writes the text with which a script ends so; it is broken where a write fails.
-fn write<W: Sink>(ended: Ended<LineFault>, text: &[u8], writer: &mut W) -> ThreadsEnded
+fn write<W: Sink>(ended: Ended<ScriptLineFault>, text: &[u8], writer: &mut W) -> ThreadsEnded
     ensures { IsWritten W.writes W.contents text.now ended writer.old writer.new result }
 {
     if send(writer, text) {

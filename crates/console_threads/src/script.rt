@@ -6,7 +6,7 @@ ghost use Rattle.script_lines.specs.CommandModel.{command_of};
 ghost use Rattle.line_loop.specs.Scripts.{most_begun, most_read};
 ghost use Rattle.console_threads.specs.Kept.{PlaysAndKeeps, long_lines};
 
-use line_loop::{LineFault, LinePlayer, MOST_BEGUN, MOST_OF_SCRIPT};
+use line_loop::{LinePlayer, MOST_BEGUN, MOST_OF_SCRIPT, ScriptLineFault};
 use script_lines::{Command, ReadError, read_command, without_return, write_fault};
 use std::alloc::{AllocError, Global};
 
@@ -17,7 +17,7 @@ pub(crate) struct Script {
 }
 
 impl LinePlayer for Script {
-    type Stop = LineFault;
+    type Stop = ScriptLineFault;
 
     ghost plays = { λ old number line _ text fault new. PlaysAndKeeps number line text fault (map command_of old.commands.items) (map command_of new.commands.items) };
 
@@ -40,7 +40,7 @@ impl LinePlayer for Script {
         line: &[u8],
         _ended: bool,
         out: &mut Vec<u8>,
-    ) -> Result<Option<LineFault>, AllocError> {
+    ) -> Result<Option<ScriptLineFault>, AllocError> {
         match read_command(alloc, without_return(line)) {
             Ok(None) => Ok(None),
             Ok(Some(command)) => {
@@ -49,7 +49,7 @@ impl LinePlayer for Script {
             }
             Err(ReadError::Fault(fault)) => {
                 write_fault(out, number, fault.number())?;
-                Ok(Some(LineFault {
+                Ok(Some(ScriptLineFault {
                     line: number,
                     fault,
                 }))

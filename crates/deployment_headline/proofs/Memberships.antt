@@ -22,7 +22,6 @@ use Rattle.directory_rules.specs.Node.{Node}
 use Rattle.directory_rules.specs.Step.{Stepped, see, having_seen, new_gatherings, new_recoveries}
 use Rattle.directory_rules.proofs.Cases.{on_bool}
 use Rattle.directory_rules.specs.Membership.{Change, Membership, changed, is_seeable}
-
 use Rattle.silo_rules.proofs.Lawful.{row_known}
 use Rattle.silo_rules.proofs.Whole.{Are, made, accepts}
 

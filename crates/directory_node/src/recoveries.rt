@@ -13,7 +13,7 @@ use crate::{Change, Node, Plan};
 use directory_letters::{Body, Letter};
 use directory_rules::Effect;
 use node_plans::{are_all_of, is_recovering, lie_in, rise_by_grain, take_report};
-use range_recovery::{Progress, Report};
+use range_recovery::{RecoveryProgress, Report};
 use ring_range::RingRange;
 use std::alloc::{AllocError, Global};
 
@@ -107,8 +107,8 @@ impl Node {
         };
         let change = Change::Counts(report.copy()?);
         let effect = match progress {
-            Progress::More => Effect::More,
-            Progress::Complete => Effect::Complete,
+            RecoveryProgress::More => Effect::More,
+            RecoveryProgress::Complete => Effect::Complete,
         };
         Ok(Plan::silent(alloc, effect, change))
     }

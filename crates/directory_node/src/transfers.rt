@@ -7,7 +7,7 @@ ghost use Rattle.directory_rules.specs.Transfer.{asked, awaits, done, gathered_b
 ghost use Rattle.node_plans.specs.Plans.{Fits, answer_count, step_by};
 ghost use Rattle.directory_rules.specs.Letter.{Missing_letter};
 ghost use Rattle.seal_snapshot.specs.Progress.{progress_of};
-ghost use Rattle.seal_snapshot.specs.declared.progress.Progress.TheVariants.{Complete, More};
+ghost use Rattle.seal_snapshot.specs.declared.progress.GatheringProgress.TheVariants.{Complete, More};
 ghost use Rattle.grain_partition.specs.Holdings.{HasPiece};
 
 use crate::{Change, Node, Plan};
@@ -16,7 +16,7 @@ use directory_rules::{Effect, PieceState};
 use node_plans::{go_on, lie_in, table_of};
 use range_recovery::Recovery;
 use ring_range::RingRange;
-use seal_snapshot::{Gathering, GatheringError, Page, Progress, ShelfAnswer};
+use seal_snapshot::{Gathering, GatheringError, GatheringProgress, Page, ShelfAnswer};
 use silo_address::{Entry, SiloAddress};
 use std::alloc::{AllocError, Global};
 
@@ -105,8 +105,8 @@ impl Node {
             return Ok(Plan::idle(alloc, Effect::Ignored));
         }
         match gathering.progress_with(page) {
-            Ok(Progress::More) => self.plan_more(alloc, letter, page),
-            Ok(Progress::Complete) => self.plan_install(alloc, letter, page, gathering),
+            Ok(GatheringProgress::More) => self.plan_more(alloc, letter, page),
+            Ok(GatheringProgress::Complete) => self.plan_install(alloc, letter, page, gathering),
             Err(GatheringError::WrongDigest) => {
                 let anew = Change::GathersAnew(page.range());
                 Ok(Plan::silent(alloc, Effect::Refused(701), anew))

@@ -12,36 +12,19 @@ use std::alloc::AllocError;
 #[derive(Drop)]
 pub enum Event {
     /// A silo joins, with the places of its points where they are stated and not hashed.
-    Join {
-        silo: SiloAddress,
-        places: Vec<u32>,
-    },
+    Join { silo: SiloAddress, places: Vec<u32> },
     /// A silo begins to leave.
-    Leave {
-        silo: SiloAddress,
-    },
+    Leave { silo: SiloAddress },
     /// A silo dies.
-    Kill {
-        silo: SiloAddress,
-    },
+    Kill { silo: SiloAddress },
     /// A silo sees a version.
-    See {
-        silo: SiloAddress,
-        version: u64,
-    },
+    See { silo: SiloAddress, version: u64 },
     /// A silo does what its application asks of it.
-    Do {
-        silo: SiloAddress,
-        step: OwnStep,
-    },
+    Do { silo: SiloAddress, step: OwnStep },
     /// The letter of that number comes to its receiver.
-    Deliver {
-        number: u64,
-    },
+    Deliver { number: u64 },
     /// The letter of that number is lost for good.
-    Lose {
-        number: u64,
-    },
+    Lose { number: u64 },
 }
 
 impl Event {
@@ -54,7 +37,8 @@ impl Event {
                 silo.in_range();
                 are_hashes(places);
             }
-            Event::Leave { silo } | Event::Kill { silo } | Event::See { silo, .. } => silo.in_range(),
+            Event::Leave { silo } | Event::Kill { silo } | Event::See { silo, .. } =>
+                silo.in_range(),
             Event::Do { silo, step } => {
                 silo.in_range();
                 step.in_range();

@@ -17,10 +17,7 @@ pub enum OwnStep {
     /// To send again what it has outstanding.
     Nudge,
     /// To close its activation of the grain, and offer its place to another silo.
-    Offer {
-        grain: GrainId,
-        to: SiloAddress,
-    },
+    Offer { grain: GrainId, to: SiloAddress },
 }
 
 impl OwnStep {

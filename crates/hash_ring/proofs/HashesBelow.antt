@@ -9,8 +9,8 @@ use Rattle.texts.specs.Numeral.{is_numeral, numeral_value, read_number}
 use Rattle.silo_address.specs.StatedHash.{is_number_sign, number_in, stated_hash}
 use Rattle.silo_address.specs.Grain.{Grain, grain_text}
 use Rattle.ring_range.specs.Range.{circle}
-use Rattle.hash_ring.specs.declared.Hashing.{Hashing}
-use Rattle.hash_ring.specs.declared.Hashing.TheVariants.{Sha256, Stated}
+use Rattle.hash_ring.specs.declared.hashing.Hashing.{Hashing}
+use Rattle.hash_ring.specs.declared.hashing.Hashing.TheVariants.{Sha256, Stated}
 use Rattle.hash_ring.specs.Hash.{hash_grain, hash_stated, hash_text}
 
 four_below : (a b c d : ℕ) → a % 256 * 16777216 + b % 256 * 65536 + c % 256 * 256 + d % 256 < 4294967296

@@ -13,8 +13,8 @@ use Rattle.silo_address.specs.Grain.{Grain, grain_cmp}
 use Rattle.texts.proofs.Entries.{lookup-insert_entry}
 use Rattle.directory_rules.specs.declared.Held.{Held}
 use Rattle.host_activations.proofs.Grains.{at_itself, on_grain}
-use Rattle.host_activations.specs.declared.asked.Asked.{Asked}
-use Rattle.host_activations.specs.declared.asked.Asked.TheVariants.{Activation, Find}
+use Rattle.host_activations.specs.declared.asked.OutstandingRequest.{OutstandingRequest}
+use Rattle.host_activations.specs.declared.asked.OutstandingRequest.TheVariants.{Activation, Find}
 use Rattle.host_activations.specs.Numbers.{number_of}
 use Rattle.host_activations.specs.Asked.{AreAsked, asked_under}
 use Rattle.host_activations.proofs.Numbers.{GivesNumber, on_number}
@@ -29,22 +29,22 @@ pub nothing : {A P : Type 0} (x : A) → None ≡ Some x → P
 nothing x e = cc
 
 -- what is outstanding after something is put under a number, and after a number is taken out
-pub asked_put : (out : List (ℕ × Asked)) (next : ℕ) (asked : Asked) (n : ℕ) → asked_under n (insert_entry nat_cmp out next asked) ≡ cond (is_at (nat_cmp n) next) (Some asked) (asked_under n out)
+pub asked_put : (out : List (ℕ × OutstandingRequest)) (next : ℕ) (asked : OutstandingRequest) (n : ℕ) → asked_under n (insert_entry nat_cmp out next asked) ≡ cond (is_at (nat_cmp n) next) (Some asked) (asked_under n out)
 asked_put out next asked n = lookup-insert_entry nat_cmp_total next asked n out
 
-pub asked_taken : (out : List (ℕ × Asked)) (number n : ℕ) → IsStrictlySortedBy nat_cmp (keys_of out)
+pub asked_taken : (out : List (ℕ × OutstandingRequest)) (number n : ℕ) → IsStrictlySortedBy nat_cmp (keys_of out)
     → asked_under n (remove_entry (is_at (nat_cmp number)) out) ≡ cond (is_at (nat_cmp number) n) None (asked_under n out)
 asked_taken out number n sorted =
     lookup-remove_entry (eq_by_cmp_equiv nat_cmp_total) (is_at (nat_cmp number)) ((eq_by_cmp_equiv nat_cmp_total).congr number) n out (IsDistinct-from_sorted nat_cmp (keys_of out) sorted)
 
-abbrev pub AreBelow : ℕ → List (ℕ × Asked) → Type 0
-AreBelow next out = (number : ℕ) (asked : Asked) → asked_under number out ≡ Some asked → number < next
+abbrev pub AreBelow : ℕ → List (ℕ × OutstandingRequest) → Type 0
+AreBelow next out = (number : ℕ) (asked : OutstandingRequest) → asked_under number out ≡ Some asked → number < next
 
-never : {P : Type 0} (next n : ℕ) (out : List (ℕ × Asked)) (asked : Asked) → AreBelow next out → n ≡ next → asked_under n out ≡ Some asked → P
+never : {P : Type 0} (next n : ℕ) (out : List (ℕ × OutstandingRequest)) (asked : OutstandingRequest) → AreBelow next out → n ≡ next → asked_under n out ≡ Some asked → P
 never next n out asked below same there = let h : n < next = below n asked there in absurd (omega (h, same, arith))
 
 -- an activation that had nothing outstanding has this number from now on
-pub asks : (held new : List (Grain × Held)) (out : List (ℕ × Asked)) (next : ℕ) (grain : Grain) → AreAsked held out → AreBelow next out
+pub asks : (held new : List (Grain × Held)) (out : List (ℕ × OutstandingRequest)) (next : ℕ) (grain : Grain) → AreAsked held out → AreBelow next out
     → number_of grain held ≡ None → GivesNumber grain (Some next) held new → AreAsked new (insert_entry nat_cmp out next (Activation grain))
 asks held new out next grain asked below none gives = record {
   there = λ q n is.
@@ -66,7 +66,7 @@ asks held new out next grain asked below none gives = record {
 }
 
 -- a find comes
-pub finds : (held : List (Grain × Held)) (out : List (ℕ × Asked)) (next : ℕ) (grain : Grain) → AreAsked held out → AreBelow next out → AreAsked held (insert_entry nat_cmp out next (Find grain))
+pub finds : (held : List (Grain × Held)) (out : List (ℕ × OutstandingRequest)) (next : ℕ) (grain : Grain) → AreAsked held out → AreBelow next out → AreAsked held (insert_entry nat_cmp out next (Find grain))
 finds held out next grain asked below = record {
   there = λ q n is.
       asked_put out next (Find grain) n
@@ -79,7 +79,7 @@ finds held out next grain asked below = record {
 }
 
 -- an activation has nothing outstanding any more
-pub rests : (held new : List (Grain × Held)) (out : List (ℕ × Asked)) (number : ℕ) (grain : Grain) → AreAsked held out → IsStrictlySortedBy nat_cmp (keys_of out)
+pub rests : (held new : List (Grain × Held)) (out : List (ℕ × OutstandingRequest)) (number : ℕ) (grain : Grain) → AreAsked held out → IsStrictlySortedBy nat_cmp (keys_of out)
     → number_of grain held ≡ Some number → GivesNumber grain None held new → AreAsked new (remove_entry (is_at (nat_cmp number)) out)
 rests held new out number grain asked sorted had gives = record {
   there = λ q n is.
@@ -107,7 +107,7 @@ rests held new out number grain asked sorted had gives = record {
   other_number n other same = let h : true ≡ false = sym (at_itself number) ∙ ap (λ (k : ℕ). is_at (nat_cmp number) k) same ∙ other in cc
 
 -- an activation with nothing outstanding changes to one with nothing outstanding, or goes
-pub stays : (held new : List (Grain × Held)) (out : List (ℕ × Asked)) (grain : Grain) → AreAsked held out → number_of grain held ≡ None → GivesNumber grain None held new → AreAsked new out
+pub stays : (held new : List (Grain × Held)) (out : List (ℕ × OutstandingRequest)) (grain : Grain) → AreAsked held out → number_of grain held ≡ None → GivesNumber grain None held new → AreAsked new out
 stays held new out grain asked none gives = record {
   there = λ q n is. asked.there q n (sym (same_number q) ∙ is);
   only = λ q n is. same_number q ∙ asked.only q n is;
@@ -118,7 +118,7 @@ stays held new out grain asked none gives = record {
       ∙ on_grain (λ b. cond b None (number_of q held) ≡ number_of q held) grain q (λ same. sym (sym (ap (λ (g : Grain). number_of g held) same) ∙ none)) (λ other. refl)
 
 -- a find goes
-pub found : (held : List (Grain × Held)) (out : List (ℕ × Asked)) (number : ℕ) (grain : Grain) → AreAsked held out → IsStrictlySortedBy nat_cmp (keys_of out)
+pub found : (held : List (Grain × Held)) (out : List (ℕ × OutstandingRequest)) (number : ℕ) (grain : Grain) → AreAsked held out → IsStrictlySortedBy nat_cmp (keys_of out)
     → asked_under number out ≡ Some (Find grain) → AreAsked held (remove_entry (is_at (nat_cmp number)) out)
 found held out number grain asked sorted find = record {
   there = λ q n is.

@@ -16,8 +16,8 @@ use Rattle.directory_rules.specs.declared.Held.{Held}
 use Rattle.directory_rules.specs.declared.Phase.{Phase}
 use Rattle.directory_rules.specs.declared.Phase.TheVariants.{Asking, Firm, Closing}
 use Rattle.directory_rules.specs.Host.{Host, act_in, new_host, outstanding, renewed_phase}
-use Rattle.host_activations.specs.declared.asked.Asked.{Asked}
-use Rattle.host_activations.specs.declared.asked.Asked.TheVariants.{Activation, Find}
+use Rattle.host_activations.specs.declared.asked.OutstandingRequest.{OutstandingRequest}
+use Rattle.host_activations.specs.declared.asked.OutstandingRequest.TheVariants.{Activation, Find}
 use Rattle.host_activations.specs.Acts.{act_for, acts_in}
 use Rattle.host_activations.specs.Asked.{asked_under}
 use Rattle.host_activations.specs.IsHost.{AreHeld}
@@ -30,7 +30,7 @@ use Rattle.host_activations.proofs.OutstandingActs.{acts_are}
 use Rattle.host_activations.proofs.Ranks.{found_behind}
 
 -- each is what is found under its number
-pub each_asked : (es : List (ℕ × Asked)) → IsStrictlySortedBy nat_cmp (keys_of es) → AllByRecursion (λ e. asked_under e.0 es ≡ Some e.1) es
+pub each_asked : (es : List (ℕ × OutstandingRequest)) → IsStrictlySortedBy nat_cmp (keys_of es) → AllByRecursion (λ e. asked_under e.0 es ≡ Some e.1) es
 each_asked [] sorted = tt
 each_asked (e ∷ es) sorted = (
   ap (λ b. cond b (Some e.1) (asked_under e.0 es)) (at_itself e.0),
@@ -48,7 +48,7 @@ same_in host silo g (Asking k) h = refl
 same_in host silo g Firm h = refl
 same_in host silo g (Closing k) h = refl
 
-pub same_act : (host : Host) (silo : Silo) (held : List (Grain × Held)) (asked : Asked)
+pub same_act : (host : Host) (silo : Silo) (held : List (Grain × Held)) (asked : OutstandingRequest)
     → act_for silo (map (λ e. (e.0, record e.1 { phase = renewed_phase host e.1.phase })) held) asked ≡ act_for silo held asked
 same_act host silo held (Find g) = refl
 same_act host silo held (Activation g) =
@@ -65,7 +65,7 @@ of_phase (Asking k) silo g h n has = refl
 of_phase Firm silo g h n has = cc
 of_phase (Closing k) silo g h n has = refl
 
-of_all : (silo : Silo) (held : List (Grain × Held)) (es : List (ℕ × Asked)) → AllByRecursion (λ e. option_map asked_by (act_for silo held e.1) ≡ Some e.1) es
+of_all : (silo : Silo) (held : List (Grain × Held)) (es : List (ℕ × OutstandingRequest)) → AllByRecursion (λ e. option_map asked_by (act_for silo held e.1) ≡ Some e.1) es
     → map (λ e. (e.0, asked_by e.1)) (acts_in silo held es) ≡ es
 of_all silo held [] all = refl
 of_all silo held (e ∷ es) all = by (act_for silo held e.1) all.0 (of_all silo held es all.1)
@@ -78,7 +78,7 @@ of_all silo held (e ∷ es) all = by (act_for silo held e.1) all.0 (of_all silo 
     by None none later = cc
     by (Some act) tells later = λ i. (e.0, tells_is act tells i) ∷ later i
 
-pub asked_again : (silo : Silo) (next count : ℕ) (held : List (Grain × Held)) (out : List (ℕ × Asked)) → AreHeld next held out
+pub asked_again : (silo : Silo) (next count : ℕ) (held : List (Grain × Held)) (out : List (ℕ × OutstandingRequest)) → AreHeld next held out
     → map (λ e. (e.0, asked_by e.1)) (outstanding (meant silo next count held out)) ≡ out
 asked_again silo next count held out are =
     ap (λ acts. map (λ e. (e.0, asked_by e.1)) acts) (sym (acts_are silo next count held out are))
@@ -86,7 +86,7 @@ asked_again silo next count held out are =
     (all_map (λ e. asked_under e.0 out ≡ Some e.1) (λ e. option_map asked_by (act_for silo held e.1) ≡ Some e.1) out
     (λ e found. tells e.0 e.1 found) (each_asked out are.in_order))
   where
-    tells : (n : ℕ) (asked : Asked) → asked_under n out ≡ Some asked → option_map asked_by (act_for silo held asked) ≡ Some asked
+    tells : (n : ℕ) (asked : OutstandingRequest) → asked_under n out ≡ Some asked → option_map asked_by (act_for silo held asked) ≡ Some asked
     tells n (Find g) is = refl
     tells n (Activation g) is = by (lookup (is_at (grain_cmp g)) held) (are.asked.only g n is)
       where

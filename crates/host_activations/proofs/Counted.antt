@@ -19,8 +19,8 @@ use Rattle.directory_rules.specs.Host.{Host}
 use Rattle.directory_rules.specs.Laws.{AreNumbered}
 use Rattle.directory_rules.proofs.Numbered as rule
 use Rattle.directory_rules.proofs.RequestNumbers.{one, one_cases, times, times_phase, with_number, numbers}
-use Rattle.host_activations.specs.declared.asked.Asked.{Asked}
-use Rattle.host_activations.specs.declared.asked.Asked.TheVariants.{Activation, Find}
+use Rattle.host_activations.specs.declared.asked.OutstandingRequest.{OutstandingRequest}
+use Rattle.host_activations.specs.declared.asked.OutstandingRequest.TheVariants.{Activation, Find}
 use Rattle.host_activations.specs.Numbers.{number_in}
 use Rattle.host_activations.specs.Asked.{asked_under, find_in, finds_in}
 use Rattle.host_activations.specs.IsHost.{AreHeld}
@@ -91,7 +91,7 @@ not_there n (e ∷ es) none = by (is_at (nat_cmp n) e.0) refl none (not_there n 
         one_cases (λ r. r + times n (keys_of es) ≡ 0) n e.0
         (λ same. let h : true ≡ false = sym (at_itself n) ∙ ap (λ (j : ℕ). is_at (nat_cmp n) j) (sym same) ∙ at in cc) (omega (rest, arith))
 
-module _ (silo : Silo) (next count : ℕ) (held : List (Grain × Held)) (out : List (ℕ × Asked)) (are : AreHeld next held out) where
+module _ (silo : Silo) (next count : ℕ) (held : List (Grain × Held)) (out : List (ℕ × OutstandingRequest)) (are : AreHeld next held out) where
   abbrev host : Host
   host = meant silo next count held out
 
@@ -109,7 +109,7 @@ module _ (silo : Silo) (next count : ℕ) (held : List (Grain × Held)) (out : L
       few : times n (keys_of (finds_in out)) ≤ 1
       few = in_order_once n (keys_of (finds_in out)) (finds_sorted out are.in_order)
 
-      by : (o : Option Asked) → asked_under n out ≡ o → times n (numbers held) + times n (keys_of (finds_in out)) ≤ 1
+      by : (o : Option OutstandingRequest) → asked_under n out ≡ o → times n (numbers held) + times n (keys_of (finds_in out)) ≤ 1
       by None is = let none = not_held n (λ g h. nothing (Activation g) (sym is ∙ h)) in omega (none, few, arith)
       by (Some (Find g)) is = let none = not_held n (λ q h. no_find g q (sym is ∙ h)) in omega (none, few, arith)
       by (Some (Activation g)) is =
@@ -121,7 +121,7 @@ module _ (silo : Silo) (next count : ℕ) (held : List (Grain × Held)) (out : L
   past : (n : ℕ) → next ≤ n → times n (numbers held) + times n (keys_of (finds_in out)) ≡ 0
   past n high = by (asked_under n out) refl
     where
-      by : (o : Option Asked) → asked_under n out ≡ o → times n (numbers held) + times n (keys_of (finds_in out)) ≡ 0
+      by : (o : Option OutstandingRequest) → asked_under n out ≡ o → times n (numbers held) + times n (keys_of (finds_in out)) ≡ 0
       by (Some it) is = let low = are.below n it is in absurd (omega (low, high, arith))
       by None is =
           let none = not_held n (λ g h. nothing (Activation g) (sym is ∙ h)) in

@@ -9,8 +9,8 @@ use Rattle.silo_address.specs.Grain.{Grain, grain_cmp, grain_eq}
 use Rattle.directory_rules.specs.declared.Held.{Held}
 use Rattle.directory_rules.specs.declared.Phase.TheVariants.{Firm}
 use Rattle.directory_rules.specs.Host.{Host, held_of, asking_under, is_asking_under, confirmed, without_held, without_find}
-use Rattle.host_activations.specs.declared.asked.Asked.{Asked}
-use Rattle.host_activations.specs.declared.asked.Asked.TheVariants.{Activation, Find}
+use Rattle.host_activations.specs.declared.asked.OutstandingRequest.{OutstandingRequest}
+use Rattle.host_activations.specs.declared.asked.OutstandingRequest.TheVariants.{Activation, Find}
 use Rattle.host_activations.specs.declared.host.Host.TheInside.{Inside}
 use Rattle.host_activations.specs.Numbers.{number_in, number_of}
 use Rattle.host_activations.specs.Asked.{asked_under, find_in, finds_in}
@@ -24,20 +24,20 @@ use Rattle.host_activations.proofs.Finds.{find_under, finds_taken, finds_kept, f
 use Rattle.host_activations.proofs.Fields.{made, meant, asking_has}
 
 -- without what is outstanding under the number, if there is one
-abbrev pub without_number : Option ℕ → List (ℕ × Asked) → List (ℕ × Asked)
+abbrev pub without_number : Option ℕ → List (ℕ × OutstandingRequest) → List (ℕ × OutstandingRequest)
 without_number None outstanding = outstanding
 without_number (Some number) outstanding = remove_entry (is_at (nat_cmp number)) outstanding
 
-pub freed : (number : Option ℕ) (old new : List (ℕ × Asked)) → MatchOption number (new ≡ old) (λ taken. new ≡ remove_entry (is_at (nat_cmp taken)) old) → new ≡ without_number number old
+pub freed : (number : Option ℕ) (old new : List (ℕ × OutstandingRequest)) → MatchOption number (new ≡ old) (λ taken. new ≡ remove_entry (is_at (nat_cmp taken)) old) → new ≡ without_number number old
 freed None old new is = is
 freed (Some number) old new is = is
 
-no_find_in : (o : Option Asked) (grain : Grain) → o ≡ Some (Activation grain) → option_and_then find_in o ≡ None
+no_find_in : (o : Option OutstandingRequest) (grain : Grain) → o ≡ Some (Activation grain) → option_and_then find_in o ≡ None
 no_find_in o grain is = ap (λ found. option_and_then find_in found) is
 
 module _ (h : Inside) (is : IsWhole h) where
   -- without the number of the grain's request, if it has one
-  abbrev pub left : Grain → List (ℕ × Asked)
+  abbrev pub left : Grain → List (ℕ × OutstandingRequest)
   left grain = without_number (number_of grain h.held.entries) h.outstanding.entries
 
   -- the activation of a grain has nothing outstanding any more, or is no more
@@ -52,7 +52,7 @@ module _ (h : Inside) (is : IsWhole h) where
       finds_kept h.outstanding.entries is.are_held.in_order number (no_find_in _ grain (is.are_held.asked.there grain number had))
 
   -- what every host keeps, where the activation of a grain has nothing outstanding any more, or is no more
-  pub rested_is : (new : List (Grain × Held)) (now : List (ℕ × Asked)) (grain : Grain) → GivesNumber grain None h.held.entries new → IsDistinct grain_eq (keys_of new)
+  pub rested_is : (new : List (Grain × Held)) (now : List (ℕ × OutstandingRequest)) (grain : Grain) → GivesNumber grain None h.held.entries new → IsDistinct grain_eq (keys_of new)
       → now ≡ left grain → IsHost h.next_number new now h.find_count
   rested_is new now grain gives apart now_is = record {
     number = is.number;
@@ -61,18 +61,18 @@ module _ (h : Inside) (is : IsWhole h) where
     few = is.few;
   }
 
-  rested_means : (new old : List (Grain × Held)) (now : List (ℕ × Asked)) (grain : Grain) → new ≡ old → now ≡ left grain
+  rested_means : (new old : List (Grain × Held)) (now : List (ℕ × OutstandingRequest)) (grain : Grain) → new ≡ old → now ≡ left grain
       → meant h.silo h.next_number h.held.next_count new now ≡ made h.silo h.next_number h.held.next_count old (finds_in h.outstanding.entries)
   rested_means new old now grain held_is now_is =
       λ i. made h.silo h.next_number h.held.next_count (held_is i) ((ap finds_in now_is ∙ same_finds grain (number_of grain h.held.entries) refl) i)
 
   -- an activation ends
-  pub ended_is : (new : List (Grain × Held)) (now : List (ℕ × Asked)) (grain : Grain) → new ≡ remove_entry (is_at (grain_cmp grain)) h.held.entries → IsDistinct grain_eq (keys_of new)
+  pub ended_is : (new : List (Grain × Held)) (now : List (ℕ × OutstandingRequest)) (grain : Grain) → new ≡ remove_entry (is_at (grain_cmp grain)) h.held.entries → IsDistinct grain_eq (keys_of new)
       → now ≡ left grain → IsHost h.next_number new now h.find_count
   ended_is new now grain held_is apart now_is =
       rested_is new now grain (λ q. ap (λ (l : List (Grain × Held)). number_of q l) held_is ∙ gone grain h.held.entries is.are_held.apart q) apart now_is
 
-  pub ended_means : (host : Host) → host_of h ≡ host → (new : List (Grain × Held)) (now : List (ℕ × Asked)) (grain : Grain) → new ≡ remove_entry (is_at (grain_cmp grain)) h.held.entries
+  pub ended_means : (host : Host) → host_of h ≡ host → (new : List (Grain × Held)) (now : List (ℕ × OutstandingRequest)) (grain : Grain) → new ≡ remove_entry (is_at (grain_cmp grain)) h.held.entries
       → now ≡ left grain → meant h.silo h.next_number h.held.next_count new now ≡ without_held host grain
   ended_means host means new now grain held_is now_is = rested_means new _ now grain held_is now_is ∙ ap (λ (x : Host). without_held x grain) means
 
@@ -88,7 +88,7 @@ module _ (h : Inside) (is : IsWhole h) where
   there host means number grain held found = asking_there number grain held (subst (λ (x : Host). asking_under x number ≡ Some (grain, held)) (sym means) found)
 
   module _ (host : Host) (means : host_of h ≡ host) (number : ℕ) (grain : Grain) (held : Held) (found : asking_under host number ≡ Some (grain, held))
-      (new : List (Grain × Held)) (now : List (ℕ × Asked))
+      (new : List (Grain × Held)) (now : List (ℕ × OutstandingRequest))
       (held_is : new ≡ set_value (is_at (grain_cmp grain)) h.held.entries (record held { phase = Firm; previous = None })) (now_is : now ≡ remove_entry (is_at (nat_cmp number)) h.outstanding.entries) where
     was : (held_of (host_of h) grain ≡ Some held) × (number_of grain h.held.entries ≡ Some number)
     was = there host means number grain held found
@@ -106,14 +106,14 @@ module _ (h : Inside) (is : IsWhole h) where
     confirmed_means = rested_means new _ now grain held_is taken ∙ ap (λ (x : Host). confirmed x grain held) means
 
   -- a find ends
-  module _ (now : List (ℕ × Asked)) (number : ℕ) (grain : Grain) (there : asked_under number h.outstanding.entries ≡ Some (Find grain))
+  module _ (now : List (ℕ × OutstandingRequest)) (number : ℕ) (grain : Grain) (there : asked_under number h.outstanding.entries ≡ Some (Find grain))
       (now_is : now ≡ remove_entry (is_at (nat_cmp number)) h.outstanding.entries) where
     pub found_is : IsHost h.next_number h.held.entries now (h.find_count - 1)
     found_is = record {
       number = is.number;
       are_held = subst (λ o. AreHeld h.next_number h.held.entries o) (sym now_is) (finding_less h.next_number h.held.entries h.outstanding.entries is.are_held grain number there);
       counted = let less = find_less h.outstanding.entries is.are_held.in_order number grain there in let counted = is.counted in
-          let same : length (finds_in now) ≡ length (finds_in (remove_entry (is_at (nat_cmp number)) h.outstanding.entries)) = ap (λ (l : List (ℕ × Asked)). length (finds_in l)) now_is in
+          let same : length (finds_in now) ≡ length (finds_in (remove_entry (is_at (nat_cmp number)) h.outstanding.entries)) = ap (λ (l : List (ℕ × OutstandingRequest)). length (finds_in l)) now_is in
           omega (counted, less, same, arith);
       few = let few = is.few in omega (few, arith);
     }

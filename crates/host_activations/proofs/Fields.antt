@@ -6,7 +6,7 @@ use Rattle.directory_rules.specs.declared.Held.{Held}
 use Rattle.directory_rules.specs.declared.Phase.{Phase}
 use Rattle.directory_rules.specs.declared.Phase.TheVariants.{Asking, Firm, Closing}
 use Rattle.directory_rules.specs.Host.{Host, is_firm, is_asking_under, is_closing_under}
-use Rattle.host_activations.specs.declared.asked.Asked.{Asked}
+use Rattle.host_activations.specs.declared.asked.OutstandingRequest.{OutstandingRequest}
 use Rattle.host_activations.specs.Numbers.{number_in}
 use Rattle.host_activations.specs.Asked.{finds_in}
 use Rattle.host_activations.specs.Begun.{IsNext}
@@ -15,7 +15,7 @@ use Rattle.std.proofs.lemmas.Bool.{eqb-true}
 abbrev pub made : Silo → (next count : ℕ) → List (Grain × Held) → List (ℕ × Grain) → Host
 made silo next count held finds = record { silo = silo; next_number = next; next_count = count; held = held; finds = finds }
 
-abbrev pub meant : Silo → (next count : ℕ) → List (Grain × Held) → List (ℕ × Asked) → Host
+abbrev pub meant : Silo → (next count : ℕ) → List (Grain × Held) → List (ℕ × OutstandingRequest) → Host
 meant silo next count held out = made silo next count held (finds_in out)
 
 pub step_on : (number : ℕ) → IsNext number → number ≤ 2 ^ 60 → IsNext (number + 1)

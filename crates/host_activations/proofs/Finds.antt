@@ -12,14 +12,14 @@ use Rattle.std.proofs.lemmas.Map.Lookups.{exact_unsigned}
 use Rattle.silo_address.specs.Grain.{Grain}
 use Rattle.texts.proofs.Entries.{lookup-insert_entry, sorted-insert_entry, lookup-picked, sorted-picked, length-insert_entry, sorted-remove_entry}
 use Rattle.membership_view.proofs.Found.{same_entries}
-use Rattle.host_activations.specs.declared.asked.Asked.{Asked}
-use Rattle.host_activations.specs.declared.asked.Asked.TheVariants.{Activation, Find}
+use Rattle.host_activations.specs.declared.asked.OutstandingRequest.{OutstandingRequest}
+use Rattle.host_activations.specs.declared.asked.OutstandingRequest.TheVariants.{Activation, Find}
 use Rattle.host_activations.specs.Asked.{asked_under, find_in, finds_in}
 use Rattle.host_activations.proofs.Numbers.{on_number, through}
 use Rattle.host_activations.proofs.Entries.{length-remove_entry, remove_absent}
 use Rattle.host_activations.proofs.Agreement.{asked_put, asked_taken}
 
-module _ (out : List (ℕ × Asked)) (sorted : IsStrictlySortedBy nat_cmp (keys_of out)) where
+module _ (out : List (ℕ × OutstandingRequest)) (sorted : IsStrictlySortedBy nat_cmp (keys_of out)) where
   -- the find under a number
   pub find_under : (n : ℕ) → lookup (is_at (nat_cmp n)) (finds_in out) ≡ option_and_then find_in (asked_under n out)
   find_under n = lookup-picked nat_cmp_total find_in n out sorted
@@ -27,10 +27,10 @@ module _ (out : List (ℕ × Asked)) (sorted : IsStrictlySortedBy nat_cmp (keys_
   pub finds_sorted : IsStrictlySortedBy nat_cmp (keys_of (finds_in out))
   finds_sorted = sorted-picked nat_cmp_total find_in out sorted
 
-  put_sorted : (next : ℕ) (asked : Asked) → IsStrictlySortedBy nat_cmp (keys_of (insert_entry nat_cmp out next asked))
+  put_sorted : (next : ℕ) (asked : OutstandingRequest) → IsStrictlySortedBy nat_cmp (keys_of (insert_entry nat_cmp out next asked))
   put_sorted next asked = sorted-insert_entry nat_cmp_total next asked out sorted
 
-  found_put : (next : ℕ) (asked : Asked) (n : ℕ) → lookup (is_at (nat_cmp n)) (finds_in (insert_entry nat_cmp out next asked))
+  found_put : (next : ℕ) (asked : OutstandingRequest) (n : ℕ) → lookup (is_at (nat_cmp n)) (finds_in (insert_entry nat_cmp out next asked))
       ≡ cond (is_at (nat_cmp n) next) (find_in asked) (lookup (is_at (nat_cmp n)) (finds_in out))
   found_put next asked n =
       lookup-picked nat_cmp_total find_in n (insert_entry nat_cmp out next asked) (put_sorted next asked)
@@ -84,7 +84,7 @@ module _ (out : List (ℕ × Asked)) (sorted : IsStrictlySortedBy nat_cmp (keys_
       ap (λ (l : List (ℕ × Grain)). length l + 1) (finds_taken number)
       ∙ length-remove_entry (is_at (nat_cmp number)) (finds_in out) grain (find_under number ∙ ap (λ found. option_and_then find_in found) find)
 
-pub is_find : (o : Option Asked) (grain : Grain) → option_and_then find_in o ≡ Some grain → o ≡ Some (Find grain)
+pub is_find : (o : Option OutstandingRequest) (grain : Grain) → option_and_then find_in o ≡ Some grain → o ≡ Some (Find grain)
 is_find None grain is = cc
 is_find (Some (Activation g)) grain is = cc
 is_find (Some (Find g)) grain is = ap (λ o. option_map (λ (x : Grain). Find x) o) is

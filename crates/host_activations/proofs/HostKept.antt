@@ -9,35 +9,35 @@ use Rattle.std.proofs.lemmas.Cmp.{nat_cmp_total}
 use Rattle.silo_address.specs.Grain.{Grain, grain_eq}
 use Rattle.texts.proofs.Entries.{sorted-insert_entry, sorted-remove_entry}
 use Rattle.directory_rules.specs.declared.Held.{Held}
-use Rattle.host_activations.specs.declared.asked.Asked.{Asked}
-use Rattle.host_activations.specs.declared.asked.Asked.TheVariants.{Activation, Find}
+use Rattle.host_activations.specs.declared.asked.OutstandingRequest.{OutstandingRequest}
+use Rattle.host_activations.specs.declared.asked.OutstandingRequest.TheVariants.{Activation, Find}
 use Rattle.host_activations.specs.Numbers.{number_of}
 use Rattle.host_activations.specs.Asked.{asked_under}
 use Rattle.host_activations.specs.IsHost.{AreHeld}
 use Rattle.host_activations.proofs.Numbers.{GivesNumber, on_number}
 use Rattle.host_activations.proofs.Agreement.{AreBelow, asked_put, asked_taken, nothing, asks, finds, rests, stays, found}
 
-below_more : (next : ℕ) (out : List (ℕ × Asked)) (asked : Asked) → AreBelow next out → AreBelow (next + 1) (insert_entry nat_cmp out next asked)
+below_more : (next : ℕ) (out : List (ℕ × OutstandingRequest)) (asked : OutstandingRequest) → AreBelow next out → AreBelow (next + 1) (insert_entry nat_cmp out next asked)
 below_more next out asked below n it is =
     on_number (λ b. cond b (Some asked) (asked_under n out) ≡ Some it → n < next + 1) n next
     (λ same e. omega (same, arith)) (λ other e. let h = below n it e in omega (h, arith))
     (sym (asked_put out next asked n) ∙ is)
 
-below_less : (next : ℕ) (out : List (ℕ × Asked)) (number : ℕ) → IsStrictlySortedBy nat_cmp (keys_of out) → AreBelow next out → AreBelow next (remove_entry (is_at (nat_cmp number)) out)
+below_less : (next : ℕ) (out : List (ℕ × OutstandingRequest)) (number : ℕ) → IsStrictlySortedBy nat_cmp (keys_of out) → AreBelow next out → AreBelow next (remove_entry (is_at (nat_cmp number)) out)
 below_less next out number sorted below n it is =
     on_number (λ b. cond b None (asked_under n out) ≡ Some it → n < next) number n
     (λ same e. nothing it e) (λ other e. below n it e)
     (sym (asked_taken out number n sorted) ∙ is)
 
 -- no number from the next one on is taken
-pub free : (next : ℕ) (held : List (Grain × Held)) (out : List (ℕ × Asked)) → AreHeld next held out → asked_under next out ≡ None
+pub free : (next : ℕ) (held : List (Grain × Held)) (out : List (ℕ × OutstandingRequest)) → AreHeld next held out → asked_under next out ≡ None
 free next held out are = by (asked_under next out) (λ it is. are.below next it is)
   where
-    by : (o : Option Asked) → ((it : Asked) → o ≡ Some it → next < next) → o ≡ None
+    by : (o : Option OutstandingRequest) → ((it : OutstandingRequest) → o ≡ Some it → next < next) → o ≡ None
     by None below = refl
     by (Some it) below = let h : next < next = below it refl in absurd (omega (h, arith))
 
-module _ (next : ℕ) (held new : List (Grain × Held)) (out : List (ℕ × Asked)) (are : AreHeld next held out) where
+module _ (next : ℕ) (held new : List (Grain × Held)) (out : List (ℕ × OutstandingRequest)) (are : AreHeld next held out) where
   pub asking_more : (grain : Grain) → number_of grain held ≡ None → GivesNumber grain (Some next) held new → IsDistinct grain_eq (keys_of new)
       → AreHeld (next + 1) new (insert_entry nat_cmp out next (Activation grain))
   asking_more grain none gives apart = record {
@@ -64,7 +64,7 @@ module _ (next : ℕ) (held new : List (Grain × Held)) (out : List (ℕ × Aske
     below = are.below;
   }
 
-module _ (next : ℕ) (held : List (Grain × Held)) (out : List (ℕ × Asked)) (are : AreHeld next held out) where
+module _ (next : ℕ) (held : List (Grain × Held)) (out : List (ℕ × OutstandingRequest)) (are : AreHeld next held out) where
   pub finding_more : (grain : Grain) → AreHeld (next + 1) held (insert_entry nat_cmp out next (Find grain))
   finding_more grain = record {
     apart = are.apart;

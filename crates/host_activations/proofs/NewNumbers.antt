@@ -16,8 +16,8 @@ use Rattle.silo_address.specs.Grain.{Grain, grain_cmp, grain_eq}
 use Rattle.directory_rules.specs.declared.Held.{Held}
 use Rattle.directory_rules.specs.declared.Phase.{Phase}
 use Rattle.directory_rules.specs.declared.Phase.TheVariants.{Asking, Firm, Closing}
-use Rattle.host_activations.specs.declared.asked.Asked.{Asked}
-use Rattle.host_activations.specs.declared.asked.Asked.TheVariants.{Activation, Find}
+use Rattle.host_activations.specs.declared.asked.OutstandingRequest.{OutstandingRequest}
+use Rattle.host_activations.specs.declared.asked.OutstandingRequest.TheVariants.{Activation, Find}
 use Rattle.host_activations.specs.Numbers.{number_in, phase_under}
 use Rattle.host_activations.proofs.Grains.{at_itself, on_grain, same_test}
 use Rattle.host_activations.proofs.Numbers.{on_number}
@@ -28,16 +28,16 @@ abbrev pub held_as : ℕ → Held → Held
 held_as number held = record held { phase = phase_under number held.phase }
 
 -- whether it is the request of the grain's activation
-abbrev pub is_request_of : Grain → Asked → Bool
+abbrev pub is_request_of : Grain → OutstandingRequest → Bool
 is_request_of grain (Activation asking) = is_at (grain_cmp asking) grain
 is_request_of grain (Find wanted) = false
 
 -- the activations, that of the request under its number
-abbrev pub with_number : List (Grain × Held) → ℕ × Asked → List (Grain × Held)
+abbrev pub with_number : List (Grain × Held) → ℕ × OutstandingRequest → List (Grain × Held)
 with_number held e = map (λ x. (x.0, cond (is_request_of x.0 e.1) (held_as e.0 x.1) x.1)) held
 
 -- the activations, those of all these requests under their numbers
-abbrev pub with_numbers : List (ℕ × Asked) → List (Grain × Held) → List (Grain × Held)
+abbrev pub with_numbers : List (ℕ × OutstandingRequest) → List (Grain × Held) → List (Grain × Held)
 with_numbers outstanding held = fold with_number held outstanding
 
 module _ (f : Held → Held) (g : Grain) where
@@ -91,20 +91,20 @@ with_find [] n g = refl
 with_find (e ∷ es) n g = ap (λ l. e ∷ l) (with_find es n g)
 
 -- ---- One activation through all requests.
-abbrev step : Grain → Held → ℕ × Asked → Held
+abbrev step : Grain → Held → ℕ × OutstandingRequest → Held
 step q h r = cond (is_request_of q r.1) (held_as r.0 h) h
 
-abbrev pub after : List (ℕ × Asked) → Grain → Held → Held
+abbrev pub after : List (ℕ × OutstandingRequest) → Grain → Held → Held
 after rs q h = fold (step q) h rs
 
-abbrev all_after : List (ℕ × Asked) → List (Grain × Held) → List (Grain × Held)
+abbrev all_after : List (ℕ × OutstandingRequest) → List (Grain × Held) → List (Grain × Held)
 all_after rs held = map (λ x. (x.0, after rs x.0 x.1)) held
 
-apart_steps : (r : ℕ × Asked) (rs : List (ℕ × Asked)) (held : List (Grain × Held)) → all_after rs (with_number held r) ≡ all_after (r ∷ rs) held
+apart_steps : (r : ℕ × OutstandingRequest) (rs : List (ℕ × OutstandingRequest)) (held : List (Grain × Held)) → all_after rs (with_number held r) ≡ all_after (r ∷ rs) held
 apart_steps r rs [] = refl
 apart_steps r rs (e ∷ es) = ap (λ l. (e.0, after (r ∷ rs) e.0 e.1) ∷ l) (apart_steps r rs es)
 
-pub each_after : (rs : List (ℕ × Asked)) (held : List (Grain × Held)) → with_numbers rs held ≡ map (λ x. (x.0, after rs x.0 x.1)) held
+pub each_after : (rs : List (ℕ × OutstandingRequest)) (held : List (Grain × Held)) → with_numbers rs held ≡ map (λ x. (x.0, after rs x.0 x.1)) held
 each_after [] held = sym (none held)
   where
     none : (es : List (Grain × Held)) → map (λ x. (x.0, x.1)) es ≡ es
@@ -118,7 +118,7 @@ resting n (Asking k) none = cc
 resting n Firm none = refl
 resting n (Closing k) none = cc
 
-pub after_resting : (rs : List (ℕ × Asked)) (q : Grain) (h : Held) → number_in h.phase ≡ None → after rs q h ≡ h
+pub after_resting : (rs : List (ℕ × OutstandingRequest)) (q : Grain) (h : Held) → number_in h.phase ≡ None → after rs q h ≡ h
 after_resting [] q h none = refl
 after_resting (r ∷ rs) q h none = ap (λ x. after rs q x) (by (is_request_of q r.1)) ∙ after_resting rs q h none
   where
@@ -126,11 +126,11 @@ after_resting (r ∷ rs) q h none = ap (λ x. after rs q x) (by (is_request_of q
     by true = ap (λ (p : Phase). record h { phase = p }) (resting r.0 h.phase none)
     by false = refl
 
-untouched : (q : Grain) (h : Held) (m : ℕ) (es : List (ℕ × Asked)) → AllByRecursion (λ e. is_request_of q e.1 ≡ false) es → after (enumerate_from m (values_of es)) q h ≡ h
+untouched : (q : Grain) (h : Held) (m : ℕ) (es : List (ℕ × OutstandingRequest)) → AllByRecursion (λ e. is_request_of q e.1 ≡ false) es → after (enumerate_from m (values_of es)) q h ≡ h
 untouched q h m [] none = refl
 untouched q h m (e ∷ es) none = ap (λ b. after (enumerate_from (m + 1) (values_of es)) q (cond b (held_as m h) h)) none.0 ∙ untouched q h (m + 1) es none.1
 
-no_more : (q : Grain) (k : ℕ) (es : List (ℕ × Asked)) → AllByRecursion (λ y. nat_cmp k y ≡ Less) (keys_of es) → AllByRecursion (λ e. is_request_of q e.1 ≡ true → e.0 ≡ k) es
+no_more : (q : Grain) (k : ℕ) (es : List (ℕ × OutstandingRequest)) → AllByRecursion (λ y. nat_cmp k y ≡ Less) (keys_of es) → AllByRecursion (λ e. is_request_of q e.1 ≡ true → e.0 ≡ k) es
     → AllByRecursion (λ e. is_request_of q e.1 ≡ false) es
 no_more q k [] above only = tt
 no_more q k (e ∷ es) above only = (by (is_request_of q e.1) only.0, no_more q k es above.1 only.1)
@@ -140,7 +140,7 @@ no_more q k (e ∷ es) above only = (by (is_request_of q e.1) only.0, no_more q 
     by false same = refl
 
 -- one that has a request outstanding has it under the request's rank
-pub after_asking : (f : ℕ → ℕ) (q : Grain) (h : Held) (k m : ℕ) (es : List (ℕ × Asked)) → IsStrictlySortedBy nat_cmp (keys_of es) → Ranks f m es
+pub after_asking : (f : ℕ → ℕ) (q : Grain) (h : Held) (k m : ℕ) (es : List (ℕ × OutstandingRequest)) → IsStrictlySortedBy nat_cmp (keys_of es) → Ranks f m es
     → AllByRecursion (λ e. is_request_of q e.1 ≡ true → e.0 ≡ k) es → lookup (is_at (nat_cmp k)) es ≡ Some (Activation q)
     → after (enumerate_from m (values_of es)) q h ≡ held_as (f k) h
 after_asking f q h k m [] sorted ranks only found = cc

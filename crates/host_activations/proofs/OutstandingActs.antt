@@ -23,8 +23,8 @@ use Rattle.directory_rules.specs.declared.Phase.{Phase}
 use Rattle.directory_rules.specs.declared.Phase.TheVariants.{Asking, Firm, Closing}
 use Rattle.directory_rules.specs.Host.{Host, act_in, find_acts, held_acts, new_host, outstanding}
 use Rattle.host_activations.proofs.Grains.{on_grain}
-use Rattle.host_activations.specs.declared.asked.Asked.{Asked}
-use Rattle.host_activations.specs.declared.asked.Asked.TheVariants.{Activation, Find}
+use Rattle.host_activations.specs.declared.asked.OutstandingRequest.{OutstandingRequest}
+use Rattle.host_activations.specs.declared.asked.OutstandingRequest.TheVariants.{Activation, Find}
 use Rattle.host_activations.specs.Numbers.{number_in}
 use Rattle.host_activations.specs.Asked.{asked_under, find_in, finds_in}
 use Rattle.directory_rules.specs.Host.{entry_on}
@@ -80,7 +80,7 @@ one_act f n a g h (e ∷ es) only there is =
         head true same = ap (λ (y : Act). Some y) (same refl)
         head false same = later only.1
 
-module _ (silo : Silo) (next count : ℕ) (held : List (Grain × Held)) (out : List (ℕ × Asked)) (are : AreHeld next held out) where
+module _ (silo : Silo) (next count : ℕ) (held : List (Grain × Held)) (out : List (ℕ × OutstandingRequest)) (are : AreHeld next held out) where
   abbrev host : Host
   host = meant silo next count held out
 
@@ -130,7 +130,7 @@ module _ (silo : Silo) (next count : ℕ) (held : List (Grain × Held)) (out : L
   act_under : (n : ℕ) → at n (outstanding host) ≡ option_and_then (λ asked. act_for silo held asked) (asked_under n out)
   act_under n = by (asked_under n out) refl
     where
-      by : (o : Option Asked) → asked_under n out ≡ o → at n (outstanding host) ≡ option_and_then (λ asked. act_for silo held asked) o
+      by : (o : Option OutstandingRequest) → asked_under n out ≡ o → at n (outstanding host) ≡ option_and_then (λ asked. act_for silo held asked) o
       by None is = of_finds n (λ g h. nothing (Activation g) (sym is ∙ h)) ∙ ap (λ o. option_map (λ g. act.Find g) (option_and_then find_in o)) is
       by (Some (Activation g)) is = of_activation n g is (lookup (is_at (grain_cmp g)) held) refl
       by (Some (Find g)) is = of_finds n (λ q h. no_find g q (sym is ∙ h)) ∙ ap (λ o. option_map (λ g. act.Find g) (option_and_then find_in o)) is
@@ -144,7 +144,7 @@ module _ (silo : Silo) (next count : ℕ) (held : List (Grain × Held)) (out : L
       (λ n. lookup-picked nat_cmp_total (λ asked. act_for silo held asked) n out are.in_order ∙ sym (act_under n))
 
   -- each has an act
-  some_act : (n : ℕ) (asked : Asked) → asked_under n out ≡ Some asked → is_some (act_for silo held asked) ≡ true
+  some_act : (n : ℕ) (asked : OutstandingRequest) → asked_under n out ≡ Some asked → is_some (act_for silo held asked) ≡ true
   some_act n (Find g) is = refl
   some_act n (Activation g) is = by (lookup (is_at (grain_cmp g)) held) (are.asked.only g n is)
     where

@@ -16,7 +16,7 @@ use Rattle.std.proofs.lemmas.Map.Keys.{sorted_head, sorted_tail}
 use Rattle.texts.proofs.Orderings.{at_itself}
 use Rattle.silo_address.specs.Grain.{Grain}
 use Rattle.directory_rules.proofs.Cases.{on_bool}
-use Rattle.host_activations.specs.declared.asked.Asked.{Asked}
+use Rattle.host_activations.specs.declared.asked.OutstandingRequest.{OutstandingRequest}
 use Rattle.host_activations.specs.Asked.{find_in, finds_in}
 use Rattle.host_activations.proofs.Numbers.{on_number}
 
@@ -157,7 +157,7 @@ module _ {X : Type 0} where
       (back.0, found_behind e es back.0 x sorted back.1, back.2)) found
 
 -- the finds have their ranks
-pub finds-enumerate_from : (f : ℕ → ℕ) (m : ℕ) (es : List (ℕ × Asked)) → Ranks f m es → finds_in (enumerate_from m (values_of es)) ≡ map (λ e. (f e.0, e.1)) (finds_in es)
+pub finds-enumerate_from : (f : ℕ → ℕ) (m : ℕ) (es : List (ℕ × OutstandingRequest)) → Ranks f m es → finds_in (enumerate_from m (values_of es)) ≡ map (λ e. (f e.0, e.1)) (finds_in es)
 finds-enumerate_from f m [] ranks = refl
 finds-enumerate_from f m (e ∷ es) ranks = by (find_in e.1) (finds-enumerate_from f (m + 1) es ranks.1)
   where

@@ -15,8 +15,8 @@ use Rattle.directory_rules.specs.declared.Held.{Held}
 use Rattle.directory_rules.specs.declared.Phase.{Phase}
 use Rattle.directory_rules.specs.declared.Phase.TheVariants.{Asking, Firm, Closing}
 use Rattle.directory_rules.specs.Host.{Host, new_number, outstanding, renewed, renewed_phase}
-use Rattle.host_activations.specs.declared.asked.Asked.{Asked}
-use Rattle.host_activations.specs.declared.asked.Asked.TheVariants.{Activation, Find}
+use Rattle.host_activations.specs.declared.asked.OutstandingRequest.{OutstandingRequest}
+use Rattle.host_activations.specs.declared.asked.OutstandingRequest.TheVariants.{Activation, Find}
 use Rattle.host_activations.specs.declared.host.Host.TheInside.{Inside}
 use Rattle.host_activations.specs.Numbers.{number_in, number_of, phase_under}
 use Rattle.host_activations.specs.Asked.{asked_under, finds_in, AreAsked}
@@ -63,12 +63,12 @@ asks host (Asking j) k is = ap (λ (n : ℕ). Asking (new_number host n)) (sym (
 asks host Firm k is = refl
 asks host (Closing j) k is = ap (λ (n : ℕ). Closing (new_number host n)) (sym (same_Some j k is))
 
-of_grain : (q : Grain) (asked : Asked) → is_request_of q asked ≡ true → asked ≡ Activation q
+of_grain : (q : Grain) (asked : OutstandingRequest) → is_request_of q asked ≡ true → asked ≡ Activation q
 of_grain q (Activation g) is = ap (λ (x : Grain). Activation x) (grain_cmp_exact g q (Equal-from (grain_cmp g q) is))
 of_grain q (Find g) is = cc
 
 module _ (h : Inside) (is : IsWhole h) where
-  abbrev out : List (ℕ × Asked)
+  abbrev out : List (ℕ × OutstandingRequest)
   out = h.outstanding.entries
 
   -- the new number of each
@@ -79,7 +79,7 @@ module _ (h : Inside) (is : IsWhole h) where
   renewed_held held = record held { phase = renewed_phase (host_of h) held.phase }
 
   -- what is outstanding, and the activations, after it
-  abbrev pub now : List (ℕ × Asked)
+  abbrev pub now : List (ℕ × OutstandingRequest)
   now = enumerate_from h.next_number (values_of out)
 
   abbrev pub held_now : List (Grain × Held)
@@ -102,7 +102,7 @@ module _ (h : Inside) (is : IsWhole h) where
   only_under : (q : Grain) (k : ℕ) → number_of q h.held.entries ≡ Some k → AllByRecursion (λ e. is_request_of q e.1 ≡ true → e.0 ≡ k) out
   only_under q k has =
       all_map (λ e. asked_under e.0 out ≡ Some e.1) (λ e. is_request_of q e.1 ≡ true → e.0 ≡ k) out
-      (λ e found request. same_Some e.0 k (sym (is.are_held.asked.only q e.0 (found ∙ ap (λ (a : Asked). Some a) (of_grain q e.1 request))) ∙ has))
+      (λ e found request. same_Some e.0 k (sym (is.are_held.asked.only q e.0 (found ∙ ap (λ (a : OutstandingRequest). Some a) (of_grain q e.1 request))) ∙ has))
       (each_asked out is.are_held.in_order)
 
   one_after : (e : Grain × Held) → IsFoundIn h.held.entries e → after now e.0 e.1 ≡ renewed_held e.1
@@ -145,7 +145,7 @@ module _ (h : Inside) (is : IsWhole h) where
         let ranked = rank_found new h.next_number out k (Activation q) ranks (is.are_held.asked.there q k has) in
         ap (λ (m : ℕ). asked_under m now) (sym (same_Some (new k) n is_n)) ∙ ranked.found
 
-  below_now : (n : ℕ) (asked : Asked) → asked_under n now ≡ Some asked → n < h.next_number + length out
+  below_now : (n : ℕ) (asked : OutstandingRequest) → asked_under n now ≡ Some asked → n < h.next_number + length out
   below_now n asked found =
       let back = rank_back new h.next_number out n asked is.are_held.in_order ranks found in
       let ranked = rank_found new h.next_number out back.0 asked ranks back.1 in
@@ -163,7 +163,7 @@ module _ (h : Inside) (is : IsWhole h) where
   finds_now = finds-enumerate_from new h.next_number out ranks
 
   module _ (host : Host) (means : host_of h ≡ host) where
-    module _ (held_new : List (Grain × Held)) (out_new : List (ℕ × Asked)) (count : ℕ) (held_made : held_new ≡ held_now) (out_made : out_new ≡ now) (counted : count ≡ length out) where
+    module _ (held_new : List (Grain × Held)) (out_new : List (ℕ × OutstandingRequest)) (count : ℕ) (held_made : held_new ≡ held_now) (out_made : out_new ≡ now) (counted : count ≡ length out) where
       pub renewed_means : meant h.silo (h.next_number + count) h.held.next_count held_new out_new ≡ renewed host
       renewed_means =
           (λ i. made h.silo (h.next_number + (counted ∙ sym many) i) h.held.next_count (held_made i) ((ap finds_in out_made ∙ finds_now) i))
@@ -189,7 +189,7 @@ module _ (h : Inside) (is : IsWhole h) where
           let left_here : h.next_number + length (outstanding (host_of h)) ≤ 2 ^ 60 + 1 = subst (λ (x : Host). x.next_number + length (outstanding x) ≤ 2 ^ 60 + 1) (sym means) left in
           let all = many in omega (left_here, all, arith)
 
-      pub renewed_is : (held_new : List (Grain × Held)) (out_new : List (ℕ × Asked)) (count : ℕ) → held_new ≡ held_now → out_new ≡ now → count ≡ length out → IsHost (h.next_number + count) held_new out_new h.find_count
+      pub renewed_is : (held_new : List (Grain × Held)) (out_new : List (ℕ × OutstandingRequest)) (count : ℕ) → held_new ≡ held_now → out_new ≡ now → count ≡ length out → IsHost (h.next_number + count) held_new out_new h.find_count
       renewed_is held_new out_new count held_made out_made counted = record {
         number = let above = is.number.above in record { above = omega (above, arith); within = omega (enough, counted, arith) };
         are_held = subst (λ (n : ℕ). AreHeld (h.next_number + n) held_new out_new) (sym counted)

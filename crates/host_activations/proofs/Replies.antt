@@ -11,8 +11,8 @@ use Rattle.directory_rules.specs.declared.Phase.TheVariants.{Asking, Firm, Closi
 use Rattle.directory_rules.specs.Host.{Host, is_asking_under, is_closing_under}
 use Rattle.host_activations.specs.declared.host.Host.TheInside.{Inside}
 use Rattle.host_activations.specs.HostModel.{IsWhole, host_of}
-use Rattle.host_activations.specs.declared.asked.Asked.{Asked}
-use Rattle.host_activations.specs.declared.asked.Asked.TheVariants.{Activation, Find}
+use Rattle.host_activations.specs.declared.asked.OutstandingRequest.{OutstandingRequest}
+use Rattle.host_activations.specs.declared.asked.OutstandingRequest.TheVariants.{Activation, Find}
 use Rattle.host_activations.specs.Numbers.{number_in}
 use Rattle.host_activations.specs.Asked.{asked_under}
 use Rattle.host_activations.specs.IsHost.{AreHeld}
@@ -20,27 +20,27 @@ use Rattle.host_activations.proofs.Agreement.{same_activation, no_find, nothing}
 use Rattle.host_activations.proofs.Found.{IsFoundIn, all_map, each_found, search_finds, search_fails}
 
 -- what is outstanding under a number is an activation's request just where it is not a find's
-abbrev activation_in : Asked → Option Grain
+abbrev activation_in : OutstandingRequest → Option Grain
 activation_in (Activation grain) = Some grain
 activation_in (Find grain) = None
 
-tells_activation : (o : Option Asked) (g : Grain) → (option_and_then activation_in o ≡ Some g) ↔ (o ≡ Some (Activation g))
+tells_activation : (o : Option OutstandingRequest) (g : Grain) → (option_and_then activation_in o ≡ Some g) ↔ (o ≡ Some (Activation g))
 tells_activation None g = (λ h. cc, λ h. cc)
 tells_activation (Some (Activation q)) g = (λ h. ap (λ (x : Grain). Some (Activation x)) (same_Some q g h), λ h. ap (λ (x : Grain). Some x) (same_activation q g h))
 tells_activation (Some (Find q)) g = (λ h. cc, λ h. no_find q g h)
 
-pub none_told : (r : Option Grain) (o : Option Asked) → r ≡ None → None ≡ o → (g : Grain) → (r ≡ Some g) ↔ (o ≡ Some (Activation g))
+pub none_told : (r : Option Grain) (o : Option OutstandingRequest) → r ≡ None → None ≡ o → (g : Grain) → (r ≡ Some g) ↔ (o ≡ Some (Activation g))
 none_told r o none is g = subst (λ x. (x ≡ Some g) ↔ (o ≡ Some (Activation g))) (sym none) (subst (λ x. (None ≡ Some g) ↔ (x ≡ Some (Activation g))) is (tells_activation None g))
 
-pub activation_told : (q : Grain) (asked : Asked) (o : Option Asked) → asked ≡ Activation q → Some asked ≡ o → (g : Grain) → (Some q ≡ Some g) ↔ (o ≡ Some (Activation g))
+pub activation_told : (q : Grain) (asked : OutstandingRequest) (o : Option OutstandingRequest) → asked ≡ Activation q → Some asked ≡ o → (g : Grain) → (Some q ≡ Some g) ↔ (o ≡ Some (Activation g))
 activation_told q asked o what is g =
-    subst (λ x. (Some q ≡ Some g) ↔ (x ≡ Some (Activation g))) (ap (λ (a : Asked). Some a) (sym what) ∙ is) (tells_activation (Some (Activation q)) g)
+    subst (λ x. (Some q ≡ Some g) ↔ (x ≡ Some (Activation g))) (ap (λ (a : OutstandingRequest). Some a) (sym what) ∙ is) (tells_activation (Some (Activation q)) g)
 
-pub find_told : (q : Grain) (asked : Asked) (o : Option Asked) → asked ≡ Find q → Some asked ≡ o → (g : Grain) → (None ≡ Some g) ↔ (o ≡ Some (Activation g))
+pub find_told : (q : Grain) (asked : OutstandingRequest) (o : Option OutstandingRequest) → asked ≡ Find q → Some asked ≡ o → (g : Grain) → (None ≡ Some g) ↔ (o ≡ Some (Activation g))
 find_told q asked o what is g =
-    subst (λ x. (None ≡ Some g) ↔ (x ≡ Some (Activation g))) (ap (λ (a : Asked). Some a) (sym what) ∙ is) (tells_activation (Some (Find q)) g)
+    subst (λ x. (None ≡ Some g) ↔ (x ≡ Some (Activation g))) (ap (λ (a : OutstandingRequest). Some a) (sym what) ∙ is) (tells_activation (Some (Find q)) g)
 
-module _ (next : ℕ) (held : List (Grain × Held)) (out : List (ℕ × Asked)) (are : AreHeld next held out)
+module _ (next : ℕ) (held : List (Grain × Held)) (out : List (ℕ × OutstandingRequest)) (are : AreHeld next held out)
     (test : Phase → Bool) (n : ℕ) (has : (phase : Phase) → test phase ≡ true → number_in phase ≡ Some n) where
   -- the grain's activation, if it passes
   abbrev pub passing : Grain → Option (Grain × Held)

@@ -13,9 +13,9 @@ use Rattle.membership_view.proofs.Found.{same_entries}
 use Rattle.directory_rules.specs.declared.Held.{Held}
 use Rattle.directory_rules.specs.Host.{Host}
 use Rattle.host_activations.specs.Activations.{ActivationsValue}
-use Rattle.host_activations.specs.declared.asked.Asked.{Asked}
-use Rattle.host_activations.specs.declared.asked.Asked.TheVariants.{Activation, Find}
-use Rattle.host_activations.specs.contracts.asked.AskedPartialEq as asked_eq
+use Rattle.host_activations.specs.declared.asked.OutstandingRequest.{OutstandingRequest}
+use Rattle.host_activations.specs.declared.asked.OutstandingRequest.TheVariants.{Activation, Find}
+use Rattle.host_activations.specs.contracts.asked.OutstandingRequestPartialEq as asked_eq
 use Rattle.host_activations.specs.Asked.{asked_under, find_in, finds_in}
 use Rattle.host_activations.specs.IsHost.{AreHeld}
 use Rattle.host_activations.proofs.Agreement.{nothing}
@@ -25,7 +25,7 @@ use Rattle.host_activations.specs.HostModel.{IsWhole, host_of}
 use Rattle.host_activations.proofs.Fields.{meant}
 
 -- ---- Tests of equality.
-pub Decides-asked : (a b : Asked) → Decides (asked_eq.TheImpl.ghosts.eq a b) (a ≡ b)
+pub Decides-asked : (a b : OutstandingRequest) → Decides (asked_eq.TheImpl.ghosts.eq a b) (a ≡ b)
 Decides-asked (Activation a) (Activation b) = Decides-like _ (λ e. ap (λ (g : Grain). Activation g) e) (λ e. cc) (Decides-grain a b)
 Decides-asked (Activation a) (Find b) = (λ h. cc, λ h. cc)
 Decides-asked (Find a) (Activation b) = (λ h. cc, λ h. cc)
@@ -33,14 +33,14 @@ Decides-asked (Find a) (Find b) = Decides-like _ (λ e. ap (λ (g : Grain). Find
 
 -- ---- Hosts.
 -- the activations and the finds tell all that is outstanding
-module _ (next : ℕ) (held : List (Grain × Held)) (out other : List (ℕ × Asked)) (are : AreHeld next held out) (also : AreHeld next held other) (finds : finds_in out ≡ finds_in other) where
+module _ (next : ℕ) (held : List (Grain × Held)) (out other : List (ℕ × OutstandingRequest)) (are : AreHeld next held out) (also : AreHeld next held other) (finds : finds_in out ≡ finds_in other) where
   same_find : (n : ℕ) → option_and_then find_in (asked_under n out) ≡ option_and_then find_in (asked_under n other)
   same_find n = sym (find_under out are.in_order n) ∙ ap (λ (l : List (ℕ × Grain)). lookup (is_at (nat_cmp n)) l) finds ∙ find_under other also.in_order n
 
   pub told : out ≡ other
   told = same_entries nat_cmp_total exact_unsigned out other are.in_order also.in_order (λ n. by n (asked_under n out) refl (asked_under n other) refl)
     where
-      by : (n : ℕ) (o : Option Asked) → asked_under n out ≡ o → (p : Option Asked) → asked_under n other ≡ p → o ≡ p
+      by : (n : ℕ) (o : Option OutstandingRequest) → asked_under n out ≡ o → (p : Option OutstandingRequest) → asked_under n other ≡ p → o ≡ p
       by n None is None so = refl
       by n (Some (Activation g)) is p so = sym (also.asked.there g n (are.asked.only g n is)) ∙ so
       by n (Some (Find g)) is p so = sym (is_find (asked_under n other) g (sym (same_find n) ∙ ap (λ o. option_and_then find_in o) is)) ∙ so

@@ -15,7 +15,7 @@ use Rattle.membership_view.proofs.Found.{same_entries}
 use Rattle.directory_rules.specs.declared.Held.{Held}
 use Rattle.directory_rules.specs.declared.Phase.{Phase}
 use Rattle.host_activations.specs.Activations.{ActivationsValue}
-use Rattle.host_activations.specs.declared.asked.Asked.{Asked}
+use Rattle.host_activations.specs.declared.asked.OutstandingRequest.{OutstandingRequest}
 use Rattle.host_activations.specs.Asked.{asked_under}
 use Rattle.host_activations.proofs.Agreement.{asked_put, asked_taken}
 use Rattle.host_activations.proofs.Numbers.{on_number}
@@ -28,7 +28,7 @@ pub set_there : (g : Grain) (old new : ActivationsValue) (phase : Phase) (previo
 set_there g old new phase previous held there set = subst (λ o. MatchOption o (new ≡ old) (λ h. new ≡ set_to g old h phase previous)) there set
 
 -- what is put in under a new number and taken out again leaves what was there
-pub put_back : (n : ℕ) (asked : Asked) (out : List (ℕ × Asked)) → IsStrictlySortedBy nat_cmp (keys_of out) → asked_under n out ≡ None
+pub put_back : (n : ℕ) (asked : OutstandingRequest) (out : List (ℕ × OutstandingRequest)) → IsStrictlySortedBy nat_cmp (keys_of out) → asked_under n out ≡ None
     → remove_entry (is_at (nat_cmp n)) (insert_entry nat_cmp out n asked) ≡ out
 put_back n asked out sorted none =
     same_entries nat_cmp_total exact_unsigned (remove_entry (is_at (nat_cmp n)) more) out (sorted-remove_entry (is_at (nat_cmp n)) nat_cmp more sorted_more) sorted
@@ -39,7 +39,7 @@ put_back n asked out sorted none =
     ∙ on_number (λ b. cond b (Some asked) (asked_under q out) ≡ asked_under q out) q n
     (λ same. let h : true ≡ false = sym (at_itself n) ∙ ap (λ (k : ℕ). is_at (nat_cmp n) k) (sym same) ∙ other in cc) (λ also. refl)))
   where
-    more : List (ℕ × Asked)
+    more : List (ℕ × OutstandingRequest)
     more = insert_entry nat_cmp out n asked
 
     sorted_more : IsStrictlySortedBy nat_cmp (keys_of more)

@@ -10,14 +10,14 @@ use Rattle.directory_rules.specs.declared.Act.{Act}
 use Rattle.directory_rules.specs.declared.Act.TheVariants as act
 use Rattle.directory_rules.specs.declared.Held.{Held}
 use Rattle.directory_rules.specs.Host.{act_in, new_host}
-use Rattle.host_activations.specs.declared.asked.Asked.{Asked}
-use Rattle.host_activations.specs.declared.asked.Asked.TheVariants.{Activation, Find}
+use Rattle.host_activations.specs.declared.asked.OutstandingRequest.{OutstandingRequest}
+use Rattle.host_activations.specs.declared.asked.OutstandingRequest.TheVariants.{Activation, Find}
 
 -- what a request of the silo asks: the rule's act of an activation, or a find
-abbrev pub act_for : Silo → List (Grain × Held) → Asked → Option Act
+abbrev pub act_for : Silo → List (Grain × Held) → OutstandingRequest → Option Act
 act_for silo held (Activation grain) = option_and_then (λ h. option_map (λ e. e.1) (act_in h.phase (new_host silo) grain h)) (lookup (is_at (grain_cmp grain)) held)
 act_for silo held (Find grain) = Some (act.Find grain)
 
 -- the requests as acts, under their numbers
-abbrev pub acts_in : Silo → List (Grain × Held) → List (ℕ × Asked) → List (ℕ × Act)
+abbrev pub acts_in : Silo → List (Grain × Held) → List (ℕ × OutstandingRequest) → List (ℕ × Act)
 acts_in silo held outstanding = filter_map (λ e. option_map (λ act. (e.0, act)) (act_for silo held e.1)) outstanding

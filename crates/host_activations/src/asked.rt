@@ -7,7 +7,7 @@ use silo_address::GrainId;
 
 /// What a host has outstanding under a number.
 #[derive(Clone, Copy, PartialEq, Eq)]
-pub enum Asked {
+pub enum OutstandingRequest {
     /// The request of the grain's activation: to be entered, or to be taken out.
     Activation(GrainId),
     /// Where the grain is.
@@ -25,11 +25,11 @@ pub fn number_in(phase: Phase) -> Option<u64>
 }
 
 /// The grain for which it asks, if it is a find.
-pub fn find_in(asked: &Asked) -> Option<GrainId>
+pub fn find_in(asked: &OutstandingRequest) -> Option<GrainId>
     ensures { result ≡ find_in asked.now }
 {
     match asked {
-        Asked::Activation(_) => None,
-        Asked::Find(grain) => Some(*grain),
+        OutstandingRequest::Activation(_) => None,
+        OutstandingRequest::Find(grain) => Some(*grain),
     }
 }

@@ -11,7 +11,7 @@ mod same;
 mod telling;
 
 use crate::Activations;
-use crate::asked::Asked;
+use crate::asked::OutstandingRequest;
 use directory_rules::{Held, Settings};
 use hash_ring::Hashing;
 pub use renewal::Renewal;
@@ -28,7 +28,7 @@ pub struct Host {
     next_number: u64,
     held: Activations,
     // All that is outstanding, by number, so that a reply finds what it answers at once.
-    outstanding: BTreeMap<u64, Asked>,
+    outstanding: BTreeMap<u64, OutstandingRequest>,
     // How many of them are finds.
     find_count: usize,
 }

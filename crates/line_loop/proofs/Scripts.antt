@@ -9,22 +9,22 @@ use Rattle.script_lines.specs.Spaced.{BeginsWith}
 use Rattle.script_lines.proofs.Fronts.{begins_with_itself, begins_with_the_first}
 use Rattle.line_loop.specs.declared.ended.Ended.{Ended}
 use Rattle.line_loop.specs.declared.ended.Ended.TheVariants as ended
-use Rattle.line_loop.specs.declared.fault.LineFault.{LineFault}
+use Rattle.line_loop.specs.declared.fault.ScriptLineFault.{ScriptLineFault}
 use Rattle.line_loop.specs.Endings.{Concludes, Ends, Writes}
 use Rattle.line_loop.specs.Lines.{PlaysLines, PlaysOn, PlaysSome, PlaysTo, PrintsLine, no_line, then_line}
 use Rattle.line_loop.specs.Outputs.{IsOfOutput, WritesOutput}
 use Rattle.line_loop.specs.Scripts.{PlaysLine, PrintsLines, PrintsOne, Rule, TellsFault, WritesScript, behind, no_output, stripped, told_fault}
 
 -- the status of a script that a fault ended, or that none did
-abbrev stop_status : Option LineFault → ℕ
+abbrev stop_status : Option ScriptLineFault → ℕ
 stop_status None = 0
 stop_status (Some fault) = 2
 
 behind_both : (one other : List ℕ) (output : Output) → behind one (behind other output) ≡ behind (one ++ other) output
 behind_both one other output = ap (λ (t : List ℕ). let o : Output = record { text = t; status = output.status } in o) (sym (append_assoc one other output.text))
 
-module _ {P : Type 0} (plays : P → ℕ → List ℕ → Bool → List ℕ → Option LineFault → P → Type 0) (output : P → Rule)
-    (plays_line : (old new : P) (number : ℕ) (line : List ℕ) (ended : Bool) (text : List ℕ) (fault : Option LineFault) → plays old number line ended text fault new → PlaysLine (output old) (output new) number line text fault)
+module _ {P : Type 0} (plays : P → ℕ → List ℕ → Bool → List ℕ → Option ScriptLineFault → P → Type 0) (output : P → Rule)
+    (plays_line : (old new : P) (number : ℕ) (line : List ℕ) (ended : Bool) (text : List ℕ) (fault : Option ScriptLineFault) → plays old number line ended text fault new → PlaysLine (output old) (output new) number line text fault)
     (nothing : (player : P) (number : ℕ) → output player number [] ≡ no_output) (first : P) where
   -- what lines print stands in front of what is printed behind them
   on_behind : (lines : List (List ℕ)) (text : List ℕ) (now : P) → PlaysOn plays first lines text now → (more : List (List ℕ))
@@ -49,13 +49,13 @@ module _ {P : Type 0} (plays : P → ℕ → List ℕ → Bool → List ℕ → 
   pub prints_one : (text : List ℕ) → PrintsLine plays text → PrintsOne output text
   prints_one text made = (made.0, made.1, stripped made.2, by made.4 (plays_line made.0 made.5 made.1 made.2 made.3 text made.4 made.6))
     where
-      by : (fault : Option LineFault) → PlaysLine (output made.0) (output made.5) made.1 made.2 text fault → text ≡ (output made.0 made.1 (stripped made.2 ∷ [])).text
+      by : (fault : Option ScriptLineFault) → PlaysLine (output made.0) (output made.5) made.1 made.2 text fault → text ≡ (output made.0 made.1 (stripped made.2 ∷ [])).text
       by None printed =
           sym (append-nil text) ∙ (ap (λ (o : Output). text ++ o.text) (sym (nothing made.5 (made.1 + 1))) ∙ ap (λ (o : Output). o.text) (sym (printed [])))
       by (Some fault) printed = ap (λ (o : Output). o.text) (sym (printed.2 []))
 
   -- the last line of a run
-  last_line : (between last : P) (number : ℕ) (line : List ℕ) (ended : Bool) (more : List ℕ) (stop : Option LineFault) (others : List (List ℕ)) → plays between number line ended more stop last → (stop ≡ None → others ≡ [])
+  last_line : (between last : P) (number : ℕ) (line : List ℕ) (ended : Bool) (more : List ℕ) (stop : Option ScriptLineFault) (others : List (List ℕ)) → plays between number line ended more stop last → (stop ≡ None → others ≡ [])
       → output between number (stripped line ∷ map stripped others) ≡ record { text = more; status = stop_status stop }
   last_line between last number line ended more None others made whole =
       plays_line between last number line ended more None made (map stripped others)
@@ -64,7 +64,7 @@ module _ {P : Type 0} (plays : P → ℕ → List ℕ → Bool → List ℕ → 
   last_line between last number line ended more (Some fault) others made whole = (plays_line between last number line ended more (Some fault) made).2 (map stripped others)
 
   -- so a run has the script's output
-  whole_output : (pieces : List (List ℕ)) (text : List ℕ) (stop : Option LineFault) (last : P) → PlaysTo plays first pieces text stop last → output first 1 (map stripped pieces) ≡ record { text = text; status = stop_status stop }
+  whole_output : (pieces : List (List ℕ)) (text : List ℕ) (stop : Option ScriptLineFault) (last : P) → PlaysTo plays first pieces text stop last → output first 1 (map stripped pieces) ≡ record { text = text; status = stop_status stop }
   whole_output pieces text stop last to =
       ap (λ (ps : List (List ℕ)). output first 1 (map stripped ps)) to.cut
       ∙ (ap (output first 1) (map-append stripped to.lines (to.line ∷ to.others))
@@ -85,11 +85,11 @@ module _ {P : Type 0} (plays : P → ℕ → List ℕ → Bool → List ℕ → 
   some_output pieces text last (inr all) = subst (λ (t : List ℕ). BeginsWith text t) (ap (λ (o : Output). o.text) (sym (whole_output pieces text all.0 last all.1))) (begins_with_itself text)
 
   -- the fault is told at the end
-  fault_told : (pieces : List (List ℕ)) (text : List ℕ) (fault : LineFault) (last : P) → PlaysTo plays first pieces text (Some fault) last → TellsFault fault text
+  fault_told : (pieces : List (List ℕ)) (text : List ℕ) (fault : ScriptLineFault) (last : P) → PlaysTo plays first pieces text (Some fault) last → TellsFault fault text
   fault_told pieces text fault last to =
       (to.before, to.printed ∙ ap (λ (t : List ℕ). to.before ++ t) (plays_line to.between last (length to.lines + 1) to.line _ to.more (Some fault) to.plays_line).1)
 
-  written_front : (script text : List ℕ) (rest begun written : Option (List ℕ)) (ending : Ended LineFault) → IsOfOutput TellsFault 2 (output first 1 (lines_of script)) text ending → Writes text begun written ending
+  written_front : (script text : List ℕ) (rest begun written : Option (List ℕ)) (ending : Ended ScriptLineFault) → IsOfOutput TellsFault 2 (output first 1 (lines_of script)) text ending → Writes text begun written ending
       → (front : List ℕ) × Appends begun written front × IsOfOutput TellsFault 2 (output first 1 (lines_of script)) front ending
   written_front script text rest begun written ended.AtEnd is writes = (text, writes, is)
   written_front script text rest begun written (ended.Stopped fault) is writes = (text, writes, is)
@@ -97,14 +97,14 @@ module _ {P : Type 0} (plays : P → ℕ → List ℕ → Bool → List ℕ → 
   written_front script text rest begun written ended.OutOfMemory is writes = (text, writes, is)
   written_front script text rest begun written ended.Broken is writes = (writes.front, writes.appends, begins_with_the_first writes.front text _ writes.begins is)
 
-  concluded : (script text : List ℕ) (last : P) (ending : Ended LineFault) → Concludes plays first script text last ending → IsOfOutput TellsFault 2 (output first 1 (lines_of script)) text ending
+  concluded : (script text : List ℕ) (last : P) (ending : Ended ScriptLineFault) → Concludes plays first script text last ending → IsOfOutput TellsFault 2 (output first 1 (lines_of script)) text ending
   concluded script text last ended.AtEnd is = whole_output (pieces_at line_feed script) text None last is
   concluded script text last (ended.Stopped fault) is = (whole_output (pieces_at line_feed script) text (Some fault) last is, fault_told (pieces_at line_feed script) text fault last is)
   concluded script text last ended.TooLong is = some_output (pieces_at line_feed script) text last is
   concluded script text last ended.OutOfMemory is = some_output (pieces_at line_feed script) text is.0 is.1
   concluded script text last ended.Broken is = some_output (pieces_at line_feed script) text is.0 is.1
 
-  pub writes_script : (last : P) (script : List ℕ) (rest begun written : Option (List ℕ)) (ending : Ended LineFault) → Ends plays 268435456 first last script rest begun written ending
+  pub writes_script : (last : P) (script : List ℕ) (rest begun written : Option (List ℕ)) (ending : Ended ScriptLineFault) → Ends plays 268435456 first last script rest begun written ending
       → WritesScript (output first 1) script rest begun written ending
   writes_script last script rest begun written ending ends =
       let so = written_front script ends.text rest begun written ending (concluded script ends.text last ending ends.concludes) ends.writes in

@@ -9,7 +9,7 @@ use Rattle.script_lines.specs.Numbers.{script_fault_number}
 use Rattle.line_loop.specs.Endings.{EndsInTurn}
 use Rattle.line_loop.specs.Outputs.{WritesOutput}
 use Rattle.line_loop.specs.declared.ended.Ended.{Ended}
-use Rattle.line_loop.specs.declared.fault.LineFault.{LineFault}
+use Rattle.line_loop.specs.declared.fault.ScriptLineFault.{ScriptLineFault}
 
 -- a rule for lines: their output, by the number of the first
 abbrev pub Rule : Type 0
@@ -24,7 +24,7 @@ abbrev pub faulty_output : (number fault : ℕ) → Output
 faulty_output number fault = record { text = text_of_lines (fault_line number fault ∷ []); status = 2 }
 
 -- the text of the line that tells the fault
-abbrev pub told_fault : LineFault → List ℕ
+abbrev pub told_fault : ScriptLineFault → List ℕ
 told_fault fault = text_of_lines (fault_line fault.line (script_fault_number fault.fault) ∷ [])
 
 -- a text in front of an output
@@ -37,7 +37,7 @@ stripped = strip_last carriage_return
 
 -- one line played, whatever lines come next, by the rule before it and the rule after it. Without a fault, the output of all that come
 -- next stands behind what the line prints; a fault is told by the line's number, and ends the script.
-abbrev pub PlaysLine : (old new : Rule) → (number : ℕ) → (line text : List ℕ) → Option LineFault → Type 0
+abbrev pub PlaysLine : (old new : Rule) → (number : ℕ) → (line text : List ℕ) → Option ScriptLineFault → Type 0
 PlaysLine old new number line text None = (lines : List (List ℕ)) → old number (stripped line ∷ lines) ≡ behind text (new (number + 1) lines)
 PlaysLine old new number line text (Some fault) =
     (fault.line ≡ number) × (text ≡ told_fault fault) × ((lines : List (List ℕ)) → old number (stripped line ∷ lines) ≡ record { text = text; status = 2 })
@@ -53,11 +53,11 @@ abbrev pub most_read : ℕ
 most_read = 268435456
 
 -- the text ends with the line that tells the fault
-abbrev pub TellsFault : LineFault → (text : List ℕ) → Type 0
+abbrev pub TellsFault : ScriptLineFault → (text : List ℕ) → Type 0
 TellsFault fault text = (front : List ℕ) × (text ≡ front ++ told_fault fault)
 
 -- a script whose lines have that output is played
-abbrev pub WritesScript : (output : List (List ℕ) → Output) → (script : List ℕ) → (rest begun written : Option (List ℕ)) → Ended LineFault → Type 0
+abbrev pub WritesScript : (output : List (List ℕ) → Output) → (script : List ℕ) → (rest begun written : Option (List ℕ)) → Ended ScriptLineFault → Type 0
 WritesScript output script rest begun written ended = WritesOutput TellsFault 2 most_read (output (lines_of script)) script rest begun written ended
 
 -- lines of a script print that text, and none has a fault
@@ -70,5 +70,5 @@ PrintsOne {W} output text = (world : W) × (number : ℕ) × (line : List ℕ) �
 
 -- a script is played in turn: more is read only where all is written that the lines print which were read whole, and none of those has a
 -- fault, nor is the one that is begun too long
-abbrev pub PlaysInTurn : {R W S : Type 0} → (reads : R → Option (List ℕ) → R → Type 0) → (writes : W → List ℕ → Option ℕ → W → Type 0) → (output : S → Rule) → (first : S) → (old new : R × W) → Ended LineFault → Type 0
+abbrev pub PlaysInTurn : {R W S : Type 0} → (reads : R → Option (List ℕ) → R → Type 0) → (writes : W → List ℕ → Option ℕ → W → Type 0) → (output : S → Rule) → (first : S) → (old new : R × W) → Ended ScriptLineFault → Type 0
 PlaysInTurn reads writes output first old new ended = EndsInTurn reads writes most_begun most_read (PrintsLines (output first 1)) (PrintsOne output) old new ended

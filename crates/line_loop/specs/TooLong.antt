@@ -5,7 +5,7 @@ use Rattle.std.proofs.lemmas.List.{length-append, length-take-le}
 use Rattle.std.specs.Io.BufRead.{ends_with_byte, strip_last}
 use Rattle.texts.specs.Words.{carriage_return}
 use Rattle.script_rules.specs.Script.{longest_line}
-use Rattle.line_loop.specs.declared.fault.LineFault.{LineFault}
+use Rattle.line_loop.specs.declared.fault.ScriptLineFault.{ScriptLineFault}
 use Rattle.line_loop.specs.Scripts.{PlaysLine, Rule, faulty_output, most_begun, stripped}
 
 -- a byte at the end is one
@@ -20,7 +20,7 @@ pub stripped_too_long : (line more : List ℕ) → most_begun < length line → 
 stripped_too_long line more long = omega (arith, long, length-append line more, length-strip_last carriage_return (line ++ more))
 
 -- so it plays as its first bytes do, where each line that is too long is a fault
-pub too_long : (old new : Rule) (number : ℕ) (line more text : List ℕ) (fault : Option LineFault)
+pub too_long : (old new : Rule) (number : ℕ) (line more text : List ℕ) (fault : Option ScriptLineFault)
     → ((long : List ℕ) (lines : List (List ℕ)) → longest_line < length long → old number (long ∷ lines) ≡ faulty_output number 924)
     → most_begun < length line → PlaysLine old new number line text fault → PlaysLine old new number (line ++ more) text fault
 too_long old new number line more text fault faulty long plays = by fault plays
@@ -30,6 +30,6 @@ too_long old new number line more text fault faulty long plays = by fault plays
         let stays : longest_line < length (stripped line) = omega (arith, long, length-strip_last carriage_return line) in
         faulty (stripped (line ++ more)) lines (stripped_too_long line more long) ∙ sym (faulty (stripped line) lines stays)
 
-    by : (fault : Option LineFault) → PlaysLine old new number line text fault → PlaysLine old new number (line ++ more) text fault
+    by : (fault : Option ScriptLineFault) → PlaysLine old new number line text fault → PlaysLine old new number (line ++ more) text fault
     by None plays = λ lines. same lines ∙ plays lines
     by (Some fault) plays = (plays.0, plays.1, λ lines. same lines ∙ plays.2 lines)

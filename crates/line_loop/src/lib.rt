@@ -16,7 +16,7 @@ mod transfer;
 mod turn;
 
 pub use ended::Ended;
-pub use fault::LineFault;
+pub use fault::ScriptLineFault;
 pub use player::LinePlayer;
 pub use playing::play;
 pub use scripts::{MOST_BEGUN, MOST_OF_SCRIPT};

@@ -15,7 +15,7 @@ use Rattle.ring_range.specs.Range.{Range}
 use Rattle.node_plans.proofs.Kept.{written_is_found}
 use Rattle.node_plans.proofs.Values.{insert_entry-there, remove-set_value}
 use Rattle.node_plans.specs.Node.{HaveRecoveries, IsNode}
-use Rattle.range_recovery.specs.declared.Progress.TheVariants.{Complete}
+use Rattle.range_recovery.specs.declared.RecoveryProgress.TheVariants.{Complete}
 use Rattle.range_recovery.specs.Progress.{progress_of}
 use Rattle.node_plans.proofs.TakenReports.{IsTaken, taken_is, with_taken}
 use Rattle.node_plans.proofs.Reports.{RecoversPiece, its_recovery, taken_keeps}

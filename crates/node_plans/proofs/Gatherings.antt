@@ -29,7 +29,7 @@ use Rattle.directory_rules.specs.Transfer.{answer_to, awaits, gathered_by, has_r
 use Rattle.grain_partition.specs.Holdings.{HasPiece}
 use Rattle.node_plans.specs.Plans.{recovering_by}
 use Rattle.seal_snapshot.specs.Progress.{progress_of}
-use Rattle.seal_snapshot.specs.declared.progress.Progress.TheVariants.{Complete}
+use Rattle.seal_snapshot.specs.declared.progress.GatheringProgress.TheVariants.{Complete}
 use Rattle.node_plans.proofs.Pages.{WantsMore, has_all, is_wrong}
 
 -- what was put under a start is there

@@ -10,8 +10,8 @@ use Rattle.directory_rules.specs.Snapshot.{Page, digest_of}
 use Rattle.std.proofs.lemmas.Bool.{ltb-true, and_parts}
 use Rattle.std.proofs.lemmas.Bool.Decides.{Decides-eqb}
 use Rattle.seal_snapshot.specs.Progress.{progress_of}
-use Rattle.seal_snapshot.specs.declared.progress.Progress.{Progress}
-use Rattle.seal_snapshot.specs.declared.progress.Progress.TheVariants.{More, Complete}
+use Rattle.seal_snapshot.specs.declared.progress.GatheringProgress.{GatheringProgress}
+use Rattle.seal_snapshot.specs.declared.progress.GatheringProgress.TheVariants.{More, Complete}
 
 -- what comes of a page, by whether it is of the gathering, in its turn, not the last one, and, if it is, of the right digest
 abbrev outcome : (its in_turn further right : Bool) → (gathering more anew : Gathering) → List Entry → Gathered
@@ -35,7 +35,7 @@ all_there true true false true g more anew es is = refl
 all_there true true false false g more anew es is = cc
 
 -- whether the digest was wrong
-abbrev is_701 : Result Progress ℕ → Bool
+abbrev is_701 : Result GatheringProgress ℕ → Bool
 is_701 (Ok progress) = false
 is_701 (Err number) = number == 701
 

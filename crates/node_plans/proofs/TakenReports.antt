@@ -7,8 +7,8 @@ use Rattle.std.specs.BTreeMap.{is_at}
 use Rattle.std.proofs.lemmas.Bool.{false_from_ne_true}
 use Rattle.silo_address.specs.Silo.{Silo}
 use Rattle.directory_rules.specs.Recovery.{Recovery, Report, Recovered, Awaits_more, Has_union, Rejects, awaits_still, recovered, with_report}
-use Rattle.range_recovery.specs.declared.Progress.{Progress}
-use Rattle.range_recovery.specs.declared.Progress.TheVariants.{Complete}
+use Rattle.range_recovery.specs.declared.RecoveryProgress.{RecoveryProgress}
+use Rattle.range_recovery.specs.declared.RecoveryProgress.TheVariants.{Complete}
 use Rattle.range_recovery.specs.Progress.{progress_of}
 
 -- the recovery of the report's range has the report, and nothing else changed
@@ -54,9 +54,9 @@ pub taken_is : (recovery : Recovery) (report : Report) (old new : List (ℕ × R
 taken_is recovery report old new complete whole new_is = taken_by (recovered recovery report) recovery report old new complete (recovered_is recovery report) whole new_is
 
 -- a refused report completes nothing, and leaves the recoveries as they were
-by_refusal : (progress : Result Progress ℕ) (taken old new : List (ℕ × Recovery)) (number : ℕ) → progress ≡ Err number → new ≡ old
+by_refusal : (progress : Result RecoveryProgress ℕ) (taken old new : List (ℕ × Recovery)) (number : ℕ) → progress ≡ Err number → new ≡ old
     → ((false ≡ true) ↔ (progress ≡ Ok Complete)) × (new ≡ cond (is_ok progress) taken old)
-by_refusal progress taken old new number is same = ((λ t. cc (t), λ o. cc (is, o)), same ∙ sym (ap (λ (p : Result Progress ℕ). cond (is_ok p) taken old) is))
+by_refusal progress taken old new number is same = ((λ t. cc (t), λ o. cc (is, o)), same ∙ sym (ap (λ (p : Result RecoveryProgress ℕ). cond (is_ok p) taken old) is))
 
 pub refused_is : (recovery its : Recovery) (report : Report) (old new : List (ℕ × Recovery)) (number : ℕ) → recovered its report ≡ Rejects number → recovery ≡ its → new ≡ old
     → ((false ≡ true) ↔ (progress_of (recovered recovery report) ≡ Ok Complete)) × (new ≡ cond (is_ok (progress_of (recovered recovery report))) (with_taken recovery report old) old)

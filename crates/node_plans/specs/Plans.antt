@@ -25,10 +25,10 @@ use Rattle.directory_rules.specs.Transfer.{has_range, is_recovering, piece_at, r
 use Rattle.grain_partition.specs.Holdings.{HasPiece}
 use Rattle.grain_partition.specs.Sight.{AreOfRings}
 use Rattle.host_activations.specs.Renewal.{renewal_of}
-use Rattle.host_activations.specs.declared.asked.Asked.{Asked}
+use Rattle.host_activations.specs.declared.asked.OutstandingRequest.{OutstandingRequest}
 use Rattle.lookup_cache.specs.Used.{used}
 use Rattle.seal_snapshot.specs.Progress.{progress_of}
-use Rattle.seal_snapshot.specs.declared.progress.Progress.TheVariants.{More}
+use Rattle.seal_snapshot.specs.declared.progress.GatheringProgress.TheVariants.{More}
 use Rattle.node_plans.specs.declared.plan.Plan.{Plan}
 use Rattle.node_plans.specs.declared.plan.Sight.{Sight}
 use Rattle.node_plans.specs.declared.plan.Change.{Change}
@@ -107,7 +107,7 @@ pub record GoesOn (node : Node) (page : Page) : Type 0 where
   pub rises : rise_by_grain ((gathering_of node page.range).entries ++ page.entries) ≡ true
 
 -- a renewal is the node's own, and its numbers are left
-pub record MayRenew (node : Node) (renewal : List (ℕ × Asked)) : Type 0 where
+pub record MayRenew (node : Node) (renewal : List (ℕ × OutstandingRequest)) : Type 0 where
   pub own : renewal ≡ renewal_of node.host
   pub numbers : has_numbers node.settings node.host (length (outstanding node.host)) ≡ true
 

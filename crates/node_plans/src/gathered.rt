@@ -6,7 +6,7 @@ ghost use Rattle.std.specs.Ordering.{nat_cmp};
 ghost use Rattle.std.specs.Prelude.{◌≡◌, ◌↔◌, IsTrue, OnErr, OnOk, Ok};
 ghost use Rattle.directory_rules.specs.Gatherings.{gathered, new_gathering, with_page};
 ghost use Rattle.seal_snapshot.specs.Progress.{progress_of};
-ghost use Rattle.seal_snapshot.specs.declared.progress.Progress.TheVariants.{More};
+ghost use Rattle.seal_snapshot.specs.declared.progress.GatheringProgress.TheVariants.{More};
 
 use ring_range::RingRange;
 use seal_snapshot::{Gathering, GatheringError, Page};

@@ -7,7 +7,7 @@ ghost use Rattle.std.specs.Prelude.{◌≡◌, ◌↔◌, if◌then◌else◌, f
 ghost use Rattle.directory_rules.specs.Recovery.{Recovery as RecoveryValue, recovered, with_report};
 ghost use Rattle.range_recovery.specs.Progress.{progress_of};
 
-use range_recovery::{Progress, Recovery, RecoveryError, Report};
+use range_recovery::{Recovery, RecoveryError, RecoveryProgress, Report};
 use std::alloc::AllocError;
 use std::collections::BTreeMap;
 
@@ -18,7 +18,7 @@ pub fn take_report(
     report: &Report,
 ) -> Result<bool, AllocError>
     ensures complete { IfOk result (λ complete. (recovery : RecoveryValue) → lookup (is_at (nat_cmp report.now.range.start)) recoveries.old.entries ≡ Some recovery →
-        IsTrue complete ↔ (progress_of (recovered recovery report.now) ≡ Ok Progress.Complete)) }
+        IsTrue complete ↔ (progress_of (recovered recovery report.now) ≡ Ok RecoveryProgress.Complete)) }
 
     // It is taken unless it is refused.
     ensures taken { OnOk result ((recovery : RecoveryValue) → lookup (is_at (nat_cmp report.now.range.start)) recoveries.old.entries ≡ Some recovery →
@@ -34,8 +34,8 @@ pub fn take_report(
         return Ok(false);
     };
     match recovery.take(report) {
-        Ok(Progress::Complete) => Ok(true),
-        Ok(Progress::More) => Ok(false),
+        Ok(RecoveryProgress::Complete) => Ok(true),
+        Ok(RecoveryProgress::More) => Ok(false),
         Err(RecoveryError::WrongVersion) => Ok(false),
         Err(RecoveryError::Stranger) => Ok(false),
         Err(RecoveryError::Twice) => Ok(false),

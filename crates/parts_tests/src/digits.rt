@@ -1,7 +1,7 @@
 //! A page in which one digit of a count is another one.
 use crate::made::{NEXT, OWNER, VERSION, page, range};
 use crate::samples::{activation, grain, silo};
-use seal_snapshot::{Gathering, GatheringError, Page, Progress, Snapshot};
+use seal_snapshot::{Gathering, GatheringError, GatheringProgress, Page, Snapshot};
 use silo_address::{ActivationId, Entry};
 use std::alloc::Global;
 use std::process::Abort;
@@ -108,5 +108,5 @@ fn each_digit_of_each_count(rt: HostRuntime) {
         check_count(&rt, rt.alloc(), &page, index, text.as_bytes());
     }
     let mut gathering = Gathering::new(rt.alloc(), VERSION, range(&rt, 0));
-    assert!(rt; gathering.take(&page) == Ok(Progress::Complete));
+    assert!(rt; gathering.take(&page) == Ok(GatheringProgress::Complete));
 }

@@ -4,7 +4,7 @@ ghost use Rattle.std.specs.Prelude.{◌+◌, ◌≤◌};
 
 use crate::made::{NEXT, OWNER, VERSION, page, range, snapshot};
 use crate::samples::silo;
-use seal_snapshot::{Gathering, GatheringError, Page, Progress, Snapshot};
+use seal_snapshot::{Gathering, GatheringError, GatheringProgress, Page, Snapshot};
 use silo_address::{ActivationId, Entry, GrainId};
 use std::alloc::Global;
 use std::process::Abort;
@@ -198,7 +198,7 @@ fn takes(
     gathering: &mut Gathering,
     before: &Gathering,
     page: &Page,
-    want: Result<Progress, GatheringError>,
+    want: Result<GatheringProgress, GatheringError>,
 ) -> bool {
     gathering.progress_with(page) == want
         && (gathering.take(page) == want
@@ -209,7 +209,7 @@ fn take(
     rt: &impl Abort,
     gathering: &mut Gathering,
     page: &Page,
-    want: Result<Progress, GatheringError>,
+    want: Result<GatheringProgress, GatheringError>,
 ) {
     let before = copy_of(rt, gathering);
     assert!(rt; takes(gathering, &before, page, want));
@@ -222,7 +222,7 @@ fn take_others(rt: &impl Abort, alloc: Global, gathering: &mut Gathering, pages:
     let early = Err(GatheringError::OutOfTurn);
     take(rt, gathering, second, early);
     take(rt, gathering, &shortened(rt, alloc, first), early);
-    take(rt, gathering, first, Ok(Progress::More));
+    take(rt, gathering, first, Ok(GatheringProgress::More));
     let wrong = Err(GatheringError::WrongDigest);
     take(rt, gathering, &miscounted(rt, alloc, second), wrong);
 }
@@ -245,8 +245,13 @@ fn pages_are_taken(rt: HostRuntime) {
     ];
     let mut gathering = Gathering::new(alloc, VERSION, range(&rt, 0));
     take_others(&rt, alloc, &mut gathering, &pages);
-    take(&rt, &mut gathering, &pages[0], Ok(Progress::More));
-    take(&rt, &mut gathering, &pages[1], Ok(Progress::Complete));
+    take(&rt, &mut gathering, &pages[0], Ok(GatheringProgress::More));
+    take(
+        &rt,
+        &mut gathering,
+        &pages[1],
+        Ok(GatheringProgress::Complete),
+    );
     assert!(rt; is_whole(&gathering, &snapshot) && gathering.into_entries().len() == 65);
 }
 

@@ -4,7 +4,7 @@
 use crate::samples::{A, B, C, MANY, entry, joined, range, settings, silo, view};
 use grain_table::Table;
 use hash_ring::Hashing;
-use range_recovery::{Progress, Recovery, RecoveryError, Report};
+use range_recovery::{Recovery, RecoveryError, RecoveryProgress, Report};
 use silo_address::{Entry, SiloAddress};
 use std::alloc::Global;
 use std::process::Abort;
@@ -66,12 +66,17 @@ fn silos_are_awaited(rt: HostRuntime) {
 }
 
 // Whether this comes of the report, at first or behind a refusal of memory that leaves the recovery as it was.
-fn takes(recovery: &mut Recovery, before: &Recovery, report: &Report, want: Progress) -> bool {
+fn takes(
+    recovery: &mut Recovery,
+    before: &Recovery,
+    report: &Report,
+    want: RecoveryProgress,
+) -> bool {
     recovery.take(report) == Ok(want)
         || (recovery.same(before) && recovery.take(report) == Ok(want))
 }
 
-fn take(rt: &impl Abort, recovery: &mut Recovery, report: &Report, want: Progress) {
+fn take(rt: &impl Abort, recovery: &mut Recovery, report: &Report, want: RecoveryProgress) {
     let before = copy_of(rt, recovery);
     assert!(rt; takes(recovery, &before, report, want));
 }
@@ -92,10 +97,10 @@ fn has_each(gathered: &Table, entries: &[Entry], count: usize) -> bool {
 fn reports_are_taken(rt: HostRuntime) {
     let mut recovery = recovery(&rt, rt.alloc());
     let first = report(&rt, rt.alloc(), A, &MANY[1..]);
-    take(&rt, &mut recovery, &first, Progress::More);
+    take(&rt, &mut recovery, &first, RecoveryProgress::More);
     assert!(rt; recovery.gathered().len() == 16);
     let second = report(&rt, rt.alloc(), B, &MANY[..2]);
-    take(&rt, &mut recovery, &second, Progress::Complete);
+    take(&rt, &mut recovery, &second, RecoveryProgress::Complete);
     let entries = [
         entry(&rt, (MANY[0], B, 1)),
         entry(&rt, (MANY[1], A, 1)),

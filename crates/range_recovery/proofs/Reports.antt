@@ -10,8 +10,8 @@ use Rattle.hash_ring.proofs.StrictOrder.{Rising, Rising-from_sorted}
 use Rattle.std.specs.List.Sorted.{IsStrictlySortedBy}
 use Rattle.directory_rules.proofs.Cases.{on_bool}
 use Rattle.directory_rules.specs.Recovery.{Recovery, Report, Recovered, Rejects, recovered, with_report, awaits_still, is_among}
-use Rattle.range_recovery.specs.declared.progress.Progress.{Progress}
-use Rattle.range_recovery.specs.declared.progress.Progress.TheVariants.{More, Complete}
+use Rattle.range_recovery.specs.declared.progress.RecoveryProgress.{RecoveryProgress}
+use Rattle.range_recovery.specs.declared.progress.RecoveryProgress.TheVariants.{More, Complete}
 use Rattle.range_recovery.specs.Progress.{progress_of}
 use Rattle.range_recovery.specs.Silos.{AwaitedValue, has_reported}
 use Rattle.range_recovery.proofs.Reported.{Decides-among}
@@ -23,7 +23,7 @@ abbrev pub silos_in : Recovery → AwaitedValue
 silos_in recovery = record { awaiting = recovery.awaiting; reported = recovery.reported }
 
 -- how far the recovery is when one more of the silos that it awaits has reported
-abbrev pub after_one_more : Recovery → Progress
+abbrev pub after_one_more : Recovery → RecoveryProgress
 after_one_more recovery = if length recovery.awaiting == 1 then Complete else More
 
 -- the report is of this version and range
@@ -81,8 +81,8 @@ progress-awaited recovery report sorted ours waits =
     (one_fewer report.silo recovery.awaiting (Rising-from_sorted silo_cmp recovery.awaiting sorted) (is_awaited recovery report.silo waits))
   where
     by : (rest : List Silo) → length rest + 1 ≡ length recovery.awaiting
-        → ◌≡◌ {A = Result Progress ℕ} (progress_of (awaits_still rest (with_report recovery report))) (Ok (after_one_more recovery))
+        → ◌≡◌ {A = Result RecoveryProgress ℕ} (progress_of (awaits_still rest (with_report recovery report))) (Ok (after_one_more recovery))
     by [] h = ap (λ n. Ok (if n == 1 then Complete else More)) h
     by (x ∷ rest) h =
-        on_bool (λ b. ◌≡◌ {A = Result Progress ℕ} (Ok More) (Ok (if b then Complete else More))) (length recovery.awaiting == 1)
+        on_bool (λ b. ◌≡◌ {A = Result RecoveryProgress ℕ} (Ok More) (Ok (if b then Complete else More))) (length recovery.awaiting == 1)
         (λ t. let one : length recovery.awaiting ≡ 1 = (Decides-eqb (length recovery.awaiting) 1).0 t in absurd (omega (arith, h, one))) (λ f. refl)

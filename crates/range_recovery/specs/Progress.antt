@@ -2,18 +2,18 @@
 use Rattle.std.specs.Prelude.{◌≡◌, ℕ, Result, Ok, Err, IsSomeAnd, IsOk, MatchOption}
 use Rattle.directory_rules.specs.Recovery.{Recovery, Report, Recovered, Awaits_more, Has_union, Rejects, recovered}
 use Rattle.range_recovery.specs.declared.error.RecoveryError.{RecoveryError}
-use Rattle.range_recovery.specs.declared.progress.Progress.{Progress}
-use Rattle.range_recovery.specs.declared.progress.Progress.TheVariants.{More, Complete}
+use Rattle.range_recovery.specs.declared.progress.RecoveryProgress.{RecoveryProgress}
+use Rattle.range_recovery.specs.declared.progress.RecoveryProgress.TheVariants.{More, Complete}
 use Rattle.range_recovery.specs.Numbers.{recovery_error_number}
 
 -- how far the recovery is, or the number by which the report is refused
-abbrev pub progress_of : Recovered → Result Progress ℕ
+abbrev pub progress_of : Recovered → Result RecoveryProgress ℕ
 progress_of (Awaits_more recovery) = Ok More
 progress_of (Has_union table) = Ok Complete
 progress_of (Rejects number) = Err number
 
 -- what the rule makes of a report is this progress, to this recovery
-abbrev pub Reaches : Progress → Recovery → Recovered → Type 0
+abbrev pub Reaches : RecoveryProgress → Recovery → Recovered → Type 0
 Reaches More recovery outcome = outcome ≡ Awaits_more recovery
 Reaches Complete recovery outcome = outcome ≡ Has_union recovery.gathered
 

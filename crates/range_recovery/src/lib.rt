@@ -10,6 +10,6 @@ mod report;
 mod silos;
 
 pub use error::RecoveryError;
-pub use progress::Progress;
+pub use progress::RecoveryProgress;
 pub use recovery::Recovery;
 pub use report::Report;

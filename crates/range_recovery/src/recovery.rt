@@ -2,12 +2,12 @@ ghost use Rattle.std.specs.Prelude.{◌≡◌, ◌↔◌, ◌==◌, ◌&&◌, le
 ghost use Rattle.ring_range.specs.Range.{range_eq};
 ghost use Rattle.directory_rules.specs.Recovery.{new_recovery, recovered, with_report};
 ghost use Rattle.range_recovery.specs.Kept.{IsRecovery};
-ghost use Rattle.range_recovery.specs.declared.progress.Progress.TheVariants.{Complete, More};
+ghost use Rattle.range_recovery.specs.declared.progress.RecoveryProgress.TheVariants.{Complete, More};
 ghost use Rattle.range_recovery.specs.Progress.{Reaches, Refuses, RefusesOrLacksMemory, progress_of};
 
 use crate::gather::gather;
 use crate::silos::AwaitedSilos;
-use crate::{Progress, RecoveryError, Report};
+use crate::{RecoveryError, RecoveryProgress, Report};
 use directory_rules::Settings;
 use grain_table::Table;
 use membership_view::View;
@@ -85,7 +85,7 @@ impl Recovery {
 
     /// What would come of the report. Refuses by 751 one of another version or range, then by 752 one of a silo that was never
     /// awaited, then by 753 one of a silo that has reported.
-    pub fn progress_with(&self, report: &Report) -> Result<Progress, RecoveryError>
+    pub fn progress_with(&self, report: &Report) -> Result<RecoveryProgress, RecoveryError>
         ensures judged { IfOk result (λ progress. progress_of (recovered self.now report.now) ≡ Ok progress) }
         ensures refused { IfErr result (Refuses self.now report.now) }
     {
@@ -109,19 +109,19 @@ impl Recovery {
     }
 
     // How far the recovery is when one more silo has reported.
-    fn after_one_more(&self) -> Progress
+    fn after_one_more(&self) -> RecoveryProgress
         ensures { result ≡ (if length self.now.awaiting == 1 then Complete else More) }
     {
         if self.silos.missing() == 1 {
-            Progress::Complete
+            RecoveryProgress::Complete
         } else {
-            Progress::More
+            RecoveryProgress::More
         }
     }
 
     /// Takes a report: of each grain that has no entry yet the first one. Refuses by 751 one of another version or range, then by
     /// 752 one of a silo that was never awaited, then by 753 one of a silo that has reported.
-    pub fn take(&mut self, report: &Report) -> Result<Progress, RecoveryError>
+    pub fn take(&mut self, report: &Report) -> Result<RecoveryProgress, RecoveryError>
         ensures reached { IfOk result (λ progress. Reaches progress self.new (recovered self.old report.now)) }
         ensures taken { OnOk result (self.new ≡ with_report self.old report.now) }
 

@@ -11,7 +11,7 @@ use crate::lines::{copy_of, take_entries};
 use crate::page::same_entries;
 use crate::snapshot::PAGE_SIZE;
 use crate::whole::{Whole, same_wholes};
-use crate::{GatheringError, Page, Progress};
+use crate::{GatheringError, GatheringProgress, Page};
 use ring_range::RingRange;
 use sha2::{Digest, Sha256};
 use silo_address::Entry;
@@ -89,16 +89,16 @@ impl Gathering {
 
     /// What would come of the page. Refuses by 703 one of another version or range, then by 702 one that isn't the next one of
     /// the snapshot whose pages were taken, then by 701 the last one if the digest isn't that of all entries.
-    pub fn progress_with(&self, page: &Page) -> Result<Progress, GatheringError>
+    pub fn progress_with(&self, page: &Page) -> Result<GatheringProgress, GatheringError>
         ensures judged { IfOk result (λ progress. progress_of (gathered self.now page.now) ≡ Ok progress) }
         ensures refused { IfErr result (IsRefused (progress_of (gathered self.now page.now))) }
     {
         self.check(page)?;
         if !page.is_last() {
-            return Ok(Progress::More);
+            return Ok(GatheringProgress::More);
         }
         if has_digest(&self.hasher_after(page), &page.digest()) {
-            Ok(Progress::Complete)
+            Ok(GatheringProgress::Complete)
         } else {
             Err(GatheringError::WrongDigest)
         }
@@ -108,7 +108,7 @@ impl Gathering {
     /// 702 one that isn't the next one of the snapshot whose pages were taken, then by 701 the last one if the digest isn't that
     /// of all entries: nothing is left of them then, and the first page is wanted again. Nothing else that is refused changes
     /// anything.
-    pub fn take(&mut self, page: &Page) -> Result<Progress, GatheringError>
+    pub fn take(&mut self, page: &Page) -> Result<GatheringProgress, GatheringError>
         ensures reached { IfOk result (λ progress. Reaches progress self.new (gathered self.old page.now)) }
         ensures taken { OnOk result (self.new ≡ with_page self.old page.now) }
 
@@ -123,9 +123,9 @@ impl Gathering {
         }
         self.add(page, hasher)?;
         if page.is_last() {
-            Ok(Progress::Complete)
+            Ok(GatheringProgress::Complete)
         } else {
-            Ok(Progress::More)
+            Ok(GatheringProgress::More)
         }
     }
 }

@@ -16,7 +16,7 @@ mod whole;
 pub use error::GatheringError;
 pub use gatherings::Gathering;
 pub use page::Page;
-pub use progress::Progress;
+pub use progress::GatheringProgress;
 pub use shelf::Shelf;
 pub use shelf_answer::ShelfAnswer;
 pub use snapshot::Snapshot;

@@ -20,7 +20,6 @@ use Rattle.directory_facts.proofs.Places.{added_view}
 use Rattle.directory_facts.proofs.SeenRings.{AreViews, seen_facts, seen_keep}
 use Rattle.directory_rules.specs.Membership.{Change, Join, Leave, Die, Membership, changed, joined, placed, with_places, with_views, first_membership}
 use Rattle.silo_rules.specs.SiloValue.{SiloValue, first_silo}
-
 use Rattle.silo_rules.specs.NodeInputs.{IsNoSight}
 use Rattle.silo_rules.specs.Whole.{AreWhole, IsWhole}
 use Rattle.silo_rules.proofs.Own.{stays_own}

@@ -5,7 +5,7 @@ ghost use Rattle.silo_threads.specs.Tallied.{HaveEnded, HasMore};
 
 use crate::cluster::PARTS;
 use crate::start::{Worker, stop};
-use crate::{Cluster, EndFault, Ended, Unended};
+use crate::{Cluster, EndFault, EndedCluster, Unended};
 use cluster_board::{Charter, Hand};
 use cluster_journal::Receipt;
 use silo_workers::{Ending, Gate, Site, Worked};
@@ -23,7 +23,7 @@ impl<L: Charter, G: Gate + Drop> Cluster<L, G> {
         rt: &R,
         hand: Hand<L>,
         receipts: Vec<Receipt>,
-    ) -> Result<Ended<L>, Unended<L>>
+    ) -> Result<EndedCluster<L>, Unended<L>>
         requires { hand.share.parts + length self.workers ≡ PARTS }
         ensures whole { MatchResult result (λ ended. ended.hand.share.parts ≡ PARTS) (λ unended. unended.hand.share.parts ≡ PARTS) }
         ensures receipts { IfOk result (λ ended. HasMore L.settings ended.hand.seen self.workers receipts.items ended.receipts.items hand.share.amount ended.hand.share.amount) }
@@ -62,7 +62,7 @@ impl<L: Charter, G: Gate + Drop> Cluster<L, G> {
             bell: _,
             gate: _,
         } = site;
-        Ok(Ended {
+        Ok(EndedCluster {
             alloc,
             board: board.into_inner(),
             hand,

@@ -16,7 +16,7 @@ use std::alloc::Global;
 /// A cluster that has ended: its board, the whole share with what was seen of the journal, the receipts of all who posted and
 /// committed, and how each worker ended.
 #[derive(Drop)]
-pub struct Ended<L: Charter> {
+pub struct EndedCluster<L: Charter> {
     pub alloc: Global,
     pub board: Board<L>,
     pub hand: Hand<L>,
@@ -31,7 +31,7 @@ pub struct Unended<L: Charter> {
     pub hand: Hand<L>,
 }
 
-impl<L: Charter> Ended<L> {
+impl<L: Charter> EndedCluster<L> {
     /// Whether a worker gave up.
     pub fn gave_up(&self) -> bool
         ensures { IsTrue result ↔ Any HasGivenUp self.now.endings.items }
@@ -54,7 +54,7 @@ impl<L: Charter> Ended<L> {
         ensures journaled { IfOk result (λ board. IsJournaled L.settings board.journal board.world) }
         ensures headline { IfOk result (λ board. Headline board.world) }
     {
-        let Ended {
+        let EndedCluster {
             alloc,
             board,
             hand,

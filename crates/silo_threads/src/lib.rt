@@ -14,9 +14,9 @@ mod sync;
 
 pub use cluster::{Cluster, MOST_WORKERS, PARTS};
 pub use cluster_board::{Board, Charter, Dismissal, Hand, Tokens};
-pub use cluster_journal::{CloseRefusal, Entry, Receipt};
+pub use cluster_journal::{CloseRefusal, JournalEntry, Receipt};
 pub use directory_core::{Event, EventRefusal, Outcome, Settings, World};
-pub use ended::{Ended, Unended};
+pub use ended::{EndedCluster, Unended};
 pub use fault::{EndFault, Lack};
 pub use published_rings::{Publisher, Route, RouteError, RouteReader, Told};
 pub use run::Ran;

@@ -32,7 +32,7 @@ use Rattle.silo_address.specs.contracts.silo.SiloAddressPartialOrd.TheImpl as pa
 use Rattle.cluster_board.specs.contracts.mark.Mark as mark
 use Rattle.cluster_board.specs.contracts.mark_maker.Marks as marks
 use Rattle.directory_node.specs.contracts.shared.SharedNode as shared
-use Rattle.cluster_journal.specs.contracts.entry.Entry as entry
+use Rattle.cluster_journal.specs.contracts.entry.JournalEntry as entry
 use Rattle.cluster_board.specs.contracts.board.Board as board
 use Rattle.cluster_board.specs.contracts.hand.Hand as hand
 use Rattle.cluster_board.specs.contracts.board.Board.TheInside as board_inside

@@ -13,8 +13,8 @@ use Rattle.cluster_journal.specs.contracts.short.ShortEffect as short_effect
 use Rattle.cluster_journal.specs.contracts.short.Delivery as delivery
 use Rattle.cluster_journal.specs.contracts.entry.Whole as whole
 use Rattle.cluster_journal.specs.contracts.entry.Form as form
-use Rattle.cluster_journal.specs.contracts.entry.Entry as entry
-use Rattle.cluster_journal.specs.contracts.entry.Entry.TheInside as entry_inside
+use Rattle.cluster_journal.specs.contracts.entry.JournalEntry as entry
+use Rattle.cluster_journal.specs.contracts.entry.JournalEntry.TheInside as entry_inside
 use Rattle.cluster_journal.specs.contracts.entry.Receipt as receipt
 
 event_crosses : Crosses (event.the_field).row

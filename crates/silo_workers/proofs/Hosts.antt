@@ -49,7 +49,7 @@ use Rattle.host_activations.specs.contracts.kept.State as state
 use Rattle.host_activations.specs.contracts.by_hash.HashedCount as hashed_count
 use Rattle.host_activations.specs.contracts.activations.Activations as activations
 use Rattle.host_activations.specs.contracts.activations.Activations.TheInside as activations_inside
-use Rattle.host_activations.specs.contracts.asked.Asked as asked
+use Rattle.host_activations.specs.contracts.asked.OutstandingRequest as asked
 use Rattle.host_activations.specs.contracts.host.Host as host
 use Rattle.host_activations.specs.contracts.host.Host.TheInside as host_inside
 use Rattle.host_activations.specs.contracts.host.renewal.Renewal as renewal

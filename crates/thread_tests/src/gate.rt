@@ -6,7 +6,7 @@ ghost use Rattle.silo_threads.specs.declared.cluster.TheConstants.{PARTS};
 
 use crate::driver::{Driver, grain, join, settings, silo};
 use cluster_board::{Charter, Tokens};
-use cluster_journal::Entry;
+use cluster_journal::JournalEntry;
 use directory_rules::{Event, Settings};
 use silo_address::SiloAddress;
 use silo_threads::PARTS;
@@ -117,7 +117,7 @@ fn post_all<
 }
 
 // Whether all deliveries of the journal were named to the gate, those of the two first letters among them.
-fn were_named(journal: &[Entry], seen: &Seen) -> bool {
+fn were_named(journal: &[JournalEntry], seen: &Seen) -> bool {
     let (first, second) = (
         seen.first.load(Ordering::SeqCst),
         seen.second.load(Ordering::SeqCst),

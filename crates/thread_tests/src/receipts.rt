@@ -1,6 +1,6 @@
 //! Receipts are compared with a journal. Any one refusal of an allocation leaves the test true (`--fail-alloc`).
 
-use cluster_journal::{CloseRefusal, Draft, Entry, Receipt, compare};
+use cluster_journal::{CloseRefusal, Draft, JournalEntry, Receipt, compare};
 use directory_rules::{Event, Happening, Outcome};
 use std::alloc::Global;
 use std::process::Abort;
@@ -13,7 +13,7 @@ fn draft(rt: &impl Abort, alloc: Global, lost: u64) -> Draft {
 }
 
 // The entry of a letter that was lost.
-fn entry(rt: &impl Abort, alloc: Global, lost: u64) -> Entry {
+fn entry(rt: &impl Abort, alloc: Global, lost: u64) -> JournalEntry {
     draft(rt, alloc, lost).told(&Outcome {
         happening: Happening::Lost { number: lost },
         sent: None,
@@ -29,7 +29,7 @@ fn receipt(rt: &impl Abort, alloc: Global, number: u64, lost: u64) -> Receipt {
 }
 
 // By which number the receipts are refused, if they are.
-fn refused(alloc: Global, journal: &[Entry], receipts: &[Receipt]) -> Option<u16> {
+fn refused(alloc: Global, journal: &[JournalEntry], receipts: &[Receipt]) -> Option<u16> {
     let compared = match compare(alloc, journal, receipts) {
         Err(CloseRefusal::OutOfMemory) => compare(alloc, journal, receipts),
         compared => compared,

@@ -1,12 +1,16 @@
 //! The journal of a cluster, run once more on a new world.
-use cluster_journal::Entry;
+use cluster_journal::JournalEntry;
 use directory_core::World;
 use letter_mail::MailedLetter;
 use rebuild_checker::{check, write_dump};
 use std::alloc::{AllocError, Global};
 
 /// Whether the journal's events tell its outcomes again, and leave the same world, whose dump is right.
-pub(crate) fn tells(alloc: Global, journal: &[Entry], left: &World) -> Result<bool, AllocError> {
+pub(crate) fn tells(
+    alloc: Global,
+    journal: &[JournalEntry],
+    left: &World,
+) -> Result<bool, AllocError> {
     let mut world = World::new(alloc, left.settings());
     for entry in journal {
         match world.apply(&entry.event()?) {

@@ -9,7 +9,7 @@ use Rattle.line_loop.specs.Scripts.{WritesScript}
 use Rattle.line_loop.specs.Sent.{Sends, WritesFront}
 use Rattle.line_loop.specs.declared.ended.Ended.{Ended}
 use Rattle.line_loop.specs.declared.ended.Ended.TheVariants as ended
-use Rattle.line_loop.specs.declared.fault.LineFault.{LineFault}
+use Rattle.line_loop.specs.declared.fault.ScriptLineFault.{ScriptLineFault}
 use Rattle.threaded_play.specs.Faults.{faults_alone}
 use Rattle.threaded_play.specs.Printed.{IsPrinted, TellsWorld}
 use Rattle.threaded_play.specs.declared.ended.ThreadsEnded.{ThreadsEnded}
@@ -22,7 +22,7 @@ status_of ReceiptDiffers = 1
 status_of Lacking = 3
 
 -- what is written behind what the sink had: all that the script comes to; where a write breaks the play a beginning of it; else nothing
-abbrev pub Writes : Settings → (script : List ℕ) → (begun written : Option (List ℕ)) → Ended LineFault → Type 0
+abbrev pub Writes : Settings → (script : List ℕ) → (begun written : Option (List ℕ)) → Ended ScriptLineFault → Type 0
 Writes settings script begun written ended.AtEnd = (text : List ℕ) × TellsWorld settings script text × Appends begun written text
 Writes settings script begun written (ended.Stopped fault) = Appends begun written (faults_alone 1 (lines_of script)).text
 Writes settings script begun written ended.TooLong = Keeps begun written

@@ -3,7 +3,7 @@ use crate::parts::stage::{Sight, Stage};
 use crate::stopwatch::{Stopwatch, now};
 use grain_partition::Holding;
 use hash_ring::Hashing;
-use seal_snapshot::{Gathering, Page, Progress, Snapshot};
+use seal_snapshot::{Gathering, GatheringProgress, Page, Snapshot};
 use std::alloc::{AllocError, Global};
 
 const ROUNDS: u64 = 5;
@@ -123,13 +123,13 @@ fn sum_of(page: &Page) -> u64 {
 // The sum is how many entries were gathered, if they are all.
 fn gather(alloc: Global, snapshot: &Snapshot) -> Result<(u64, u64), Fault> {
     let mut gathering = Gathering::new(alloc, snapshot.version(), snapshot.range());
-    let mut progress = Progress::More;
+    let mut progress = GatheringProgress::More;
     for number in 0..snapshot.pages() {
         progress = take(alloc, &mut gathering, snapshot, number)?;
     }
     match progress {
-        Progress::Complete => Ok((snapshot.pages(), gathering.entries().len() as u64)),
-        Progress::More => Err(Fault::Missing),
+        GatheringProgress::Complete => Ok((snapshot.pages(), gathering.entries().len() as u64)),
+        GatheringProgress::More => Err(Fault::Missing),
     }
 }
 
@@ -139,7 +139,7 @@ fn take(
     gathering: &mut Gathering,
     snapshot: &Snapshot,
     number: u64,
-) -> Result<Progress, Fault> {
+) -> Result<GatheringProgress, Fault> {
     match snapshot.page(alloc, number)? {
         Some(page) => Ok(gathering.take(&page)?),
         None => Err(Fault::Missing),

@@ -2,7 +2,7 @@
 
 use crate::play::plays::played;
 use crate::play::rows::ONE_SILO;
-use line_loop::{Ended, LineFault};
+use line_loop::{Ended, ScriptLineFault};
 use std::alloc::Global;
 use std::process::Abort;
 
@@ -56,7 +56,7 @@ fn fault_at(faults: Faults<'_>, length: usize) -> Option<u16> {
 }
 
 // Whether a script ends so where its last line, of that number, has the fault or none.
-fn ends_so(ended: Ended<LineFault>, line: u64, fault: Option<u16>) -> bool {
+fn ends_so(ended: Ended<ScriptLineFault>, line: u64, fault: Option<u16>) -> bool {
     match ended {
         Ended::AtEnd => fault.is_none(),
         Ended::Stopped(told) => told.line == line && Some(told.fault.number()) == fault,

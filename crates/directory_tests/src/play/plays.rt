@@ -2,7 +2,7 @@
 
 use console_command::play_to_new_cluster;
 use hash_ring::Hashing;
-use line_loop::{Ended, LineFault};
+use line_loop::{Ended, ScriptLineFault};
 use std::alloc::Global;
 use std::process::Abort;
 
@@ -22,7 +22,11 @@ pub(crate) fn check_play(
 }
 
 // How a script with stated places ends, and what it prints.
-pub(crate) fn played(rt: &impl Abort, alloc: Global, script: &[u8]) -> (Ended<LineFault>, Vec<u8>) {
+pub(crate) fn played(
+    rt: &impl Abort,
+    alloc: Global,
+    script: &[u8],
+) -> (Ended<ScriptLineFault>, Vec<u8>) {
     let mut reader = script;
     let mut written = Vec::new(alloc);
     let ended = play_to_new_cluster(alloc, Hashing::Stated, 30, 1024, &mut reader, &mut written);

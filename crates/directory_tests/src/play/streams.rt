@@ -4,7 +4,7 @@
 use crate::fakes::{SparseReader, SparseWriter};
 use console_command::play_to_new_cluster;
 use hash_ring::Hashing;
-use line_loop::{Ended, LineFault};
+use line_loop::{Ended, ScriptLineFault};
 use std::alloc::Global;
 
 // The script of `examples/every-command.script` without its remarks, and what it prints.
@@ -97,7 +97,7 @@ range 0+4294967296 10.0.0.1:1000@1 unsettled
 ";
 
 // Plays the script where the read after so many fails, and the write after so many: the ending, and what was written.
-fn play(alloc: Global, reads: u64, writes: u64) -> (Option<Ended<LineFault>>, Vec<u8>) {
+fn play(alloc: Global, reads: u64, writes: u64) -> (Option<Ended<ScriptLineFault>>, Vec<u8>) {
     let mut reader = SparseReader {
         rest: SCRIPT.as_bytes(),
         most: 1,

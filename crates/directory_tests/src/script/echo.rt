@@ -5,7 +5,7 @@ ghost use Rattle.line_loop.specs.Scripts.{PlaysLine, most_begun, most_read};
 ghost use Rattle.line_loop.specs.TooLong.{too_long as plays_as_it_begins};
 ghost use Rattle.directory_tests.specs.Echoes.{echoed, long_lines_fault};
 
-use line_loop::{LineFault, LinePlayer, MOST_BEGUN, MOST_OF_SCRIPT};
+use line_loop::{LinePlayer, MOST_BEGUN, MOST_OF_SCRIPT, ScriptLineFault};
 use script_lines::{LONGEST_LINE, ScriptFault, without_return, write_fault};
 use std::alloc::{AllocError, Global};
 
@@ -13,7 +13,7 @@ use std::alloc::{AllocError, Global};
 pub(crate) struct Echo;
 
 impl LinePlayer for Echo {
-    type Stop = LineFault;
+    type Stop = ScriptLineFault;
 
     ghost plays = { λ _ number line _ text fault _. PlaysLine echoed echoed number line text fault };
 
@@ -36,12 +36,12 @@ impl LinePlayer for Echo {
         line: &[u8],
         _ended: bool,
         out: &mut Vec<u8>,
-    ) -> Result<Option<LineFault>, AllocError> {
+    ) -> Result<Option<ScriptLineFault>, AllocError> {
         let line = without_return(line);
         if line.len() > LONGEST_LINE {
             let fault = ScriptFault::LineTooLong;
             write_fault(out, number, fault.number())?;
-            return Ok(Some(LineFault {
+            return Ok(Some(ScriptLineFault {
                 line: number,
                 fault,
             }));

@@ -2,7 +2,7 @@
 
 use crate::fakes::{Counter, Refusal, Remarks, SparseReader, SparseWriter};
 use crate::script::echo::Echo;
-use line_loop::{Ended, LineFault, MOST_OF_SCRIPT, Sink, Source, play, send};
+use line_loop::{Ended, MOST_OF_SCRIPT, ScriptLineFault, Sink, Source, play, send};
 use script_lines::ScriptFault;
 use std::alloc::Global;
 use std::process::Abort;
@@ -12,7 +12,7 @@ const SCRIPT: &[u8] = b"one\r\ntwo\n\n; four\nfive";
 
 const TEXT: &[u8] = b"one\ntwo\n\n; four\nfive\n";
 
-fn echo(alloc: Global, reader: &mut impl Source, writer: &mut impl Sink) -> Ended<LineFault> {
+fn echo(alloc: Global, reader: &mut impl Source, writer: &mut impl Sink) -> Ended<ScriptLineFault> {
     play(alloc, &mut Echo, reader, writer)
 }
 
@@ -24,7 +24,7 @@ fn check_play(
     script: &[u8],
     (given, reads): (usize, u64),
     (taken, writes, refusal): (usize, u64, Refusal),
-    (wanted, text): (Ended<LineFault>, &[u8]),
+    (wanted, text): (Ended<ScriptLineFault>, &[u8]),
 ) {
     let mut reader = SparseReader {
         rest: script,
@@ -89,8 +89,8 @@ fn bytes_are_sent_whole(rt: HostRuntime) {
 #[test]
 fn a_long_line_needs_no_end(rt: HostRuntime) {
     let fault = ScriptFault::LineTooLong;
-    let faulted = Ended::Stopped(LineFault { line: 1, fault });
-    let table: [(usize, Ended<LineFault>, &[u8]); 2] = [
+    let faulted = Ended::Stopped(ScriptLineFault { line: 1, fault });
+    let table: [(usize, Ended<ScriptLineFault>, &[u8]); 2] = [
         (8193, Ended::Broken, b""),
         (8194, faulted, b"line 1 fault 924\n"),
     ];
@@ -102,7 +102,7 @@ fn a_long_line_needs_no_end(rt: HostRuntime) {
 }
 
 // Lines of 8,192 bytes, so many bytes in all: the ending, how many bytes are printed, and how many are left.
-fn play_remarks(alloc: Global, length: u64) -> (Ended<LineFault>, u64, u64) {
+fn play_remarks(alloc: Global, length: u64) -> (Ended<ScriptLineFault>, u64, u64) {
     let mut reader = Remarks::of(length);
     let mut writer = Counter { taken: 0 };
     let ended = echo(alloc, &mut reader, &mut writer);

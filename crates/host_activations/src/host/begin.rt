@@ -2,7 +2,7 @@ ghost use Rattle.std.specs.Prelude.{◌≡◌, ◌≤◌, ◌^◌, None, IsTrue,
 ghost use Rattle.directory_rules.specs.Host.{held_of, is_firm, with_closing, with_find, with_started};
 
 use super::Host;
-use crate::asked::Asked;
+use crate::asked::OutstandingRequest;
 use directory_rules::Phase;
 use silo_address::{ActivationId, GrainId};
 use std::alloc::AllocError;
@@ -22,7 +22,7 @@ impl Host {
         ensures unchanged { OnErr result (self.new ≡ self.old) }
     {
         self.outstanding
-            .insert(self.next_number, Asked::Activation(grain))?;
+            .insert(self.next_number, OutstandingRequest::Activation(grain))?;
         match self.held.begin(grain, self.next_number, previous) {
             Ok(()) => {
                 self.held.whole();
@@ -45,7 +45,7 @@ impl Host {
     {
         let held = self.held.get(grain).unwrap();
         self.outstanding
-            .insert(self.next_number, Asked::Activation(*grain))?;
+            .insert(self.next_number, OutstandingRequest::Activation(*grain))?;
         let closing = Phase::Closing(self.next_number);
         self.held.set(grain, closing, held.previous);
         self.held.whole();
@@ -60,7 +60,7 @@ impl Host {
         ensures unchanged { OnErr result (self.new ≡ self.old) }
     {
         self.outstanding
-            .insert(self.next_number, Asked::Find(grain))?;
+            .insert(self.next_number, OutstandingRequest::Find(grain))?;
         self.next_number += 1;
         self.find_count += 1;
         Ok(())

@@ -8,7 +8,7 @@ ghost use Rattle.std.specs.Ordering.{nat_cmp};
 use super::Host;
 use super::replies::find_under;
 use crate::Activations;
-use crate::asked::{Asked, number_in};
+use crate::asked::{OutstandingRequest, number_in};
 use directory_rules::Phase;
 use silo_address::GrainId;
 use std::collections::BTreeMap;
@@ -60,7 +60,7 @@ fn number_of(held: &Activations, grain: &GrainId) -> Option<u64>
 }
 
 // The number has nothing outstanding any more, if there is one.
-fn free(outstanding: &mut BTreeMap<u64, Asked>, number: Option<u64>)
+fn free(outstanding: &mut BTreeMap<u64, OutstandingRequest>, number: Option<u64>)
     ensures { MatchOption number (outstanding.new.entries ≡ outstanding.old.entries) (λ taken. outstanding.new.entries ≡ remove_entry (is_at (nat_cmp taken)) outstanding.old.entries) }
 {
     if let Some(number) = number {

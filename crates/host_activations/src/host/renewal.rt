@@ -12,7 +12,7 @@ ghost use Rattle.host_activations.specs.declared.host.Host.TheInside.{Inside};
 use super::Host;
 use super::telling::acts_in;
 use crate::Activations;
-use crate::asked::Asked;
+use crate::asked::OutstandingRequest;
 use directory_rules::{Act, Phase};
 use silo_address::GrainId;
 use std::alloc::{AllocError, Global};
@@ -23,12 +23,12 @@ use std::marker::Model;
 /// changed, so that the change needs no memory.
 #[derive(Drop)]
 pub struct Renewal {
-    numbered: BTreeMap<u64, Asked>,
+    numbered: BTreeMap<u64, OutstandingRequest>,
 }
 
 impl Model for Renewal {
     ghost use Rattle.std.specs.Prelude.{ℕ, List};
-    ghost use Rattle.host_activations.specs.declared.asked.Asked.{Asked as AskedSeen};
+    ghost use Rattle.host_activations.specs.declared.asked.OutstandingRequest.{OutstandingRequest as AskedSeen};
 
     ghost Value = { List (ℕ × AskedSeen) };
 
@@ -74,9 +74,9 @@ impl Host {
 // What is outstanding, in its order, under the numbers from this one on.
 fn renumbered(
     alloc: Global,
-    outstanding: &BTreeMap<u64, Asked>,
+    outstanding: &BTreeMap<u64, OutstandingRequest>,
     first: u64,
-) -> Result<BTreeMap<u64, Asked>, AllocError>
+) -> Result<BTreeMap<u64, OutstandingRequest>, AllocError>
     requires { first + length outstanding.now.entries ≤ 2 ^ 60 + 1 }
     ensures { IfOk result (λ renewed. renewed.entries ≡ enumerate_from first (values_of outstanding.now.entries)) }
 {
@@ -91,13 +91,13 @@ fn renumbered(
 
 // Each activation whose request is told has it under the number that is told: so the activations of a host, whose requests are
 // told under the numbers from its next one on, are renewed.
-fn set_numbers(held: &mut Activations, numbered: &BTreeMap<u64, Asked>)
+fn set_numbers(held: &mut Activations, numbered: &BTreeMap<u64, OutstandingRequest>)
     ensures count { held.new.next_count ≡ held.old.next_count }
     ensures renewed { (host : Inside) → IsWhole host → held.old.entries ≡ host.held.entries
         → numbered.now.entries ≡ enumerate_from host.next_number (values_of host.outstanding.entries) → held.new.entries ≡ (renewed (host_of host)).held }
 {
     for (number, asked) in numbered {
-        if let Asked::Activation(grain) = asked {
+        if let OutstandingRequest::Activation(grain) = asked {
             set_number(held, grain, *number);
         }
     }

@@ -6,11 +6,11 @@ ghost use Rattle.directory_rules.specs.declared.Phase.{Phase as PhaseSeen};
 ghost use Rattle.host_activations.specs.Numbers.{number_in};
 ghost use Rattle.directory_rules.specs.Host.{asking_under, closing_under, is_finding, is_outstanding};
 ghost use Rattle.host_activations.specs.Asked.{asked_under, find_in};
-ghost use Rattle.host_activations.specs.declared.asked.Asked.TheVariants.{Activation};
+ghost use Rattle.host_activations.specs.declared.asked.OutstandingRequest.TheVariants.{Activation};
 ghost use Rattle.silo_address.specs.Grain.{Grain};
 
 use super::Host;
-use crate::asked::{Asked, find_in};
+use crate::asked::{OutstandingRequest, find_in};
 use directory_rules::{Held, Phase};
 use silo_address::GrainId;
 use std::collections::BTreeMap;
@@ -74,18 +74,21 @@ impl Host {
 }
 
 // The activation whose request has the number.
-fn activation_under(outstanding: &BTreeMap<u64, Asked>, number: u64) -> Option<GrainId>
+fn activation_under(outstanding: &BTreeMap<u64, OutstandingRequest>, number: u64) -> Option<GrainId>
     ensures { (grain : Grain) → (result ≡ Some grain) ↔ (asked_under number outstanding.now.entries ≡ Some (Activation grain)) }
 {
     let asked = outstanding.get(&number)?;
     match asked {
-        Asked::Activation(grain) => Some(*grain),
-        Asked::Find(_) => None,
+        OutstandingRequest::Activation(grain) => Some(*grain),
+        OutstandingRequest::Find(_) => None,
     }
 }
 
 // The grain for which the find of the number asks.
-pub(super) fn find_under(outstanding: &BTreeMap<u64, Asked>, number: u64) -> Option<GrainId>
+pub(super) fn find_under(
+    outstanding: &BTreeMap<u64, OutstandingRequest>,
+    number: u64,
+) -> Option<GrainId>
     ensures { result ≡ option_and_then find_in (asked_under number outstanding.now.entries) }
 {
     find_in(outstanding.get(&number)?)

@@ -8,7 +8,7 @@ ghost use Rattle.host_activations.specs.Begun.{IsNext};
 ghost use Rattle.silo_address.specs.Grain.{grain_eq};
 
 use super::Host;
-use crate::asked::Asked;
+use crate::asked::OutstandingRequest;
 use std::alloc::AllocError;
 use std::collections::BTreeMap;
 
@@ -56,7 +56,10 @@ impl Host {
     }
 }
 
-fn same_outstanding(one: &BTreeMap<u64, Asked>, other: &BTreeMap<u64, Asked>) -> bool
+fn same_outstanding(
+    one: &BTreeMap<u64, OutstandingRequest>,
+    other: &BTreeMap<u64, OutstandingRequest>,
+) -> bool
     ensures { IsTrue result ↔ (one.now.entries ≡ other.now.entries) }
 {
     *one == *other

@@ -4,7 +4,7 @@ ghost use Rattle.directory_rules.specs.Host.{act_in, firm_entries, new_host, out
 ghost use Rattle.host_activations.specs.Acts.{act_for, acts_in};
 
 use super::Host;
-use crate::asked::Asked;
+use crate::asked::OutstandingRequest;
 use crate::{Activations, entry_on};
 use directory_rules::{Act, Held, Phase};
 use hash_ring::Hashing;
@@ -41,7 +41,7 @@ pub(super) fn acts_in(
     alloc: Global,
     silo: SiloAddress,
     held: &Activations,
-    outstanding: &BTreeMap<u64, Asked>,
+    outstanding: &BTreeMap<u64, OutstandingRequest>,
 ) -> Result<Vec<(u64, Act)>, AllocError>
     ensures { IfOk result (λ acts. acts.items ≡ acts_in silo held.now.entries outstanding.now.entries) }
 {
@@ -52,15 +52,15 @@ pub(super) fn acts_in(
 }
 
 // What a request asks.
-fn act_for(silo: SiloAddress, held: &Activations, asked: &Asked) -> Option<Act>
+fn act_for(silo: SiloAddress, held: &Activations, asked: &OutstandingRequest) -> Option<Act>
     ensures { result ≡ act_for silo held.now.entries asked.now }
 {
     match asked {
-        Asked::Activation(grain) => {
+        OutstandingRequest::Activation(grain) => {
             let held = held.get(grain)?;
             act_in(silo, *grain, &held)
         }
-        Asked::Find(grain) => Some(Act::Find { grain: *grain }),
+        OutstandingRequest::Find(grain) => Some(Act::Find { grain: *grain }),
     }
 }
 

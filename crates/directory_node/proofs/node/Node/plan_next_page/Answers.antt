@@ -10,7 +10,7 @@ use Rattle.directory_rules.specs.Table.{rise_by_grain}
 use Rattle.directory_rules.specs.Transfer.{gathered_by, with_gathering}
 use Rattle.seal_snapshot.specs.Progress.{IsRefused, progress_of}
 use Rattle.seal_snapshot.specs.declared.error.GatheringError.{GatheringError}
-use Rattle.seal_snapshot.specs.declared.progress.Progress.{Progress}
+use Rattle.seal_snapshot.specs.declared.progress.GatheringProgress.{GatheringProgress}
 use Rattle.node_plans.specs.Plans.{Fits}
 use Rattle.node_plans.specs.declared.plan.Change.{Change}
 use Rattle.node_plans.proofs.Gatherings.{anew_planned, counts, paged_ignored, paged_is}
@@ -35,14 +35,14 @@ pub plan_more-requires-clause-more : goal.plan_more-requires-clause-more
 plan_more-requires-clause-more c =
     ap (λ (g : Gathering). progress_of (gathered g c.args.page.now)) (sym c.requires.its)
     ∙ c.in-Ok-More.ensures.judged
-    ∙ ap (λ (p : Progress). Ok p) c.in-Ok-More.field-0-is
+    ∙ ap (λ (p : GatheringProgress). Ok p) c.in-Ok-More.field-0-is
 
 pub plan_more-requires-clause-rises : goal.plan_more-requires-clause-rises
 plan_more-requires-clause-rises c =
     (counts c.args.self.now c.args.letter.now c.args.page.now (sym c.is_page_awaited.ensures ∙ c.if-not-is_page_awaited.false)).rises
 
 pub plan_install-requires-clause-complete : goal.plan_install-requires-clause-complete
-plan_install-requires-clause-complete c = c.in-Ok-Complete.ensures.judged ∙ ap (λ (p : Progress). Ok p) c.in-Ok-Complete.field-0-is
+plan_install-requires-clause-complete c = c.in-Ok-Complete.ensures.judged ∙ ap (λ (p : GatheringProgress). Ok p) c.in-Ok-Complete.field-0-is
 
 pub plan_install-requires-clause-rises : goal.plan_install-requires-clause-rises
 plan_install-requires-clause-rises c =

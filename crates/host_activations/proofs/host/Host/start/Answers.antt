@@ -2,7 +2,7 @@ use Rattle.std.proofs.Common.{ap, ◌∙◌, ◌+◌}
 use Rattle.std.specs.Map.{remove_entry}
 use Rattle.std.specs.BTreeMap.{is_at}
 use Rattle.std.specs.Ordering.{nat_cmp}
-use Rattle.host_activations.specs.declared.asked.Asked.TheVariants.{Activation}
+use Rattle.host_activations.specs.declared.asked.OutstandingRequest.TheVariants.{Activation}
 use Rattle.host_activations.specs.Activations.{ActivationsValue}
 use Rattle.host_activations.proofs.Beginnings.{not_started_is, not_started_means, started_is, started_means}
 use Rattle.host_activations.proofs.Fields.{meant}
