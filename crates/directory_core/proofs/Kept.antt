@@ -10,7 +10,7 @@ use Rattle.membership_view.specs.Step.{Joins}
 use Rattle.membership_view.specs.declared.Status.{Status}
 use Rattle.membership_view.proofs.Searches.{occupant_law}
 use Rattle.membership_view.proofs.Changes.{changes_are_steps}
-use Rattle.hash_ring.specs.Places.{PlacesValue, after_add, has_points, is_added, is_point_count, places_for, with_silo}
+use Rattle.hash_ring.specs.Places.{PlacesValue, after_add, has_points, is_added, is_point_count, with_silo}
 use Rattle.directory_rules.specs.Laws.{ArePeopled, is_live}
 use Rattle.directory_rules.specs.Letter.{Letter}
 use Rattle.directory_rules.specs.Node.{Node, new_node}
