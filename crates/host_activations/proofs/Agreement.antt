@@ -12,7 +12,7 @@ use Rattle.texts.proofs.Orderings.{at_itself}
 use Rattle.silo_address.specs.Grain.{Grain, grain_cmp}
 use Rattle.texts.proofs.Entries.{lookup-insert_entry}
 use Rattle.directory_rules.specs.declared.Held.{Held}
-use Rattle.host_activations.proofs.Grains.{at_itself, on_grain}
+use Rattle.host_activations.proofs.Grains.{grain_at_itself, on_grain}
 use Rattle.host_activations.specs.declared.asked.OutstandingRequest.{OutstandingRequest}
 use Rattle.host_activations.specs.declared.asked.OutstandingRequest.TheVariants.{Activation, Find}
 use Rattle.host_activations.specs.Numbers.{number_of}
@@ -58,7 +58,7 @@ asks held new out next grain asked below none gives = record {
   only = λ q n is.
       on_number (λ b. cond b (Some (Activation grain)) (asked_under n out) ≡ Some (Activation q) → number_of q new ≡ Some n) n next
       (λ same e. subst (λ (g : Grain). number_of g new ≡ Some n) (same_activation grain q e)
-      (gives grain ∙ ap (λ b. cond b (Some next) (number_of grain held)) (at_itself grain) ∙ ap (λ (k : ℕ). Some k) (sym same)))
+      (gives grain ∙ ap (λ b. cond b (Some next) (number_of grain held)) (grain_at_itself grain) ∙ ap (λ (k : ℕ). Some k) (sym same)))
       (λ apart e. gives q
       ∙ on_grain (λ b. cond b (Some next) (number_of q held) ≡ Some n) grain q
       (λ same. nothing n (sym none ∙ ap (λ (g : Grain). number_of g held) same ∙ asked.only q n e)) (λ other. asked.only q n e))
@@ -101,7 +101,7 @@ rests held new out number grain asked sorted had gives = record {
       (sym (asked_taken out number n sorted) ∙ is);
 } where
   apart_from : (q : Grain) → is_at (grain_cmp grain) q ≡ false → grain ≡ q → ⊥
-  apart_from q other same = let h : true ≡ false = sym (at_itself grain) ∙ ap (λ (g : Grain). is_at (grain_cmp grain) g) same ∙ other in cc
+  apart_from q other same = let h : true ≡ false = sym (grain_at_itself grain) ∙ ap (λ (g : Grain). is_at (grain_cmp grain) g) same ∙ other in cc
 
   other_number : (n : ℕ) → is_at (nat_cmp number) n ≡ false → number ≡ n → ⊥
   other_number n other same = let h : true ≡ false = sym (at_itself number) ∙ ap (λ (k : ℕ). is_at (nat_cmp number) k) same ∙ other in cc

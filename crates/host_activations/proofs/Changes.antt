@@ -21,7 +21,7 @@ use Rattle.directory_rules.specs.declared.Phase.{Phase}
 use Rattle.host_activations.specs.Activations.{ActivationsValue}
 use Rattle.host_activations.specs.Begun.{AreApart, AreBegun}
 use Rattle.host_activations.specs.InOrder.{in_order, placed}
-use Rattle.host_activations.proofs.Grains.{IsFoundIn, all_map, at_itself, by_order, each_found, either, either_none, lookup_append, not_at, not_equal, on_grain, other_grain, same_test, tests_alike}
+use Rattle.host_activations.proofs.Grains.{IsFoundIn, all_map, by_order, each_found, either, either_none, grain_at_itself, lookup_append, not_at, not_equal, on_grain, other_grain, same_test, tests_alike}
 use Rattle.host_activations.proofs.FirmCounts.{gone_behind}
 use Rattle.host_activations.proofs.Rows.{HasCount, IsRow, all_spread, placed_last, row_removed, row_set}
 use Rattle.host_activations.proofs.Unique.{row_distinct, unique}
@@ -94,7 +94,7 @@ pub gives_more : (es : List (Grain × Held)) (g : Grain) (h : Held) → at g es 
 gives_more es g h none q =
     lookup_append (is_at (grain_cmp q)) es ((g, h) ∷ [])
     ∙ on_grain (λ t. either (at q es) (cond (is_at (grain_cmp q) g) (Some h) None) ≡ cond t (Some h) (at q es)) g q
-    (λ same. (λ i. either ((ap (λ (x : Grain). at x es) (sym same) ∙ none) i) (cond ((ap (λ (x : Grain). is_at (grain_cmp q) x) same ∙ at_itself q) i) (Some h) None)))
+    (λ same. (λ i. either ((ap (λ (x : Grain). at x es) (sym same) ∙ none) i) (cond ((ap (λ (x : Grain). is_at (grain_cmp q) x) same ∙ grain_at_itself q) i) (Some h) None)))
     (λ other. ap (λ t. either (at q es) (cond t (Some h) None)) (not_at q g (λ same. other_grain g q other (sym same))) ∙ either_none (at q es))
 
 module _ (next : ℕ) (es : List (Grain × Held)) (are : AreBegun next es) (g : Grain) (h : Held) (none : at g (in_order es) ≡ None) (count : h.count ≡ next) where
@@ -162,7 +162,7 @@ set_at [] apart index g was h there = cc
 set_at (e ∷ es) apart zero g was h there =
     let same : e.0 ≡ g = ap (λ (x : Grain × Held). x.0) (same_Some e (g, was) there) in
     ap (λ (q : Grain). (q, h) ∷ es) (sym same)
-    ∙ sym (ap (λ b. cond b ((e.0, h) ∷ es) (e ∷ set_value (is_at (grain_cmp g)) es h)) (ap (λ (q : Grain). is_at (grain_cmp g) q) same ∙ at_itself g))
+    ∙ sym (ap (λ b. cond b ((e.0, h) ∷ es) (e ∷ set_value (is_at (grain_cmp g)) es h)) (ap (λ (q : Grain). is_at (grain_cmp g) q) same ∙ grain_at_itself g))
 set_at (e ∷ es) apart (suc index) g was h there =
     ap (λ l. e ∷ l) (set_at es (IsDistinct-tail grain_eq e.0 (keys_of es) apart) index g was h there)
     ∙ sym (ap (λ b. cond b ((e.0, h) ∷ es) (e ∷ set_value (is_at (grain_cmp g)) es h))

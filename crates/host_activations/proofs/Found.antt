@@ -8,7 +8,7 @@ use Rattle.std.proofs.lemmas.Map.Keys.{IsDistinct-head, IsDistinct-tail}
 use Rattle.silo_address.specs.Grain.{Grain, grain_cmp, grain_eq}
 use Rattle.silo_address.proofs.Same.{Decides-grain}
 use Rattle.directory_rules.specs.declared.Held.{Held}
-use Rattle.host_activations.proofs.Grains.{at_itself, on_grain}
+use Rattle.host_activations.proofs.Grains.{grain_at_itself, on_grain}
 
 -- an entry is what is found at its grain
 abbrev pub IsFoundIn : List (Grain × Held) → Grain × Held → Type 0
@@ -33,7 +33,7 @@ behind first all (e ∷ es) apart found = (here, behind first all es apart.1 fou
 pub each_found : (es : List (Grain × Held)) → IsDistinct grain_eq (keys_of es) → AllByRecursion (IsFoundIn es) es
 each_found [] apart = tt
 each_found (e ∷ es) apart = (
-  ap (λ b. cond b (Some e.1) (lookup (is_at (grain_cmp e.0)) es)) (at_itself e.0),
+  ap (λ b. cond b (Some e.1) (lookup (is_at (grain_cmp e.0)) es)) (grain_at_itself e.0),
   behind e es es (IsDistinct-head grain_eq e.0 (keys_of es) apart) (each_found es (IsDistinct-tail grain_eq e.0 (keys_of es) apart)),
 )
 
@@ -58,7 +58,7 @@ module _ (test : Grain × Held → Bool) where
       (λ other it. by (test e) refl other (search_finds es g h only.1 it passes)) there
     where
       by : (b : Bool) → test e ≡ b → is_at (grain_cmp g) e.0 ≡ false → find test es ≡ Some (g, h) → cond b (Some e) (find test es) ≡ Some (g, h)
-      by true p other later = let h : true ≡ false = sym (at_itself g) ∙ ap (λ (x : Grain). is_at (grain_cmp g) x) (sym (only.0 p)) ∙ other in cc
+      by true p other later = let h : true ≡ false = sym (grain_at_itself g) ∙ ap (λ (x : Grain). is_at (grain_cmp g) x) (sym (only.0 p)) ∙ other in cc
       by false p other later = later
 
   pub search_fails : (es : List (Grain × Held)) → AllByRecursion (λ e. test e ≡ false) es → find test es ≡ None

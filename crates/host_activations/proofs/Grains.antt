@@ -35,12 +35,12 @@ on_test P false same other = other refl
 pub on_grain : (P : Bool → Type 0) (a b : Grain) → (a ≡ b → P true) → (is_at (grain_cmp a) b ≡ false → P false) → P (is_at (grain_cmp a) b)
 on_grain P a b same other = on_test P (is_at (grain_cmp a) b) (λ h. same (grain_cmp_exact a b (Equal-from (grain_cmp a b) h))) other
 
-pub at_itself : (g : Grain) → is_at (grain_cmp g) g ≡ true
-at_itself g = ap is_eq (tied_itself grain_cmp_total g)
+pub grain_at_itself : (g : Grain) → is_at (grain_cmp g) g ≡ true
+grain_at_itself g = ap is_eq (tied_itself grain_cmp_total g)
 
 -- a grain that is not the other
 pub other_grain : (a b : Grain) → is_at (grain_cmp a) b ≡ false → a ≡ b → ⊥
-other_grain a b other same = let h : true ≡ false = sym (at_itself a) ∙ ap (λ (g : Grain). is_at (grain_cmp a) g) same ∙ other in cc
+other_grain a b other same = let h : true ≡ false = sym (grain_at_itself a) ∙ ap (λ (g : Grain). is_at (grain_cmp a) g) same ∙ other in cc
 
 pub not_at : (a b : Grain) → (a ≡ b → ⊥) → is_at (grain_cmp a) b ≡ false
 not_at a b apart = apart_in_order grain_cmp grain_cmp_exact a b apart
@@ -88,7 +88,7 @@ behind first all (e ∷ es) apart found = (here, behind first all es apart.1 fou
 pub each_found : (es : List (Grain × Held)) → IsDistinct grain_eq (keys_of es) → AllByRecursion (IsFoundIn es) es
 each_found [] apart = tt
 each_found (e ∷ es) apart = (
-  ap (λ b. cond b (Some e.1) (lookup (is_at (grain_cmp e.0)) es)) (at_itself e.0),
+  ap (λ b. cond b (Some e.1) (lookup (is_at (grain_cmp e.0)) es)) (grain_at_itself e.0),
   behind e es es (IsDistinct-head grain_eq e.0 (keys_of es) apart) (each_found es (IsDistinct-tail grain_eq e.0 (keys_of es) apart)),
 )
 

@@ -34,7 +34,7 @@ use Rattle.host_activations.specs.Firm.{AreFirm, firm_count, firm_counts}
 use Rattle.host_activations.specs.Stretch.{end_at, first_at, standing_at}
 use Rattle.host_activations.specs.declared.by_hash.HashedCount.{HashedCount}
 use Rattle.host_activations.proofs.FirmCounts.{counts_append, counts_found, counts_once}
-use Rattle.host_activations.proofs.Grains.{IsFoundIn, at_itself, either, lookup_append, not_at, on_grain, same_test}
+use Rattle.host_activations.proofs.Grains.{IsFoundIn, either, grain_at_itself, lookup_append, not_at, on_grain, same_test}
 use Rattle.host_activations.proofs.Indexed.{found_at, hashed_count_cmp_total, is_itself, on_key}
 
 -- ---- A stretch of hashes stands between its bounds.
@@ -127,7 +127,7 @@ module _ (hashing : Hashing) (es : List (Grain × Held)) where
       here at same =
           ap (λ b. is_some (lookup (is_at (grain_cmp q)) (standing_at es (cond b (x ∷ filter p hashed) (filter p hashed))))) ((λ i. p (sym same i, at i)) ∙ passes)
           ∙ ap (λ o. is_some (lookup (is_at (grain_cmp q)) (cons_option o (standing_at es (filter p hashed))))) (ap (slice_get es) at ∙ stands)
-          ∙ ap (λ b. is_some (cond b (Some h) (lookup (is_at (grain_cmp q)) (standing_at es (filter p hashed))))) (at_itself q)
+          ∙ ap (λ b. is_some (cond b (Some h) (lookup (is_at (grain_cmp q)) (standing_at es (filter p hashed))))) (grain_at_itself q)
 
       behind : (o : Option (Grain × Held)) (rest : List (Grain × Held)) → is_some (lookup (is_at (grain_cmp q)) rest) ≡ true → is_some (lookup (is_at (grain_cmp q)) (cons_option o rest)) ≡ true
       behind None rest there = there

@@ -19,7 +19,7 @@ use Rattle.directory_rules.specs.declared.Phase.TheVariants.{Asking, Firm, Closi
 use Rattle.host_activations.specs.declared.asked.OutstandingRequest.{OutstandingRequest}
 use Rattle.host_activations.specs.declared.asked.OutstandingRequest.TheVariants.{Activation, Find}
 use Rattle.host_activations.specs.Numbers.{number_in, phase_under}
-use Rattle.host_activations.proofs.Grains.{at_itself, on_grain, same_test}
+use Rattle.host_activations.proofs.Grains.{grain_at_itself, on_grain, same_test}
 use Rattle.host_activations.proofs.Numbers.{on_number}
 use Rattle.host_activations.proofs.Ranks.{Ranks}
 
@@ -146,7 +146,7 @@ pub after_asking : (f : ℕ → ℕ) (q : Grain) (h : Held) (k m : ℕ) (es : Li
 after_asking f q h k m [] sorted ranks only found = cc
 after_asking f q h k m (e ∷ es) sorted ranks only found =
     on_number (λ b. cond b (Some e.1) (lookup (is_at (nat_cmp k)) es) ≡ Some (Activation q) → after (enumerate_from m (values_of (e ∷ es))) q h ≡ held_as (f k) h) k e.0
-    (λ same it. ap (λ b. after (enumerate_from (m + 1) (values_of es)) q (cond b (held_as m h) h)) (ap (is_request_of q) (same_Some e.1 (Activation q) it) ∙ at_itself q)
+    (λ same it. ap (λ b. after (enumerate_from (m + 1) (values_of es)) q (cond b (held_as m h) h)) (ap (is_request_of q) (same_Some e.1 (Activation q) it) ∙ grain_at_itself q)
     ∙ untouched q (held_as m h) (m + 1) es
     (no_more q k es (subst (λ (j : ℕ). AllByRecursion (λ y. nat_cmp j y ≡ Less) (keys_of es)) (sym same) (sorted_head nat_cmp e.0 (keys_of es) sorted)) only.1)
     ∙ ap (λ (n : ℕ). held_as n h) (sym (ap f same ∙ ranks.0)))

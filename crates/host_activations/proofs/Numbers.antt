@@ -11,7 +11,7 @@ use Rattle.texts.proofs.Orderings.{Equal-from, at_itself}
 use Rattle.silo_address.specs.Grain.{Grain, grain_cmp, grain_eq}
 use Rattle.silo_address.proofs.Order.{grain_cmp_total}
 use Rattle.directory_rules.specs.declared.Held.{Held}
-use Rattle.host_activations.proofs.Grains.{at_itself, by_order, on_grain, on_test}
+use Rattle.host_activations.proofs.Grains.{by_order, grain_at_itself, on_grain, on_test}
 use Rattle.host_activations.specs.Numbers.{number_in, number_of}
 use Rattle.host_activations.proofs.Entries.{lookup_last, lookup_before}
 
@@ -32,7 +32,7 @@ pub begun : (grain : Grain) (held : Held) (es : List (Grain × Held)) → lookup
 begun grain held es none q =
     on_grain (λ b. number_of q (es ++ (grain, held) ∷ []) ≡ cond b (number_in held.phase) (number_of q es)) grain q
     (λ same. ap (λ (g : Grain). number_of g (es ++ (grain, held) ∷ [])) (sym same)
-    ∙ ap (λ found. option_and_then (λ (h : Held). number_in h.phase) found) (lookup_last (is_at (grain_cmp grain)) es (grain, held) none ∙ ap (λ b. cond b (Some held) None) (at_itself grain)))
+    ∙ ap (λ found. option_and_then (λ (h : Held). number_in h.phase) found) (lookup_last (is_at (grain_cmp grain)) es (grain, held) none ∙ ap (λ b. cond b (Some held) None) (grain_at_itself grain)))
     (λ other. ap (λ found. option_and_then (λ (h : Held). number_in h.phase) found) (lookup_before (is_at (grain_cmp q)) es (grain, held) ((eq_by_cmp_equiv grain_cmp_total).symm q grain ∙ other)))
 
 pub changed : (grain : Grain) (held : Held) (es : List (Grain × Held)) → IsSome (lookup (is_at (grain_cmp grain)) es) → GivesNumber grain (number_in held.phase) es (set_value (is_at (grain_cmp grain)) es held)

@@ -6,11 +6,11 @@ use Rattle.std.specs.BTreeMap.{is_at}
 use Rattle.std.proofs.lemmas.Option.{same_Some}
 use Rattle.silo_address.specs.Grain.{Grain, grain_cmp, grain_eq}
 use Rattle.directory_rules.specs.declared.Held.{Held}
-use Rattle.host_activations.proofs.Grains.{all_map, at_itself, found_all, not_at, on_grain, other_grain, same_test}
+use Rattle.host_activations.proofs.Grains.{all_map, found_all, grain_at_itself, not_at, on_grain, other_grain, same_test}
 use Rattle.host_activations.proofs.Rows.{Before, IsRow, absent}
 
 first_found : (x : Grain × Held) (xs : List (Grain × Held)) → lookup (is_at (grain_cmp x.0)) (x ∷ xs) ≡ Some x.1
-first_found x xs = ap (λ b. cond b (Some x.1) (lookup (is_at (grain_cmp x.0)) xs)) (at_itself x.0)
+first_found x xs = ap (λ b. cond b (Some x.1) (lookup (is_at (grain_cmp x.0)) xs)) (grain_at_itself x.0)
 
 passed_by : (q : Grain) (x : Grain × Held) (xs : List (Grain × Held)) → is_at (grain_cmp q) x.0 ≡ false → lookup (is_at (grain_cmp q)) (x ∷ xs) ≡ lookup (is_at (grain_cmp q)) xs
 passed_by q x xs other = ap (λ b. cond b (Some x.1) (lookup (is_at (grain_cmp q)) xs)) other
