@@ -9,6 +9,8 @@ pub mod Unlimited
 pub mod Runs
 pub mod Called
 pub mod Worked
+pub mod TokensLate
+pub mod TokensEarly
 pub mod TokensKept
 pub mod TokensRuns
 pub mod TokensRule

@@ -39,7 +39,8 @@ use Rattle.directory_headline.proofs.Steps.{all_move}
 use Rattle.directory_headline.proofs.Viewed.{Carried}
 use Rattle.deployment_headline.specs.Tokens.{IsFirm, NeverFall, PassDeaths}
 use Rattle.deployment_headline.proofs.TokensKept as kept
-use Rattle.deployment_headline.proofs.TokensKept.{early_firm, since_run, firm_no_lower}
+use Rattle.deployment_headline.proofs.TokensEarly.{early_firm}
+use Rattle.deployment_headline.proofs.TokensKept.{since_run, firm_no_lower}
 use Rattle.deployment_headline.proofs.TokensRuns.{LeadsTo, Passes, result_passes, after_append, facts_by, and_one, leads_run}
 
 -- ---- what is firm in the rule's world is so in the protocol's

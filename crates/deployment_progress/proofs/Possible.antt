@@ -53,7 +53,7 @@ exchanges_can_be d silo s nudged named there is =
     let d1 = after d (Do silo Nudge) in
     let rest = answering d1 silo d1.written 0 in (
       Do silo Nudge ∷ rest,
-      All-cons IsStep (Do silo Nudge) rest named (all_come IsStep (λ to k. tt) d1 silo d1.written 0),
+      All-cons IsStep (Do silo Nudge) rest (named, tt) (all_come IsStep (λ to k. tt) d1 silo d1.written 0),
       All-cons DecidesNone (Do silo Nudge) rest tt (all_come DecidesNone (λ to k. tt) d1 silo d1.written 0),
       record {
         nudge = record { process = s; there = there; nudged = nudged; is_nudged = is; rest = rest; begins = refl };

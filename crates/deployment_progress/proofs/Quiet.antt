@@ -1,5 +1,5 @@
 -- In the quiet each step is one of a silo's node that sees no version, or none at all.
-use Rattle.std.proofs.Common.{arith, ◌≡◌, ◌≢◌, ℕ, ◌+◌, List, [], ◌∷◌, ◌++◌, refl, sym, ap, ◌∙◌, subst, drop, append-nil, ◌⊎◌, inl, inr}
+use Rattle.std.proofs.Common.{arith, ◌≡◌, ◌≢◌, ℕ, ◌+◌, [], ◌∷◌, ◌++◌, refl, sym, ap, ◌∙◌, subst, drop, append-nil, ◌⊎◌, inl, inr}
 use Rattle.std.specs.Prelude.{⊤, Bool, true, false, not, is_some, nat_lt, nat_le, slice_get, if◌then◌else◌, Option, Some, None, Result, Ok, Err}
 use Rattle.std.specs.Option.{option_map, unwrap_or}
 use Rattle.std.specs.BTreeMap.{is_at, insert_entry}
@@ -31,7 +31,7 @@ use Rattle.silo_rules.specs.Told.{Heard, told}
 use Rattle.progress_rules.proofs.Covered.{view_kept}
 use Rattle.deployment_headline.specs.Deployment.{Deployment, process_of}
 use Rattle.deployment_headline.specs.Limits.{node_with_room}
-use Rattle.deployment_headline.specs.Steps.{Step, Decide, Tell, See, Do, Receive, IsStep, heard, took, tells, tells_at, does_at, sees_at, delivers, receives_at, after, after_all}
+use Rattle.deployment_headline.specs.Steps.{Step, Decide, Tell, See, Do, Receive, IsStep, heard, took, tells, tells_at, does_at, sees_at, delivers, receives_at, after}
 use Rattle.deployment_headline.proofs.Memberships.{leads_to}
 use Rattle.deployment_headline.proofs.Runs.{one_more}
 use Rattle.deployment_headline.proofs.Sound.{its_process}

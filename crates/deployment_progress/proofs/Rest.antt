@@ -1,6 +1,6 @@
 -- A deployment at rest: steps made it, and each process has seen the last change. What is known of the worlds that events reach is known
 -- of it, by the world that has what it has.
-use Rattle.std.proofs.Common.{arith, ◌≡◌, ℕ, suc, ◌+◌, ◌≤◌, List, [], ◌∷◌, length, refl, sym, ap, ◌∙◌, subst}
+use Rattle.std.proofs.Common.{arith, ◌≡◌, ℕ, suc, ◌+◌, ◌≤◌, List, [], length, refl, sym, ap, ◌∙◌, subst}
 use Rattle.std.specs.Prelude.{slice_get, All, Option, Some, None}
 use Rattle.std.specs.Option.{option_map}
 use Rattle.std.specs.BTreeMap.{is_at}
@@ -24,10 +24,10 @@ use Rattle.progress_rules.proofs.Resting.{IsResting}
 use Rattle.progress_rules.proofs.RoundOfPieces.{starts, live_at_first}
 use Rattle.deployment_headline.specs.Deployment.{Deployment, first_deployment, process_of}
 use Rattle.deployment_headline.specs.Limits.{with_room, node_with_room, process_with_room, deployment_with_room}
-use Rattle.deployment_headline.specs.Steps.{Step, IsStep, after, after_all, deployed}
+use Rattle.deployment_headline.specs.Steps.{Step, IsStep, deployed}
 use Rattle.deployment_headline.proofs.Lists.{lookup-over}
 use Rattle.deployment_headline.proofs.Runs.{Makes, made_so, settings_stay, sound_after}
-use Rattle.deployment_headline.proofs.Sound.{Sound, sound_first, keeps}
+use Rattle.deployment_headline.proofs.Sound.{Sound, sound_first}
 use Rattle.deployment_headline.proofs.Worlds.{its_node, node_there, letter_there}
 use Rattle.deployment_progress.specs.Quiet.{HaveAllSeen}
 use Rattle.deployment_progress.proofs.Wholes.{AreWholes, its_whole, wholes_first, wholes_after}

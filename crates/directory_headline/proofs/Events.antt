@@ -1,6 +1,6 @@
 -- Every accepted event is one of these ways, each with what its guards say.
 use Rattle.std.proofs.Common.{◌≡◌, refl, sym, subst, ℕ, ◌+◌, ◌-◌, List}
-use Rattle.std.specs.Prelude.{⊤, Bool, true, false, cond, not, nat_le, nat_lt, is_some, length, Option, Some, None, Result, Ok, Err, IfOk}
+use Rattle.std.specs.Prelude.{⊤, Bool, true, false, cond, not, nat_le, nat_lt, is_some, Option, Some, None, Result, Ok, Err, IfOk}
 use Rattle.std.proofs.lemmas.Bool.{leb-true}
 use Rattle.texts.proofs.Decided.{both}
 use Rattle.silo_address.specs.Silo.{Silo}

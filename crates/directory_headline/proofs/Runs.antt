@@ -41,7 +41,7 @@ abbrev pub FactsHold : Type 0
 FactsHold = (settings : Settings) (events : List Event) → AreSettings settings → All IsEvent events → WorldFacts (hash_grain settings.hashing) (run_from_start settings events).world
 
 -- a silo's own doing brings all that is asked
-own_brings : (m : Setting) (f : World) (w : protocol.World) (silo : Silo) (input : Input) → IsOwnInput input → Brings m f w silo input
+pub own_brings : (m : Setting) (f : World) (w : protocol.World) (silo : Silo) (input : Input) → IsOwnInput input → Brings m f w silo input
 own_brings m f w silo (Sees before view places) own = absurd own
 own_brings m f w silo (Does step) own = tt
 own_brings m f w silo (Receives letter) own = absurd own

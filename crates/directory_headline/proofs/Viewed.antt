@@ -147,45 +147,57 @@ module _ (f : World) (peopled : ArePeopled f.views f.nodes) where
       made None there = there
       made (Some old) there = there
 
+-- ---- what a change of membership shows, and what is carried then
 module _ (m : Setting) (f : World) (facts : WorldFacts m.hash f) (carried : Carried m f) where
-  go_on : (later : World) → Shown m later (viewed m carried.world) → Carried m later
-  go_on later shown = record { world = viewed m carried.world; reached = reached_after m carried.world New_view carried.reached tt; shown = shown }
-
-  pub carried_leaving : (silo : Silo) → change.after f.views (change.Leave silo) ≡ Ok (change.with_leave f.views silo) → Carried m (counted (record f { views = change.with_leave f.views silo }))
-  carried_leaving silo is =
+  pub shown_leaving : (silo : Silo) → change.after f.views (change.Leave silo) ≡ Ok (change.with_leave f.views silo)
+      → Shown m (counted (record f { views = change.with_leave f.views silo })) (viewed m carried.world)
+  shown_leaving silo is =
       let next = change.with_leave f.views silo in
       let accepts : Accepts f.views (change.Leave silo) next = record { whole = facts.peopled.whole; is = is } in
       let step : Leaves silo (view_at f.views f.views.version) (view_at next next.version) = changes_are_steps f.views (change.Leave silo) next accepts in
-      go_on (counted (record f { views = next })) (view_shown m carried.world f (counted (record f { views = next })) carried.shown (versions_rise f.views (change.Leave silo) next accepts) refl carried.shown.live (λ q none.
+      view_shown m carried.world f (counted (record f { views = next })) carried.shown (versions_rise f.views (change.Leave silo) next accepts) refl carried.shown.live (λ q none.
       elim (silo_cases q silo) [
         | inl same ↦ let left = step.left in let nothing = subst (λ s. status_at next next.version s ≡ None) same none in absurd (cc)
         | inr apart ↦ sym (step.others q apart) ∙ none
-      ]))
+      ])
 
-  pub carried_death : (silo : Silo) → change.after f.views (change.Die silo) ≡ Ok (change.with_death f.views silo) → Carried m (died f silo).world
-  carried_death silo is =
+  pub shown_death : (silo : Silo) → change.after f.views (change.Die silo) ≡ Ok (change.with_death f.views silo) → Shown m (died f silo).world (viewed m carried.world)
+  shown_death silo is =
       let next = change.with_death f.views silo in
       let accepts : Accepts f.views (change.Die silo) next = record { whole = facts.peopled.whole; is = is } in
       let step : Dies silo (view_at f.views f.views.version) (view_at next next.version) = changes_are_steps f.views (change.Die silo) next accepts in
-      go_on (died f silo).world (view_shown m carried.world f (died f silo).world carried.shown (versions_rise f.views (change.Die silo) next accepts) refl
+      view_shown m carried.world f (died f silo).world carried.shown (versions_rise f.views (change.Die silo) next accepts) refl
       (λ q node there. carried.shown.live q node (still_there f facts.peopled silo q node there)) (λ q none.
       elim (silo_cases q silo) [
         | inl same ↦ let dead = step.dead in let nothing = subst (λ s. status_at next next.version s ≡ None) same none in absurd (cc)
         | inr apart ↦ sym (step.others q apart) ∙ none
-      ]))
+      ])
 
-  pub carried_joining : (silo : Silo) (next : ViewsValue) (added : PlacesValue) → change.after_join f.views silo ≡ Ok next → (old : Option Silo) → Carried m (counted (after_joining f silo old next added))
-  carried_joining silo next added is old =
+  pub shown_joining : (silo : Silo) (next : ViewsValue) (added : PlacesValue) → change.after_join f.views silo ≡ Ok next → (old : Option Silo)
+      → Shown m (counted (after_joining f silo old next added)) (viewed m carried.world)
+  shown_joining silo next added is old =
       let accepts : Accepts f.views (change.Join silo) next = record { whole = facts.peopled.whole; is = is } in
       let step : Joins silo (view_at f.views f.views.version) (view_at next next.version) = changes_are_steps f.views (change.Join silo) next accepts in
-      go_on (counted (after_joining f silo old next added)) (view_shown m carried.world f (counted (after_joining f silo old next added)) carried.shown (versions_rise f.views (change.Join silo) next accepts) (mail_same old) (λ q node there.
+      view_shown m carried.world f (counted (after_joining f silo old next added)) carried.shown (versions_rise f.views (change.Join silo) next accepts) (mail_same old) (λ q node there.
       elim (joining_node f facts.peopled silo next added old q node there) [
         | inl its ↦
             let first : state_of carried.world q ≡ first_state = ap (state_of carried.world) its.0 ∙ carried.shown.absent silo (newcomer silo f.views next step) in
             subst (λ n. IsShownNode m carried.world n (state_of carried.world q)) (sym its.1) (subst (IsShownNode m carried.world (new_node f.settings silo)) (sym first) (new_shown m carried.world f.settings silo))
         | inr was ↦ carried.shown.live q node was
-      ]) (was_absent silo f.views next step))
+      ]) (was_absent silo f.views next step)
     where
       mail_same : (old : Option Silo) → (after_joining f silo old next added).mail ≡ f.mail
       mail_same None = refl
       mail_same (Some old) = refl
+
+  go_on : (later : World) → Shown m later (viewed m carried.world) → Carried m later
+  go_on later shown = record { world = viewed m carried.world; reached = reached_after m carried.world New_view carried.reached tt; shown = shown }
+
+  pub carried_leaving : (silo : Silo) → change.after f.views (change.Leave silo) ≡ Ok (change.with_leave f.views silo) → Carried m (counted (record f { views = change.with_leave f.views silo }))
+  carried_leaving silo is = go_on (counted (record f { views = change.with_leave f.views silo })) (shown_leaving silo is)
+
+  pub carried_death : (silo : Silo) → change.after f.views (change.Die silo) ≡ Ok (change.with_death f.views silo) → Carried m (died f silo).world
+  carried_death silo is = go_on (died f silo).world (shown_death silo is)
+
+  pub carried_joining : (silo : Silo) (next : ViewsValue) (added : PlacesValue) → change.after_join f.views silo ≡ Ok next → (old : Option Silo) → Carried m (counted (after_joining f silo old next added))
+  carried_joining silo next added is old = go_on (counted (after_joining f silo old next added)) (shown_joining silo next added is old)

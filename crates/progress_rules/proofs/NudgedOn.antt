@@ -236,12 +236,12 @@ module _ (world : World) (silo : Silo) (nd : Node) (those : List (Silo × Node))
 
 -- ---- one silo after the other
 pub nudge_on : (world : World) (e : Silo × Node) (es : List (Silo × Node)) (accepted : Accepted) → IsSilo e.0 → IsNudgingOn (e ∷ es) world
-    → happens world (Do e Nudge.0) ≡ Ok accepted → IsNudgingOn es accepted.world
+    → happens world (Do e.0 Nudge) ≡ Ok accepted → IsNudgingOn es accepted.world
 nudge_on world e es accepted is_silo n ok =
     let s = nudged world e.0 accepted ok in
     let seen_then : AllSeen accepted.world = subst AllSeen (sym s.is)
     (still_seen world e.0 s.node s.stepped s.its (view_kept s.node (Does Nudge) s.stepped s.made) n.answering.rests.seen) in
-    let rests = rests_on world n.answering.rests (Do e Nudge.0) accepted is_silo ok seen_then in
+    let rests = rests_on world n.answering.rests (Do e.0 Nudge) accepted (is_silo, tt) ok seen_then in
     let all : Everywhere sorted_facts accepted.world = subst (Everywhere sorted_facts) (sym rests.is)
     (everywhere sorted_facts sorted_keep rests.settings rests.events tt (λ k d below. tt)) in
     let there : node_of accepted.world e.0 ≡ Some s.stepped.node = ap (λ w. node_of w e.0) s.is ∙ its_node world e.0 s.stepped in

@@ -125,13 +125,13 @@ module _ (settings : Settings) (are : AreSettings settings) (I : World → Type 
       then_ends J E (happens world (Do silo Nudge)) next
       (λ accepted ok.
       let it = flight.nudged world silo accepted ok in
-      on accepted.world it (reached_on settings are world r.0 (Do silo Nudge) accepted named ok, k.nudges world accepted.world silo r.0 r.1 it))
+      on accepted.world it (reached_on settings are world r.0 (Do silo Nudge) accepted (named, tt) ok, k.nudges world accepted.world silo r.0 r.1 it))
       (λ number refused. let its = some_of (node_of world silo) there in k.refuses world silo (Does Nudge) number r.0 r.1 (refused_nudge world silo its.0 number its.1 refused))
 
-  nudges_end : (es : List (Silo × Node)) (world : World) → All (λ e. IsSilo e.0) es → All (HasNode world) es → J world → Ends J E (in_turn (map (λ e. Do e Nudge.0) es) world)
+  nudges_end : (es : List (Silo × Node)) (world : World) → All (λ e. IsSilo e.0) es → All (HasNode world) es → J world → Ends J E (in_turn (map (λ e. Do e.0 Nudge) es) world)
   nudges_end [] world named there r = r
   nudges_end (e ∷ es) world named there r =
-      nudge_ends world e.0 (λ next. in_turn (map (λ x. Do x Nudge.0) es) next) (All-head (λ (x : Silo × Node). IsSilo x.0) e es named) (All-head (HasNode world) e es there) r
+      nudge_ends world e.0 (λ next. in_turn (map (λ x. Do x.0 Nudge) es) next) (All-head (λ (x : Silo × Node). IsSilo x.0) e es named) (All-head (HasNode world) e es there) r
       (λ later it its. nudges_end es later (All-tail (λ (x : Silo × Node). IsSilo x.0) e es named) (still_there world later e.0 (Does Nudge) es it (All-tail (HasNode world) e es there)) its)
 
   -- ---- deliveries

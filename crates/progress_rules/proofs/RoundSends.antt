@@ -100,14 +100,14 @@ pub record NudgingWithin (n sends asks events : ℕ) (those : List (Silo × Node
 pub nudged_rests : (world : World) (silo : Silo) (accepted : Accepted) → IsResting world → IsSilo silo → happens world (Do silo Nudge) ≡ Ok accepted → IsResting accepted.world
 nudged_rests world silo accepted r is_silo ok =
     let s = nudged world silo accepted ok in
-    rests_on world r (Do silo Nudge) accepted is_silo ok (subst AllSeen (sym s.is) (still_seen world silo s.node s.stepped s.its (view_kept s.node (Does Nudge) s.stepped s.made) r.seen))
+    rests_on world r (Do silo Nudge) accepted (is_silo, tt) ok (subst AllSeen (sym s.is) (still_seen world silo s.node s.stepped s.its (view_kept s.node (Does Nudge) s.stepped s.made) r.seen))
 
 module _ (n sends asks events : ℕ) where
   abbrev Keeping : List (Silo × Node) → World → Type 0
   Keeping those world = NudgingWithin n sends asks events those world
 
   pub within_nudged : (world : World) (e : Silo × Node) (es : List (Silo × Node)) (accepted : Accepted) → IsSilo e.0 → Keeping (e ∷ es) world
-      → happens world (Do e Nudge.0) ≡ Ok accepted → Keeping es accepted.world
+      → happens world (Do e.0 Nudge) ≡ Ok accepted → Keeping es accepted.world
   within_nudged world e es accepted is_silo w ok =
       let s = nudged world e.0 accepted ok in
       let mine = All-head (λ (x : Silo × Node). node_of world x.0 ≡ Some x.1) e es w.there in

@@ -109,8 +109,8 @@ settles_through n sends asks events steps (suc more) world w v room fits =
 -- ---- a nudge
 module _ (n sends asks events : ℕ) (world : World) (e : Silo × Node) (es : List (Silo × Node)) (w : NudgingWithin n sends asks events (e ∷ es) world)
     (room : HasRoom sends events world.settings) where
-  nudge_happens : Happens world (Do e Nudge.0)
-  nudge_happens = by (happens world (Do e Nudge.0)) refl
+  nudge_happens : Happens world (Do e.0 Nudge)
+  nudge_happens = by (happens world (Do e.0 Nudge)) refl
     where
       its : node_of world e.0 ≡ Some e.1
       its = All-head (λ (x : Silo × Node). node_of world x.0 ≡ Some x.1) e es w.there
@@ -118,7 +118,7 @@ module _ (n sends asks events : ℕ) (world : World) (e : Silo × Node) (es : Li
       same : world.settings ≡ w.rests.settings
       same = ap (λ (x : World). x.settings) w.rests.is ∙ settings_stay w.rests.settings w.rests.events
 
-      by : (r : Result Accepted ℕ) → happens world (Do e Nudge.0) ≡ r → Happens world (Do e Nudge.0)
+      by : (r : Result Accepted ℕ) → happens world (Do e.0 Nudge) ≡ r → Happens world (Do e.0 Nudge)
       by (Ok accepted) is = (accepted, is)
       by (Err number) is =
           let came = w.came in
@@ -149,7 +149,7 @@ module _ (n sends asks events : ℕ) (world : World) (e : Silo × Node) (es : Li
 
 pub nudges_through : (n sends asks events : ℕ) (es : List (Silo × Node)) (world : World) → All (λ e. IsSilo e.0) es → NudgingWithin n sends asks events es world
     → HasRoom sends events world.settings
-    → (after : World) × (in_turn (map (λ e. Do e Nudge.0) es) world ≡ Ok after) × (after.settings ≡ world.settings)
+    → (after : World) × (in_turn (map (λ e. Do e.0 Nudge) es) world ≡ Ok after) × (after.settings ≡ world.settings)
 nudges_through n sends asks events [] world silos w room = (world, refl, refl)
 nudges_through n sends asks events (e ∷ es) world silos w room =
     let h = nudge_happens n sends asks events world e es w room in
@@ -157,7 +157,7 @@ nudges_through n sends asks events (e ∷ es) world silos w room =
     let same : h.0.world.settings ≡ world.settings = ap (λ (x : World). x.settings) s.is in
     let rest = nudges_through n sends asks events es h.0.world (All-tail (λ (x : Silo × Node). IsSilo x.0) e es silos)
     (within_nudged n sends asks events world e es h.0 (All-head (λ (x : Silo × Node). IsSilo x.0) e es silos) w h.1) (subst (HasRoom sends events) (sym same) room) in
-    (rest.0, ap (λ r. then_on r (λ next. in_turn (map (λ x. Do x Nudge.0) es) next)) h.1 ∙ rest.1, rest.2 ∙ same)
+    (rest.0, ap (λ r. then_on r (λ next. in_turn (map (λ x. Do x.0 Nudge) es) next)) h.1 ∙ rest.1, rest.2 ∙ same)
 
 -- ---- a round
 -- no more letters are fresh than were sent
