@@ -1,6 +1,7 @@
 pub mod NodeModel
 pub mod Memory
 pub mod SightBy
+pub mod MembershipModel
 pub use Rattle.node_plans.specs.Follows
 pub use Rattle.node_plans.specs.InputModel
 pub use Rattle.node_plans.specs.Numbers

@@ -5,6 +5,7 @@
 mod change;
 mod close;
 mod listed;
+mod membership;
 mod node;
 mod own_steps;
 mod pieces;
@@ -20,6 +21,7 @@ mod transfer_changes;
 mod transfers;
 
 pub use listed::listed_node;
+pub use membership::{ChangeRefusal, Membership};
 pub use node::Node;
 pub use node_plans::{Change, Input, Plan, Sight, StepRefusal, Transition};
 pub use shared::SharedNode;

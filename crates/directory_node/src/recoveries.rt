@@ -1,7 +1,7 @@
 ghost use Rattle.std.specs.BTreeMap.{is_at};
 ghost use Rattle.std.specs.Map.{lookup};
 ghost use Rattle.std.specs.Ordering.{nat_cmp};
-ghost use Rattle.std.specs.Prelude.{◌≡◌, if◌then◌else◌, IsTrue, IfOk, OnOk, OnErr, Ok, Some, length, true};
+ghost use Rattle.std.specs.Prelude.{◌≡◌, IsTrue, IfOk, OnOk, OnErr, Ok, Some, length, true};
 ghost use Rattle.directory_rules.specs.Recovery.{Recovery as RecoveryValue, recovered};
 ghost use Rattle.directory_rules.specs.Table.{lie_in, rise_by_grain};
 ghost use Rattle.directory_rules.specs.Sent.{recovery_of};

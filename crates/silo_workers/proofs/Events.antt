@@ -5,6 +5,7 @@ use Rattle.silo_workers.proofs.Holders.{optional, boxed, listed}
 use Rattle.silo_workers.proofs.Names.{silo_crosses, grain_crosses}
 use Rattle.silo_workers.proofs.Letters.{why_crosses, effect_crosses, kind_crosses}
 use Rattle.silo_address.specs.contracts.silo.SiloAddress as silo
+use Rattle.directory_rules.specs.contracts.own_step.OwnStep as own_step
 use Rattle.directory_rules.specs.contracts.event.Event as event
 use Rattle.directory_rules.specs.contracts.outcome.Happening as happening
 use Rattle.directory_rules.specs.contracts.outcome.Span as span
@@ -17,8 +18,11 @@ use Rattle.cluster_journal.specs.contracts.entry.JournalEntry as entry
 use Rattle.cluster_journal.specs.contracts.entry.JournalEntry.TheInside as entry_inside
 use Rattle.cluster_journal.specs.contracts.entry.Receipt as receipt
 
+own_step_crosses : Crosses (own_step.the_field).row
+own_step_crosses = search (silo_crosses, grain_crosses, variants) depth 30 parts 0 fits 5000
+
 event_crosses : Crosses (event.the_field).row
-event_crosses = let places = listed u32 number32 in search (places, silo_crosses, grain_crosses, number64, variants) depth 30 parts 0 fits 5000
+event_crosses = let places = listed u32 number32 in search (places, silo_crosses, own_step_crosses, number64, variants) depth 30 parts 0 fits 5000
 
 happening_crosses : Crosses (happening.the_field).row
 happening_crosses = let replaced = optional silo.the_row silo_crosses in search (replaced, silo_crosses, effect_crosses, kind_crosses, number64, variants) depth 30 parts 0 fits 5000

@@ -6,7 +6,7 @@ use crate::driver::{Driver, grain, join, settings, silo};
 use crate::readers::Watchers;
 use crate::replay::tells;
 use cluster_board::{Charter, Tokens};
-use directory_rules::{Event, Settings};
+use directory_rules::{Event, OwnStep, Settings};
 use silo_address::{GrainId, SiloAddress};
 use silo_threads::PARTS;
 use silo_workers::OpenGate;
@@ -162,11 +162,12 @@ impl<L: Charter + Send + 'static> Crowd<L> {
 
     fn event_of_grain(&mut self, rt: &impl Abort, silo: SiloAddress, choice: u64) -> Event {
         let grain = self.grain(rt);
-        match choice % 3 {
-            0 => Event::Wake { silo, grain },
-            1 => Event::Close { silo, grain },
-            _ => Event::Find { silo, grain },
-        }
+        let step = match choice % 3 {
+            0 => OwnStep::Wake(grain),
+            1 => OwnStep::Close(grain),
+            _ => OwnStep::Find(grain),
+        };
+        Event::Do { silo, step }
     }
 
     // One of 64 grains, which lie all round the circle.

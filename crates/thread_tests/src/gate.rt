@@ -7,7 +7,7 @@ ghost use Rattle.silo_threads.specs.declared.cluster.TheConstants.{PARTS};
 use crate::driver::{Driver, grain, join, settings, silo};
 use cluster_board::{Charter, Tokens};
 use cluster_journal::JournalEntry;
-use directory_rules::{Event, Settings};
+use directory_rules::{Event, OwnStep, Settings};
 use silo_address::SiloAddress;
 use silo_threads::PARTS;
 use silo_workers::Gate;
@@ -102,13 +102,13 @@ fn post_all<
     R: Threads + Wait + Abort + Copy + Drop + Send + 'static,
 >(rt: &R, alloc: Global, driver: &mut Driver<L, G>) -> bool {
     let (a, b) = (silo(rt, A), silo(rt, B));
-    let first = Event::Wake {
+    let first = Event::Do {
         silo: a,
-        grain: grain(rt, "user/y#3000000000"),
+        step: OwnStep::Wake(grain(rt, "user/y#3000000000")),
     };
-    let second = Event::Wake {
+    let second = Event::Do {
         silo: b,
-        grain: grain(rt, "user/x#1"),
+        step: OwnStep::Wake(grain(rt, "user/x#1")),
     };
     let joined = driver.run(rt, &join(rt, alloc, a, 0))
         && driver.run(rt, &join(rt, alloc, b, 2147483648));

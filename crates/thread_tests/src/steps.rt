@@ -1,6 +1,6 @@
 //! Events in few words, and those that come first: two silos, each of which has half of the circle.
 
-use directory_rules::Event;
+use directory_rules::{Event, OwnStep};
 use silo_address::{GrainId, SiloAddress};
 use std::alloc::Global;
 use std::process::Abort;
@@ -66,9 +66,9 @@ pub(crate) fn event_of(rt: &impl Abort, alloc: Global, step: &Step) -> Event {
             silo: silo(rt, at),
             version: *version,
         },
-        Step::Wake(at, text) => Event::Wake {
+        Step::Wake(at, text) => Event::Do {
             silo: silo(rt, at),
-            grain: grain(rt, text),
+            step: OwnStep::Wake(grain(rt, text)),
         },
         Step::Kill(at) => Event::Kill { silo: silo(rt, at) },
         Step::Deliver(number) => Event::Deliver { number: *number },

@@ -1,0 +1,218 @@
+//! Membership as a world has it, or a silo by what it was told: all that changes of membership make.
+
+ghost use Rattle.std.specs.Prelude.{◌≡◌, ◌≤◌, IfErr, IfOk, IsOk, IsSomeAnd, Ok, OnErr, OnOk};
+ghost use Rattle.membership_view.specs.Changes.{after_join, with_join};
+ghost use Rattle.membership_view.specs.Refusal.{views_error_number};
+ghost use Rattle.membership_view.specs.Views.{view_at};
+ghost use Rattle.hash_ring.specs.Numbers.{ring_error_number};
+ghost use Rattle.hash_ring.specs.Places.{after_add};
+ghost use Rattle.directory_rules.specs.Membership.{Join, Leave, Die, changed, first_membership, is_seeable, placed, replaced_by, status_in};
+ghost use Rattle.directory_rules.specs.Settings.{Settings as SettingsValue};
+ghost use Rattle.node_plans.specs.Follows.{Follows};
+ghost use Rattle.directory_node.specs.MembershipModel.{IsNumberedUnlessMemory, change_refusal_number};
+
+use directory_rules::Settings;
+use hash_ring::{Hashing, Places, RingError};
+use membership_view::{Status, View, Views, ViewsError};
+use silo_address::SiloAddress;
+use std::alloc::{AllocError, Global};
+use std::marker::Model;
+
+/// What changes of membership make: all views so far, and each silo's places, as it joined (`docs/RULES.md#membership`).
+#[derive(Drop)]
+pub struct Membership {
+    views: Views,
+    places: Places,
+}
+
+impl Model for Membership {
+    ghost use Rattle.directory_rules.specs.Membership.{Membership};
+
+    ghost Value = { Membership };
+
+    ghost use Rattle.directory_node.specs.MembershipModel.{membership_of};
+
+    ghost view = { membership_of };
+}
+
+/// Why a change of membership is refused: the first of these that holds (`docs/RULES.md#refusals-and-their-numbers`).
+#[derive(Clone, Copy)]
+pub enum ChangeRefusal {
+    /// The views refuse it.
+    Views(ViewsError),
+    /// The ring refuses the places of a silo that joins.
+    Ring(RingError),
+    /// There was no memory for a join. Whatever ran out of it, this is told.
+    OutOfMemory,
+}
+
+impl Membership {
+    /// Before the first change, as the settings have it.
+    pub fn new(alloc: Global, settings: &Settings) -> Membership
+        ensures { result ≡ first_membership settings.now }
+    {
+        settings.in_range();
+        let Ok(places) = Places::new(alloc, settings.hashing(), settings.points()) else {
+            unreachable!()
+        };
+        Membership {
+            views: Views::new(alloc, settings.silos()),
+            places,
+        }
+    }
+
+    /// All views so far.
+    pub fn views(&self) -> &Views
+        ensures { result.now ≡ self.now.views }
+    {
+        &self.views
+    }
+
+    /// The places of each silo that has joined.
+    pub fn places(&self) -> &Places
+        ensures { result.now ≡ self.now.places }
+    {
+        &self.places
+    }
+
+    /// What a silo is by the last change; `None` where it never joined.
+    pub fn status(&self, silo: &SiloAddress) -> Option<Status>
+        ensures { result ≡ status_in self.now silo.now }
+    {
+        self.views.status(self.views.current(), silo)
+    }
+
+    /// Whether there is that version, and the silo is in its view.
+    pub fn is_seeable(&self, silo: &SiloAddress, version: u64) -> bool
+        ensures { result ≡ is_seeable self.now silo.now version }
+    {
+        let joined = self.views.joined_at(silo).unwrap_or(0);
+        version <= self.views.current() && joined <= version
+    }
+
+    /// The view of a version that was made. Fails only when memory runs out.
+    pub fn view(&self, alloc: Global, version: u64) -> Result<View, AllocError>
+        requires made { version ≤ self.now.views.version }
+        ensures exact { IfOk result (λ view. view ≡ view_at self.now.views version) }
+    {
+        match self.views.view(alloc, version)? {
+            Some(view) => Ok(view),
+            None => unreachable!(),
+        }
+    }
+
+    /// Whether a silo may join with the places stated for it: fails as `join` would. Needs no memory.
+    pub fn may_join(
+        &self,
+        settings: &Settings,
+        silo: &SiloAddress,
+        stated: &[u32],
+    ) -> Result<(), ChangeRefusal>
+        ensures joins { OnOk result (after_join self.now.views silo.now ≡ Ok (with_join self.now.views silo.now)) }
+        ensures placed { OnOk result (IsOk (placed settings.now self.now.places silo.now stated.now)) }
+        ensures may { OnOk result (IsOk (changed settings.now self.now (Join silo.now stated.now))) }
+        ensures refused { IfErr result (λ refusal. IsSomeAnd (change_refusal_number refusal) (λ number. changed settings.now self.now (Join silo.now stated.now) ≡ Err number)) }
+    {
+        if let Err(refusal) = self.views.may_join(silo) {
+            return Err(ChangeRefusal::Views(refusal));
+        }
+        match self.may_place(settings, silo, stated) {
+            Ok(()) => Ok(()),
+            Err(refusal) => Err(ChangeRefusal::Ring(refusal)),
+        }
+    }
+
+    // Whether a silo may be given the places stated for it: 402, 403, 404.
+    fn may_place(
+        &self,
+        settings: &Settings,
+        silo: &SiloAddress,
+        stated: &[u32],
+    ) -> Result<(), RingError>
+        ensures placed { OnOk result (IsOk (placed settings.now self.now.places silo.now stated.now)) }
+        ensures refused { IfErr result (λ refusal. IsSomeAnd (ring_error_number refusal) (λ number. placed settings.now self.now.places silo.now stated.now ≡ Err number)) }
+    {
+        settings.in_range();
+        let is_hashed = self.places.hashing() == Hashing::Sha256;
+        if stated.len() > settings.places() || is_hashed && !stated.is_empty() {
+            return Err(RingError::PointCount);
+        }
+        if !is_hashed && stated.is_empty() {
+            return Err(RingError::PointsMissing);
+        }
+        if self.places.is_added(silo) {
+            return Err(RingError::AlreadyAdded);
+        }
+        Ok(())
+    }
+
+    /// A silo joins, with the places stated for it; none are stated where they are hashed. Answers the older silo of its endpoint
+    /// that it replaces, if there is one. Refused by 201, 205, 402, 403; a refusal changes nothing.
+    pub fn join(
+        &mut self,
+        settings: &Settings,
+        silo: SiloAddress,
+        stated: &[u32],
+    ) -> Result<Option<SiloAddress>, ChangeRefusal>
+        ensures made { Follows (λ _. self.new) change_refusal_number IsOk (changed settings.now self.old (Join silo stated.now)) result }
+        ensures numbered { IfErr result IsNumberedUnlessMemory }
+        ensures replaced { IfOk result (λ replaced. replaced ≡ replaced_by self.old (Join silo stated.now)) }
+        ensures unchanged { OnErr result (self.new ≡ self.old) }
+    {
+        self.may_join(settings, &silo, stated)?;
+        match self.put_in(settings, silo, stated) {
+            Ok(replaced) => Ok(replaced),
+            Err(_) => Err(ChangeRefusal::OutOfMemory),
+        }
+    }
+
+    // A silo that may join gets its places and its row; where memory runs out, it gets neither.
+    fn put_in(
+        &mut self,
+        settings: &Settings,
+        silo: SiloAddress,
+        stated: &[u32],
+    ) -> Result<Option<SiloAddress>, AllocError>
+        requires joins { after_join self.old.views silo ≡ Ok (with_join self.old.views silo) }
+        requires placed { IsOk (placed settings.now self.old.places silo stated.now) }
+        ensures made { OnOk result (changed settings.now self.old (Join silo stated.now) ≡ Ok self.new) }
+        ensures replaced { IfOk result (λ replaced. replaced ≡ replaced_by self.old (Join silo stated.now)) }
+        ensures unchanged { OnErr result (self.new ≡ self.old) }
+    {
+        match self.places.add(silo, stated) {
+            Ok(()) => {}
+            Err(_) => return Err(AllocError),
+        }
+        match self.views.join(silo) {
+            Ok(joined) => Ok(joined.replaced),
+            Err(_) => {
+                self.places.remove(&silo);
+                Err(AllocError)
+            }
+        }
+    }
+
+    /// An Active silo becomes Leaving. Refused by 202 where it never joined, by 203 where it is Leaving or Dead. Needs no memory.
+    pub fn leave(&mut self, silo: &SiloAddress) -> Result<(), ChangeRefusal>
+        ensures left { (settings : SettingsValue) → OnOk result (changed settings self.old (Leave silo.now) ≡ Ok self.new) }
+        ensures refused { (settings : SettingsValue) → IfErr result (λ refusal. IsSomeAnd (change_refusal_number refusal) (λ number. changed settings self.old (Leave silo.now) ≡ Err number)) }
+        ensures unchanged { OnErr result (self.new ≡ self.old) }
+    {
+        match self.views.leave(silo) {
+            Ok(_) => Ok(()),
+            Err(refusal) => Err(ChangeRefusal::Views(refusal)),
+        }
+    }
+
+    /// An Active or Leaving silo becomes Dead. Refused by 202 where it never joined, by 204 where it is Dead. Needs no memory.
+    pub fn declare_dead(&mut self, silo: &SiloAddress) -> Result<(), ChangeRefusal>
+        ensures dead { (settings : SettingsValue) → OnOk result (changed settings self.old (Die silo.now) ≡ Ok self.new) }
+        ensures refused { (settings : SettingsValue) → IfErr result (λ refusal. IsSomeAnd (change_refusal_number refusal) (λ number. changed settings self.old (Die silo.now) ≡ Err number)) }
+        ensures unchanged { OnErr result (self.new ≡ self.old) }
+    {
+        match self.views.declare_dead(silo) {
+            Ok(_) => Ok(()),
+            Err(refusal) => Err(ChangeRefusal::Views(refusal)),
+        }
+    }
+}
