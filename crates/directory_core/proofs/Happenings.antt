@@ -6,6 +6,8 @@ use Rattle.std.specs.Option.{option_or}
 use Rattle.std.proofs.lemmas.Bool.{le-ltb, lt-ltb}
 use Rattle.silo_address.specs.Silo.{Silo}
 use Rattle.directory_rules.specs.Membership.{is_seeable}
+use Rattle.directory_rules.specs.declared.OwnStep.{OwnStep}
+use Rattle.directory_rules.specs.declared.OwnStep.TheVariants.{Wake, Close, Find, Forget, Nudge, Offer}
 use Rattle.directory_rules.specs.Event.{Event}
 use Rattle.directory_rules.specs.declared.outcome.Happening.{Happening}
 use Rattle.directory_rules.specs.declared.outcome.Happening.TheVariants.{Delivered, Did, Saw}
@@ -15,14 +17,15 @@ use Rattle.directory_rules.specs.Node.{Node}
 use Rattle.directory_rules.specs.Step.{Stepped}
 use Rattle.directory_rules.specs.World.{World, Accepted, membership_of}
 use Rattle.directory_rules.specs.Mail.{has_room_for, letter_of, span_of, with_delivered}
-use Rattle.directory_rules.specs.Input.{Input, step, sight_of}
+use Rattle.directory_rules.specs.Input.{Input, Does, step, sight_of}
 use Rattle.directory_rules.specs.Happens.{attempted, deliver, delivers, delivers_to, does, does_at, done_by, happens, node_of, seen_by, sees, sees_at, taken}
 use Rattle.directory_rules.specs.Receive.{received}
 use Rattle.directory_rules.specs.declared.Effect.{Effect}
 use Rattle.directory_node.specs.Follows.{RefusesBy}
 use Rattle.directory_node.specs.Memory.{MayLackMemory}
 use Rattle.directory_node.specs.Plans.{Sends}
-use Rattle.directory_core.specs.Steps.{IsOwn, after_step, letters_number}
+use Rattle.directory_core.specs.Applied.{IsOkOrFull, own_excused}
+use Rattle.directory_core.specs.Steps.{after_step, known_count, letters_number}
 use Rattle.directory_core.specs.Whole.{IsWorld, LeavesWorld}
 
 pub full : (world : World) (event : Event) → world.settings.events ≤ world.accepted → happens world event ≡ Err 908
@@ -72,20 +75,47 @@ sending_decided world (letter ∷ letters) accepted count some =
     by true = refl
     by false = refl
 
--- a step of the silo's own is refused by the step's number, or by the letter's
-pub refused_told : (world : World) (silo : Silo) (input : Input) (node : Node) (number : Option ℕ) → IsOwn input → node_of world silo ≡ Some node
-    → RefusesBy (MayLackMemory node input) number (step node input) → RefusesBy IsOk (option_or number (letters_number world 1)) (does world silo input)
-refused_told world silo input node number own there refuses =
-    subst (λ n. RefusesBy IsOk (option_or number (letters_number world 1)) (does_at n world silo input)) (sym there) (by (step node input) number refuses)
-  where
-    by_none : (outcome : Result Stepped ℕ) → Sends 1 outcome → RefusesBy IsOk (letters_number world 1) (done_by outcome world silo)
-    by_none (Ok stepped) one = sending_decided world stepped.letters _ 1 one
-    by_none (Err refusal) one = absurd one
+-- the number of a step that is refused, or of the letters of which it is known that they needed memory
+abbrev own_number : World → OwnStep → Option ℕ → Option ℕ
+own_number world step number = option_or number (letters_number world (known_count step))
 
-    by : (outcome : Result Stepped ℕ) (number : Option ℕ) → RefusesBy (MayLackMemory node input) number outcome → RefusesBy IsOk (option_or number (letters_number world 1)) (done_by outcome world silo)
+-- where so many letters are known, out of memory is told only where there is room for them
+known_refused : (world : World) (silo : Silo) (count : ℕ) (outcome : Result Stepped ℕ) → Sends count outcome → RefusesBy IsOk (letters_number world count) (done_by outcome world silo)
+known_refused world silo count (Ok stepped) known = sending_decided world stepped.letters _ count known
+known_refused world silo count (Err refusal) known = absurd known
+
+-- else it may be told before
+unknown_refused : (world : World) (silo : Silo) (outcome : Result Stepped ℕ) → IsOk outcome → IsOkOrFull (done_by outcome world silo)
+unknown_refused world silo (Ok stepped) is = by (has_room_for world stepped.letters)
+  where
+    by : (b : Bool) → IsOkOrFull (cond (not b) (Err 909) (Ok (record {
+      outcome = record { happening = Did silo stepped.effect; sent = span_of world stepped.letters };
+      world = after_step world silo stepped.node stepped.letters;
+    })))
+    by true = tt
+    by false = refl
+unknown_refused world silo (Err refusal) is = absurd (cc (is))
+
+memory_refused : (world : World) (silo : Silo) (node : Node) (step : OwnStep) (outcome : Result Stepped ℕ) → MayLackMemory node (Does step) outcome
+    → RefusesBy (own_excused step) (letters_number world (known_count step)) (done_by outcome world silo)
+memory_refused world silo node (Wake grain) outcome lacks = known_refused world silo 1 outcome lacks
+memory_refused world silo node (Close grain) outcome lacks = known_refused world silo 1 outcome lacks
+memory_refused world silo node (Find grain) outcome lacks = known_refused world silo 1 outcome lacks
+memory_refused world silo node (Forget grain) outcome lacks = known_refused world silo 1 outcome lacks
+memory_refused world silo node Nudge outcome lacks = unknown_refused world silo outcome lacks
+memory_refused world silo node (Offer grain to) outcome lacks = known_refused world silo 1 outcome lacks
+
+-- what an application asks is refused by the step's number, or by its letters'
+pub refused_told : (world : World) (silo : Silo) (own : OwnStep) (node : Node) (number : Option ℕ) → node_of world silo ≡ Some node
+    → RefusesBy (MayLackMemory node (Does own)) number (step node (Does own)) → RefusesBy (own_excused own) (own_number world own number) (does world silo (Does own))
+refused_told world silo own node number there refuses =
+    subst (λ n. RefusesBy (own_excused own) (own_number world own number) (does_at n world silo (Does own))) (sym there) (by (step node (Does own)) number refuses)
+  where
+    by : (outcome : Result Stepped ℕ) (number : Option ℕ) → RefusesBy (MayLackMemory node (Does own)) number outcome
+        → RefusesBy (own_excused own) (own_number world own number) (done_by outcome world silo)
     by (Ok stepped) (Some number) refuses = absurd (cc (refuses))
     by (Err refusal) (Some number) refuses = cc (refuses)
-    by outcome None excused = by_none outcome (own.one node outcome excused)
+    by outcome None lacks = memory_refused world silo node own outcome lacks
 
 -- so is a delivery
 pub delivery_refused : (world : World) (number : ℕ) (letter : Letter) (node : Node) (count : ℕ) → letter_of world number ≡ Some letter → node_of world letter.to ≡ Some node

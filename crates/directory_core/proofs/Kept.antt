@@ -10,8 +10,7 @@ use Rattle.membership_view.specs.Step.{Joins}
 use Rattle.membership_view.specs.declared.Status.{Status}
 use Rattle.membership_view.proofs.Searches.{occupant_law}
 use Rattle.membership_view.proofs.Changes.{changes_are_steps}
-use Rattle.hash_ring.specs.Places.{PlacesValue, after_add, has_points, is_added, is_point_count, places_for, with_silo}
-use Rattle.directory_rules.proofs.Decided.{died}
+use Rattle.hash_ring.specs.Places.{PlacesValue, after_add, has_points, is_added, is_point_count, with_silo}
 use Rattle.directory_rules.specs.Laws.{ArePeopled, is_live}
 use Rattle.directory_rules.specs.Letter.{Letter}
 use Rattle.directory_rules.specs.Node.{Node, new_node}
@@ -22,6 +21,7 @@ use Rattle.directory_rules.specs.Happens.{after_joining, counted}
 use Rattle.letter_mail.specs.Mail.{MailValue, with_posted, with_stale}
 use Rattle.letter_mail.specs.Mail.{with_lost as lost_mail}
 use Rattle.directory_core.specs.Join.{nodes_without, with_admitted}
+use Rattle.directory_core.specs.Leave.{with_dead}
 use Rattle.directory_core.specs.Steps.{after_step}
 use Rattle.directory_core.specs.Whole.{IsWorld}
 use Rattle.directory_core.proofs.Entries.{taken_before}
@@ -59,21 +59,21 @@ kept_loss world now same number mail is mail_is =
     (subst (λ (w : World). IsWorld (counted (with_lost w number))) (sym same) is)
 
 -- ---- a death
-pub kept_death : (world now : World) → world ≡ now → (silo : Silo) (views : ViewsValue) (nodes : List (Silo × Node)) → IsWorld (died now silo).world → views ≡ with_death world.views silo
+pub kept_death : (world now : World) → world ≡ now → (silo : Silo) (views : ViewsValue) (nodes : List (Silo × Node)) → IsWorld (with_dead now silo).world → views ≡ with_death world.views silo
     → nodes ≡ remove_entry (is_at (silo_cmp silo)) world.nodes → IsWorld (record world { accepted = world.accepted + 1; views = views; nodes = nodes })
 kept_death world now same silo views nodes is views_are nodes_are =
     subst (λ (v : ViewsValue). IsWorld (record world { accepted = world.accepted + 1; views = v; nodes = nodes })) (sym views_are)
     (subst (λ (n : List (Silo × Node)). IsWorld (record world { accepted = world.accepted + 1; views = with_death world.views silo; nodes = n })) (sym nodes_are)
-    (subst (λ (w : World). IsWorld (died w silo).world) (sym same) is))
+    (subst (λ (w : World). IsWorld (with_dead w silo).world) (sym same) is))
 
 pub death_told : (world now : World) → world ≡ now → (silo : Silo) (version : ℕ) (views : ViewsValue) (nodes : List (Silo × Node)) → version ≡ world.views.version + 1
     → views ≡ with_death world.views silo → nodes ≡ remove_entry (is_at (silo_cmp silo)) world.nodes
-    → record { outcome = record { happening = Died version silo; sent = None }; world = record world { accepted = world.accepted + 1; views = views; nodes = nodes } } ≡ died now silo
+    → record { outcome = record { happening = Died version silo; sent = None }; world = record world { accepted = world.accepted + 1; views = views; nodes = nodes } } ≡ with_dead now silo
 death_told world now same silo version views nodes version_is views_are nodes_are =
     ap (λ (v : ℕ). accepted_by v views nodes) version_is
     ∙ ap (λ (v : ViewsValue). accepted_by (world.views.version + 1) v nodes) views_are
     ∙ ap (λ (n : List (Silo × Node)). accepted_by (world.views.version + 1) (with_death world.views silo) n) nodes_are
-    ∙ ap (λ (w : World). died w silo) same
+    ∙ ap (λ (w : World). with_dead w silo) same
   where
     accepted_by : ℕ → ViewsValue → List (Silo × Node) → Accepted
     accepted_by v vs ns = record { outcome = record { happening = Died v silo; sent = None }; world = record world { accepted = world.accepted + 1; views = vs; nodes = ns } }

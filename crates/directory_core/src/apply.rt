@@ -1,19 +1,16 @@
 ghost use Rattle.std.specs.Prelude.{◌≡◌, ◌<◌, IfErr, IfOk, OnErr};
 ghost use Rattle.directory_rules.specs.EventModel.{event_of};
-ghost use Rattle.directory_rules.specs.Happens.{attempted, does, happens};
+ghost use Rattle.directory_rules.specs.Happens.{attempted, happens};
 ghost use Rattle.directory_rules.specs.Headline.{Headline};
-ghost use Rattle.directory_rules.specs.Input.{Does};
 ghost use Rattle.directory_rules.specs.World.{accepted_as};
 ghost use Rattle.dump_headline.specs.Told.{IsRightlyTold};
 ghost use Rattle.directory_node.specs.Follows.{Follows};
-ghost use Rattle.directory_core.specs.Applied.{IsPlainlyTold, excused, own_excused};
+ghost use Rattle.directory_core.specs.Applied.{IsPlainlyTold, excused};
 ghost use Rattle.directory_core.specs.Numbers.{IsNumberedUnlessMemory, event_refusal_number};
 ghost use Rattle.directory_core.specs.Whole.{LeavesWorld};
 
 use crate::{EventRefusal, World};
-use directory_node::Input;
-use directory_rules::{Event, Outcome, OwnStep};
-use silo_address::SiloAddress;
+use directory_rules::{Event, Outcome};
 
 impl World {
     /// An event happens. It is accepted, with what it tells, or refused by a refusal with its number, and then nothing changes
@@ -65,26 +62,9 @@ impl World {
             Event::Leave { silo } => self.leave(silo),
             Event::Kill { silo } => self.kill(silo),
             Event::See { silo, version } => self.sees(silo, *version),
-            Event::Do { silo, step } => self.asks(silo, step),
+            Event::Do { silo, step } => self.does(silo, step),
             Event::Deliver { number } => self.deliver(*number),
             Event::Lose { number } => self.lose(*number),
-        }
-    }
-    // A silo does what its application asks of it.
-    fn asks(&mut self, silo: &SiloAddress, step: &OwnStep) -> Result<Outcome, EventRefusal>
-        requires room { self.old.accepted < self.old.settings.events }
-        requires leaves { LeavesWorld (does self.old silo.now (Does step.now)) }
-        ensures told { Follows (accepted_as self.new) event_refusal_number (own_excused step.now) (does self.old silo.now (Does step.now)) result }
-        ensures numbered { IfErr result IsNumberedUnlessMemory }
-        ensures unchanged { OnErr result (self.new ≡ self.old) }
-    {
-        match step {
-            OwnStep::Nudge => self.nudges(silo),
-            OwnStep::Wake(_)
-            | OwnStep::Close(_)
-            | OwnStep::Find(_)
-            | OwnStep::Forget(_)
-            | OwnStep::Offer { .. } => self.does(silo, &Input::Does(step)),
         }
     }
 }

@@ -3,8 +3,9 @@ ghost use Rattle.std.specs.BTreeMap.{insert_entry};
 ghost use Rattle.silo_address.specs.Silo.{silo_cmp};
 ghost use Rattle.membership_view.specs.Changes.{after_join, occupant, with_join};
 ghost use Rattle.hash_ring.specs.Places.{PlacesValue, after_add};
-ghost use Rattle.directory_rules.specs.Happens.{join};
+ghost use Rattle.directory_rules.specs.Happens.{decides};
 ghost use Rattle.directory_rules.specs.Laws.{ArePeopled};
+ghost use Rattle.directory_rules.specs.Membership.{Join};
 ghost use Rattle.directory_rules.specs.Node.{new_node};
 ghost use Rattle.directory_rules.specs.World.{accepted_as};
 ghost use Rattle.directory_node.specs.Follows.{Follows};
@@ -27,8 +28,8 @@ impl World {
     #[inline(never)]
     pub(crate) fn join(&mut self, silo: SiloAddress, given: &[u32]) -> Result<Outcome, EventRefusal>
         requires room { self.old.accepted < self.old.settings.events }
-        requires leaves { LeavesWorld (join self.old silo given.now) }
-        ensures told { Follows (accepted_as self.new) event_refusal_number IsOk (join self.old silo given.now) result }
+        requires leaves { LeavesWorld (decides self.old (Join silo given.now)) }
+        ensures told { Follows (accepted_as self.new) event_refusal_number IsOk (decides self.old (Join silo given.now)) result }
         ensures numbered { IfErr result IsNumberedUnlessMemory }
         ensures unchanged { OnErr result (self.new ≡ self.old) }
     {

@@ -2,11 +2,12 @@ ghost use Rattle.std.specs.Prelude.{◌≡◌, ◌≢◌, ◌+◌, ◌<◌, IfEr
 ghost use Rattle.membership_view.specs.Changes.{with_death, with_leave};
 ghost use Rattle.membership_view.specs.Views.{status_at};
 ghost use Rattle.membership_view.specs.declared.Status.TheVariants.{Active, Dead};
-ghost use Rattle.directory_rules.specs.Happens.{died, kill, leave, status_now};
+ghost use Rattle.directory_rules.specs.Happens.{decides, status_now};
+ghost use Rattle.directory_rules.specs.Membership.{Die, Leave};
 ghost use Rattle.directory_rules.specs.World.{accepted_as};
 ghost use Rattle.directory_node.specs.Follows.{Follows};
 ghost use Rattle.directory_core.specs.Applied.{IsNever};
-ghost use Rattle.directory_core.specs.Leave.{with_leaving};
+ghost use Rattle.directory_core.specs.Leave.{with_dead, with_leaving};
 ghost use Rattle.directory_core.specs.Numbers.{IsNumberedUnlessMemory, event_refusal_number};
 ghost use Rattle.directory_core.specs.Whole.{IsWorld, LeavesWorld};
 
@@ -21,8 +22,8 @@ impl World {
     #[inline(never)]
     pub(crate) fn leave(&mut self, silo: &SiloAddress) -> Result<Outcome, EventRefusal>
         requires room { self.old.accepted < self.old.settings.events }
-        requires leaves { LeavesWorld (leave self.old silo.now) }
-        ensures told { Follows (accepted_as self.new) event_refusal_number IsNever (leave self.old silo.now) result }
+        requires leaves { LeavesWorld (decides self.old (Leave silo.now)) }
+        ensures told { Follows (accepted_as self.new) event_refusal_number IsNever (decides self.old (Leave silo.now)) result }
         ensures numbered { IfErr result IsNumberedUnlessMemory }
         ensures unchanged { OnErr result (self.new ≡ self.old) }
     {
@@ -38,8 +39,8 @@ impl World {
     #[inline(never)]
     pub(crate) fn kill(&mut self, silo: &SiloAddress) -> Result<Outcome, EventRefusal>
         requires room { self.old.accepted < self.old.settings.events }
-        requires leaves { LeavesWorld (kill self.old silo.now) }
-        ensures told { Follows (accepted_as self.new) event_refusal_number IsNever (kill self.old silo.now) result }
+        requires leaves { LeavesWorld (decides self.old (Die silo.now)) }
+        ensures told { Follows (accepted_as self.new) event_refusal_number IsNever (decides self.old (Die silo.now)) result }
         ensures numbered { IfErr result IsNumberedUnlessMemory }
         ensures unchanged { OnErr result (self.new ≡ self.old) }
     {
@@ -82,8 +83,8 @@ impl World {
         requires there { IsSome (status_now self.old silo.now) }
         requires not_dead { status_now self.old silo.now ≢ Some Dead }
         requires room { self.old.accepted < self.old.settings.events }
-        requires leaves { IsWorld (died self.old silo.now).world }
-        ensures { accepted_as self.new result ≡ died self.old silo.now }
+        requires leaves { IsWorld (with_dead self.old silo.now).world }
+        ensures { accepted_as self.new result ≡ with_dead self.old silo.now }
     {
         self.shared = None;
         let version = die_in(&mut self.views, silo);

@@ -20,7 +20,9 @@ mod world;
 pub use delivery::Undelivered;
 pub use directory_letters::{Body, Letter};
 pub use directory_node::{Input, Node, Plan, SharedNode};
-pub use directory_rules::{Effect, Event, Happening, LetterKind, Outcome, Policy, Settings, Span};
+pub use directory_rules::{
+    Effect, Event, Happening, LetterKind, Outcome, OwnStep, Policy, Settings, Span,
+};
 pub use dumps::Dump;
 pub use hash_ring::{Hashing, Places, Point, Ring};
 pub use letter_mail::MailedLetter;

@@ -1,9 +1,10 @@
 ghost use Rattle.std.specs.Prelude.{◌≡◌, ◌-◌, ◌<◌, ◌≤◌, IfErr, IfOk, IfSome, IsOk, IsTrue, OnErr};
 ghost use Rattle.membership_view.specs.Views.{view_at};
 ghost use Rattle.directory_facts.specs.Seen.{SeesItsVersion};
-ghost use Rattle.directory_rules.specs.Happens.{is_seeable, sees, sight_of};
-ghost use Rattle.directory_rules.specs.Input.{step};
-ghost use Rattle.directory_rules.specs.World.{accepted_as};
+ghost use Rattle.directory_rules.specs.Happens.{sees};
+ghost use Rattle.directory_rules.specs.Input.{sight_of, step};
+ghost use Rattle.directory_rules.specs.Membership.{is_seeable};
+ghost use Rattle.directory_rules.specs.World.{accepted_as, membership_of};
 ghost use Rattle.directory_node.specs.Follows.{Follows};
 ghost use Rattle.directory_node.specs.Plans.{Fits, step_by};
 ghost use Rattle.directory_node.specs.Transition.{IsOfSight};
@@ -61,7 +62,7 @@ impl World {
 
     // Whether there is that view, and the silo is in it.
     fn is_seeable(&self, silo: &SiloAddress, version: u64) -> bool
-        ensures { result ≡ is_seeable self.now silo.now version }
+        ensures { result ≡ is_seeable (membership_of self.now) silo.now version }
     {
         let joined = self.views.joined_at(silo).unwrap_or(0);
         version <= self.views.current() && joined <= version
@@ -73,7 +74,7 @@ impl World {
         requires newer { node.now.view.version < version }
         requires made { version ≤ self.now.views.version }
         requires sees { SeesItsVersion self.now.views self.now.places node.now }
-        ensures planned { Follows (λ sight. step_by node.now sight.0) event_refusal_number IsOk (step node.now (sight_of self.now version)) result }
+        ensures planned { Follows (λ sight. step_by node.now sight.0) event_refusal_number IsOk (step node.now (sight_of (membership_of self.now) version)) result }
         ensures numbered { IfErr result IsNumberedUnlessMemory }
         ensures fits { IfOk result (λ sight. Fits sight.0.change node.now) }
         ensures shared { IfOk result (λ sight. IsShared self.now.views self.now.places sight.1) }

@@ -1,19 +1,17 @@
 ghost use Rattle.std.specs.Prelude.{◌≡◌, ◌<◌, ◌+◌, nat_le, true, IfErr, IsOk, IsSome, OnOk, OnErr, Some};
 ghost use Rattle.directory_rules.specs.Happens.{absent_number, counted, deliver, does, lose, node_of, taken};
 ghost use Rattle.directory_rules.specs.Input.{Does};
-ghost use Rattle.directory_rules.specs.declared.own_step.OwnStep.TheVariants.{Nudge};
 ghost use Rattle.directory_rules.specs.Letter.{Letter as LetterValue};
 ghost use Rattle.directory_rules.specs.Mail.{has_room_for, letter_of, span_of, with_delivered, with_lost};
 ghost use Rattle.directory_rules.specs.Node.{Node as NodeValue};
 ghost use Rattle.directory_rules.specs.World.{accepted_as};
 ghost use Rattle.directory_node.specs.Follows.{Follows};
-ghost use Rattle.directory_node.specs.InputModel.{input_of};
 ghost use Rattle.directory_node.specs.Numbers.{step_refusal_number};
 ghost use Rattle.directory_node.specs.Plans.{Fits, changed, step_by};
 ghost use Rattle.std.specs.Option.{option_or};
-ghost use Rattle.directory_core.specs.Applied.{IsNever, IsOkOrFull};
+ghost use Rattle.directory_core.specs.Applied.{IsNever, own_excused};
 ghost use Rattle.directory_core.specs.Numbers.{IsNumberedUnlessMemory, event_refusal_number};
-ghost use Rattle.directory_core.specs.Steps.{IsOwn, after_step, letters_number};
+ghost use Rattle.directory_core.specs.Steps.{after_step, known_count, letters_number};
 ghost use Rattle.directory_core.specs.Whole.{IsWorld, LeavesWorld};
 
 use crate::post::{carry_out_at, receive_at};
@@ -26,49 +24,26 @@ use std::alloc::AllocError;
 
 // Steps of silos in the world: a step is planned, which changes nothing yet, then its letters are sent and it is carried out.
 impl World {
-    // A silo takes a step of its own, which is no sight and no nudge: 901, 902, then as the step refuses, then 909.
+    // A silo does what its application asks of it: 901, 902, then as the step refuses, then 909. At a nudge out of memory may come
+    // before 909.
     #[inline(never)]
     pub(crate) fn does(
         &mut self,
         silo: &SiloAddress,
-        input: &Input<'_>,
+        step: &OwnStep,
     ) -> Result<Outcome, EventRefusal>
         requires room { self.old.accepted < self.old.settings.events }
-        requires own { IsOwn (input_of input.now) }
-        requires leaves { LeavesWorld (does self.old silo.now (input_of input.now)) }
-        ensures told { Follows (accepted_as self.new) event_refusal_number IsOk (does self.old silo.now (input_of input.now)) result }
+        requires leaves { LeavesWorld (does self.old silo.now (Does step.now)) }
+        ensures told { Follows (accepted_as self.new) event_refusal_number (own_excused step.now) (does self.old silo.now (Does step.now)) result }
         ensures numbered { IfErr result IsNumberedUnlessMemory }
         ensures unchanged { OnErr result (self.new ≡ self.old) }
     {
         let Some(node) = self.node(silo) else {
             return Err(self.absent(silo));
         };
-        let plan = match node.plan(self.alloc, input) {
+        let plan = match node.plan(self.alloc, &Input::Does(step)) {
             Ok(plan) => plan,
-            Err(refusal) => return Err(self.refused(refusal)),
-        };
-        let happening = Happening::Did {
-            silo: *silo,
-            effect: plan.effect,
-        };
-        self.take(silo, happening, plan)
-    }
-
-    // A silo sends again what it has outstanding: 901, 902, then as the step refuses, then 909. Out of memory may come before 909.
-    #[inline(never)]
-    pub(crate) fn nudges(&mut self, silo: &SiloAddress) -> Result<Outcome, EventRefusal>
-        requires room { self.old.accepted < self.old.settings.events }
-        requires leaves { LeavesWorld (does self.old silo.now (Does Nudge)) }
-        ensures told { Follows (accepted_as self.new) event_refusal_number IsOkOrFull (does self.old silo.now (Does Nudge)) result }
-        ensures numbered { IfErr result IsNumberedUnlessMemory }
-        ensures unchanged { OnErr result (self.new ≡ self.old) }
-    {
-        let Some(node) = self.node(silo) else {
-            return Err(self.absent(silo));
-        };
-        let plan = match node.plan(self.alloc, &Input::Does(&OwnStep::Nudge)) {
-            Ok(plan) => plan,
-            Err(refusal) => return Err(EventRefusal::of_node(refusal)),
+            Err(refusal) => return Err(self.refused(step, refusal)),
         };
         let happening = Happening::Did {
             silo: *silo,
@@ -102,13 +77,14 @@ impl World {
         }
     }
 
-    // Why a silo's step is refused. Out of memory is told only where there is room for the one letter that needed it.
-    fn refused(&self, refusal: StepRefusal) -> EventRefusal
-        ensures number { event_refusal_number result ≡ option_or (step_refusal_number refusal) (letters_number self.now 1) }
+    // Why a silo's step is refused. Out of memory is told only where there is room for the letters of which it is known that they
+    // needed it.
+    fn refused(&self, step: &OwnStep, refusal: StepRefusal) -> EventRefusal
+        ensures number { event_refusal_number result ≡ option_or (step_refusal_number refusal) (letters_number self.now (known_count step.now)) }
         ensures numbered { IsNumberedUnlessMemory result }
     {
         match refusal {
-            StepRefusal::OutOfMemory => self.refused_sending(1),
+            StepRefusal::OutOfMemory => self.refused_sending(known_count(step)),
             refusal => EventRefusal::Node(refusal),
         }
     }
@@ -280,5 +256,19 @@ impl World {
         self.settings.counts_fit();
         self.accepted += 1;
         Ok(())
+    }
+}
+
+// How many letters a step that lacks memory would send, as is known before they are made: of a nudge it isn't known.
+fn known_count(step: &OwnStep) -> usize
+    ensures { result ≡ known_count step.now }
+{
+    match step {
+        OwnStep::Nudge => 0,
+        OwnStep::Wake(_)
+        | OwnStep::Close(_)
+        | OwnStep::Find(_)
+        | OwnStep::Forget(_)
+        | OwnStep::Offer { .. } => 1,
     }
 }

@@ -3,4 +3,4 @@ use Rattle.silo_rules.specs.SiloValue.{SiloValue}
 use Rattle.directory_silo.specs.declared.silo.Silo.TheInside.{Inside}
 
 abbrev pub silo_of : Inside → SiloValue
-silo_of s = record { membership = record { views = s.views; places = s.places }; node = s.node }
+silo_of s = record { membership = s.membership; node = s.node }

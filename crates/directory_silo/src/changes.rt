@@ -6,9 +6,8 @@ ghost use Rattle.directory_silo.specs.Numbers.{IsNumberedUnlessMemory, silo_refu
 ghost use Rattle.silo_rules.specs.Told.{IsNever, heard_by, told};
 
 use crate::known::{is_known_death, is_known_join, is_known_leave};
-use crate::membership::join;
 use crate::{Silo, SiloRefusal};
-use membership_view::Views;
+use directory_node::Membership;
 use silo_address::SiloAddress;
 use silo_rules::News;
 
@@ -29,10 +28,10 @@ impl Silo {
         ensures node { self.new.node ≡ self.old.node }
         ensures unchanged { OnErr result (self.new ≡ self.old) }
     {
-        if version <= self.views.current() {
-            return again(is_known_join(&self.views, &self.places, version, &silo, places));
+        if version <= self.membership.views().current() {
+            return again(is_known_join(&self.membership, version, &silo, places));
         }
-        if !is_next(&self.views, version) {
+        if !is_next(&self.membership, version) {
             return Err(SiloRefusal::Gap);
         }
         self.admit(silo, places)
@@ -45,15 +44,15 @@ impl Silo {
         ensures node { self.new.node ≡ self.old.node }
         ensures unchanged { OnErr result (self.new ≡ self.old) }
     {
-        if version <= self.views.current() {
-            return again(is_known_leave(&self.views, &self.places, version, silo));
+        if version <= self.membership.views().current() {
+            return again(is_known_leave(&self.membership, version, silo));
         }
-        if !is_next(&self.views, version) {
+        if !is_next(&self.membership, version) {
             return Err(SiloRefusal::Gap);
         }
-        match self.views.leave(silo) {
-            Ok(_) => Ok(News::Made),
-            Err(refusal) => Err(SiloRefusal::of_views(refusal)),
+        match self.membership.leave(silo) {
+            Ok(()) => Ok(News::Made),
+            Err(refusal) => Err(SiloRefusal::of_change(refusal)),
         }
     }
 
@@ -64,15 +63,15 @@ impl Silo {
         ensures node { self.new.node ≡ self.old.node }
         ensures unchanged { OnErr result (self.new ≡ self.old) }
     {
-        if version <= self.views.current() {
-            return again(is_known_death(&self.views, &self.places, version, silo));
+        if version <= self.membership.views().current() {
+            return again(is_known_death(&self.membership, version, silo));
         }
-        if !is_next(&self.views, version) {
+        if !is_next(&self.membership, version) {
             return Err(SiloRefusal::Gap);
         }
-        match self.views.declare_dead(silo) {
-            Ok(_) => Ok(News::Made),
-            Err(refusal) => Err(SiloRefusal::of_views(refusal)),
+        match self.membership.declare_dead(silo) {
+            Ok(()) => Ok(News::Made),
+            Err(refusal) => Err(SiloRefusal::of_change(refusal)),
         }
     }
 
@@ -84,17 +83,19 @@ impl Silo {
         ensures unchanged { OnErr result (self.new ≡ self.old) }
     {
         let settings = self.node.settings();
-        let replaced = join(&settings, &mut self.views, &mut self.places, silo, places)?;
-        Ok(News::of_change(replaced))
+        match self.membership.join(&settings, silo, places) {
+            Ok(replaced) => Ok(News::of_change(replaced)),
+            Err(refusal) => Err(SiloRefusal::of_change(refusal)),
+        }
     }
 }
 
 // Whether the version, which isn't known, is the next one.
-fn is_next(views: &Views, version: u64) -> bool
-    requires { views.now.version < version }
-    ensures { result ≡ (version == views.now.version + 1) }
+fn is_next(membership: &Membership, version: u64) -> bool
+    requires { membership.now.views.version < version }
+    ensures { result ≡ (version == membership.now.views.version + 1) }
 {
-    version - 1 == views.current()
+    version - 1 == membership.views().current()
 }
 
 // What is told of a change of a version that is known.

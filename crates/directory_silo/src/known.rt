@@ -5,47 +5,37 @@ ghost use Rattle.hash_ring.specs.Places.{places_of};
 ghost use Rattle.silo_rules.specs.Known.{are_these, is_known, is_made_in, is_of_join, were_stated};
 ghost use Rattle.directory_rules.specs.Membership.{Join, Leave, Die};
 
+use directory_node::Membership;
 use hash_ring::{Hashing, Places};
 use membership_view::Views;
 use silo_address::SiloAddress;
 
 /// Whether the silo joined in that version, with these places.
 pub(crate) fn is_known_join(
-    views: &Views,
-    places: &Places,
+    membership: &Membership,
     version: u64,
     silo: &SiloAddress,
     stated: &[u32],
 ) -> bool
-    ensures { result ≡ is_known (record { views = views.now; places = places.now }) version (Join silo.now stated.now) }
+    ensures { result ≡ is_known membership.now version (Join silo.now stated.now) }
 {
-    is_made_in(version, views.joined_at(silo)) && were_stated(places, silo, stated)
+    is_made_in(version, membership.views().joined_at(silo))
+        && were_stated(membership.places(), silo, stated)
 }
 
 /// Whether the silo began to leave in that version.
-pub(crate) fn is_known_leave(
-    views: &Views,
-    places: &Places,
-    version: u64,
-    silo: &SiloAddress,
-) -> bool
-    ensures { result ≡ is_known (record { views = views.now; places = places.now }) version (Leave silo.now) }
+pub(crate) fn is_known_leave(membership: &Membership, version: u64, silo: &SiloAddress) -> bool
+    ensures { result ≡ is_known membership.now version (Leave silo.now) }
 {
-    let _places = places;
-    is_made_in(version, views.left_at(silo))
+    is_made_in(version, membership.views().left_at(silo))
 }
 
 /// Whether the silo died in that version, and not by the join of another one.
-pub(crate) fn is_known_death(
-    views: &Views,
-    places: &Places,
-    version: u64,
-    silo: &SiloAddress,
-) -> bool
-    ensures { result ≡ is_known (record { views = views.now; places = places.now }) version (Die silo.now) }
+pub(crate) fn is_known_death(membership: &Membership, version: u64, silo: &SiloAddress) -> bool
+    ensures { result ≡ is_known membership.now version (Die silo.now) }
 {
-    let _places = places;
-    is_made_in(version, views.dead_at(silo)) && !is_of_join(views, version)
+    is_made_in(version, membership.views().dead_at(silo))
+        && !is_of_join(membership.views(), version)
 }
 
 // Whether that version is the one in which it was made, if it was.

@@ -6,7 +6,6 @@ mod answer;
 mod changes;
 mod commands;
 mod known;
-mod membership;
 mod questions;
 mod refusal;
 mod sight;

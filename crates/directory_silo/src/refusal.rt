@@ -1,10 +1,9 @@
 ghost use Rattle.std.specs.Prelude.{◌≡◌};
-ghost use Rattle.hash_ring.specs.Numbers.{ring_error_number};
-ghost use Rattle.membership_view.specs.Refusal.{views_error_number};
+ghost use Rattle.directory_node.specs.MembershipModel.{change_refusal_number};
 ghost use Rattle.directory_node.specs.Numbers.{step_refusal_number};
 ghost use Rattle.directory_silo.specs.Numbers.{IsNumberedUnlessMemory, silo_refusal_number};
 
-use directory_node::StepRefusal;
+use directory_node::{ChangeRefusal, StepRefusal};
 use hash_ring::RingError;
 use membership_view::ViewsError;
 use thiserror::Error;
@@ -59,25 +58,17 @@ impl SiloRefusal {
         }
     }
 
-    // A refusal of membership. Out of memory is one refusal, wherever it was met.
-    pub(crate) fn of_views(refusal: ViewsError) -> SiloRefusal
-        ensures number { silo_refusal_number result ≡ views_error_number refusal }
+    // A refusal of a change. Out of memory is one refusal, wherever it was met.
+    pub(crate) fn of_change(refusal: ChangeRefusal) -> SiloRefusal
+        ensures number { silo_refusal_number result ≡ change_refusal_number refusal }
         ensures numbered { IsNumberedUnlessMemory result }
     {
         match refusal {
-            ViewsError::OutOfMemory => SiloRefusal::OutOfMemory,
-            refusal => SiloRefusal::Views(refusal),
-        }
-    }
-
-    // A refusal of the ring.
-    pub(crate) fn of_ring(refusal: RingError) -> SiloRefusal
-        ensures number { silo_refusal_number result ≡ ring_error_number refusal }
-        ensures numbered { IsNumberedUnlessMemory result }
-    {
-        match refusal {
-            RingError::OutOfMemory => SiloRefusal::OutOfMemory,
-            refusal => SiloRefusal::Ring(refusal),
+            ChangeRefusal::OutOfMemory
+            | ChangeRefusal::Views(ViewsError::OutOfMemory)
+            | ChangeRefusal::Ring(RingError::OutOfMemory) => SiloRefusal::OutOfMemory,
+            ChangeRefusal::Views(refusal) => SiloRefusal::Views(refusal),
+            ChangeRefusal::Ring(refusal) => SiloRefusal::Ring(refusal),
         }
     }
 

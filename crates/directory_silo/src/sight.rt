@@ -1,4 +1,3 @@
-ghost use Rattle.directory_rules.specs.Membership.{is_seeable};
 ghost use Rattle.std.specs.Prelude.{◌≡◌, ◌≤◌, ◌<◌, IfErr, IfOk, IsOk, OnErr};
 ghost use Rattle.membership_view.specs.Views.{view_at};
 ghost use Rattle.directory_rules.specs.Input.{step, sight_of};
@@ -26,19 +25,11 @@ impl Silo {
         if version <= self.node.view().version() {
             return Err(SiloRefusal::Node(StepRefusal::NotNewer));
         }
-        if !self.is_seeable(version) {
+        if !self.membership.is_seeable(&self.address(), version) {
             return Err(SiloRefusal::NoSuchVersion);
         }
         let plan = self.plan_sight(version)?;
         self.take(plan)
-    }
-
-    // Whether the silo was told of that version, and is in its view.
-    fn is_seeable(&self, version: u64) -> bool
-        ensures { result ≡ is_seeable self.now.membership self.now.node.host.silo version }
-    {
-        let joined = self.views.joined_at(&self.address()).unwrap_or(0);
-        version <= self.views.current() && joined <= version
     }
 
     // The sight of a newer version, as a plan: 805. Where its requests can get no new numbers, that is told before memory is needed.
@@ -58,7 +49,7 @@ impl Silo {
         let input = Input::Sees {
             before: &before,
             view: &view,
-            places: &self.places,
+            places: self.membership.places(),
         };
         match self.node.plan(self.alloc, &input) {
             Ok(plan) => Ok(plan),
@@ -72,9 +63,8 @@ impl Silo {
         ensures exact { IfOk result (λ view. view ≡ view_at self.now.membership.views version) }
         ensures memory { IfErr result (λ refusal. refusal ≡ SiloRefusal.OutOfMemory) }
     {
-        match self.views.view(self.alloc, version) {
-            Ok(Some(view)) => Ok(view),
-            Ok(None) => unreachable!(),
+        match self.membership.view(self.alloc, version) {
+            Ok(view) => Ok(view),
             Err(_) => Err(SiloRefusal::OutOfMemory),
         }
     }

@@ -2,7 +2,7 @@ ghost use Rattle.std.specs.Prelude.{◌≡◌, IfOk};
 ghost use Rattle.silo_rules.specs.SiloValue.{first_silo, own_status};
 ghost use Rattle.silo_rules.specs.Whole.{IsWhole};
 
-use directory_node::Node;
+use directory_node::{Membership, Node};
 use directory_rules::Settings;
 use hash_ring::Places;
 use membership_view::{Status, Views};
@@ -16,8 +16,7 @@ use std::marker::Model;
 #[derive(Drop)]
 pub struct Silo {
     pub(crate) alloc: Global,
-    pub(crate) views: Views,
-    pub(crate) places: Places,
+    pub(crate) membership: Membership,
     pub(crate) node: Node,
 }
 
@@ -40,16 +39,10 @@ impl Silo {
     pub fn new(alloc: Global, settings: Settings, silo: SiloAddress) -> Result<Silo, AllocError>
         ensures { IfOk result (λ made. made ≡ first_silo settings silo) }
     {
-        settings.in_range();
         let node = Node::new(alloc, settings, silo)?;
-        let Ok(places) = Places::new(alloc, settings.hashing(), settings.points()) else {
-            unreachable!()
-        };
-        let views = Views::new(alloc, settings.silos());
         Ok(Silo {
             alloc,
-            views,
-            places,
+            membership: Membership::new(alloc, &settings),
             node,
         })
     }
@@ -65,14 +58,14 @@ impl Silo {
     pub fn views(&self) -> &Views
         ensures { result.now ≡ self.now.membership.views }
     {
-        &self.views
+        self.membership.views()
     }
 
     /// The places of each silo that it was told has joined.
     pub fn places(&self) -> &Places
         ensures { result.now ≡ self.now.membership.places }
     {
-        &self.places
+        self.membership.places()
     }
 
     /// Its node: what it has seen, and keeps.
@@ -86,7 +79,7 @@ impl Silo {
     pub fn status(&self) -> Option<Status>
         ensures { result ≡ own_status self.now }
     {
-        self.views.status(self.views.current(), &self.address())
+        self.membership.status(&self.address())
     }
 
     /// A law: views and places are by the settings, and the node's ring is that of the view that it has seen, by these places.
