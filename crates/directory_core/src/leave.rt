@@ -52,7 +52,7 @@ impl World {
     }
 
     // A silo's status in the current view.
-    fn status(&self, silo: &SiloAddress) -> Option<Status>
+    pub(crate) fn status(&self, silo: &SiloAddress) -> Option<Status>
         ensures { result ≡ status_now self.now silo.now }
     {
         self.views.status(self.views.current(), silo)

@@ -19,6 +19,7 @@ use crate::{EventRefusal, World};
 use directory_letters::Letter;
 use directory_node::{Change, Input, Plan, StepRefusal};
 use directory_rules::{Happening, Outcome, OwnStep, Span};
+use membership_view::Status;
 use silo_address::SiloAddress;
 use std::alloc::AllocError;
 
@@ -106,9 +107,9 @@ impl World {
         ensures number { event_refusal_number result ≡ Some (absent_number self.now silo.now) }
         ensures numbered { IsNumberedUnlessMemory result }
     {
-        match self.views.row(silo) {
-            Some(_) => EventRefusal::DeadSilo,
+        match self.status(silo) {
             None => EventRefusal::NoSuchSilo,
+            Some(Status::Active | Status::Leaving | Status::Dead) => EventRefusal::DeadSilo,
         }
     }
 
