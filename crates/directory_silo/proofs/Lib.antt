@@ -1,1 +1,2 @@
 pub mod TheirPlaces
+pub mod Heard

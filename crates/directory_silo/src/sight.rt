@@ -1,3 +1,4 @@
+ghost use Rattle.directory_rules.specs.Membership.{is_seeable};
 ghost use Rattle.std.specs.Prelude.{◌≡◌, ◌≤◌, ◌<◌, IfErr, IfOk, IsOk, OnErr};
 ghost use Rattle.membership_view.specs.Views.{view_at};
 ghost use Rattle.directory_rules.specs.Input.{step, sight_of};
@@ -25,11 +26,19 @@ impl Silo {
         if version <= self.node.view().version() {
             return Err(SiloRefusal::Node(StepRefusal::NotNewer));
         }
-        if !self.membership.is_seeable(&self.address(), version) {
+        if !self.is_seeable(version) {
             return Err(SiloRefusal::NoSuchVersion);
         }
         let plan = self.plan_sight(version)?;
         self.take(plan)
+    }
+
+    // Whether the silo was told of that version, and is in its view.
+    fn is_seeable(&self, version: u64) -> bool
+        ensures { result ≡ is_seeable self.now.membership self.now.node.host.silo version }
+    {
+        let silo = self.address();
+        self.membership.is_seeable(&silo, version)
     }
 
     // The sight of a newer version, as a plan: 805. Where its requests can get no new numbers, that is told before memory is needed.
