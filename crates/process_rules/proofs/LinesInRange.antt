@@ -4,7 +4,7 @@ use Rattle.std.specs.Prelude.{⊤, All, IfOk, bytes_eq, cond, nat_le, nat_lt}
 use Rattle.std.specs.List.{list_all}
 use Rattle.std.specs.Map.{lookup}
 use Rattle.std.proofs.lemmas.Bool.{leb-true}
-use Rattle.std.proofs.lemmas.List.Elements.{All-from_recursion, All-nil, All-cons, All-head, All-tail}
+use Rattle.std.proofs.lemmas.List.Elements.{All-nil, All-cons}
 use Rattle.texts.specs.declared.NumberError.TheVariants as number_fault
 use Rattle.texts.specs.Numeral.{is_numeral, numeral_value}
 use Rattle.texts.specs.Words.{words_in}
@@ -15,7 +15,7 @@ use Rattle.hash_ring.specs.declared.hashing.Hashing.{Hashing}
 use Rattle.directory_rules.specs.declared.own_step.OwnStep.{OwnStep}
 use Rattle.directory_rules.specs.declared.own_step.OwnStep.TheVariants as own
 use Rattle.directory_rules.specs.OwnStep.{IsOwnStep}
-use Rattle.script_rules.specs.Script.{silo_word, grain_word, number_word, number_or_fault, hash_word, places_in, Grammar, no_word, a_grain, a_grain_and_a_silo, own_steps, is_text, is_remark, ◌>>=◌}
+use Rattle.script_rules.specs.Script.{silo_word, grain_word, number_word, number_or_fault, hash_word, places_in, Grammar, no_word, a_grain, a_grain_and_a_silo, is_text, is_remark, ◌>>=◌}
 use Rattle.process_rules.specs.ReadLetter.{read_letter}
 use Rattle.process_rules.specs.ReadLine.{Asked, Joined, Leaving, Dead, See, Do, Receive, Owner, Place, Show, Dump, a_word, token_in, behind_token, a_join, a_version_and_a_silo, a_version, own_policy_word, a_grain_and_a_policy, a_letter, a_step, step_commands, commands, longest_line, asked_if_known, asked_of_words, read_silo_line}
 use Rattle.process_rules.specs.Told.{IsNumber, IsTold}
@@ -143,23 +143,44 @@ module _ (hashing : Hashing) where
   letter_asks words = one_in (IsTold hashing) (IsInRange hashing) Receive (read_letter hashing words) (λ l is. is) (of_given (IsTold hashing) (read_letter hashing words) (λ l given. (was_told hashing words l given).told))
 
   abbrev AskAll : List (List ℕ × Grammar Asked) → Type 0
-  AskAll named = All (λ e. Asks e.1) named
+  AskAll [] = ⊤
+  AskAll (row ∷ rows) = Asks row.1 × AskAll rows
 
-  commands_ask : AskAll (commands hashing)
-  commands_ask =
-      All-from_recursion (λ (e : List ℕ × Grammar Asked). Asks e.1) (commands hashing) (
-        join_asks,
+  steps_ask : AskAll step_commands
+  steps_ask = (
+    grain_step_asks own.Wake (λ g is. is),
+    (
+      grain_step_asks own.Close (λ g is. is),
+      (
+        grain_step_asks own.Find (λ g is. is),
         (
-          change_asks Leaving (λ v s first second. (first, second)),
+          grain_step_asks own.Forget (λ g is. is),
           (
-            change_asks Dead (λ v s first second. (first, second)),
-            (
-              version_asks,
-              (letter_asks, (word_asks, (grain_makes (IsInRange hashing) Owner (λ g is. is), (policy_asks, (none_asks Show tt, (none_asks Dump tt, (grain_step_asks own.Wake (λ g is. is), (grain_step_asks own.Close (λ g is. is), (grain_step_asks own.Find (λ g is. is), (grain_step_asks own.Forget (λ g is. is), (step_asks (no_word own.Nudge) (none_makes IsOwnStep own.Nudge tt), (step_asks (a_grain_and_a_silo own.Offer) (offer_makes IsOwnStep own.Offer (λ g s first second. (first, second))), tt)))))))))))),
-            ),
+            step_asks (no_word own.Nudge) (none_makes IsOwnStep own.Nudge tt),
+            (step_asks (a_grain_and_a_silo own.Offer) (offer_makes IsOwnStep own.Offer (λ g s first second. (first, second))), tt),
           ),
         ),
-      )
+      ),
+    ),
+  )
+
+  commands_ask : AskAll (commands hashing)
+  commands_ask = (
+    join_asks,
+    (
+      change_asks Leaving (λ v s first second. (first, second)),
+      (
+        change_asks Dead (λ v s first second. (first, second)),
+        (
+          version_asks,
+          (
+            letter_asks,
+            (word_asks, (grain_makes (IsInRange hashing) Owner (λ g is. is), (policy_asks, (none_asks Show tt, (none_asks Dump tt, steps_ask))))),
+          ),
+        ),
+      ),
+    ),
+  )
 
   -- ---- lines
   abbrev Says : Result (Option Asked) ℕ → Type 0
@@ -175,10 +196,10 @@ module _ (hashing : Hashing) where
   known_says : (test : List ℕ → Bool) (named : List (List ℕ × Grammar Asked)) → AskAll named → (words : List (List ℕ)) → Says (asked_if_known (lookup test named) words)
   known_says test [] all words asked given = cc given
   known_says test (e ∷ named) all words asked given =
-      by (test e.0) (known_says test named (All-tail (λ (x : List ℕ × Grammar Asked). Asks x.1) e named all) words) asked given
+      by (test e.0) (known_says test named all.1 words) asked given
     where
       by : (b : Bool) → Says (asked_if_known (lookup test named) words) → Says (asked_if_known (cond b (Some e.1) (lookup test named)) words)
-      by true later = given_says (e.1 words) (All-head (λ (x : List ℕ × Grammar Asked). Asks x.1) e named all words)
+      by true later = given_says (e.1 words) (all.0 words)
       by false later = later
 
   words_say : (words : List (List ℕ)) → Says (asked_of_words hashing words)
