@@ -30,7 +30,7 @@ use Rattle.process_deployment.specs.Allowed.{IsWritten, IsLine, May, MayAll}
 use Rattle.process_deployment.specs.Cluster.{Cluster, all_lines}
 use Rattle.process_deployment.specs.Steps.{after, after_all}
 use Rattle.process_deployment.specs.Worked.{WorkedCluster}
-use Rattle.process_deployment.specs.Wrong.{AForgedLineConfirms, ADeadProcessGoesOn, AnotherChangeIsTold, ARestartForgets, ARestartIsRefused}
+use Rattle.process_deployment.specs.Wrong.{AForgedLineConfirms, ADeadProcessGoesOn, AnotherChangeIsTold, ARestartForgets, ARestartIsRefused, OtherSettingsSplit}
 
 unfoldable pub all_opened : Type 0
 unfolding digits sha256 hash_after compress rounds schedule first_words digest_bytes encode_with decode_pairs silo_words read_silo read_grain read_activation stated_hash read_range meet_of cut_parts letter_line read_letter read_silo_line answered answered_as after after_all May MayAll
@@ -140,3 +140,7 @@ a_restart_forgets = refl
 pub a_restart_is_refused : ARestartIsRefused
 unfolding all_opened
 a_restart_is_refused = refl
+
+pub other_settings_split : OtherSettingsSplit
+unfolding all_opened
+other_settings_split = refl
