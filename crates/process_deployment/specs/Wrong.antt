@@ -10,7 +10,8 @@ use Rattle.directory_rules.specs.Worked.{silo_a, silo_b, grain_a}
 use Rattle.directory_rules.specs.Membership.{Join, Die}
 use Rattle.deployment_headline.specs.Worked.{worked_settings}
 use Rattle.deployment_headline.specs.Wrong.{has_firm}
-use Rattle.process_deployment.specs.Cluster.{started, Cluster}
+use Rattle.process_deployment.specs.Allowed.{MayAll}
+use Rattle.process_deployment.specs.Cluster.{started, Cluster, first_cluster}
 use Rattle.process_deployment.specs.Steps.{Step, Decide, Read, after, after_all, clustered}
 use Rattle.process_deployment.specs.Worked.{worked_join_tokens, opening, joining, asking}
 
@@ -114,8 +115,11 @@ hashed =
 abbrev pub set_up_otherwise : Cluster → Cluster
 set_up_otherwise c = record c { processes = insert_entry silo_cmp c.processes silo_b (started (directory_settings Sha256 1 0) c.tokens silo_b) }
 
--- by its ring the range is its own, and by that of the first one it isn't: it asks for a snapshot, which the first one doesn't have, and
--- recovers the range, in which nothing is firm. Then each is woken for the grain, and enters that itself
+abbrev pub set_apart : Cluster
+set_apart = set_up_otherwise (clustered hashed_settings worked_join_tokens hashed)
+
+-- by its ring the grain's hash is its own, and by that of the first one it isn't: it asks for a snapshot, which the first one doesn't
+-- have, and recovers the range, in which nothing is firm. Then each is woken for the grain, and enters that itself
 abbrev pub owned_twice : List Step
 owned_twice =
     Read silo_a (codes "joined 2 10.0.0.2:1000@1")
@@ -137,5 +141,8 @@ owned_twice =
     ∷ Read silo_b (codes "letter 10.0.0.2:1000@1 10.0.0.2:1000@1 2 registered 1 user/a#7 10.0.0.2:1000@1!1")
     ∷ []
 
-abbrev pub OtherSettingsSplit : Type 0
-OtherSettingsSplit = firm_at grain_a (after_all (set_up_otherwise (clustered hashed_settings worked_join_tokens hashed)) owned_twice) ≡ silo_a ∷ silo_b ∷ []
+-- though each of these steps may come
+pub record OtherSettingsSplit : Type 0 where
+  pub may_before : MayAll (first_cluster hashed_settings worked_join_tokens) hashed
+  pub may_after : MayAll set_apart owned_twice
+  pub splits : firm_at grain_a (after_all set_apart owned_twice) ≡ silo_a ∷ silo_b ∷ []

@@ -27,7 +27,7 @@ pub fn a_restart_is_refused()
     ensures { ARestartIsRefused }
 {}
 
-/// A process is set up with another number of points a silo than the others.
+/// A process is set up with another number of points a silo than the others. Each line may come.
 pub fn other_settings_split()
     ensures { OtherSettingsSplit }
 {}
