@@ -14,7 +14,7 @@ ghost use Rattle.console_command.specs.Reports.{CountsAll, CountsAsked};
 use directory_core::World;
 use directory_node::Node;
 use directory_rules::Policy;
-use membership_view::View;
+use membership_view::{Status, View};
 use script_lines::{laws, write_place, write_refusal};
 use silo_address::{GrainId, SiloAddress};
 use silo_placement::silo_for;
@@ -45,10 +45,9 @@ pub(crate) fn tell_place(
 fn absent_number(world: &World, silo: &SiloAddress) -> u16
     ensures { result ≡ absent_number world.now silo.now }
 {
-    if world.views().row(silo).is_some() {
-        902
-    } else {
-        901
+    match world.views().status(world.current(), silo) {
+        None => 901,
+        Some(Status::Active | Status::Leaving | Status::Dead) => 902,
     }
 }
 
