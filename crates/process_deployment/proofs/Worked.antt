@@ -1,6 +1,6 @@
 -- The worked clusters, computed.
 use Rattle.std.proofs.Common.{◌≡◌, ℕ, ◌<◌, Bool, true, List, [], ◌∷◌, Some, Ok, refl}
-use Rattle.std.specs.Prelude.{◌==◌, not, nat_lt, All, slice_get, codes}
+use Rattle.std.specs.Prelude.{◌==◌, not, nat_lt, All, slice_get, take, codes}
 use Rattle.std.specs.Fmt.{digits}
 use Rattle.std.specs.List.{list_all}
 use Rattle.std.proofs.lemmas.Bool.{ltb-true}
@@ -21,16 +21,16 @@ use Rattle.ring_range.specs.Text.{read_range}
 use Rattle.ring_range.specs.Meet.{meet_of}
 use Rattle.ring_range.specs.Cut.{cut_parts}
 use Rattle.directory_rules.specs.Letter.{Letter}
-use Rattle.directory_rules.specs.Worked.{silo_a, silo_b}
+use Rattle.directory_rules.specs.Worked.{silo_a, silo_b, grain_a}
 use Rattle.process_rules.specs.LetterText.{letter_line}
 use Rattle.process_rules.specs.ReadLetter.{read_letter}
 use Rattle.process_rules.specs.ReadLine.{Receive, read_silo_line}
 use Rattle.process_rules.specs.Answer.{answered, answered_as}
 use Rattle.process_deployment.specs.Allowed.{IsWritten, IsLine, May, MayAll}
-use Rattle.process_deployment.specs.Cluster.{Cluster, all_lines}
+use Rattle.process_deployment.specs.Cluster.{Cluster, first_cluster, all_lines}
 use Rattle.process_deployment.specs.Steps.{after, after_all}
-use Rattle.process_deployment.specs.Worked.{WorkedCluster}
-use Rattle.process_deployment.specs.Wrong.{AForgedLineConfirms, ADeadProcessGoesOn, AnotherChangeIsTold, ARestartForgets, ARestartIsRefused}
+use Rattle.process_deployment.specs.Worked.{worked_join_tokens, WorkedCluster}
+use Rattle.process_deployment.specs.Wrong.{AForgedLineConfirms, ADeadProcessGoesOn, AnotherChangeIsTold, ARestartForgets, ARestartIsRefused, firm_at, hashed_settings, hashed, set_apart, owned_twice, OtherSettingsSplit}
 
 unfoldable pub all_opened : Type 0
 unfolding digits sha256 hash_after compress rounds schedule first_words digest_bytes encode_with decode_pairs silo_words read_silo read_grain read_activation stated_hash read_range meet_of cut_parts letter_line read_letter read_silo_line answered answered_as after after_all May MayAll
@@ -140,3 +140,94 @@ a_restart_forgets = refl
 pub a_restart_is_refused : ARestartIsRefused
 unfolding all_opened
 a_restart_is_refused = refl
+
+-- the clusters after so many of the steps
+abbrev hashed_by : ℕ → Cluster
+hashed_by k = after_all (first_cluster hashed_settings worked_join_tokens) (take k hashed)
+
+abbrev apart_by : ℕ → Cluster
+apart_by k = after_all set_apart (take k owned_twice)
+
+may_before : MayAll (first_cluster hashed_settings worked_join_tokens) hashed
+unfolding all_opened
+may_before = (
+  (a, All-nil (λ place. place < circle)),
+  (
+    (a, line (codes "joined 1 10.0.0.1:1000@1") refl, λ takes makes. refl, tt),
+    (
+      (a, line (codes "see 1") refl, tt, tt),
+      (
+        let said = codes "letter 10.0.0.1:1000@1 10.0.0.1:1000@1 1 query 1434877701+1302175457" in (a, line said refl, λ own joined. said_so (hashed_by 3) _ 2 said refl refl, tt),
+        (
+          let said = codes "letter 10.0.0.1:1000@1 10.0.0.1:1000@1 1 report 1434877701+1302175457" in (a, line said refl, λ own joined. said_so (hashed_by 4) _ 5 said refl refl, tt),
+          (
+            (b, All-nil (λ place. place < circle)),
+            tt,
+          ),
+        ),
+      ),
+    ),
+  ),
+)
+
+may_after : MayAll set_apart owned_twice
+unfolding all_opened
+may_after = (
+  (a, line (codes "joined 2 10.0.0.2:1000@1") refl, λ takes makes. refl, tt),
+  (
+    (a, line (codes "see 2") refl, tt, tt),
+    (
+      (b, line (codes "joined 1 10.0.0.1:1000@1") refl, λ takes makes. refl, tt),
+      (
+        (b, line (codes "joined 2 10.0.0.2:1000@1 token=b1") refl, λ takes makes. refl, tt),
+        (
+          (b, line (codes "see 2") refl, tt, tt),
+          (
+            let said = codes "letter 10.0.0.2:1000@1 10.0.0.1:1000@1 2 ask 40231030+2696822128 0" in (a, line said refl, λ own joined. said_so (apart_by 5) _ 14 said refl refl, tt),
+            (
+              let said = codes "letter 10.0.0.1:1000@1 10.0.0.2:1000@1 2 missing 40231030+2696822128" in (b, line said refl, λ own joined. said_so (apart_by 6) _ 12 said refl refl, tt),
+              (
+                let said = codes "letter 10.0.0.2:1000@1 10.0.0.1:1000@1 2 query 40231030+2696822128" in (a, line said refl, λ own joined. said_so (apart_by 7) _ 18 said refl refl, tt),
+                (
+                  let said = codes "letter 10.0.0.2:1000@1 10.0.0.2:1000@1 2 query 40231030+2696822128" in (b, line said refl, λ own joined. said_so (apart_by 8) _ 21 said refl refl, tt),
+                  (
+                    let said = codes "letter 10.0.0.1:1000@1 10.0.0.2:1000@1 2 report 40231030+2696822128" in (b, line said refl, λ own joined. said_so (apart_by 9) _ 14 said refl refl, tt),
+                    (
+                      let said = codes "letter 10.0.0.2:1000@1 10.0.0.2:1000@1 2 report 40231030+2696822128" in (b, line said refl, λ own joined. said_so (apart_by 10) _ 23 said refl refl, tt),
+                      (
+                        (a, line (codes "wake user/a#7") refl, tt, tt),
+                        (
+                          let said = codes "letter 10.0.0.1:1000@1 10.0.0.1:1000@1 2 register 1 user/a#7 10.0.0.1:1000@1!1" in (a, line said refl, λ own joined. said_so (apart_by 12) _ 16 said refl refl, tt),
+                          (
+                            let said = codes "letter 10.0.0.1:1000@1 10.0.0.1:1000@1 2 registered 1 user/a#7 10.0.0.1:1000@1!1" in (a, line said refl, λ own joined. said_so (apart_by 13) _ 18 said refl refl, tt),
+                            (
+                              (b, line (codes "wake user/a#7") refl, tt, tt),
+                              (
+                                let said = codes "letter 10.0.0.2:1000@1 10.0.0.2:1000@1 2 register 1 user/a#7 10.0.0.2:1000@1!1" in (b, line said refl, λ own joined. said_so (apart_by 15) _ 32 said refl refl, tt),
+                                (
+                                  let said = codes "letter 10.0.0.2:1000@1 10.0.0.2:1000@1 2 registered 1 user/a#7 10.0.0.2:1000@1!1" in (b, line said refl, λ own joined. said_so (apart_by 16) _ 34 said refl refl, tt),
+                                  tt,
+                                ),
+                              ),
+                            ),
+                          ),
+                        ),
+                      ),
+                    ),
+                  ),
+                ),
+              ),
+            ),
+          ),
+        ),
+      ),
+    ),
+  ),
+)
+
+splits : firm_at grain_a (after_all set_apart owned_twice) ≡ silo_a ∷ silo_b ∷ []
+unfolding all_opened
+splits = refl
+
+pub other_settings_split : OtherSettingsSplit
+other_settings_split = record { may_before = may_before; may_after = may_after; splits = splits }

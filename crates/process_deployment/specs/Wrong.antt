@@ -1,14 +1,17 @@
--- Clusters in which a line comes that may not come, a dead silo's process goes on, or a process begins anew as the same silo, and two
--- processes have the grain firm; and what a token is for.
+-- Clusters in which a line comes that may not come, a dead silo's process goes on, or a process begins anew as the same silo or with
+-- other settings, and two processes have the grain firm; and what a token is for.
 use Rattle.std.specs.Prelude.{◌≡◌, ℕ, List, [], ◌∷◌, ◌++◌, map, filter, codes, Option, Some, None}
 use Rattle.std.specs.BTreeMap.{insert_entry}
 use Rattle.silo_address.specs.Silo.{Silo, silo_cmp}
 use Rattle.silo_address.specs.Grain.{Grain}
+use Rattle.hash_ring.specs.declared.Hashing.TheVariants.{Sha256}
+use Rattle.directory_rules.specs.Settings.{Settings, directory_settings}
 use Rattle.directory_rules.specs.Worked.{silo_a, silo_b, grain_a}
 use Rattle.directory_rules.specs.Membership.{Join, Die}
 use Rattle.deployment_headline.specs.Worked.{worked_settings}
 use Rattle.deployment_headline.specs.Wrong.{has_firm}
-use Rattle.process_deployment.specs.Cluster.{started, Cluster}
+use Rattle.process_deployment.specs.Allowed.{MayAll}
+use Rattle.process_deployment.specs.Cluster.{started, Cluster, first_cluster}
 use Rattle.process_deployment.specs.Steps.{Step, Decide, Read, after, after_all, clustered}
 use Rattle.process_deployment.specs.Worked.{worked_join_tokens, opening, joining, asking}
 
@@ -92,3 +95,54 @@ ARestartForgets = firm_at grain_a (after_all (begins_anew None (clustered worked
 abbrev pub ARestartIsRefused : Type 0
 ARestartIsRefused =
     firm_at grain_a (after_all (begins_anew (Some (codes "a2")) (clustered worked_settings worked_join_tokens (opening ++ joining ++ asking))) told_again) ≡ silo_b ∷ []
+
+-- hashes are of texts, and each silo has two points on the ring
+abbrev pub hashed_settings : Settings
+hashed_settings = directory_settings Sha256 2 0
+
+-- the first silo is alone, and has the range of the grain's hash settled; then the second one joins
+abbrev pub hashed : List Step
+hashed =
+    Decide (Join silo_a [])
+    ∷ Read silo_a (codes "joined 1 10.0.0.1:1000@1")
+    ∷ Read silo_a (codes "see 1")
+    ∷ Read silo_a (codes "letter 10.0.0.1:1000@1 10.0.0.1:1000@1 1 query 1434877701+1302175457")
+    ∷ Read silo_a (codes "letter 10.0.0.1:1000@1 10.0.0.1:1000@1 1 report 1434877701+1302175457")
+    ∷ Decide (Join silo_b [])
+    ∷ []
+
+-- its process is set up with one point a silo
+abbrev pub set_up_otherwise : Cluster → Cluster
+set_up_otherwise c = record c { processes = insert_entry silo_cmp c.processes silo_b (started (directory_settings Sha256 1 0) c.tokens silo_b) }
+
+abbrev pub set_apart : Cluster
+set_apart = set_up_otherwise (clustered hashed_settings worked_join_tokens hashed)
+
+-- by its ring the grain's hash is its own, and by that of the first one it isn't: it asks for a snapshot, which the first one doesn't
+-- have, and recovers the range, in which nothing is firm. Then each is woken for the grain, and enters that itself
+abbrev pub owned_twice : List Step
+owned_twice =
+    Read silo_a (codes "joined 2 10.0.0.2:1000@1")
+    ∷ Read silo_a (codes "see 2")
+    ∷ Read silo_b (codes "joined 1 10.0.0.1:1000@1")
+    ∷ Read silo_b (codes "joined 2 10.0.0.2:1000@1 token=b1")
+    ∷ Read silo_b (codes "see 2")
+    ∷ Read silo_a (codes "letter 10.0.0.2:1000@1 10.0.0.1:1000@1 2 ask 40231030+2696822128 0")
+    ∷ Read silo_b (codes "letter 10.0.0.1:1000@1 10.0.0.2:1000@1 2 missing 40231030+2696822128")
+    ∷ Read silo_a (codes "letter 10.0.0.2:1000@1 10.0.0.1:1000@1 2 query 40231030+2696822128")
+    ∷ Read silo_b (codes "letter 10.0.0.2:1000@1 10.0.0.2:1000@1 2 query 40231030+2696822128")
+    ∷ Read silo_b (codes "letter 10.0.0.1:1000@1 10.0.0.2:1000@1 2 report 40231030+2696822128")
+    ∷ Read silo_b (codes "letter 10.0.0.2:1000@1 10.0.0.2:1000@1 2 report 40231030+2696822128")
+    ∷ Read silo_a (codes "wake user/a#7")
+    ∷ Read silo_a (codes "letter 10.0.0.1:1000@1 10.0.0.1:1000@1 2 register 1 user/a#7 10.0.0.1:1000@1!1")
+    ∷ Read silo_a (codes "letter 10.0.0.1:1000@1 10.0.0.1:1000@1 2 registered 1 user/a#7 10.0.0.1:1000@1!1")
+    ∷ Read silo_b (codes "wake user/a#7")
+    ∷ Read silo_b (codes "letter 10.0.0.2:1000@1 10.0.0.2:1000@1 2 register 1 user/a#7 10.0.0.2:1000@1!1")
+    ∷ Read silo_b (codes "letter 10.0.0.2:1000@1 10.0.0.2:1000@1 2 registered 1 user/a#7 10.0.0.2:1000@1!1")
+    ∷ []
+
+-- though each of these steps may come
+pub record OtherSettingsSplit : Type 0 where
+  pub may_before : MayAll (first_cluster hashed_settings worked_join_tokens) hashed
+  pub may_after : MayAll set_apart owned_twice
+  pub splits : firm_at grain_a (after_all set_apart owned_twice) ≡ silo_a ∷ silo_b ∷ []

@@ -1,6 +1,6 @@
 //! Wrong clusters of processes: in each a line comes that may not come, a dead silo's process goes on, or one begins anew as the same
-//! silo, and two processes have a grain firm.
-ghost use Rattle.process_deployment.specs.Wrong.{ADeadProcessGoesOn, AForgedLineConfirms, AnotherChangeIsTold, ARestartForgets, ARestartIsRefused};
+//! silo or with other settings, and two processes have a grain firm.
+ghost use Rattle.process_deployment.specs.Wrong.{ADeadProcessGoesOn, AForgedLineConfirms, AnotherChangeIsTold, ARestartForgets, ARestartIsRefused, OtherSettingsSplit};
 
 /// A letter's line that no process wrote confirms an activation.
 pub fn a_forged_line_confirms()
@@ -25,4 +25,9 @@ pub fn a_restart_forgets()
 /// But where it was started with a token of its own, it joins by none of the lines that its silo joined by, and does nothing.
 pub fn a_restart_is_refused()
     ensures { ARestartIsRefused }
+{}
+
+/// A process is set up with another number of points a silo than the others. Each line may come.
+pub fn other_settings_split()
+    ensures { OtherSettingsSplit }
 {}
