@@ -9,6 +9,9 @@ use Rattle.left_right.specs.contracts.reader.Reader as Reader
 use Rattle.std.specs.contracts.alloc.Global as Heap
 use Rattle.std.specs.contracts.prelude.GlobalAllocator.TheImpl.{ghosts}
 use Rattle.hash_ring.specs.contracts.ring.Ring as ring
+use Rattle.logbook.proofs.tokens.Seen.TheSendSync.Send as seen_sends
+use Rattle.logbook.proofs.tokens.Seen.TheSendSync.Sync as seen_syncs
+use Rattle.published_rings.specs.contracts.log.Front as front
 use Rattle.published_rings.specs.contracts.origin.Mark as mark
 use Rattle.published_rings.specs.contracts.origin.Origin as origin
 use Rattle.published_rings.specs.contracts.shown.Shown as shown
@@ -27,8 +30,14 @@ ring_syncs = search (sendable, crosses) depth 20
 mark_syncs : IsSync mark.the_row
 mark_syncs = search (once_sync, snapshot_sync, sendable) depth 16
 
+front_sends : IsSend front.the_row
+front_sends = search (seen_sends.send, sendable) depth 16
+
+front_syncs : IsSync front.the_row
+front_syncs = search (seen_syncs.sync, sendable) depth 16
+
 shown_syncs : IsSync shown.the_row
-shown_syncs = search (mark_syncs, ring_sends, ring_syncs, crosses, sendable) depth 16
+shown_syncs = search (mark_syncs, front_syncs, ring_sends, ring_syncs, crosses, sendable) depth 16
 
 -- what a reader is made of
 ring_reader_sends : IsSend (Reader.the_field shown.the_row known.the_row rings.the_row Heap.the_row rule.ghosts ghosts).row
@@ -38,4 +47,4 @@ origin_sends : IsSend (origin.the_field).row
 origin_sends = search (snapshot_send, sendable) depth 16
 
 pub reader_sends : IsSend route_reader.the_row
-reader_sends = search (ring_reader_sends, origin_sends, sendable) depth 16
+reader_sends = search (ring_reader_sends, origin_sends, front_sends, crosses, sendable) depth 16

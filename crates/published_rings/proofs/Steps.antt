@@ -9,6 +9,7 @@ use mathlib.Core.Option.{some, some-injective, some-ne-none}
 use lib.ListN.{get_elem?}
 use Rattle.atomic_table.proofs.Lists.{at_set}
 use Rattle.crossbeam_utils.specs.Register.{Admits, Turns, TurnsAt, Forks, Merges}
+use Rattle.logbook.specs.Pages.{Book}
 use Rattle.hash_ring.specs.Ring.{RingValue}
 use Rattle.published_rings.specs.Shown.{Publication, ShownValue, NextValue, showing, IsOfView}
 use Rattle.published_rings.specs.Rule.{Begins, IsEnd, Keeps, Looks, Opens, Adds}
@@ -49,18 +50,19 @@ stays_of None of its named is = absurd (cc is)
 stays_of (Some known) of its named is = ap Some (sym named) ∙ is
 
 -- ---- what keeps the rule
-pub opens : (first : ShownValue) → first.before ≡ 0 → IsOfView first.ring → Keeps first (newcomer ∷ [])
-opens first none made = record {
+pub opens : (first : ShownValue) → first.before ≡ 0 → IsOfView first.ring → first.all ≡ first.ring ∷ [] → Keeps first (newcomer ∷ [])
+opens first none made logged = record {
   earlier = [];
   counted = sym none;
   older = All-nil (λ (ring : RingValue). ring.version < first.ring.version);
   made = made;
+  logged = logged;
   each = All-cons (IsEnd first.of (first.ring ∷ [])) newcomer [] (new_end first.of (first.ring ∷ [])) (All-nil (IsEnd first.of (first.ring ∷ [])));
 }
 
 -- the ends know other things
 with_ends : (x : ShownValue) (views next : List Known) (h : Keeps x views) → All (IsEnd x.of (whole h.earlier x)) next → Keeps x next
-with_ends x views next h ends = record { earlier = h.earlier; counted = h.counted; older = h.older; made = h.made; each = ends }
+with_ends x views next h ends = record { earlier = h.earlier; counted = h.counted; older = h.older; made = h.made; logged = h.logged; each = ends }
 
 pub admits : Admits Keeps newcomer
 admits x views h = with_ends x views (views ++ newcomer ∷ []) h (All-push (IsEnd x.of (whole h.earlier x)) views newcomer h.each (new_end x.of (whole h.earlier x)))
@@ -78,6 +80,8 @@ looks seat known x views h at =
         older = h.older;
         made = h.made;
         whole = refl;
+        logged = h.logged;
+        of = refl;
         begins = its.begins;
         stays = λ of is. stays_of known.of x.of of its.named is;
       },
@@ -104,8 +108,9 @@ front : (seen earlier : List RingValue) (shown : ShownValue) → length earlier 
 front seen earlier shown counted within b =
     sym (take-append-le shown.before seen b.0 within) ∙ ap (λ l. take shown.before l) (sym b.1) ∙ ap (λ n. take n (whole earlier shown)) (sym counted) ∙ take-append_seam earlier (shown.ring ∷ [])
 
-pub adds : (seat : ℕ) (known : Known) (x : ShownValue) (next : NextValue) → x.before ≤ length known.seen → x.ring.version < next.ring.version → next.before ≡ x.before + 1 → IsOfView next.ring → TurnsAt Keeps seat known x (showing x next) Adds
-adds seat known x next within newer counted made views h at =
+pub adds : (seat : ℕ) (known : Known) (x : ShownValue) (next : NextValue) → x.before ≤ length known.seen → x.ring.version < next.ring.version → next.before ≡ x.before + 1 → IsOfView next.ring
+    → next.book ≡ x.of.book → next.all ≡ x.all ++ next.ring ∷ [] → TurnsAt Keeps seat known x (showing x next) Adds
+adds seat known x next within newer counted made its_log logged views h at =
     let all = whole h.earlier x in
     let longer = all ++ next.ring ∷ [] in
     let its = all_at (IsEnd x.of all) views seat known h.each at in
@@ -113,7 +118,9 @@ adds seat known x next within newer counted made views h at =
     let same : now.seen ≡ longer =
     ap (λ l. l ++ x.ring ∷ next.ring ∷ []) (front known.seen h.earlier x h.counted within its.begins)
     ∙ sym (append_assoc h.earlier (x.ring ∷ []) (next.ring ∷ [])) in
-    let knows : IsEnd x.of longer now = record { named = its.named; begins = ([], sym same ∙ sym (append-nil now.seen)) } in (
+    let knows : IsEnd x.of longer now = record { named = its.named; begins = ([], sym same ∙ sym (append-nil now.seen)) } in
+    let of : x.of ≡ (showing x next).of = ap (λ (b : Book). record x.of { book = b }) (sym its_log) in
+    let ends : All (IsEnd x.of longer) (slice_set views seat now) = All-set (IsEnd x.of longer) views seat now knows (All-weaker (IsEnd x.of all) (IsEnd x.of longer) (λ end e. longer_end x.of all next.ring end e) views h.each) in (
       now,
       record {
         earlier = all;
@@ -121,7 +128,8 @@ adds seat known x next within newer counted made views h at =
         older = All-push (λ ring. ring.version < next.ring.version) h.earlier x.ring
             (All-weaker (λ ring. ring.version < x.ring.version) (λ ring. ring.version < next.ring.version) (λ ring less. omega arith) h.earlier h.older) newer;
         made = made;
-        each = All-set (IsEnd x.of longer) views seat now knows (All-weaker (IsEnd x.of all) (IsEnd x.of longer) (λ end e. longer_end x.of all next.ring end e) views h.each);
+        logged = logged ∙ ap (λ l. l ++ next.ring ∷ []) h.logged;
+        each = subst (λ (p : Publication). All (IsEnd p longer) (slice_set views seat now)) of ends;
       },
       refl,
     )

@@ -23,6 +23,10 @@ first_publisher of ring readers = record { of = of; earlier = []; last = ring; l
 abbrev pub after_publishing : PublisherValue → RingValue → PublisherValue
 after_publishing publisher ring = record publisher { earlier = publisher.earlier ++ publisher.last ∷ []; last = ring }
 
+-- all rings that were published, oldest first
+abbrev pub published_by : PublisherValue → List RingValue
+published_by publisher = publisher.earlier ++ publisher.last ∷ []
+
 -- the publication that shows it rings, those that had been published when the reader answered last, oldest first, and the newest version
 -- that it was told of
 pub record ReaderValue : Type 0 where

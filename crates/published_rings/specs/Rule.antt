@@ -16,12 +16,13 @@ pub record IsEnd (of : Publication) (all : List RingValue) (known : Known) : Typ
   pub begins : Begins known.seen all
 
 -- the rule, of what is shown and of what each end knows: the ring that is shown is the last one and newer than all before it, each
--- is the ring of a view, and each end is of this publication and has seen a beginning of the list
+-- is the ring of a view, the log has just these rings, and each end is of this publication and has seen a beginning of the list
 pub record Keeps (shown : ShownValue) (ends : List Known) : Type 0 where
   pub earlier : List RingValue
   pub counted : length earlier ≡ shown.before
   pub older : All (λ ring. ring.version < shown.ring.version) earlier
   pub made : IsOfView shown.ring
+  pub logged : shown.all ≡ earlier ++ shown.ring ∷ []
   pub each : All (IsEnd shown.of (earlier ++ shown.ring ∷ [])) ends
 
 -- who knew which publication it is of is of that one
@@ -35,6 +36,8 @@ pub record Looks (known : Known) (shown after_it : ShownValue) (now : Known) : T
   pub older : All (λ ring. ring.version < shown.ring.version) earlier
   pub made : IsOfView shown.ring
   pub whole : now.seen ≡ earlier ++ shown.ring ∷ []
+  pub logged : shown.all ≡ now.seen
+  pub of : now.of ≡ Some shown.of
   pub begins : Begins known.seen now.seen
   pub stays : StaysOf known now
 

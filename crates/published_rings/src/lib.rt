@@ -2,6 +2,7 @@
 #![tactic(auto)]
 
 mod error;
+mod log;
 mod origin;
 mod publisher;
 mod reader;

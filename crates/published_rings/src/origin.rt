@@ -1,6 +1,7 @@
 //! Which publication something is of. What is shown and the ends that see it are told apart by it, in proofs alone.
 ghost use Rattle.std.specs.Prelude.{◌≡◌};
 
+use crate::shown::Shown;
 use std::marker::Model;
 use std::snapshot::Snapshot;
 use std::sync::OnceLock;
@@ -16,9 +17,9 @@ pub(crate) struct Mark {
 
 impl Model for Mark {
     ghost use Rattle.std.specs.Prelude.{◌≡◌};
-    ghost use Rattle.published_rings.specs.Shown.{Publication, lock_of};
+    ghost use Rattle.published_rings.specs.Shown.{Marks, lock_of};
 
-    ghost Value = { Publication };
+    ghost Value = { Marks };
 
     ghost view = { λ m. (m.both.value.0.id, m.both.value.1.id) };
 
@@ -48,10 +49,10 @@ impl Mark {
     }
 }
 
-/// The publication that a mark is of, as clauses see it. It has no bytes.
+/// The publication that shows something, as clauses see it. It has no bytes.
 #[derive(Drop)]
 pub(crate) struct Origin {
-    mark: Snapshot<Mark>,
+    shown: Snapshot<Shown>,
 }
 
 impl Model for Origin {
@@ -59,15 +60,15 @@ impl Model for Origin {
 
     ghost Value = { Publication };
 
-    ghost view = { λ o. o.mark.value };
+    ghost view = { λ o. o.shown.value.of };
 }
 
 impl Origin {
-    pub(crate) fn of(mark: &Mark) -> Origin
-        ensures { result ≡ mark.now }
+    pub(crate) fn of(shown: &Shown) -> Origin
+        ensures { result ≡ shown.now.of }
     {
         Origin {
-            mark: Snapshot::of(mark),
+            shown: Snapshot::of(shown),
         }
     }
 }

@@ -1,11 +1,12 @@
-ghost use Rattle.std.specs.Prelude.{◌≡◌, ◌≢◌, ◌↔◌, ◌⊎◌, ◌+◌, ◌-◌, ◌<◌, ◌≤◌, All, Some, vec_len, vec_capacity, IsTrue, IfOk, IfErr, OnOk, OnErr, IsErrOf, MatchResult, length, false};
+ghost use Rattle.std.specs.Prelude.{◌≡◌, ◌≢◌, ◌↔◌, ◌+◌, ◌-◌, ◌<◌, ◌≤◌, All, Some, vec_len, vec_capacity, IsTrue, IfOk, IfErr, OnOk, ◌⊎◌, [], ◌∷◌, ◌++◌, OnErr, IsErrOf, MatchResult, length, false};
 ghost use Rattle.left_right.specs.Sides.{view as known_at};
 ghost use Rattle.hash_ring.specs.Ring.{IsRingBy, are_added, ring_of};
-ghost use Rattle.published_rings.specs.Ends.{after_publishing, first_publisher, first_reader};
-ghost use Rattle.published_rings.specs.Rule.{Adds};
+ghost use Rattle.published_rings.specs.Ends.{after_publishing, first_publisher, first_reader, published_by};
+ghost use Rattle.published_rings.specs.Rule.{Adds, Begins};
 ghost use Rattle.published_rings.specs.Shown.{IsOfView, ShownValue, showing};
 ghost use Rattle.published_rings.specs.declared.rule.Known.{Known};
 
+use crate::log::Head;
 use crate::rule::{Add, Hears, Open, RingReader, RingWriter, Tells};
 use crate::shown::{Next, Shown};
 use crate::{RouteError, RouteReader, Told};
@@ -24,10 +25,11 @@ pub const MOST_READERS: usize = 64;
 pub struct Publisher {
     writer: RingWriter,
     readers: Vec<RingReader>,
+    head: Head,
 }
 
 impl Model for Publisher {
-    ghost use Rattle.std.specs.Prelude.{◌≡◌, ◌≤◌, All, Some, length, take, vec_len};
+    ghost use Rattle.std.specs.Prelude.{◌≡◌, ◌≤◌, [], ◌∷◌, ◌++◌, All, Some, length, take, vec_len};
     ghost use Rattle.left_right.specs.Sides.{view as known_at};
     ghost use Rattle.published_rings.specs.Ends.{PublisherValue};
     ghost use Rattle.published_rings.specs.Shown.{ShownValue};
@@ -37,8 +39,8 @@ impl Model for Publisher {
 
     ghost view = { λ p. record { of = p.writer.desk.shown.value.of; earlier = take p.writer.desk.shown.value.before (known_at p.writer.desk.place).seen; last = p.writer.desk.shown.value.ring; left = vec_len p.readers } };
 
-    // It knows the rings before the last one, and its readers know that they are of its publication.
-    ghost invariant = { λ p. (p.writer.desk.shown.value.before ≤ length (known_at p.writer.desk.place).seen) × All (λ reader. (known_at {T = ShownValue} {V = Known} reader.place).of ≡ Some p.writer.desk.shown.value.of) p.readers.items };
+    // It knows the rings before the last one, its readers know that they are of its publication, and the log has its rings.
+    ghost invariant = { λ p. (p.writer.desk.shown.value.before ≤ length (known_at p.writer.desk.place).seen) × All (λ reader. (known_at {T = ShownValue} {V = Known} reader.place).of ≡ Some p.writer.desk.shown.value.of) p.readers.items × (p.head ≡ p.writer.desk.shown.value.of.book) × (p.writer.desk.shown.value.all ≡ take p.writer.desk.shown.value.before (known_at p.writer.desk.place).seen ++ p.writer.desk.shown.value.ring ∷ []) };
 }
 
 impl Publisher {
@@ -57,7 +59,7 @@ impl Publisher {
         ensures missing { IsErrOf result RouteError.PointsMissing ↔ (are_added view.now places.now ≡ false) }
         ensures only { IfErr result (λ refusal. (refusal ≡ RouteError.PointsMissing) ⊎ (refusal ≡ RouteError.NoReader) ⊎ (refusal ≡ RouteError.OutOfMemory)) }
     {
-        let mut writer = open(rt, alloc, view, places, readers)?;
+        let (mut writer, head) = open(rt, alloc, view, places, readers)?;
         let Ok(mut made) = Vec::with_capacity(alloc, readers) else {
             writer.take(rt);
             return Err(RouteError::OutOfMemory);
@@ -69,6 +71,7 @@ impl Publisher {
         Ok(Publisher {
             writer,
             readers: made,
+            head,
         })
     }
 
@@ -88,7 +91,7 @@ impl Publisher {
         ensures unchanged { OnErr result (self.new ≡ self.old) }
     {
         match self.readers.pop() {
-            Some(reader) => Ok(RouteReader::new(reader, self.writer.published().origin())),
+            Some(reader) => Ok(RouteReader::new(reader, self.writer.published())),
             None => Err(RouteError::NoReader),
         }
     }
@@ -145,9 +148,17 @@ impl Publisher {
         ensures unchanged { OnErr result (self.new ≡ self.old) }
     {
         let last = self.writer.published();
-        let next = last.next(alloc, ring)?;
+        let next = last.next(alloc, ring, &self.head)?;
         replace_with(&mut self.writer, (rt, next), show)?;
         Ok(())
+    }
+
+    /// A law: what one of its readers has seen begins what it has published, or the other way round.
+    pub fn agrees_with(&self, reader: &RouteReader)
+        requires { reader.now.of ≡ self.now.of }
+        ensures { Begins reader.now.seen (published_by self.now) ⊎ Begins (published_by self.now) reader.now.seen }
+    {
+        reader.front().are_of_one(self.writer.published().front());
     }
 
     /// Ends the publisher. Readers are not let in from then on.
@@ -155,6 +166,7 @@ impl Publisher {
         let Publisher {
             writer,
             readers: _readers,
+            head: _head,
         } = self;
         writer.take(rt);
     }
@@ -167,23 +179,24 @@ fn open<R: Wait>(
     view: &View,
     places: &Places,
     readers: usize,
-) -> Result<RingWriter, RouteError>
+) -> Result<(RingWriter, Head), RouteError>
     requires some { 0 < readers }
     requires most { readers ≤ MOST_READERS }
-    ensures shown { IfOk result (λ writer. (writer.desk.shown.value.before ≡ 0) × (writer.desk.shown.value.ring ≡ ring_of view.now places.now)) }
-    ensures knows { IfOk result (λ writer. (known_at writer.desk.place).of ≡ Some writer.desk.shown.value.of) }
+    ensures shown { IfOk result (λ made. (made.0.desk.shown.value.before ≡ 0) × (made.0.desk.shown.value.ring ≡ ring_of view.now places.now)) }
+    ensures logged { IfOk result (λ made. (made.0.desk.shown.value.all ≡ ring_of view.now places.now ∷ []) × (made.1 ≡ made.0.desk.shown.value.of.book)) }
+    ensures knows { IfOk result (λ made. (known_at made.0.desk.place).of ≡ Some made.0.desk.shown.value.of) }
     ensures missing { IsErrOf result RouteError.PointsMissing ↔ (are_added view.now places.now ≡ false) }
     ensures only { IfErr result (λ refusal. (refusal ≡ RouteError.PointsMissing) ⊎ (refusal ≡ RouteError.OutOfMemory)) }
 {
     let ring = Ring::anew(alloc, view, places)?;
-    let (first, second) = Shown::pair(alloc, ring)?;
+    let (first, second, head) = Shown::pair(alloc, ring)?;
     let writer = Writer::new(alloc, first, second, readers)?;
     let (writer, opened) = writer.publish_as::<Open, R>(rt);
     if opened.is_err() {
         writer.take(rt);
         return Err(RouteError::OutOfMemory);
     }
-    Ok(writer)
+    Ok((writer, head))
 }
 
 // Makes that many readers of the writer's publication, or fails.
@@ -244,6 +257,7 @@ fn show<R: Wait>(writer: RingWriter, given: (&R, Next)) -> (RingWriter, Result<(
     requires newer { writer.desk.shown.value.ring.version < given.1.ring.version }
     requires counted { given.1.before ≡ writer.desk.shown.value.before + 1 }
     requires made { IsOfView given.1.ring }
+    requires logged { (given.1.book ≡ writer.desk.shown.value.of.book) × (given.1.all ≡ writer.desk.shown.value.all ++ given.1.ring ∷ []) }
     ensures shown { MatchResult result.1 (λ _. result.0.desk.shown.value ≡ showing writer.desk.shown.value given.entry.1) (λ _. result.0.desk.shown.value ≡ writer.desk.shown.value) }
     ensures seen { MatchResult result.1 (λ _. Adds (known_at writer.desk.place) writer.desk.shown.value (showing writer.desk.shown.value given.entry.1) (known_at result.0.desk.place)) (λ _. known_at result.0.desk.place ≡ known_at writer.desk.place) }
 {

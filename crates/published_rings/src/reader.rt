@@ -5,6 +5,7 @@ ghost use Rattle.published_rings.specs.Ends.{IsRouteOf, first_reader};
 ghost use Rattle.published_rings.specs.Looks.{IsAnswer, IsLook};
 ghost use Rattle.published_rings.specs.Rule.{Begins};
 
+use crate::log::Front;
 use crate::origin::Origin;
 use crate::rule::{Look, RingReader};
 use crate::shown::Shown;
@@ -17,6 +18,7 @@ use std::marker::Model;
 pub struct RouteReader {
     reader: RingReader,
     of: Origin,
+    front: Front,
     /// How many rings were published before the newest one that it routed by, if it did.
     newest: Option<u64>,
     told: u64,
@@ -26,23 +28,26 @@ impl Model for RouteReader {
     ghost use Rattle.std.specs.Prelude.{◌≡◌, ◌≤◌, length, take, Some};
     ghost use Rattle.left_right.specs.Sides.{view as known_at};
     ghost use Rattle.published_rings.specs.Ends.{ReaderValue, count_up_to};
+    ghost use Rattle.published_rings.specs.Rule.{Begins};
 
     ghost Value = { ReaderValue };
 
     ghost view = { λ r. record { of = r.of; seen = take (count_up_to r.newest) (known_at r.reader.place).seen; told = r.told } };
 
-    ghost invariant = { λ r. (count_up_to r.newest ≤ length (known_at r.reader.place).seen) × ((known_at r.reader.place).of ≡ Some r.of) };
+    // What it has seen begins its publication's log.
+    ghost invariant = { λ r. (count_up_to r.newest ≤ length (known_at r.reader.place).seen) × ((known_at r.reader.place).of ≡ Some r.of) × (r.front.book ≡ r.of.book) × Begins (take (count_up_to r.newest) (known_at r.reader.place).seen) r.front.all };
 }
 
 impl RouteReader {
     // A reader of that publication that has seen nothing, and was told of nothing.
-    pub(crate) fn new(reader: RingReader, of: Origin) -> RouteReader
-        requires { (view reader.place).of ≡ Some of }
-        ensures { result ≡ first_reader of }
+    pub(crate) fn new(reader: RingReader, shown: &Shown) -> RouteReader
+        requires { (view reader.place).of ≡ Some shown.now.of }
+        ensures { result ≡ first_reader shown.now.of }
     {
         RouteReader {
             reader,
-            of,
+            of: shown.origin(),
+            front: shown.front().again(),
             newest: None,
             told: 0,
         }
@@ -53,6 +58,13 @@ impl RouteReader {
         ensures { self.new ≡ record self.old { told = max self.old.told told } }
     {
         self.told = u64::max(self.told, told.version());
+    }
+
+    pub(crate) fn front(&self) -> &Front
+        ensures book { result.now.book ≡ self.now.of.book }
+        ensures seen { Begins self.now.seen result.now.all }
+    {
+        &self.front
     }
 
     /// Who owns a hash, by the newest ring that this reader is shown, and the version of its view. That version is never below one
@@ -70,8 +82,9 @@ impl RouteReader {
     {
         let asked = (self.told, hash);
         match replace_with(&mut self.reader, asked, look) {
-            Some((before, route)) => {
+            Some((before, route, front)) => {
                 self.newest = Some(before);
+                self.front = front;
                 Ok(route)
             }
             None => Err(RouteError::NotLetIn),
@@ -80,7 +93,7 @@ impl RouteReader {
 }
 
 // Looks at the ring that is shown, if the reader is let in, and routes by it, if it isn't older than was told.
-fn look(reader: RingReader, asked: (u64, u32)) -> (RingReader, Option<(u64, Route)>)
+fn look(reader: RingReader, asked: (u64, u32)) -> (RingReader, Option<(u64, Route, Front)>)
     ensures { IsLook (view reader.place) (view result.0.place) asked.0 asked.1 result.1 }
 {
     match reader.enter_as::<Look>() {
@@ -93,7 +106,7 @@ fn look(reader: RingReader, asked: (u64, u32)) -> (RingReader, Option<(u64, Rout
 }
 
 // The route by what is shown, with how many rings were published before; `None` where that is older than was told.
-fn answer_by(shown: &Shown, told: u64, hash: u32) -> Option<(u64, Route)>
+fn answer_by(shown: &Shown, told: u64, hash: u32) -> Option<(u64, Route, Front)>
     ensures { IfSome result (λ answer. IsAnswer shown.now told hash answer) }
 {
     let ring = shown.ring();
@@ -102,5 +115,5 @@ fn answer_by(shown: &Shown, told: u64, hash: u32) -> Option<(u64, Route)>
         return None;
     }
     let owner = ring.owner(hash);
-    Some((shown.before(), Route { version, owner }))
+    Some((shown.before(), Route { version, owner }, shown.front().again()))
 }

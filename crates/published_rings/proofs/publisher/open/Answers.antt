@@ -1,4 +1,4 @@
-use Rattle.std.proofs.Common.{◌≡◌, sym, ap, ◌∙◌, subst, List, drop}
+use Rattle.std.proofs.Common.{◌≡◌, sym, ap, ◌∙◌, subst, List, [], ◌∷◌, drop}
 use Rattle.std.specs.List.{fold}
 use Rattle.crossbeam_utils.specs.Register.{TurnsAt}
 use Rattle.left_right.specs.Sides.{view}
@@ -19,7 +19,7 @@ new-requires-clause-rule g c =
       places = c.args.places.now;
       added = true_else (are_added c.args.view.now c.args.places.now) (λ none. cc (made.missing.1 none));
       made = made.made;
-    }))
+    })) (first.2 ∙ ap (λ r. r ∷ []) (sym first.1))
 
 pub publish_as-writer-requires : goal.publish_as-writer-requires
 publish_as-writer-requires g c next is =

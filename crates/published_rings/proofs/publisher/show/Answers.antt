@@ -15,7 +15,7 @@ publish_as-requires g c next is =
     let log : List NextValue = drop c.append.new.self.behind c.append.new.self.log.items in
     let same : next ≡ showing shown c.args.given.1 = shown_last shown log pending c.args.given.1 next c.in-Ok.ensures.pending is in
     let turns : TurnsAt Keeps desk.place.id (view desk.place) shown (showing shown c.args.given.1) Adds =
-    rw c.in-Ok.ensures.desk (adds c.args.writer.desk.place.id (view c.args.writer.desk.place) c.args.writer.desk.shown.value c.args.given.1 c.requires.seen c.requires.newer c.requires.counted c.requires.made) in
+    rw c.in-Ok.ensures.desk (adds c.args.writer.desk.place.id (view c.args.writer.desk.place) c.args.writer.desk.shown.value c.args.given.1 c.requires.seen c.requires.newer c.requires.counted c.requires.made c.requires.logged.0 c.requires.logged.1) in
     subst (λ (y : ShownValue). TurnsAt Keeps desk.place.id (view desk.place) shown y Adds) (sym same) turns
 
 pub returns-clause-shown : goal.returns-clause-shown
