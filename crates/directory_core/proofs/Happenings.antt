@@ -1,11 +1,11 @@
 -- What happens at an event: the journal first, and what refuses it where memory runs out.
 use Rattle.std.proofs.Common.{◌≡◌, ℕ, ◌+◌, ◌<◌, ◌≤◌, cond, not, Bool, true, false, List, [], ◌∷◌, length, Option, Some, None, Result, Ok, Err, ◌∙◌, refl, sym, ap, subst, arith}
-use Rattle.std.specs.Prelude.{IsOk, nat_le, ◌==◌, ◌||◌}
+use Rattle.std.specs.Prelude.{IsOk, IsSomeAnd, nat_le, ◌==◌, ◌||◌}
 use Rattle.std.proofs.lemmas.Bool.Decides.{nat_tests}
 use Rattle.std.specs.Option.{option_or}
 use Rattle.std.proofs.lemmas.Bool.{le-ltb, lt-ltb}
 use Rattle.silo_address.specs.Silo.{Silo}
-use Rattle.directory_rules.specs.Membership.{is_seeable}
+use Rattle.directory_rules.specs.Membership.{Change, Membership, changed, is_seeable, replaced_by}
 use Rattle.directory_rules.specs.declared.OwnStep.{OwnStep}
 use Rattle.directory_rules.specs.declared.OwnStep.TheVariants.{Wake, Close, Find, Forget, Nudge, Offer}
 use Rattle.directory_rules.specs.Event.{Event}
@@ -15,16 +15,17 @@ use Rattle.directory_rules.specs.declared.outcome.Span.{Span}
 use Rattle.directory_rules.specs.Letter.{Letter, kind_of}
 use Rattle.directory_rules.specs.Node.{Node}
 use Rattle.directory_rules.specs.Step.{Stepped}
-use Rattle.directory_rules.specs.World.{World, Accepted, membership_of}
+use Rattle.directory_rules.specs.World.{World, Accepted, accepted_as, membership_of}
 use Rattle.directory_rules.specs.Mail.{has_room_for, letter_of, span_of, with_delivered}
 use Rattle.directory_rules.specs.Input.{Input, Does, step, sight_of}
-use Rattle.directory_rules.specs.Happens.{attempted, deliver, delivers, delivers_to, does, does_at, done_by, happens, node_of, seen_by, sees, sees_at, taken}
+use Rattle.directory_rules.specs.Happens.{attempted, change_told, changed_by, decides, deliver, delivers, delivers_to, does, does_at, done_by, happens, is_of_dead, node_of, seen_by, sees, sees_at, taken}
 use Rattle.directory_rules.specs.Receive.{received}
 use Rattle.directory_rules.specs.declared.Effect.{Effect}
 use Rattle.directory_node.specs.Follows.{RefusesBy}
 use Rattle.directory_node.specs.Memory.{MayLackMemory}
 use Rattle.directory_node.specs.Plans.{Sends}
 use Rattle.directory_core.specs.Applied.{IsOkOrFull, own_excused}
+use Rattle.directory_core.specs.Changes.{after_made}
 use Rattle.directory_core.specs.Steps.{after_step, known_count, letters_number}
 use Rattle.directory_core.specs.Whole.{IsWorld, LeavesWorld}
 
@@ -159,3 +160,37 @@ pub leaves_delivered : (world : World) (number : ℕ) (letter : Letter) (node af
     → has_room_for world letters ≡ true → LeavesWorld (deliver world number) → IsWorld (after_step (with_delivered world number letter) letter.to after letters)
 leaves_delivered world number letter node after letters effect is there planned room leaves =
     subst LeavesWorld (delivered_told world number letter node after letters effect (span_of world letters) is there planned room refl) leaves
+
+-- ---- a change of membership, of a silo that isn't Dead
+decided_so : (world : World) (change : Change) (o : Result Membership ℕ) → is_of_dead world change ≡ false → changed world.settings (membership_of world) change ≡ o → decides world change ≡ changed_by o world change
+decided_so world change o alive is =
+    ap (λ b. cond b (Err 902) (changed_by (changed world.settings (membership_of world) change) world change)) alive ∙ ap (λ r. changed_by r world change) is
+
+-- by a number that membership has
+pub change_refused : (excused : Result Accepted ℕ → Type 0) (world : World) (change : Change) (number : Option ℕ) → is_of_dead world change ≡ false
+    → IsSomeAnd number (λ n. changed world.settings (membership_of world) change ≡ Err n) → RefusesBy excused number (decides world change)
+change_refused excused world change (Some n) alive is = decided_so world change (Err n) alive is
+change_refused excused world change None alive is = absurd is
+
+-- by memory alone
+pub change_may : (world : World) (change : Change) → is_of_dead world change ≡ false → IsOk (changed world.settings (membership_of world) change) → IsOk (decides world change)
+change_may world change alive may = by (changed world.settings (membership_of world) change) refl may
+  where
+    by : (o : Result Membership ℕ) → changed world.settings (membership_of world) change ≡ o → IsOk o → IsOk (decides world change)
+    by (Ok m) is may = subst IsOk (sym (decided_so world change (Ok m) alive is)) refl
+    by (Err number) is may = absurd (cc (may))
+
+-- what it leaves
+pub leaves_made : (world : World) (change : Change) → is_of_dead world change ≡ false → LeavesWorld (decides world change) → (m : Membership)
+    → changed world.settings (membership_of world) change ≡ Ok m → IsWorld (after_made world change m)
+leaves_made world change alive leaves m is = subst LeavesWorld (decided_so world change (Ok m) alive is) leaves
+
+-- and what it tells
+pub change_accepted : (world after : World) (change : Change) (happening : Happening) → is_of_dead world change ≡ false
+    → changed world.settings (membership_of world) change ≡ Ok (membership_of after) → after ≡ after_made world change (membership_of after)
+    → happening ≡ change_told after.views.version change (replaced_by (membership_of world) change)
+    → decides world change ≡ Ok (accepted_as after (record { happening = happening; sent = None }))
+change_accepted world after change happening alive is made told =
+    decided_so world change (Ok (membership_of after)) alive is
+    ∙ ap (λ (h : Happening). Ok (accepted_as (after_made world change (membership_of after)) (record { happening = h; sent = None }))) (sym told)
+    ∙ ap (λ (w : World). Ok (accepted_as w (record { happening = happening; sent = None }))) (sym made)

@@ -5,23 +5,23 @@ use Rattle.std.specs.BTreeMap.{is_at, insert_entry}
 use Rattle.silo_address.specs.Silo.{Silo, IsSameEndpoint, silo_cmp}
 use Rattle.silo_address.proofs.Order.{silo_cmp_total, silo_cmp_exact, apart_in_order}
 use Rattle.membership_view.specs.Views.{ViewsValue, status_at, view_at}
-use Rattle.membership_view.specs.Changes.{Join, after_join, occupant, with_death, with_join}
+use Rattle.membership_view.specs.Changes as view
+use Rattle.membership_view.specs.Changes.{after_join, occupant, with_join}
 use Rattle.membership_view.specs.Step.{Joins}
 use Rattle.membership_view.specs.declared.Status.{Status}
 use Rattle.membership_view.proofs.Searches.{occupant_law}
 use Rattle.membership_view.proofs.Changes.{changes_are_steps}
-use Rattle.hash_ring.specs.Places.{PlacesValue, after_add, has_points, is_added, is_point_count, with_silo}
+use Rattle.hash_ring.specs.Places.{PlacesValue}
 use Rattle.directory_rules.specs.Laws.{ArePeopled, is_live}
 use Rattle.directory_rules.specs.Letter.{Letter}
 use Rattle.directory_rules.specs.Node.{Node, new_node}
-use Rattle.directory_rules.specs.declared.outcome.Happening.TheVariants.{Died}
-use Rattle.directory_rules.specs.World.{World, Accepted}
+use Rattle.directory_rules.specs.Membership.{Change, Join, Leave, Die, Membership, changed}
+use Rattle.directory_rules.specs.World.{World, membership_of}
 use Rattle.directory_rules.specs.Mail.{with_delivered, with_lost}
 use Rattle.directory_rules.specs.Happens.{after_joining, counted}
 use Rattle.letter_mail.specs.Mail.{MailValue, with_posted, with_stale}
 use Rattle.letter_mail.specs.Mail.{with_lost as lost_mail}
-use Rattle.directory_core.specs.Join.{nodes_without, with_admitted}
-use Rattle.directory_core.specs.Leave.{with_dead}
+use Rattle.directory_core.specs.Changes.{after_made, nodes_without}
 use Rattle.directory_core.specs.Steps.{after_step}
 use Rattle.directory_core.specs.Whole.{IsWorld}
 use Rattle.directory_core.proofs.Entries.{taken_before}
@@ -58,25 +58,23 @@ kept_loss world now same number mail is mail_is =
     subst (λ (m : MailValue). IsWorld (record world { accepted = world.accepted + 1; mail = m.letters; sent = m.sent })) (sym mail_is)
     (subst (λ (w : World). IsWorld (counted (with_lost w number))) (sym same) is)
 
--- ---- a death
-pub kept_death : (world now : World) → world ≡ now → (silo : Silo) (views : ViewsValue) (nodes : List (Silo × Node)) → IsWorld (with_dead now silo).world → views ≡ with_death world.views silo
-    → nodes ≡ remove_entry (is_at (silo_cmp silo)) world.nodes → IsWorld (record world { accepted = world.accepted + 1; views = views; nodes = nodes })
-kept_death world now same silo views nodes is views_are nodes_are =
-    subst (λ (v : ViewsValue). IsWorld (record world { accepted = world.accepted + 1; views = v; nodes = nodes })) (sym views_are)
-    (subst (λ (n : List (Silo × Node)). IsWorld (record world { accepted = world.accepted + 1; views = with_death world.views silo; nodes = n })) (sym nodes_are)
-    (subst (λ (w : World). IsWorld (with_dead w silo).world) (sym same) is))
+-- ---- a change of membership, as an equal world makes it
+kept_made : (world now : World) → world ≡ now → (change : Change) (m : Membership) → ((n : Membership) → changed now.settings (membership_of now) change ≡ Ok n → IsWorld (after_made now change n))
+    → changed world.settings (membership_of world) change ≡ Ok m → IsWorld (after_made world change m)
+kept_made world now same change m is made =
+    subst (λ (w : World). IsWorld (after_made w change m)) (sym same) (is m (subst (λ (w : World). changed w.settings (membership_of w) change ≡ Ok m) same made))
 
-pub death_told : (world now : World) → world ≡ now → (silo : Silo) (version : ℕ) (views : ViewsValue) (nodes : List (Silo × Node)) → version ≡ world.views.version + 1
-    → views ≡ with_death world.views silo → nodes ≡ remove_entry (is_at (silo_cmp silo)) world.nodes
-    → record { outcome = record { happening = Died version silo; sent = None }; world = record world { accepted = world.accepted + 1; views = views; nodes = nodes } } ≡ with_dead now silo
-death_told world now same silo version views nodes version_is views_are nodes_are =
-    ap (λ (v : ℕ). accepted_by v views nodes) version_is
-    ∙ ap (λ (v : ViewsValue). accepted_by (world.views.version + 1) v nodes) views_are
-    ∙ ap (λ (n : List (Silo × Node)). accepted_by (world.views.version + 1) (with_death world.views silo) n) nodes_are
-    ∙ ap (λ (w : World). with_dead w silo) same
-  where
-    accepted_by : ℕ → ViewsValue → List (Silo × Node) → Accepted
-    accepted_by v vs ns = record { outcome = record { happening = Died v silo; sent = None }; world = record world { accepted = world.accepted + 1; views = vs; nodes = ns } }
+pub kept_leave : (world now : World) → world ≡ now → (silo : Silo) (m : Membership)
+    → ((n : Membership) → changed now.settings (membership_of now) (Leave silo) ≡ Ok n → IsWorld (after_made now (Leave silo) n)) → changed world.settings (membership_of world) (Leave silo) ≡ Ok m
+    → IsWorld (record world { accepted = world.accepted + 1; views = m.views; places = m.places })
+kept_leave world now same silo m is made = kept_made world now same (Leave silo) m is made
+
+pub kept_death : (world now : World) → world ≡ now → (silo : Silo) (m : Membership) (nodes : List (Silo × Node))
+    → ((n : Membership) → changed now.settings (membership_of now) (Die silo) ≡ Ok n → IsWorld (after_made now (Die silo) n)) → changed world.settings (membership_of world) (Die silo) ≡ Ok m
+    → nodes ≡ remove_entry (is_at (silo_cmp silo)) world.nodes → IsWorld (record world { accepted = world.accepted + 1; views = m.views; places = m.places; nodes = nodes })
+kept_death world now same silo m nodes is made nodes_are =
+    subst (λ (n : List (Silo × Node)). IsWorld (record world { accepted = world.accepted + 1; views = m.views; places = m.places; nodes = n })) (sym nodes_are)
+    (kept_made world now same (Die silo) m is made)
 
 -- ---- a join
 none_of : {X : Type 0} (found : Option X) → is_some found ≡ false → found ≡ None
@@ -93,7 +91,7 @@ same_endpoint silo = search
 
 joins : (views : ViewsValue) (nodes : List (Silo × Node)) (silo : Silo) → ArePeopled views nodes → after_join views silo ≡ Ok (with_join views silo)
     → Joins silo (view_at views views.version) (view_at (with_join views silo) (with_join views silo).version)
-joins views nodes silo are may = changes_are_steps views (Join silo) (with_join views silo) (record { whole = are.whole; is = may })
+joins views nodes silo are may = changes_are_steps views (view.Join silo) (with_join views silo) (record { whole = are.whole; is = may })
 
 pub no_node : (views : ViewsValue) (nodes : List (Silo × Node)) (silo : Silo) → ArePeopled views nodes → after_join views silo ≡ Ok (with_join views silo) → lookup (is_at (silo_cmp silo)) nodes ≡ None
 no_node views nodes silo are may =
@@ -116,21 +114,6 @@ nodes_put views nodes silo node are may = by (occupant silo views.rows) refl
         taken_before silo_cmp silo_cmp_total silo_cmp_exact silo old node nodes are.by_address
         (apart_in_order silo_cmp silo_cmp_exact old silo (λ same. not_itself (is ∙ ap Some same)))
 
--- places that were accepted are those with the silo
-abbrev refused_or : (a b c : Bool) (k l m : ℕ) (made : PlacesValue) → Result PlacesValue ℕ
-refused_or a b c k l m made = cond (not a) (Err k) (cond (not b) (Err l) (cond c (Err m) (Ok made)))
-
-accepted_is : (a b c : Bool) (k l m : ℕ) (made next : PlacesValue) → refused_or a b c k l m made ≡ Ok next → (made ≡ next) × (c ≡ false)
-accepted_is false b c k l m made next is = cc
-accepted_is true false c k l m made next is = cc
-accepted_is true true true k l m made next is = cc
-accepted_is true true false k l m made next is = (cc, refl)
-
-pub places_are : (places next : PlacesValue) (silo : Silo) (given : List ℕ) → after_add places silo given ≡ Ok next
-    → (with_silo places silo given ≡ next) × (is_added places silo ≡ false)
-places_are places next silo given is =
-    accepted_is (is_point_count places.hashing (length given)) (has_points places.hashing (length given)) (is_added places silo) 402 403 404 (with_silo places silo given) next is
-
 -- an equal world that the silo joined
 nodes_admitted : (old : Option Silo) (world : World) (silo : Silo) (views : ViewsValue) (places : PlacesValue) (nodes : List (Silo × Node))
     → IsWorld (counted (after_joining world silo old views places)) → nodes ≡ insert_entry silo_cmp (nodes_without old world.nodes) silo (new_node world.settings silo)
@@ -140,12 +123,24 @@ nodes_admitted None world silo views places nodes is nodes_are =
 nodes_admitted (Some old) world silo views places nodes is nodes_are =
     subst (λ (n : List (Silo × Node)). IsWorld (record world { accepted = world.accepted + 1; views = views; places = places; nodes = n })) (sym nodes_are) is
 
-pub kept_admitted : (world now : World) → world ≡ now → (silo : Silo) (given : List ℕ) (views : ViewsValue) (places : PlacesValue) (nodes : List (Silo × Node))
-    → ((p : PlacesValue) → after_add now.places silo given ≡ Ok p → IsWorld (with_admitted now silo p)) → views ≡ with_join world.views silo → after_add world.places silo given ≡ Ok places
+pub kept_join : (world now : World) → world ≡ now → (silo : Silo) (given : List ℕ) (m : Membership) (nodes : List (Silo × Node))
+    → ((n : Membership) → changed now.settings (membership_of now) (Join silo given) ≡ Ok n → IsWorld (after_made now (Join silo given) n))
+    → changed world.settings (membership_of world) (Join silo given) ≡ Ok m
     → nodes ≡ insert_entry silo_cmp (nodes_without (occupant silo world.views.rows) world.nodes) silo (new_node world.settings silo)
-    → IsWorld (record world { accepted = world.accepted + 1; views = views; places = places; nodes = nodes })
-kept_admitted world now same silo given views places nodes is views_are added nodes_are =
-    let is_first : IsWorld (with_admitted world silo places) =
-    subst (λ (w : World). IsWorld (with_admitted w silo places)) (sym same) (is places (ap (λ (w : World). after_add w.places silo given) (sym same) ∙ added)) in
-    subst (λ (v : ViewsValue). IsWorld (record world { accepted = world.accepted + 1; views = v; places = places; nodes = nodes })) (sym views_are)
-    (nodes_admitted (occupant silo world.views.rows) world silo (with_join world.views silo) places nodes is_first nodes_are)
+    → IsWorld (record world { accepted = world.accepted + 1; views = m.views; places = m.places; nodes = nodes })
+kept_join world now same silo given m nodes is made nodes_are =
+    nodes_admitted (occupant silo world.views.rows) world silo m.views m.places nodes (kept_made world now same (Join silo given) m is made) nodes_are
+
+-- what is joined is the world that the rule makes
+made_admitted : (old : Option Silo) (world : World) (silo : Silo) (views : ViewsValue) (places : PlacesValue) (nodes : List (Silo × Node))
+    → nodes ≡ insert_entry silo_cmp (nodes_without old world.nodes) silo (new_node world.settings silo)
+    → record world { accepted = world.accepted + 1; views = views; places = places; nodes = nodes } ≡ counted (after_joining world silo old views places)
+made_admitted None world silo views places nodes nodes_are = ap (λ (n : List (Silo × Node)). record world { accepted = world.accepted + 1; views = views; places = places; nodes = n }) nodes_are
+made_admitted (Some old) world silo views places nodes nodes_are =
+    ap (λ (n : List (Silo × Node)). record world { accepted = world.accepted + 1; views = views; places = places; nodes = n }) nodes_are
+
+pub join_made : (world now : World) → world ≡ now → (silo : Silo) (given : List ℕ) (m : Membership) (nodes : List (Silo × Node))
+    → nodes ≡ insert_entry silo_cmp (nodes_without (occupant silo world.views.rows) world.nodes) silo (new_node world.settings silo)
+    → record world { accepted = world.accepted + 1; views = m.views; places = m.places; nodes = nodes } ≡ after_made now (Join silo given) m
+join_made world now same silo given m nodes nodes_are =
+    made_admitted (occupant silo world.views.rows) world silo m.views m.places nodes nodes_are ∙ ap (λ (w : World). after_made w (Join silo given) m) same

@@ -3,7 +3,6 @@ ghost use Rattle.membership_view.specs.Views.{view_at};
 ghost use Rattle.directory_facts.specs.Seen.{SeesItsVersion};
 ghost use Rattle.directory_rules.specs.Happens.{sees};
 ghost use Rattle.directory_rules.specs.Input.{sight_of, step};
-ghost use Rattle.directory_rules.specs.Membership.{is_seeable};
 ghost use Rattle.directory_rules.specs.World.{accepted_as, membership_of};
 ghost use Rattle.directory_node.specs.Follows.{Follows};
 ghost use Rattle.directory_node.specs.Plans.{Fits, step_by};
@@ -37,7 +36,7 @@ impl World {
         if version <= node.view().version() {
             return Err(EventRefusal::Node(StepRefusal::NotNewer));
         }
-        if !self.is_seeable(silo, version) {
+        if !self.membership.is_seeable(silo, version) {
             return Err(EventRefusal::NoSuchVersion);
         }
         let (plan, transition) = self.sight(node, version)?;
@@ -60,14 +59,6 @@ impl World {
         }
     }
 
-    // Whether there is that view, and the silo is in it.
-    fn is_seeable(&self, silo: &SiloAddress, version: u64) -> bool
-        ensures { result ≡ is_seeable (membership_of self.now) silo.now version }
-    {
-        let joined = self.views.joined_at(silo).unwrap_or(0);
-        version <= self.views.current() && joined <= version
-    }
-
     // A node's sight of a newer version, as a plan, and the transition by which it goes there, if others may go there by the same.
     // Where its requests can get no new numbers, that is told before memory is needed.
     fn sight(&self, node: &Node, version: u64) -> Result<(Plan, Option<Transition>), EventRefusal>
@@ -82,8 +73,12 @@ impl World {
         if !node.can_renew() {
             return Err(EventRefusal::Node(StepRefusal::NumbersSpent));
         }
-        let before = self.view(version - 1)?;
-        let view = self.view(version)?;
+        let Ok(before) = self.membership.view(self.alloc, version - 1) else {
+            return Err(EventRefusal::OutOfMemory);
+        };
+        let Ok(view) = self.membership.view(self.alloc, version) else {
+            return Err(EventRefusal::OutOfMemory);
+        };
         let Ok(transition) = self.transition(node, &before, &view) else {
             return Err(EventRefusal::OutOfMemory);
         };
@@ -108,20 +103,7 @@ impl World {
                 return shared.copy();
             }
         }
-        node.transition(self.alloc, before, view, &self.places)
-    }
-
-    // The view of a version that was made.
-    fn view(&self, version: u64) -> Result<View, EventRefusal>
-        requires made { version ≤ self.now.views.version }
-        ensures exact { IfOk result (λ view. view ≡ view_at self.now.views version) }
-        ensures memory { IfErr result (λ refusal. refusal ≡ EventRefusal.OutOfMemory) }
-    {
-        match self.views.view(self.alloc, version) {
-            Ok(Some(view)) => Ok(view),
-            Ok(None) => unreachable!(),
-            Err(_) => Err(EventRefusal::OutOfMemory),
-        }
+        node.transition(self.alloc, before, view, self.places())
     }
 }
 

@@ -106,7 +106,7 @@ impl World {
         ensures number { event_refusal_number result ≡ Some (absent_number self.now silo.now) }
         ensures numbered { IsNumberedUnlessMemory result }
     {
-        match self.views.row(silo) {
+        match self.views().row(silo) {
             Some(_) => EventRefusal::DeadSilo,
             None => EventRefusal::NoSuchSilo,
         }
