@@ -6,8 +6,8 @@ use Rattle.line_loop.specs.Scripts.{stripped}
 use Rattle.directory_tests.proofs.Echoed.{echoes, echoes_fault, fault_behind}
 use Rattle.directory_tests.proofs.script.echo.EchoLinePlayer.play_line.Goals as goal
 
-pub returns-then-line-gt8192-clause-played : goal.returns-then-line-gt8192-clause-played
-returns-then-line-gt8192-clause-played c = record {
+pub returns-then-line-gt-LONGEST_LINE-clause-played : goal.returns-then-line-gt-LONGEST_LINE-clause-played
+returns-then-line-gt-LONGEST_LINE-clause-played c = record {
   text = text_of_lines (fault_line c.args.number 924 ∷ []);
   behind = fault_behind c.args.number c.args.out.now.items c.write_fault.new.out.items
       (c.in_ok-write_fault.ensures.written ∙ ap (λ (n : ℕ). c.args.out.now.items ++ printed (fault_line c.args.number n)) c.number.ensures);
