@@ -1,11 +1,12 @@
 -- What happens at an event: the journal first, and what refuses it where memory runs out.
 use Rattle.std.proofs.Common.{◌≡◌, ℕ, ◌+◌, ◌<◌, ◌≤◌, cond, not, Bool, true, false, List, [], ◌∷◌, length, Option, Some, None, Result, Ok, Err, ◌∙◌, refl, sym, ap, subst, arith}
-use Rattle.std.specs.Prelude.{IsOk, nat_le, ◌==◌, ◌||◌}
+use Rattle.std.specs.Prelude.{IfOk, IsOk, nat_le, ◌==◌, ◌||◌}
 use Rattle.std.proofs.lemmas.Bool.Decides.{nat_tests}
 use Rattle.std.specs.Option.{option_or}
 use Rattle.std.proofs.lemmas.Bool.{le-ltb, lt-ltb}
 use Rattle.silo_address.specs.Silo.{Silo}
-use Rattle.directory_rules.specs.Membership.{is_seeable}
+use Rattle.membership_view.specs.Views.{ViewsValue}
+use Rattle.directory_rules.specs.Membership.{Change, Join, Leave, Die, Membership, changed, is_seeable, replaced_by}
 use Rattle.directory_rules.specs.declared.OwnStep.{OwnStep}
 use Rattle.directory_rules.specs.declared.OwnStep.TheVariants.{Wake, Close, Find, Forget, Nudge, Offer}
 use Rattle.directory_rules.specs.Event.{Event}
@@ -15,16 +16,17 @@ use Rattle.directory_rules.specs.declared.outcome.Span.{Span}
 use Rattle.directory_rules.specs.Letter.{Letter, kind_of}
 use Rattle.directory_rules.specs.Node.{Node}
 use Rattle.directory_rules.specs.Step.{Stepped}
-use Rattle.directory_rules.specs.World.{World, Accepted, membership_of}
+use Rattle.directory_rules.specs.World.{World, Accepted, accepted_as, membership_of}
 use Rattle.directory_rules.specs.Mail.{has_room_for, letter_of, span_of, with_delivered}
 use Rattle.directory_rules.specs.Input.{Input, Does, step, sight_of}
-use Rattle.directory_rules.specs.Happens.{attempted, deliver, delivers, delivers_to, does, does_at, done_by, happens, node_of, seen_by, sees, sees_at, taken}
+use Rattle.directory_rules.specs.Happens.{after_change, attempted, change_told, changed_by, counted, decides, deliver, delivers, delivers_to, does, does_at, done_by, happens, is_of_dead, node_of, seen_by, sees, sees_at, taken}
 use Rattle.directory_rules.specs.Receive.{received}
 use Rattle.directory_rules.specs.declared.Effect.{Effect}
 use Rattle.directory_node.specs.Follows.{RefusesBy}
 use Rattle.directory_node.specs.Memory.{MayLackMemory}
 use Rattle.directory_node.specs.Plans.{Sends}
-use Rattle.directory_core.specs.Applied.{IsOkOrFull, own_excused}
+use Rattle.directory_core.specs.Applied.{IsNever, IsOkOrFull, own_excused}
+use Rattle.directory_core.specs.Changes.{made_by, made_world}
 use Rattle.directory_core.specs.Steps.{after_step, known_count, letters_number}
 use Rattle.directory_core.specs.Whole.{IsWorld, LeavesWorld}
 
@@ -159,3 +161,59 @@ pub leaves_delivered : (world : World) (number : ℕ) (letter : Letter) (node af
     → has_room_for world letters ≡ true → LeavesWorld (deliver world number) → IsWorld (after_step (with_delivered world number letter) letter.to after letters)
 leaves_delivered world number letter node after letters effect is there planned room leaves =
     subst LeavesWorld (delivered_told world number letter node after letters effect (span_of world letters) is there planned room refl) leaves
+
+-- ---- a change of membership: 902 where it is of a silo that is Dead
+pub dead_refused : (world : World) (change : Change) → is_of_dead world change ≡ true → decides world change ≡ Err 902
+dead_refused world change dead = ap (λ b. cond b (Err 902) (changed_by (changed world.settings (membership_of world) change) world change)) dead
+
+-- the views are those that membership makes
+views_made : (world : World) (change : Change) (m : Membership) → (after_change world change m).views ≡ m.views
+views_made world (Join silo places) m = refl
+views_made world (Leave silo) m = refl
+views_made world (Die silo) m = refl
+
+-- of another silo, it is as membership lets it
+module _ (world : World) (change : Change) (alive : is_of_dead world change ≡ false) where
+  decided_so : (o : Result Membership ℕ) → changed world.settings (membership_of world) change ≡ o → decides world change ≡ changed_by o world change
+  decided_so o is = ap (λ b. cond b (Err 902) (changed_by (changed world.settings (membership_of world) change) world change)) alive ∙ ap (λ r. changed_by r world change) is
+
+  -- what it leaves
+  pub leaves_made : LeavesWorld (decides world change) → IfOk (made_world world change) IsWorld
+  leaves_made leaves = by (changed world.settings (membership_of world) change) refl
+    where
+      by : (o : Result Membership ℕ) → changed world.settings (membership_of world) change ≡ o → IfOk (made_by o world change) IsWorld
+      by (Err number) is = tt
+      by (Ok m) is = subst LeavesWorld (decided_so (Ok m) is) leaves
+
+  -- what it tells
+  pub made_told : (after : World) (happening : Happening) → made_world world change ≡ Ok after → happening ≡ change_told after.views.version change (replaced_by (membership_of world) change)
+      → decides world change ≡ Ok (accepted_as after (record { happening = happening; sent = None }))
+  made_told after happening is told = by (changed world.settings (membership_of world) change) refl is
+    where
+      by : (o : Result Membership ℕ) → changed world.settings (membership_of world) change ≡ o → made_by o world change ≡ Ok after
+          → decides world change ≡ Ok (accepted_as after (record { happening = happening; sent = None }))
+      by (Err number) made after_is = cc
+      by (Ok m) made after_is =
+          let same : counted (after_change world change m) ≡ after = cc in
+          decided_so (Ok m) made
+          ∙ ap (λ (v : ViewsValue). Ok (accepted_as (counted (after_change world change m)) (record { happening = change_told v.version change (replaced_by (membership_of world) change); sent = None })))
+          (sym (views_made world change m))
+          ∙ ap (λ (w : World). Ok (accepted_as w (record { happening = change_told w.views.version change (replaced_by (membership_of world) change); sent = None }))) same
+          ∙ ap (λ (h : Happening). Ok (accepted_as after (record { happening = h; sent = None }))) (sym told)
+
+  -- what refuses it
+  pub made_refused : (excused : Result Accepted ℕ → Type 0) (number : Option ℕ) → RefusesBy IsNever number (made_world world change) → RefusesBy excused number (decides world change)
+  made_refused excused None refuses = absurd refuses
+  made_refused excused (Some n) refuses = by (changed world.settings (membership_of world) change) refl refuses
+    where
+      by : (o : Result Membership ℕ) → changed world.settings (membership_of world) change ≡ o → made_by o world change ≡ Err n → decides world change ≡ Err n
+      by (Err k) made refused = let same : k ≡ n = cc in decided_so (Err k) made ∙ ap Err same
+      by (Ok m) made refused = cc
+
+  -- or memory alone
+  pub change_may : IsOk (changed world.settings (membership_of world) change) → IsOk (decides world change)
+  change_may may = by (changed world.settings (membership_of world) change) refl may
+    where
+      by : (o : Result Membership ℕ) → changed world.settings (membership_of world) change ≡ o → IsOk o → IsOk (decides world change)
+      by (Ok m) is may = subst IsOk (sym (decided_so (Ok m) is)) refl
+      by (Err number) is may = absurd (cc (may))

@@ -1,27 +1,29 @@
 -- The world that the code leaves, field by field, is the one that the rule leaves.
-use Rattle.std.proofs.Common.{◌≡◌, ℕ, ◌+◌, ◌<◌, List, length, Bool, true, false, cond, not, Option, Some, None, Result, Ok, Err, IsSome, is_some, refl, sym, ◌∙◌, ap, subst, arith}
+use Rattle.std.proofs.Common.{◌≡◌, ℕ, ◌+◌, ◌<◌, List, false, Option, Some, None, Result, Ok, Err, IsSome, is_some, refl, sym, ◌∙◌, ap, subst, arith}
+use Rattle.std.specs.Prelude.{IfOk, IsSomeAnd}
 use Rattle.std.specs.Map.{lookup, remove_entry}
 use Rattle.std.specs.BTreeMap.{is_at, insert_entry}
 use Rattle.silo_address.specs.Silo.{Silo, IsSameEndpoint, silo_cmp}
 use Rattle.silo_address.proofs.Order.{silo_cmp_total, silo_cmp_exact, apart_in_order}
 use Rattle.membership_view.specs.Views.{ViewsValue, status_at, view_at}
-use Rattle.membership_view.specs.Changes.{Join, after_join, occupant, with_death, with_join}
+use Rattle.membership_view.specs.Changes as view
+use Rattle.membership_view.specs.Changes.{after_join, occupant, with_join}
 use Rattle.membership_view.specs.Step.{Joins}
 use Rattle.membership_view.specs.declared.Status.{Status}
 use Rattle.membership_view.proofs.Searches.{occupant_law}
 use Rattle.membership_view.proofs.Changes.{changes_are_steps}
-use Rattle.hash_ring.specs.Places.{PlacesValue, after_add, has_points, is_added, is_point_count, with_silo}
 use Rattle.directory_rules.specs.Laws.{ArePeopled, is_live}
 use Rattle.directory_rules.specs.Letter.{Letter}
 use Rattle.directory_rules.specs.Node.{Node, new_node}
-use Rattle.directory_rules.specs.declared.outcome.Happening.TheVariants.{Died}
-use Rattle.directory_rules.specs.World.{World, Accepted}
+use Rattle.directory_rules.specs.Membership.{Change, Join, Leave, Die, Membership, changed}
+use Rattle.directory_rules.specs.World.{World, membership_of}
 use Rattle.directory_rules.specs.Mail.{with_delivered, with_lost}
-use Rattle.directory_rules.specs.Happens.{after_joining, counted}
+use Rattle.directory_rules.specs.Happens.{after_change, after_joining, counted}
 use Rattle.letter_mail.specs.Mail.{MailValue, with_posted, with_stale}
 use Rattle.letter_mail.specs.Mail.{with_lost as lost_mail}
-use Rattle.directory_core.specs.Join.{nodes_without, with_admitted}
-use Rattle.directory_core.specs.Leave.{with_dead}
+use Rattle.directory_node.specs.Follows.{RefusesBy}
+use Rattle.directory_core.specs.Applied.{IsNever}
+use Rattle.directory_core.specs.Changes.{made_by, made_world, nodes_without}
 use Rattle.directory_core.specs.Steps.{after_step}
 use Rattle.directory_core.specs.Whole.{IsWorld}
 use Rattle.directory_core.proofs.Entries.{taken_before}
@@ -58,25 +60,31 @@ kept_loss world now same number mail is mail_is =
     subst (λ (m : MailValue). IsWorld (record world { accepted = world.accepted + 1; mail = m.letters; sent = m.sent })) (sym mail_is)
     (subst (λ (w : World). IsWorld (counted (with_lost w number))) (sym same) is)
 
--- ---- a death
-pub kept_death : (world now : World) → world ≡ now → (silo : Silo) (views : ViewsValue) (nodes : List (Silo × Node)) → IsWorld (with_dead now silo).world → views ≡ with_death world.views silo
-    → nodes ≡ remove_entry (is_at (silo_cmp silo)) world.nodes → IsWorld (record world { accepted = world.accepted + 1; views = views; nodes = nodes })
-kept_death world now same silo views nodes is views_are nodes_are =
-    subst (λ (v : ViewsValue). IsWorld (record world { accepted = world.accepted + 1; views = v; nodes = nodes })) (sym views_are)
-    (subst (λ (n : List (Silo × Node)). IsWorld (record world { accepted = world.accepted + 1; views = with_death world.views silo; nodes = n })) (sym nodes_are)
-    (subst (λ (w : World). IsWorld (with_dead w silo).world) (sym same) is))
+-- ---- a change of membership, as an equal world makes it
+made_so : (world now : World) → world ≡ now → (change : Change) (m : Membership) → changed world.settings (membership_of world) change ≡ Ok m
+    → made_world now change ≡ Ok (counted (after_change world change m))
+made_so world now same change m is = ap (λ (w : World). made_world w change) (sym same) ∙ ap (λ (o : Result Membership ℕ). made_by o world change) is
 
-pub death_told : (world now : World) → world ≡ now → (silo : Silo) (version : ℕ) (views : ViewsValue) (nodes : List (Silo × Node)) → version ≡ world.views.version + 1
-    → views ≡ with_death world.views silo → nodes ≡ remove_entry (is_at (silo_cmp silo)) world.nodes
-    → record { outcome = record { happening = Died version silo; sent = None }; world = record world { accepted = world.accepted + 1; views = views; nodes = nodes } } ≡ with_dead now silo
-death_told world now same silo version views nodes version_is views_are nodes_are =
-    ap (λ (v : ℕ). accepted_by v views nodes) version_is
-    ∙ ap (λ (v : ViewsValue). accepted_by (world.views.version + 1) v nodes) views_are
-    ∙ ap (λ (n : List (Silo × Node)). accepted_by (world.views.version + 1) (with_death world.views silo) n) nodes_are
-    ∙ ap (λ (w : World). with_dead w silo) same
-  where
-    accepted_by : ℕ → ViewsValue → List (Silo × Node) → Accepted
-    accepted_by v vs ns = record { outcome = record { happening = Died v silo; sent = None }; world = record world { accepted = world.accepted + 1; views = vs; nodes = ns } }
+pub left_so : (world now : World) → world ≡ now → (silo : Silo) (m : Membership) → changed world.settings (membership_of world) (Leave silo) ≡ Ok m
+    → made_world now (Leave silo) ≡ Ok (record world { accepted = world.accepted + 1; views = m.views; places = m.places })
+left_so world now same silo m is = made_so world now same (Leave silo) m is
+
+pub died_so : (world now : World) → world ≡ now → (silo : Silo) (m : Membership) (nodes : List (Silo × Node)) → changed world.settings (membership_of world) (Die silo) ≡ Ok m
+    → nodes ≡ remove_entry (is_at (silo_cmp silo)) world.nodes
+    → made_world now (Die silo) ≡ Ok (record world { accepted = world.accepted + 1; views = m.views; places = m.places; nodes = nodes })
+died_so world now same silo m nodes is nodes_are =
+    made_so world now same (Die silo) m is
+    ∙ ap (λ (n : List (Silo × Node)). Ok (record world { accepted = world.accepted + 1; views = m.views; places = m.places; nodes = n })) (sym nodes_are)
+
+-- or membership refuses it
+pub refused_so : (world now : World) → world ≡ now → (change : Change) (number : Option ℕ) → IsSomeAnd number (λ n. changed world.settings (membership_of world) change ≡ Err n)
+    → RefusesBy IsNever number (made_world now change)
+refused_so world now same change None is = absurd is
+refused_so world now same change (Some n) is = ap (λ (w : World). made_world w change) (sym same) ∙ ap (λ (o : Result Membership ℕ). made_by o world change) is
+
+-- what it makes is a world that events have made
+pub kept_made : (world after : World) (change : Change) → IfOk (made_world world change) IsWorld → made_world world change ≡ Ok after → IsWorld after
+kept_made world after change leaves is = subst (λ (o : Result World ℕ). IfOk o IsWorld) is leaves
 
 -- ---- a join
 none_of : {X : Type 0} (found : Option X) → is_some found ≡ false → found ≡ None
@@ -93,7 +101,7 @@ same_endpoint silo = search
 
 joins : (views : ViewsValue) (nodes : List (Silo × Node)) (silo : Silo) → ArePeopled views nodes → after_join views silo ≡ Ok (with_join views silo)
     → Joins silo (view_at views views.version) (view_at (with_join views silo) (with_join views silo).version)
-joins views nodes silo are may = changes_are_steps views (Join silo) (with_join views silo) (record { whole = are.whole; is = may })
+joins views nodes silo are may = changes_are_steps views (view.Join silo) (with_join views silo) (record { whole = are.whole; is = may })
 
 pub no_node : (views : ViewsValue) (nodes : List (Silo × Node)) (silo : Silo) → ArePeopled views nodes → after_join views silo ≡ Ok (with_join views silo) → lookup (is_at (silo_cmp silo)) nodes ≡ None
 no_node views nodes silo are may =
@@ -116,36 +124,15 @@ nodes_put views nodes silo node are may = by (occupant silo views.rows) refl
         taken_before silo_cmp silo_cmp_total silo_cmp_exact silo old node nodes are.by_address
         (apart_in_order silo_cmp silo_cmp_exact old silo (λ same. not_itself (is ∙ ap Some same)))
 
--- places that were accepted are those with the silo
-abbrev refused_or : (a b c : Bool) (k l m : ℕ) (made : PlacesValue) → Result PlacesValue ℕ
-refused_or a b c k l m made = cond (not a) (Err k) (cond (not b) (Err l) (cond c (Err m) (Ok made)))
+-- the silo has its node, and whom it replaces has none any more
+joined_nodes : (old : Option Silo) (world : World) (silo : Silo) (m : Membership) (nodes : List (Silo × Node)) → nodes ≡ insert_entry silo_cmp (nodes_without old world.nodes) silo (new_node world.settings silo)
+    → counted (after_joining world silo old m.views m.places) ≡ record world { accepted = world.accepted + 1; views = m.views; places = m.places; nodes = nodes }
+joined_nodes None world silo m nodes nodes_are = ap (λ (n : List (Silo × Node)). record world { accepted = world.accepted + 1; views = m.views; places = m.places; nodes = n }) (sym nodes_are)
+joined_nodes (Some old) world silo m nodes nodes_are = ap (λ (n : List (Silo × Node)). record world { accepted = world.accepted + 1; views = m.views; places = m.places; nodes = n }) (sym nodes_are)
 
-accepted_is : (a b c : Bool) (k l m : ℕ) (made next : PlacesValue) → refused_or a b c k l m made ≡ Ok next → (made ≡ next) × (c ≡ false)
-accepted_is false b c k l m made next is = cc
-accepted_is true false c k l m made next is = cc
-accepted_is true true true k l m made next is = cc
-accepted_is true true false k l m made next is = (cc, refl)
-
-pub places_are : (places next : PlacesValue) (silo : Silo) (given : List ℕ) → after_add places silo given ≡ Ok next
-    → (with_silo places silo given ≡ next) × (is_added places silo ≡ false)
-places_are places next silo given is =
-    accepted_is (is_point_count places.hashing (length given)) (has_points places.hashing (length given)) (is_added places silo) 402 403 404 (with_silo places silo given) next is
-
--- an equal world that the silo joined
-nodes_admitted : (old : Option Silo) (world : World) (silo : Silo) (views : ViewsValue) (places : PlacesValue) (nodes : List (Silo × Node))
-    → IsWorld (counted (after_joining world silo old views places)) → nodes ≡ insert_entry silo_cmp (nodes_without old world.nodes) silo (new_node world.settings silo)
-    → IsWorld (record world { accepted = world.accepted + 1; views = views; places = places; nodes = nodes })
-nodes_admitted None world silo views places nodes is nodes_are =
-    subst (λ (n : List (Silo × Node)). IsWorld (record world { accepted = world.accepted + 1; views = views; places = places; nodes = n })) (sym nodes_are) is
-nodes_admitted (Some old) world silo views places nodes is nodes_are =
-    subst (λ (n : List (Silo × Node)). IsWorld (record world { accepted = world.accepted + 1; views = views; places = places; nodes = n })) (sym nodes_are) is
-
-pub kept_admitted : (world now : World) → world ≡ now → (silo : Silo) (given : List ℕ) (views : ViewsValue) (places : PlacesValue) (nodes : List (Silo × Node))
-    → ((p : PlacesValue) → after_add now.places silo given ≡ Ok p → IsWorld (with_admitted now silo p)) → views ≡ with_join world.views silo → after_add world.places silo given ≡ Ok places
+pub joined_so : (world now : World) → world ≡ now → (silo : Silo) (given : List ℕ) (m : Membership) (nodes : List (Silo × Node))
+    → changed world.settings (membership_of world) (Join silo given) ≡ Ok m
     → nodes ≡ insert_entry silo_cmp (nodes_without (occupant silo world.views.rows) world.nodes) silo (new_node world.settings silo)
-    → IsWorld (record world { accepted = world.accepted + 1; views = views; places = places; nodes = nodes })
-kept_admitted world now same silo given views places nodes is views_are added nodes_are =
-    let is_first : IsWorld (with_admitted world silo places) =
-    subst (λ (w : World). IsWorld (with_admitted w silo places)) (sym same) (is places (ap (λ (w : World). after_add w.places silo given) (sym same) ∙ added)) in
-    subst (λ (v : ViewsValue). IsWorld (record world { accepted = world.accepted + 1; views = v; places = places; nodes = nodes })) (sym views_are)
-    (nodes_admitted (occupant silo world.views.rows) world silo (with_join world.views silo) places nodes is_first nodes_are)
+    → made_world now (Join silo given) ≡ Ok (record world { accepted = world.accepted + 1; views = m.views; places = m.places; nodes = nodes })
+joined_so world now same silo given m nodes is nodes_are =
+    made_so world now same (Join silo given) m is ∙ ap (λ (w : World). Ok w) (joined_nodes (occupant silo world.views.rows) world silo m nodes nodes_are)

@@ -4,10 +4,10 @@ use Rattle.std.specs.Map.{keys_of}
 use Rattle.std.proofs.lemmas.List.Elements.{All-nil, All-cons, All-append}
 use Rattle.silo_address.specs.Silo.{Silo}
 use Rattle.membership_view.specs.View.{ViewValue}
-use Rattle.membership_view.specs.Views.{ViewsValue, first_views, view_at}
-use Rattle.hash_ring.specs.Places.{PlacesValue}
+use Rattle.membership_view.specs.Views.{view_at}
 use Rattle.hash_ring.specs.Ring.{are_added, ring_of}
 use Rattle.directory_rules.specs.Settings.{Settings, AreSettings}
+use Rattle.directory_rules.specs.Membership.{Membership, first_membership}
 use Rattle.directory_rules.specs.Node.{Node}
 use Rattle.directory_rules.specs.Event.{Event, IsEvent}
 use Rattle.directory_rules.specs.World.{World, Accepted, first_world}
@@ -36,15 +36,15 @@ unfolding run
 first_made settings are = record { in_range = are; events = []; named = All-nil IsEvent; made = refl }
 
 -- of equal parts too
-pub first_kept : (settings : Settings) (views : ViewsValue) (places : PlacesValue) (nodes : List (Silo × Node)) (mail : MailValue) → AreSettings settings → views ≡ first_views settings.silos
-    → places ≡ record { hashing = settings.hashing; points = settings.points; entries = [] } → nodes ≡ [] → mail ≡ record { letters = []; sent = 0 }
-    → IsWorld (record { settings = settings; accepted = 0; views = views; places = places; nodes = nodes; mail = mail.letters; sent = mail.sent })
-first_kept settings views places nodes mail are views_are places_are nodes_are mail_is =
-    subst (λ (v : ViewsValue). IsWorld (record { settings = settings; accepted = 0; views = v; places = places; nodes = nodes; mail = mail.letters; sent = mail.sent })) (sym views_are)
-    (subst (λ (p : PlacesValue). IsWorld (record { settings = settings; accepted = 0; views = first_views settings.silos; places = p; nodes = nodes; mail = mail.letters; sent = mail.sent })) (sym places_are)
-    (subst (λ (n : List (Silo × Node)). IsWorld (record { settings = settings; accepted = 0; views = first_views settings.silos; places = (first_world settings).places; nodes = n; mail = mail.letters; sent = mail.sent })) (sym nodes_are)
-    (subst (λ (m : MailValue). IsWorld (record { settings = settings; accepted = 0; views = first_views settings.silos; places = (first_world settings).places; nodes = []; mail = m.letters; sent = m.sent })) (sym mail_is)
-    (first_made settings are))))
+pub first_kept : (settings : Settings) (m : Membership) (nodes : List (Silo × Node)) (mail : MailValue) → AreSettings settings → m ≡ first_membership settings → nodes ≡ []
+    → mail ≡ record { letters = []; sent = 0 }
+    → IsWorld (record { settings = settings; accepted = 0; views = m.views; places = m.places; nodes = nodes; mail = mail.letters; sent = mail.sent })
+first_kept settings m nodes mail are m_is nodes_are mail_is =
+    let first = first_membership settings in
+    subst (λ (m : Membership). IsWorld (record { settings = settings; accepted = 0; views = m.views; places = m.places; nodes = nodes; mail = mail.letters; sent = mail.sent })) (sym m_is)
+    (subst (λ (n : List (Silo × Node)). IsWorld (record { settings = settings; accepted = 0; views = first.views; places = first.places; nodes = n; mail = mail.letters; sent = mail.sent })) (sym nodes_are)
+    (subst (λ (l : MailValue). IsWorld (record { settings = settings; accepted = 0; views = first.views; places = first.places; nodes = []; mail = l.letters; sent = l.sent })) (sym mail_is)
+    (first_made settings are)))
 
 -- what one event more leaves
 pub further : (world : World) (event : Event) → IsWorld world → IsEvent event → LeavesWorld (happens world event)
@@ -103,15 +103,14 @@ current_seen world is silo node there current =
     let sees = seeing world is silo node there in
     sees.ring_is ∙ ap (λ (v : ViewValue). ring_of v world.places) (sees.view_is ∙ ap (λ n. view_at world.views n) current)
 
--- so the places are known that a sight asks for; the same of equal values
-pub placed_sight : (world now : World) → world ≡ now → (version : ℕ) (node : Node) (before view : ViewValue) → IsWorld world → node.ring ≡ ring_of node.view now.places
-    → before ≡ view_at now.views (version - 1) → view ≡ view_at now.views version → ArePlaced node before view world.places
-placed_sight world now same version node before view is ring_is before_is view_is = record {
+-- so the places are known that a sight asks for
+pub placed_sight : (world : World) (version : ℕ) (node : Node) (before view : ViewValue) → IsWorld world → node.ring ≡ ring_of node.view world.places
+    → before ≡ view_at world.views (version - 1) → view ≡ view_at world.views version → ArePlaced node before view world.places
+placed_sight world version node before view is ring_is before_is view_is = record {
   earlier = at (version - 1) before before_is;
   now = at version view view_is;
-  ring = ring_is ∙ ap (λ (w : World). ring_of node.view w.places) (sym same);
+  ring = ring_is;
 }
   where
-    at : (v : ℕ) (seen : ViewValue) → seen ≡ view_at now.views v → are_added seen world.places ≡ true
-    at v seen seen_is =
-        ap (λ s. are_added s world.places) (seen_is ∙ ap (λ (w : World). view_at w.views v) (sym same)) ∙ added_view world.views world.places v (all_added world is)
+    at : (v : ℕ) (seen : ViewValue) → seen ≡ view_at world.views v → are_added seen world.places ≡ true
+    at v seen seen_is = ap (λ s. are_added s world.places) seen_is ∙ added_view world.views world.places v (all_added world is)

@@ -14,7 +14,7 @@ IsOkOrFull (Ok accepted) = Unit {0}
 IsOkOrFull (Err number) = number ≡ 909
 
 -- nothing that happens
-abbrev pub IsNever : Result Accepted ℕ → Type 0
+abbrev pub IsNever : {A : Type 0} → Result A ℕ → Type 0
 IsNever happened = ⊥
 
 -- out of memory is excused where the rule accepts what an application asks; at a nudge also where the letters would be more than may

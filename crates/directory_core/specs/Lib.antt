@@ -1,11 +1,10 @@
 pub mod Numbers
 pub mod Steps
 pub mod WorldMail
-pub mod Join
-pub mod Leave
 pub mod Whole
 pub mod WorldModel
 pub mod Transitions
+pub mod Changes
 pub mod CurrentView
 pub mod Applied
 pub mod Delivery

@@ -32,4 +32,4 @@ IsShared views places shared = IfSome shared (IsToVersion views places)
 -- what the fields keep
 pub record IsWhole (w : Inside) : Type 0 where
   pub world : IsWorld (world_of w)
-  pub shared : IsShared w.views w.places w.shared
+  pub shared : IsShared w.membership.views w.membership.places w.shared

@@ -7,8 +7,8 @@ abbrev pub world_of : Inside → World
 world_of w = record {
   settings = w.settings;
   accepted = w.accepted;
-  views = w.views;
-  places = w.places;
+  views = w.membership.views;
+  places = w.membership.places;
   nodes = w.nodes.entries;
   mail = w.mail.letters;
   sent = w.mail.sent;

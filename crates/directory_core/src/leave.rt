@@ -1,24 +1,25 @@
-ghost use Rattle.std.specs.Prelude.{◌≡◌, ◌≢◌, ◌+◌, ◌<◌, IfErr, IsSome, OnErr, Some};
-ghost use Rattle.membership_view.specs.Changes.{with_death, with_leave};
-ghost use Rattle.membership_view.specs.Views.{status_at};
-ghost use Rattle.membership_view.specs.declared.Status.TheVariants.{Active, Dead};
+ghost use Rattle.std.specs.Prelude.{◌≡◌, ◌<◌, IfErr, IfOk, OnErr};
 ghost use Rattle.directory_rules.specs.Happens.{decides, status_now};
+ghost use Rattle.directory_rules.specs.Members.{is_known_dead};
 ghost use Rattle.directory_rules.specs.Membership.{Die, Leave};
 ghost use Rattle.directory_rules.specs.World.{accepted_as};
 ghost use Rattle.directory_node.specs.Follows.{Follows};
+ghost use Rattle.directory_node.specs.MembershipModel.{change_refusal_number};
 ghost use Rattle.directory_core.specs.Applied.{IsNever};
-ghost use Rattle.directory_core.specs.Leave.{with_dead, with_leaving};
+ghost use Rattle.directory_core.specs.Changes.{made_world};
 ghost use Rattle.directory_core.specs.Numbers.{IsNumberedUnlessMemory, event_refusal_number};
 ghost use Rattle.directory_core.specs.Whole.{IsWorld, LeavesWorld};
 
 use crate::nodes::remove_node;
 use crate::{EventRefusal, World};
+use directory_node::ChangeRefusal;
 use directory_rules::{Happening, Outcome};
-use membership_view::{Status, Views, ViewsError};
+use membership_view::Status;
 use silo_address::SiloAddress;
 
+// A silo leaves or dies, as membership lets it; but in a world nothing happens to a silo that is Dead.
 impl World {
-    // A silo begins to leave: 202, 902, 203.
+    // A silo begins to leave: 902, then 202, 203.
     #[inline(never)]
     pub(crate) fn leave(&mut self, silo: &SiloAddress) -> Result<Outcome, EventRefusal>
         requires room { self.old.accepted < self.old.settings.events }
@@ -27,15 +28,22 @@ impl World {
         ensures numbered { IfErr result IsNumberedUnlessMemory }
         ensures unchanged { OnErr result (self.new ≡ self.old) }
     {
-        match self.status(silo) {
-            None => Err(EventRefusal::Views(ViewsError::UnknownSilo)),
-            Some(Status::Active) => Ok(self.begin_to_leave(silo)),
-            Some(Status::Leaving) => Err(EventRefusal::Views(ViewsError::NotActive)),
-            Some(Status::Dead) => Err(EventRefusal::DeadSilo),
+        if self.is_dead(silo) {
+            return Err(EventRefusal::DeadSilo);
+        }
+        match self.begin_to_leave(silo) {
+            Ok(()) => Ok(Outcome {
+                happening: Happening::Left {
+                    version: self.current(),
+                    silo: *silo,
+                },
+                sent: None,
+            }),
+            Err(refusal) => Err(EventRefusal::of_change(refusal)),
         }
     }
 
-    // A silo dies: 202, 902.
+    // A silo dies: 902, then 202.
     #[inline(never)]
     pub(crate) fn kill(&mut self, silo: &SiloAddress) -> Result<Outcome, EventRefusal>
         requires room { self.old.accepted < self.old.settings.events }
@@ -44,84 +52,57 @@ impl World {
         ensures numbered { IfErr result IsNumberedUnlessMemory }
         ensures unchanged { OnErr result (self.new ≡ self.old) }
     {
-        match self.status(silo) {
-            None => Err(EventRefusal::Views(ViewsError::UnknownSilo)),
-            Some(Status::Active | Status::Leaving) => Ok(self.die(silo)),
-            Some(Status::Dead) => Err(EventRefusal::DeadSilo),
+        if self.is_dead(silo) {
+            return Err(EventRefusal::DeadSilo);
+        }
+        match self.die(silo) {
+            Ok(()) => Ok(Outcome {
+                happening: Happening::Died {
+                    version: self.current(),
+                    silo: *silo,
+                },
+                sent: None,
+            }),
+            Err(refusal) => Err(EventRefusal::of_change(refusal)),
         }
     }
 
-    // A silo's status in the current view.
-    pub(crate) fn status(&self, silo: &SiloAddress) -> Option<Status>
-        ensures { result ≡ status_now self.now silo.now }
+    // Whether a silo is Dead in the current view.
+    fn is_dead(&self, silo: &SiloAddress) -> bool
+        ensures { result ≡ is_known_dead (status_now self.now silo.now) }
     {
-        self.views.status(self.views.current(), silo)
+        match self.membership.status(silo) {
+            Some(Status::Dead) => true,
+            Some(Status::Active | Status::Leaving) | None => false,
+        }
     }
 
-    // An Active silo begins to leave.
-    fn begin_to_leave(&mut self, silo: &SiloAddress) -> Outcome
-        requires active { status_now self.old silo.now ≡ Some Active }
+    // A silo begins to leave.
+    fn begin_to_leave(&mut self, silo: &SiloAddress) -> Result<(), ChangeRefusal>
         requires room { self.old.accepted < self.old.settings.events }
-        requires leaves { IsWorld (with_leaving self.old silo.now).world }
-        ensures { accepted_as self.new result ≡ with_leaving self.old silo.now }
+        requires leaves { IfOk (made_world self.old (Leave silo.now)) IsWorld }
+        ensures made { Follows (λ _. self.new) change_refusal_number IsNever (made_world self.old (Leave silo.now)) result }
+        ensures unchanged { OnErr result (self.new ≡ self.old) }
     {
+        self.membership.leave(silo)?;
         self.shared = None;
-        let version = leave_in(&mut self.views, silo);
         self.settings.counts_fit();
         self.accepted += 1;
-        Outcome {
-            happening: Happening::Left {
-                version,
-                silo: *silo,
-            },
-            sent: None,
-        }
+        Ok(())
     }
 
-    // A silo that isn't Dead dies, and its node goes.
-    fn die(&mut self, silo: &SiloAddress) -> Outcome
-        requires there { IsSome (status_now self.old silo.now) }
-        requires not_dead { status_now self.old silo.now ≢ Some Dead }
+    // A silo dies, and its node goes.
+    fn die(&mut self, silo: &SiloAddress) -> Result<(), ChangeRefusal>
         requires room { self.old.accepted < self.old.settings.events }
-        requires leaves { IsWorld (with_dead self.old silo.now).world }
-        ensures { accepted_as self.new result ≡ with_dead self.old silo.now }
+        requires leaves { IfOk (made_world self.old (Die silo.now)) IsWorld }
+        ensures made { Follows (λ _. self.new) change_refusal_number IsNever (made_world self.old (Die silo.now)) result }
+        ensures unchanged { OnErr result (self.new ≡ self.old) }
     {
+        self.membership.declare_dead(silo)?;
         self.shared = None;
-        let version = die_in(&mut self.views, silo);
         remove_node(&mut self.nodes, silo);
         self.settings.counts_fit();
         self.accepted += 1;
-        Outcome {
-            happening: Happening::Died {
-                version,
-                silo: *silo,
-            },
-            sent: None,
-        }
-    }
-}
-
-// An Active silo becomes Leaving; answers the version that this makes.
-fn leave_in(views: &mut Views, silo: &SiloAddress) -> u64
-    requires { status_at views.old views.old.version silo.now ≡ Some Active }
-    ensures views { views.new ≡ with_leave views.old silo.now }
-    ensures version { result ≡ views.old.version + 1 }
-{
-    match views.leave(silo) {
-        Ok(version) => version,
-        Err(_) => unreachable!(),
-    }
-}
-
-// A silo that isn't Dead becomes Dead; answers the version that this makes.
-fn die_in(views: &mut Views, silo: &SiloAddress) -> u64
-    requires there { IsSome (status_at views.old views.old.version silo.now) }
-    requires not_dead { status_at views.old views.old.version silo.now ≢ Some Dead }
-    ensures views { views.new ≡ with_death views.old silo.now }
-    ensures version { result ≡ views.old.version + 1 }
-{
-    match views.declare_dead(silo) {
-        Ok(version) => version,
-        Err(_) => unreachable!(),
+        Ok(())
     }
 }

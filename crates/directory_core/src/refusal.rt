@@ -1,10 +1,9 @@
 ghost use Rattle.std.specs.Prelude.{◌≡◌};
-ghost use Rattle.hash_ring.specs.Numbers.{ring_error_number};
-ghost use Rattle.membership_view.specs.Refusal.{views_error_number};
+ghost use Rattle.directory_node.specs.MembershipModel.{change_refusal_number};
 ghost use Rattle.directory_node.specs.Numbers.{step_refusal_number};
 ghost use Rattle.directory_core.specs.Numbers.{IsNumberedUnlessMemory, event_refusal_number};
 
-use directory_node::StepRefusal;
+use directory_node::{ChangeRefusal, StepRefusal};
 use hash_ring::RingError;
 use membership_view::ViewsError;
 use thiserror::Error;
@@ -63,25 +62,17 @@ impl EventRefusal {
         }
     }
 
-    // A refusal of membership. Out of memory is one refusal, wherever it was met.
-    pub(crate) fn of_views(refusal: ViewsError) -> EventRefusal
-        ensures number { event_refusal_number result ≡ views_error_number refusal }
+    // A refusal of a change of membership. Out of memory is one refusal, wherever it was met.
+    pub(crate) fn of_change(refusal: ChangeRefusal) -> EventRefusal
+        ensures number { event_refusal_number result ≡ change_refusal_number refusal }
         ensures numbered { IsNumberedUnlessMemory result }
     {
         match refusal {
-            ViewsError::OutOfMemory => EventRefusal::OutOfMemory,
-            refusal => EventRefusal::Views(refusal),
-        }
-    }
-
-    // A refusal of the ring.
-    pub(crate) fn of_ring(refusal: RingError) -> EventRefusal
-        ensures number { event_refusal_number result ≡ ring_error_number refusal }
-        ensures numbered { IsNumberedUnlessMemory result }
-    {
-        match refusal {
-            RingError::OutOfMemory => EventRefusal::OutOfMemory,
-            refusal => EventRefusal::Ring(refusal),
+            ChangeRefusal::OutOfMemory
+            | ChangeRefusal::Views(ViewsError::OutOfMemory)
+            | ChangeRefusal::Ring(RingError::OutOfMemory) => EventRefusal::OutOfMemory,
+            ChangeRefusal::Views(refusal) => EventRefusal::Views(refusal),
+            ChangeRefusal::Ring(refusal) => EventRefusal::Ring(refusal),
         }
     }
 

@@ -64,8 +64,7 @@ impl World {
     fn is_seeable(&self, silo: &SiloAddress, version: u64) -> bool
         ensures { result ≡ is_seeable (membership_of self.now) silo.now version }
     {
-        let joined = self.views.joined_at(silo).unwrap_or(0);
-        version <= self.views.current() && joined <= version
+        self.membership.is_seeable(silo, version)
     }
 
     // A node's sight of a newer version, as a plan, and the transition by which it goes there, if others may go there by the same.
@@ -108,7 +107,7 @@ impl World {
                 return shared.copy();
             }
         }
-        node.transition(self.alloc, before, view, &self.places)
+        node.transition(self.alloc, before, view, self.membership.places())
     }
 
     // The view of a version that was made.
@@ -117,9 +116,8 @@ impl World {
         ensures exact { IfOk result (λ view. view ≡ view_at self.now.views version) }
         ensures memory { IfErr result (λ refusal. refusal ≡ EventRefusal.OutOfMemory) }
     {
-        match self.views.view(self.alloc, version) {
-            Ok(Some(view)) => Ok(view),
-            Ok(None) => unreachable!(),
+        match self.membership.view(self.alloc, version) {
+            Ok(view) => Ok(view),
             Err(_) => Err(EventRefusal::OutOfMemory),
         }
     }

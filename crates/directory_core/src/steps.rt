@@ -107,7 +107,7 @@ impl World {
         ensures number { event_refusal_number result ≡ Some (absent_number self.now silo.now) }
         ensures numbered { IsNumberedUnlessMemory result }
     {
-        match self.status(silo) {
+        match self.membership.status(silo) {
             None => EventRefusal::NoSuchSilo,
             Some(Status::Active | Status::Leaving | Status::Dead) => EventRefusal::DeadSilo,
         }

@@ -18,7 +18,7 @@ ghost use Rattle.directory_core.specs.CurrentView.{ring_of_current_view};
 ghost use Rattle.directory_core.specs.WorldMail.{mail_of};
 ghost use Rattle.directory_core.specs.Whole.{IsWorld};
 
-use directory_node::{Node, SharedNode, Transition};
+use directory_node::{Membership, Node, SharedNode, Transition};
 use directory_rules::Settings;
 use hash_ring::{Places, Point, Ring};
 use letter_mail::{Mail, MailedLetter};
@@ -36,8 +36,7 @@ pub struct World {
     pub(crate) alloc: Global,
     pub(crate) settings: Settings,
     pub(crate) accepted: u64,
-    pub(crate) views: Views,
-    pub(crate) places: Places,
+    pub(crate) membership: Membership,
     // Each may be held by others too, for which it stays as it is.
     pub(crate) nodes: BTreeMap<SiloAddress, SharedNode>,
     pub(crate) mail: Mail,
@@ -64,15 +63,11 @@ impl World {
         ensures { result ≡ first_world settings }
     {
         settings.in_range();
-        let Ok(places) = Places::new(alloc, settings.hashing(), settings.points()) else {
-            unreachable!()
-        };
         World {
             alloc,
             settings,
             accepted: 0,
-            views: Views::new(alloc, settings.silos()),
-            places,
+            membership: Membership::new(alloc, &settings),
             nodes: BTreeMap::new(alloc),
             mail: Mail::new(alloc),
             shared: None,
@@ -104,21 +99,21 @@ impl World {
     pub fn views(&self) -> &Views
         ensures { result.now ≡ self.now.views }
     {
-        &self.views
+        self.membership.views()
     }
 
     /// The current version.
     pub fn current(&self) -> u64
         ensures { result ≡ self.now.views.version }
     {
-        self.views.current()
+        self.views().current()
     }
 
     /// Each silo's places, of those that ever joined.
     pub fn places(&self) -> &Places
         ensures { result.now ≡ self.now.places }
     {
-        &self.places
+        self.membership.places()
     }
 
     /// The node of a silo; `None` where the silo never joined, or is Dead.
@@ -177,10 +172,8 @@ impl World {
     pub fn current_ring(&self, alloc: Global) -> Result<Ring, AllocError>
         ensures { IfOk result (λ ring. ring ≡ ring_of_current_view self.now) }
     {
-        let Some(view) = self.views.view(alloc, self.views.current())? else {
-            unreachable!()
-        };
-        match Ring::anew(alloc, &view, &self.places) {
+        let view = self.membership.view(alloc, self.current())?;
+        match Ring::anew(alloc, &view, self.places()) {
             Ok(ring) => Ok(ring),
             Err(_) => Err(AllocError),
         }

@@ -3,7 +3,7 @@ use denote.Builtin.{u64, unit}
 use Rattle.silo_workers.proofs.Parts.{Crosses, fields, modelled, variants, choice, number32, number64, truth, nothing}
 use Rattle.silo_workers.proofs.Holders.{heap_field_crosses, optional, boxed, listed, queued, mapped}
 use Rattle.silo_workers.proofs.Names.{silo_crosses}
-use Rattle.silo_workers.proofs.Members.{settings_cross, views_cross, places_cross}
+use Rattle.silo_workers.proofs.Members.{membership_crosses, settings_cross}
 use Rattle.silo_workers.proofs.Hosts.{grain_map_crosses}
 use Rattle.silo_workers.proofs.Letters.{letter_crosses}
 use Rattle.silo_workers.proofs.Nodes.{shared_crosses, transition_crosses}
@@ -44,4 +44,4 @@ mail_crosses = modelled mail_inside.the_type _ _ _ _ (heap_field_crosses, (grain
 
 pub world_crosses : Crosses world.the_row
 world_crosses =
-    modelled world_inside.the_type _ _ _ _ (heap_field_crosses, (settings_cross, (number64, (views_cross, (places_cross, (search (mapped, silo_crosses, shared_crosses), (mail_crosses, (optional transition.the_row transition_crosses, tt))))))))
+    modelled world_inside.the_type _ _ _ _ (heap_field_crosses, (settings_cross, (number64, (membership_crosses, (search (mapped, silo_crosses, shared_crosses), (mail_crosses, (optional transition.the_row transition_crosses, tt)))))))
