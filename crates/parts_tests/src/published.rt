@@ -106,7 +106,8 @@ fn publish<R: Wait + Abort>(
     version: u64,
 ) -> Told
     requires { IsRingBy publisher.old.last places.now }
-    ensures { IsRingBy publisher.new.last places.now }
+    ensures by_places { IsRingBy publisher.new.last places.now }
+    ensures of { publisher.new.of ≡ publisher.old.of }
 {
     let view = view(rt, alloc, views, version);
     let last = publisher.version();
@@ -129,7 +130,9 @@ fn check_route(
     reader: &mut RouteReader,
     version: u64,
     number: u64,
-) {
+)
+    ensures { reader.new.of ≡ reader.old.of }
+{
     let Route { version: by, owner } = reader.route(HASH).expect(rt, "a route");
     let owner = owner.expect(rt, "an owner");
     assert_eq!(rt; by, version);
@@ -159,6 +162,7 @@ fn a_reader_routes_by_what_was_published(rt: HostRuntime) -> Result<(), Fail> {
     assert_eq!(rt; told.version(), 2);
     reader.learn(told);
     check_route(&rt, alloc, &mut reader, 2, 2);
+    publisher.has_shown(&reader);
     publisher.close(&rt);
     check_shut_out(&rt, &mut reader);
     Ok(())

@@ -1,3 +1,4 @@
+pub mod Logs
 pub mod Steps
 pub mod Ends
 pub mod Send

@@ -1,16 +1,14 @@
 -- The steps keep the rule.
-use Rattle.std.proofs.Common.{◌≡◌, ℕ, zero, suc, ◌+◌, ◌<◌, ◌≤◌, List, [], ◌∷◌, ◌++◌, length, take, Option, Some, None, refl, sym, ap, ◌∙◌, subst, append_assoc, append-nil, length-append, ⊎_elim, arith}
+use Rattle.std.proofs.Common.{◌≡◌, ℕ, zero, suc, List, [], ◌∷◌, ◌++◌, Option, Some, None, refl, sym, ap, ◌∙◌, subst, append_assoc, append-nil, ⊎_elim}
 use Rattle.std.specs.Prelude.{IfSome, slice_set}
 use Rattle.std.specs.List.{All}
 use Rattle.std.proofs.lemmas.List.Elements.{All-nil, All-cons, All-head, All-tail, All-set, All-push, All-weaker}
-use Rattle.std.proofs.lemmas.List.{take-append-le}
-use Rattle.std.proofs.Math.Seq.{take-append_seam}
 use mathlib.Core.Option.{some, some-injective, some-ne-none}
 use lib.ListN.{get_elem?}
 use Rattle.atomic_table.proofs.Lists.{at_set}
 use Rattle.crossbeam_utils.specs.Register.{Admits, Turns, TurnsAt, Forks, Merges}
 use Rattle.hash_ring.specs.Ring.{RingValue}
-use Rattle.published_rings.specs.Shown.{Publication, ShownValue, NextValue, showing, IsOfView}
+use Rattle.published_rings.specs.Shown.{EditionValue, Publication, ShownValue, all_of, edition_after, publication_of, showing}
 use Rattle.published_rings.specs.Rule.{Begins, IsEnd, Keeps, Looks, Opens, Adds}
 use Rattle.published_rings.specs.declared.rule.Known.{Known}
 
@@ -26,22 +24,15 @@ begins_itself all = ([], sym (append-nil all))
 begins_longer : (seen all : List RingValue) (ring : RingValue) → Begins seen all → Begins seen (all ++ ring ∷ [])
 begins_longer seen all ring b = (b.0 ++ ring ∷ [], ap (λ l. l ++ ring ∷ []) b.1 ∙ append_assoc seen b.0 (ring ∷ []))
 
--- the rings up to the one that is shown
-abbrev pub whole : List RingValue → ShownValue → List RingValue
-whole earlier shown = earlier ++ shown.ring ∷ []
+pub begins_then : (first second third : List RingValue) → Begins first second → Begins second third → Begins first third
+begins_then first second third one other = (one.0 ++ other.0, other.1 ∙ (ap (λ l. l ++ other.0) one.1 ∙ append_assoc first one.0 other.0))
 
 -- ---- ends
 abbrev pub newcomer : Known
 newcomer = record { of = None; seen = [] }
 
-new_end : (of : Publication) (all : List RingValue) → IsEnd of all newcomer
-new_end of all = record { named = tt; begins = (all, refl) }
-
-whole_end : (of : Publication) (all : List RingValue) → IsEnd of all (record { of = Some of; seen = all })
-whole_end of all = record { named = refl; begins = begins_itself all }
-
-longer_end : (of : Publication) (all : List RingValue) (ring : RingValue) (known : Known) → IsEnd of all known → IsEnd of (all ++ ring ∷ []) known
-longer_end of all ring known h = record { named = h.named; begins = begins_longer known.seen all ring h.begins }
+new_end : (shown : ShownValue) → IsEnd shown newcomer
+new_end shown = record { named = tt; begins = (all_of shown.edition, refl) }
 
 -- who knows which publication it is of knows the one that is shown
 stays_of : (own : Option Publication) (of its : Publication) → IfSome own (λ known. known ≡ of) → own ≡ Some its → ◌≡◌ {A = Option Publication} (Some of) (Some its)
@@ -49,95 +40,48 @@ stays_of None of its named is = absurd (cc is)
 stays_of (Some known) of its named is = ap Some (sym named) ∙ is
 
 -- ---- what keeps the rule
-pub opens : (first : ShownValue) → first.before ≡ 0 → IsOfView first.ring → Keeps first (newcomer ∷ [])
-opens first none made = record {
-  earlier = [];
-  counted = sym none;
-  older = All-nil (λ (ring : RingValue). ring.version < first.ring.version);
-  made = made;
-  each = All-cons (IsEnd first.of (first.ring ∷ [])) newcomer [] (new_end first.of (first.ring ∷ [])) (All-nil (IsEnd first.of (first.ring ∷ [])));
-}
-
--- the ends know other things
-with_ends : (x : ShownValue) (views next : List Known) (h : Keeps x views) → All (IsEnd x.of (whole h.earlier x)) next → Keeps x next
-with_ends x views next h ends = record { earlier = h.earlier; counted = h.counted; older = h.older; made = h.made; each = ends }
+pub opens : (first : ShownValue) → Keeps first (newcomer ∷ [])
+opens first = All-cons (IsEnd first) newcomer [] (new_end first) (All-nil (IsEnd first))
 
 pub admits : Admits Keeps newcomer
-admits x views h = with_ends x views (views ++ newcomer ∷ []) h (All-push (IsEnd x.of (whole h.earlier x)) views newcomer h.each (new_end x.of (whole h.earlier x)))
+admits x views h = All-push (IsEnd x) views newcomer h (new_end x)
 
 pub looks : (seat : ℕ) (known : Known) → Turns Keeps seat known (λ x. x) Looks
 looks seat known x views h at =
-    let all = whole h.earlier x in
-    let now : Known = record { of = Some x.of; seen = all } in
-    let its = all_at (IsEnd x.of all) views seat known h.each at in (
+    let its = all_at (IsEnd x) views seat known h at in
+    let now : Known = record { of = Some (publication_of x); seen = all_of x.edition } in (
       now,
-      with_ends x views (slice_set views seat now) h (All-set (IsEnd x.of all) views seat now (whole_end x.of all) h.each),
-      record {
-        earlier = h.earlier;
-        counted = h.counted;
-        older = h.older;
-        made = h.made;
-        whole = refl;
-        begins = its.begins;
-        stays = λ of is. stays_of known.of x.of of its.named is;
-      },
+      All-set (IsEnd x) views seat now (record { named = refl; begins = begins_itself (all_of x.edition) }) h,
+      record { of = refl; all = refl; begins = its.begins; stays = λ of is. stays_of known.of (publication_of x) of its.named is },
     )
 
-none_in : (xs : List RingValue) → length xs ≡ 0 → xs ≡ []
-none_in [] is = refl
-none_in (ring ∷ xs) is = absurd (omega (is, arith))
+-- the first edition is shown as it is
+pub opens_so : (seat : ℕ) (known : Known) (x : ShownValue) → TurnsAt Keeps seat known x x Opens
+opens_so seat known x views h at =
+    let its = all_at (IsEnd x) views seat known h at in
+    let now : Known = record known { of = Some (publication_of x) } in
+    (now, All-set (IsEnd x) views seat now (record { named = refl; begins = its.begins }) h, refl)
 
--- the first ring is shown as it is
-pub opens_so : (seat : ℕ) (known : Known) (x : ShownValue) → x.before ≡ 0 → TurnsAt Keeps seat known x x Opens
-opens_so seat known x first views h at =
-    let all = whole h.earlier x in
-    let now : Known = record { of = Some x.of; seen = x.ring ∷ [] } in
-    let is : all ≡ x.ring ∷ [] = ap (λ l. l ++ x.ring ∷ []) (none_in h.earlier (h.counted ∙ first)) in
-    let its : IsEnd x.of all now = record { named = refl; begins = ([], is) } in (
-      now,
-      with_ends x views (slice_set views seat now) h (All-set (IsEnd x.of all) views seat now its h.each),
-      refl,
-    )
+-- an end of the publication that shows one edition more
+end_after : (x : ShownValue) (edition : EditionValue) → edition ≡ edition_after x.edition edition.ring → (known : Known) → IsEnd x known → IsEnd (showing x edition) known
+end_after x edition follows known end =
+    let y : ShownValue = showing x (edition_after x.edition edition.ring) in
+    subst (λ (e : EditionValue). IsEnd (showing x e) known) (sym follows) (record { named = end.named; begins = begins_longer known.seen (all_of x.edition) edition.ring end.begins })
 
--- an end that has seen all rings before the last one knows them
-front : (seen earlier : List RingValue) (shown : ShownValue) → length earlier ≡ shown.before → shown.before ≤ length seen → Begins seen (whole earlier shown) → take shown.before seen ≡ earlier
-front seen earlier shown counted within b =
-    sym (take-append-le shown.before seen b.0 within) ∙ ap (λ l. take shown.before l) (sym b.1) ∙ ap (λ n. take n (whole earlier shown)) (sym counted) ∙ take-append_seam earlier (shown.ring ∷ [])
-
-pub adds : (seat : ℕ) (known : Known) (x : ShownValue) (next : NextValue) → x.before ≤ length known.seen → x.ring.version < next.ring.version → next.before ≡ x.before + 1 → IsOfView next.ring → TurnsAt Keeps seat known x (showing x next) Adds
-adds seat known x next within newer counted made views h at =
-    let all = whole h.earlier x in
-    let longer = all ++ next.ring ∷ [] in
-    let its = all_at (IsEnd x.of all) views seat known h.each at in
-    let now : Known = record known { seen = take x.before known.seen ++ x.ring ∷ next.ring ∷ [] } in
-    let same : now.seen ≡ longer =
-    ap (λ l. l ++ x.ring ∷ next.ring ∷ []) (front known.seen h.earlier x h.counted within its.begins)
-    ∙ sym (append_assoc h.earlier (x.ring ∷ []) (next.ring ∷ [])) in
-    let knows : IsEnd x.of longer now = record { named = its.named; begins = ([], sym same ∙ sym (append-nil now.seen)) } in (
-      now,
-      record {
-        earlier = all;
-        counted = length-append h.earlier (x.ring ∷ []) ∙ ap (λ n. n + 1) h.counted ∙ sym counted;
-        older = All-push (λ ring. ring.version < next.ring.version) h.earlier x.ring
-            (All-weaker (λ ring. ring.version < x.ring.version) (λ ring. ring.version < next.ring.version) (λ ring less. omega arith) h.earlier h.older) newer;
-        made = made;
-        each = All-set (IsEnd x.of longer) views seat now knows (All-weaker (IsEnd x.of all) (IsEnd x.of longer) (λ end e. longer_end x.of all next.ring end e) views h.each);
-      },
-      refl,
-    )
+pub adds : (seat : ℕ) (known : Known) (x : ShownValue) (edition : EditionValue) → edition ≡ edition_after x.edition edition.ring → TurnsAt Keeps seat known x (showing x edition) Adds
+adds seat known x edition follows views h at =
+    let y = showing x edition in
+    let all : All (IsEnd y) views = All-weaker (IsEnd x) (IsEnd y) (end_after x edition follows) views h in
+    (known, All-set (IsEnd y) views seat known (all_at (IsEnd y) views seat known all at) all, refl)
 
 -- an end tells what it knows, and knows it still
 pub tells : (seat : ℕ) (known : Known) → Forks Keeps seat known known known
 tells seat known x views h at =
-    let all = whole h.earlier x in
-    let its = all_at (IsEnd x.of all) views seat known h.each at in
-    with_ends x views (slice_set views seat known ++ known ∷ []) h
-    (All-push (IsEnd x.of all) (slice_set views seat known) known (All-set (IsEnd x.of all) views seat known its h.each) its)
+    let its = all_at (IsEnd x) views seat known h at in
+    All-push (IsEnd x) (slice_set views seat known) known (All-set (IsEnd x) views seat known its h) its
 
 -- an end knows what it was told
 pub hears : (seat : ℕ) (known : Known) (other : ℕ) (told : Known) → Merges Keeps seat known other told told newcomer
 hears seat known other told x views h at apart there =
-    let all = whole h.earlier x in
-    let its : IsEnd x.of all told = ⊎_elim (λ same. absurd (apart same.0)) (λ found. all_at (IsEnd x.of all) views other told h.each found.1) (at_set views seat other told told there) in
-    with_ends x views (slice_set (slice_set views seat told) other newcomer) h
-    (All-set (IsEnd x.of all) (slice_set views seat told) other newcomer (new_end x.of all) (All-set (IsEnd x.of all) views seat told its h.each))
+    let its : IsEnd x told = ⊎_elim (λ same. absurd (apart same.0)) (λ found. all_at (IsEnd x) views other told h found.1) (at_set views seat other told told there) in
+    All-set (IsEnd x) (slice_set views seat told) other newcomer (new_end x) (All-set (IsEnd x) views seat told its h)

@@ -1,5 +1,5 @@
 -- What a publisher and a reader are to their callers.
-use Rattle.std.specs.Prelude.{◌≡◌, ℕ, ◌+◌, List, [], ◌∷◌, ◌++◌, Option, Some, None, true}
+use Rattle.std.specs.Prelude.{◌≡◌, ℕ, List, [], ◌∷◌, ◌++◌, true}
 use Rattle.membership_view.specs.View.{ViewValue}
 use Rattle.hash_ring.specs.Owner.{owner_of}
 use Rattle.hash_ring.specs.Places.{PlacesValue}
@@ -23,6 +23,10 @@ first_publisher of ring readers = record { of = of; earlier = []; last = ring; l
 abbrev pub after_publishing : PublisherValue → RingValue → PublisherValue
 after_publishing publisher ring = record publisher { earlier = publisher.earlier ++ publisher.last ∷ []; last = ring }
 
+-- all rings that were published, oldest first
+abbrev pub published_by : PublisherValue → List RingValue
+published_by publisher = publisher.earlier ++ publisher.last ∷ []
+
 -- the publication that shows it rings, those that had been published when the reader answered last, oldest first, and the newest version
 -- that it was told of
 pub record ReaderValue : Type 0 where
@@ -33,11 +37,6 @@ pub record ReaderValue : Type 0 where
 -- a reader that has seen nothing, and was told of nothing
 abbrev pub first_reader : Publication → ReaderValue
 first_reader of = record { of = of; seen = []; told = 0 }
-
--- how many rings there are up to one, of which it is told how many are before it; none where there is none
-abbrev pub count_up_to : Option ℕ → ℕ
-count_up_to None = 0
-count_up_to (Some before) = before + 1
 
 -- the route of a hash by the newest of the rings that were seen, which is that of a view: the view's version, and who owns the hash by it
 pub record IsRouteOf (seen : List RingValue) (hash : ℕ) (route : Route) : Type 0 where

@@ -1,4 +1,5 @@
 pub mod Numbers
+pub mod Log
 pub mod Shown
 pub mod Rule
 pub mod Ends

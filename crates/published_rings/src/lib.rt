@@ -2,6 +2,8 @@
 #![tactic(auto)]
 
 mod error;
+mod log;
+mod log_rule;
 mod origin;
 mod publisher;
 mod reader;

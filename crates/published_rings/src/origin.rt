@@ -1,6 +1,8 @@
 //! Which publication something is of. What is shown and the ends that see it are told apart by it, in proofs alone.
 ghost use Rattle.std.specs.Prelude.{◌≡◌};
+ghost use Rattle.published_rings.specs.Shown.{publication_of};
 
+use crate::shown::Shown;
 use std::marker::Model;
 use std::snapshot::Snapshot;
 use std::sync::OnceLock;
@@ -16,9 +18,9 @@ pub(crate) struct Mark {
 
 impl Model for Mark {
     ghost use Rattle.std.specs.Prelude.{◌≡◌};
-    ghost use Rattle.published_rings.specs.Shown.{Publication, lock_of};
+    ghost use Rattle.published_rings.specs.Shown.{Marks, lock_of};
 
-    ghost Value = { Publication };
+    ghost Value = { Marks };
 
     ghost view = { λ m. (m.both.value.0.id, m.both.value.1.id) };
 
@@ -48,26 +50,26 @@ impl Mark {
     }
 }
 
-/// The publication that a mark is of, as clauses see it. It has no bytes.
+/// The publication that shows something, as clauses see it. It has no bytes.
 #[derive(Drop)]
 pub(crate) struct Origin {
-    mark: Snapshot<Mark>,
+    shown: Snapshot<Shown>,
 }
 
 impl Model for Origin {
-    ghost use Rattle.published_rings.specs.Shown.{Publication};
+    ghost use Rattle.published_rings.specs.Shown.{Publication, publication_of};
 
     ghost Value = { Publication };
 
-    ghost view = { λ o. o.mark.value };
+    ghost view = { λ o. publication_of o.shown.value };
 }
 
 impl Origin {
-    pub(crate) fn of(mark: &Mark) -> Origin
-        ensures { result ≡ mark.now }
+    pub(crate) fn of(shown: &Shown) -> Origin
+        ensures { result ≡ publication_of shown.now }
     {
         Origin {
-            mark: Snapshot::of(mark),
+            shown: Snapshot::of(shown),
         }
     }
 }

@@ -1,13 +1,14 @@
-ghost use Rattle.std.specs.Prelude.{◌≡◌, ◌≢◌, ◌↔◌, ◌⊎◌, ◌+◌, ◌-◌, ◌<◌, ◌≤◌, All, Some, vec_len, vec_capacity, IsTrue, IfOk, IfErr, OnOk, OnErr, IsErrOf, MatchResult, length, false};
+ghost use Rattle.std.specs.Prelude.{◌≡◌, ◌≢◌, ◌↔◌, ◌⊎◌, ◌+◌, ◌-◌, ◌<◌, ◌≤◌, ◌++◌, ◌∷◌, [], All, Some, drop, fold, vec_len, vec_capacity, IsTrue, IfOk, IfErr, OnOk, OnErr, IsErrOf, false};
 ghost use Rattle.left_right.specs.Sides.{view as known_at};
 ghost use Rattle.hash_ring.specs.Ring.{IsRingBy, are_added, ring_of};
-ghost use Rattle.published_rings.specs.Ends.{after_publishing, first_publisher, first_reader};
-ghost use Rattle.published_rings.specs.Rule.{Adds};
-ghost use Rattle.published_rings.specs.Shown.{IsOfView, ShownValue, showing};
+ghost use Rattle.published_rings.specs.Ends.{after_publishing, first_publisher, first_reader, published_by};
+ghost use Rattle.published_rings.specs.Rule.{Begins};
+ghost use Rattle.published_rings.specs.Shown.{FollowsOn, IsOfView, ShownValue, edition_after, front_of, publication_of, showing};
 ghost use Rattle.published_rings.specs.declared.rule.Known.{Known};
 
+use crate::log::{Front, Keeper};
 use crate::rule::{Add, Hears, Open, RingReader, RingWriter, Tells};
-use crate::shown::{Next, Shown};
+use crate::shown::{Edition, Shown};
 use crate::{RouteError, RouteReader, Told};
 use core::mem::replace_with;
 use hash_ring::{Places, Ring, RingError};
@@ -24,21 +25,24 @@ pub const MOST_READERS: usize = 64;
 pub struct Publisher {
     writer: RingWriter,
     readers: Vec<RingReader>,
+    /// The log of the rings, and the front of it before the first one, in proofs alone.
+    keeper: Keeper,
+    before: Front,
 }
 
 impl Model for Publisher {
-    ghost use Rattle.std.specs.Prelude.{◌≡◌, ◌≤◌, All, Some, length, take, vec_len};
+    ghost use Rattle.std.specs.Prelude.{◌≡◌, [], All, Some, vec_len};
     ghost use Rattle.left_right.specs.Sides.{view as known_at};
     ghost use Rattle.published_rings.specs.Ends.{PublisherValue};
-    ghost use Rattle.published_rings.specs.Shown.{ShownValue};
+    ghost use Rattle.published_rings.specs.Shown.{ShownValue, front_of, publication_of};
     ghost use Rattle.published_rings.specs.declared.rule.Known.{Known};
 
     ghost Value = { PublisherValue };
 
-    ghost view = { λ p. record { of = p.writer.desk.shown.value.of; earlier = take p.writer.desk.shown.value.before (known_at p.writer.desk.place).seen; last = p.writer.desk.shown.value.ring; left = vec_len p.readers } };
+    ghost view = { λ p. record { of = publication_of p.writer.desk.shown.value; earlier = p.writer.desk.shown.value.edition.earlier; last = p.writer.desk.shown.value.edition.ring; left = vec_len p.readers } };
 
-    // It knows the rings before the last one, and its readers know that they are of its publication.
-    ghost invariant = { λ p. (p.writer.desk.shown.value.before ≤ length (known_at p.writer.desk.place).seen) × All (λ reader. (known_at {T = ShownValue} {V = Known} reader.place).of ≡ Some p.writer.desk.shown.value.of) p.readers.items };
+    // The log has just the rings that were shown, and its readers know that they are of its publication.
+    ghost invariant = { λ p. (p.keeper ≡ front_of p.writer.desk.shown.value.edition) × (p.before ≡ record { log = p.writer.desk.shown.value.edition.log; all = [] }) × All (λ reader. (known_at {T = ShownValue} {V = Known} reader.place).of ≡ Some (publication_of p.writer.desk.shown.value)) p.readers.items };
 }
 
 impl Publisher {
@@ -57,7 +61,7 @@ impl Publisher {
         ensures missing { IsErrOf result RouteError.PointsMissing ↔ (are_added view.now places.now ≡ false) }
         ensures only { IfErr result (λ refusal. (refusal ≡ RouteError.PointsMissing) ⊎ (refusal ≡ RouteError.NoReader) ⊎ (refusal ≡ RouteError.OutOfMemory)) }
     {
-        let mut writer = open(rt, alloc, view, places, readers)?;
+        let (mut writer, keeper, before) = open(rt, alloc, view, places, readers)?;
         let Ok(mut made) = Vec::with_capacity(alloc, readers) else {
             writer.take(rt);
             return Err(RouteError::OutOfMemory);
@@ -69,6 +73,8 @@ impl Publisher {
         Ok(Publisher {
             writer,
             readers: made,
+            keeper,
+            before,
         })
     }
 
@@ -76,7 +82,7 @@ impl Publisher {
     pub fn version(&self) -> u64
         ensures { result ≡ self.now.last.version }
     {
-        self.writer.published().ring().version()
+        self.writer.published().edition().ring().version()
     }
 
     /// Hands out a reader that wasn't handed out yet. Refused by 952 where none is left.
@@ -88,7 +94,11 @@ impl Publisher {
         ensures unchanged { OnErr result (self.new ≡ self.old) }
     {
         match self.readers.pop() {
-            Some(reader) => Ok(RouteReader::new(reader, self.writer.published().origin())),
+            Some(reader) => Ok(RouteReader::new(
+                reader,
+                self.writer.published(),
+                self.before.again(),
+            )),
             None => Err(RouteError::NoReader),
         }
     }
@@ -111,7 +121,12 @@ impl Publisher {
         ensures only { IfErr result (λ refusal. (refusal ≡ RouteError.PointsMissing) ⊎ (refusal ≡ RouteError.OutOfMemory)) }
         ensures unchanged { OnErr result (self.new ≡ self.old) }
     {
-        let ring = ring_after(alloc, self.writer.published().ring(), view, places)?;
+        let ring = ring_after(
+            alloc,
+            self.writer.published().edition().ring(),
+            view,
+            places,
+        )?;
         self.show_ring(rt, alloc, ring)?;
         Ok(Told::of(view.version()))
     }
@@ -144,10 +159,19 @@ impl Publisher {
         ensures shown { OnOk result (self.new ≡ after_publishing self.old ring) }
         ensures unchanged { OnErr result (self.new ≡ self.old) }
     {
-        let last = self.writer.published();
-        let next = last.next(alloc, ring)?;
-        replace_with(&mut self.writer, (rt, next), show)?;
+        let last = self.writer.published().edition();
+        let edition = last.next(alloc, ring, &mut self.keeper)?;
+        replace_with(&mut self.writer, (rt, edition), show);
         Ok(())
+    }
+
+    /// A law: what a reader of its publication has seen begins what it has published.
+    pub fn has_shown(&mut self, reader: &RouteReader)
+        requires { reader.now.of ≡ self.old.of }
+        ensures begins { Begins reader.now.seen (published_by self.old) }
+        ensures unchanged { self.new ≡ self.old }
+    {
+        self.keeper.began(reader.front());
     }
 
     /// Ends the publisher. Readers are not let in from then on.
@@ -155,33 +179,60 @@ impl Publisher {
         let Publisher {
             writer,
             readers: _readers,
+            keeper: _keeper,
+            before: _before,
         } = self;
         writer.take(rt);
     }
 }
 
-// Shows the ring of a view in a new publication.
+// Shows the ring of a view in a new publication: its writer, the keeper of its log, and the front of that before the ring. The queue of
+// editions that are to be shown has room from then on.
 fn open<R: Wait>(
     rt: &R,
     alloc: Global,
     view: &View,
     places: &Places,
     readers: usize,
-) -> Result<RingWriter, RouteError>
+) -> Result<(RingWriter, Keeper, Front), RouteError>
     requires some { 0 < readers }
     requires most { readers ≤ MOST_READERS }
-    ensures shown { IfOk result (λ writer. (writer.desk.shown.value.before ≡ 0) × (writer.desk.shown.value.ring ≡ ring_of view.now places.now)) }
-    ensures knows { IfOk result (λ writer. (known_at writer.desk.place).of ≡ Some writer.desk.shown.value.of) }
+    ensures shown { IfOk result (λ made. made.0.desk.shown.value.edition ≡ record { log = made.2.log; earlier = []; ring = ring_of view.now places.now }) }
+    ensures keeper { IfOk result (λ made. made.1 ≡ front_of made.0.desk.shown.value.edition) }
+    ensures before { IfOk result (λ made. made.2.all ≡ []) }
+    ensures knows { IfOk result (λ made. (known_at made.0.desk.place).of ≡ Some (publication_of made.0.desk.shown.value)) }
     ensures missing { IsErrOf result RouteError.PointsMissing ↔ (are_added view.now places.now ≡ false) }
     ensures only { IfErr result (λ refusal. (refusal ≡ RouteError.PointsMissing) ⊎ (refusal ≡ RouteError.OutOfMemory)) }
 {
     let ring = Ring::anew(alloc, view, places)?;
-    let (first, second) = Shown::pair(alloc, ring)?;
+    let (before, edition, keeper) = Edition::first(alloc, ring)?;
+    let (first, second) = Shown::pair(&edition)?;
     let writer = Writer::new(alloc, first, second, readers)?;
+    match show_first(rt, writer, edition) {
+        Ok(writer) => Ok((writer, keeper, before)),
+        Err(_) => Err(RouteError::OutOfMemory),
+    }
+}
+
+// Shows the first edition, which both copies have.
+fn show_first<R: Wait>(
+    rt: &R,
+    writer: RingWriter,
+    edition: Edition,
+) -> Result<RingWriter, AllocError>
+    requires { writer.desk.shown.value.edition ≡ edition }
+    ensures same { IfOk result (λ made. made.desk.shown.value ≡ writer.desk.shown.value) }
+    ensures knows { IfOk result (λ made. (known_at made.desk.place).of ≡ Some (publication_of writer.desk.shown.value)) }
+{
+    let mut writer = writer;
+    let Ok(()) = writer.append(edition) else {
+        writer.take(rt);
+        return Err(AllocError);
+    };
     let (writer, opened) = writer.publish_as::<Open, R>(rt);
     if opened.is_err() {
         writer.take(rt);
-        return Err(RouteError::OutOfMemory);
+        return Err(AllocError);
     }
     Ok(writer)
 }
@@ -192,10 +243,10 @@ fn make_readers(
     readers: &mut Vec<RingReader>,
     count: usize,
 ) -> Result<(), AllocError>
-    requires known { (known_at writer.old.desk.place).of ≡ Some writer.old.desk.shown.value.of }
-    requires before { All (λ reader. (known_at {T = ShownValue} {V = Known} reader.place).of ≡ Some writer.old.desk.shown.value.of) readers.old.items }
+    requires known { (known_at writer.old.desk.place).of ≡ Some (publication_of writer.old.desk.shown.value) }
+    requires before { All (λ reader. (known_at {T = ShownValue} {V = Known} reader.place).of ≡ Some (publication_of writer.old.desk.shown.value)) readers.old.items }
     requires room { vec_len readers.old + count ≤ vec_capacity readers.old }
-    ensures own { All (λ reader. (known_at {T = ShownValue} {V = Known} reader.place).of ≡ Some writer.new.desk.shown.value.of) readers.new.items }
+    ensures own { All (λ reader. (known_at {T = ShownValue} {V = Known} reader.place).of ≡ Some (publication_of writer.new.desk.shown.value)) readers.new.items }
     ensures made { OnOk result (vec_len readers.new ≡ vec_len readers.old + count) }
     ensures shown { writer.new.desk.shown.value ≡ writer.old.desk.shown.value }
     ensures knows { known_at writer.new.desk.place ≡ known_at writer.old.desk.place }
@@ -238,19 +289,43 @@ fn ring_after(alloc: Global, last: &Ring, view: &View, places: &Places) -> Resul
     Ok(ring)
 }
 
-// Shows readers one more ring. Where memory runs out, they see what they saw.
-fn show<R: Wait>(writer: RingWriter, given: (&R, Next)) -> (RingWriter, Result<(), AllocError>)
-    requires seen { writer.desk.shown.value.before ≤ length (known_at writer.desk.place).seen }
-    requires newer { writer.desk.shown.value.ring.version < given.1.ring.version }
-    requires counted { given.1.before ≡ writer.desk.shown.value.before + 1 }
-    requires made { IsOfView given.1.ring }
-    ensures shown { MatchResult result.1 (λ _. result.0.desk.shown.value ≡ showing writer.desk.shown.value given.entry.1) (λ _. result.0.desk.shown.value ≡ writer.desk.shown.value) }
-    ensures seen { MatchResult result.1 (λ _. Adds (known_at writer.desk.place) writer.desk.shown.value (showing writer.desk.shown.value given.entry.1) (known_at result.0.desk.place)) (λ _. known_at result.0.desk.place ≡ known_at writer.desk.place) }
+// Shows readers one more edition. It is in the log, so there is no way back; and none is needed, since `open` made room in the queue.
+fn show<R: Wait>(writer: RingWriter, given: (&R, Edition)) -> (RingWriter, ())
+    requires { given.1 ≡ edition_after writer.desk.shown.value.edition given.1.ring }
+    ensures { result.0.desk.shown.value ≡ showing writer.desk.shown.value given.entry.1 }
 {
-    let (rt, next) = given;
+    let (rt, edition) = given;
     let mut writer = writer;
-    let Ok(()) = writer.append(next) else {
-        return (writer, Err(AllocError));
-    };
-    writer.publish_as::<Add, R>(rt)
+    queue(rt, &mut writer, edition);
+    (turn(rt, writer), ())
+}
+
+// Puts the edition behind those that are to be shown. Without room it waits for memory.
+fn queue<R: Wait>(rt: &R, writer: &mut RingWriter, edition: Edition)
+    ensures desk { writer.new.desk ≡ writer.old.desk }
+    ensures pending { drop writer.new.behind writer.new.log.items ≡ drop writer.old.behind writer.old.log.items ++ edition ∷ [] }
+{
+    let mut left = edition;
+    for _ in rt.forever() {
+        match writer.append(left) {
+            Ok(()) => return,
+            Err(edition) => left = edition,
+        }
+    }
+    unreachable!()
+}
+
+// Shows what is to be shown. Where its ring has as many owners as there may be, it waits until one lets it go.
+fn turn<R: Wait>(rt: &R, writer: RingWriter) -> RingWriter
+    requires { FollowsOn writer.desk.shown.value (fold showing writer.desk.shown.value (drop writer.behind writer.log.items)) }
+    ensures { result.desk.shown.value ≡ fold showing writer.desk.shown.value (drop writer.behind writer.log.items) }
+{
+    let mut writer = writer;
+    for _ in rt.forever() {
+        match writer.publish_as::<Add, R>(rt) {
+            (shown, Ok(())) => return shown,
+            (same, Err(_)) => writer = same,
+        }
+    }
+    unreachable!()
 }

@@ -1,13 +1,14 @@
-ghost use Rattle.std.specs.Prelude.{◌≡◌, ◌≤◌, All, IfOk, IfErr, OnErr, IfSome, Some, max};
+ghost use Rattle.std.specs.Prelude.{◌≡◌, ◌≤◌, [], All, IfOk, IfErr, OnErr, IfSome, Some, max};
 ghost use Rattle.left_right.specs.Sides.{view};
-ghost use Rattle.hash_ring.specs.Owner.{owner_of};
 ghost use Rattle.published_rings.specs.Ends.{IsRouteOf, first_reader};
 ghost use Rattle.published_rings.specs.Looks.{IsAnswer, IsLook};
 ghost use Rattle.published_rings.specs.Rule.{Begins};
+ghost use Rattle.published_rings.specs.Shown.{publication_of};
 
+use crate::log::Front;
 use crate::origin::Origin;
 use crate::rule::{Look, RingReader};
-use crate::shown::Shown;
+use crate::shown::{Edition, Shown};
 use crate::{Route, RouteError, Told};
 use core::mem::replace_with;
 use std::marker::Model;
@@ -17,35 +18,45 @@ use std::marker::Model;
 pub struct RouteReader {
     reader: RingReader,
     of: Origin,
-    /// How many rings were published before the newest one that it routed by, if it did.
-    newest: Option<u64>,
+    /// What it has seen, in proofs alone.
+    front: Front,
     told: u64,
 }
 
 impl Model for RouteReader {
-    ghost use Rattle.std.specs.Prelude.{◌≡◌, ◌≤◌, length, take, Some};
+    ghost use Rattle.std.specs.Prelude.{◌≡◌, Some};
     ghost use Rattle.left_right.specs.Sides.{view as known_at};
-    ghost use Rattle.published_rings.specs.Ends.{ReaderValue, count_up_to};
+    ghost use Rattle.published_rings.specs.Ends.{ReaderValue};
+    ghost use Rattle.published_rings.specs.Rule.{Begins};
 
     ghost Value = { ReaderValue };
 
-    ghost view = { λ r. record { of = r.of; seen = take (count_up_to r.newest) (known_at r.reader.place).seen; told = r.told } };
+    ghost view = { λ r. record { of = r.of; seen = r.front.all; told = r.told } };
 
-    ghost invariant = { λ r. (count_up_to r.newest ≤ length (known_at r.reader.place).seen) × ((known_at r.reader.place).of ≡ Some r.of) };
+    // What it has seen stands in its publication's log, and its end of the publication knows no less.
+    ghost invariant = { λ r. (r.front.log ≡ r.of.log) × ((known_at r.reader.place).of ≡ Some r.of) × Begins r.front.all (known_at r.reader.place).seen };
 }
 
 impl RouteReader {
-    // A reader of that publication that has seen nothing, and was told of nothing.
-    pub(crate) fn new(reader: RingReader, of: Origin) -> RouteReader
-        requires { (view reader.place).of ≡ Some of }
-        ensures { result ≡ first_reader of }
+    // A reader of the publication that shows this, which has seen nothing, and was told of nothing.
+    pub(crate) fn new(reader: RingReader, shown: &Shown, before: Front) -> RouteReader
+        requires known { (view reader.place).of ≡ Some (publication_of shown.now) }
+        requires before { before ≡ record { log = shown.now.edition.log; all = [] } }
+        ensures { result ≡ first_reader (publication_of shown.now) }
     {
         RouteReader {
             reader,
-            of,
-            newest: None,
+            of: Origin::of(shown),
+            front: before,
             told: 0,
         }
+    }
+
+    // What it has seen, in the log of its publication.
+    pub(crate) fn front(&self) -> &Front
+        ensures { result.now ≡ record { log = self.now.of.log; all = self.now.seen } }
+    {
+        &self.front
     }
 
     /// Takes in that a version was published. From then on this reader's routes are by that version or a later one.
@@ -70,8 +81,8 @@ impl RouteReader {
     {
         let asked = (self.told, hash);
         match replace_with(&mut self.reader, asked, look) {
-            Some((before, route)) => {
-                self.newest = Some(before);
+            Some((route, front)) => {
+                self.front = front;
                 Ok(route)
             }
             None => Err(RouteError::NotLetIn),
@@ -80,27 +91,27 @@ impl RouteReader {
 }
 
 // Looks at the ring that is shown, if the reader is let in, and routes by it, if it isn't older than was told.
-fn look(reader: RingReader, asked: (u64, u32)) -> (RingReader, Option<(u64, Route)>)
+fn look(reader: RingReader, asked: (u64, u32)) -> (RingReader, Option<(Route, Front)>)
     ensures { IsLook (view reader.place) (view result.0.place) asked.0 asked.1 result.1 }
 {
     match reader.enter_as::<Look>() {
         Ok(reading) => {
-            let answer = answer_by(reading.get(), asked.0, asked.1);
+            let answer = answer_by(reading.get().edition(), asked.0, asked.1);
             (reading.leave(), answer)
         }
         Err(reader) => (reader, None),
     }
 }
 
-// The route by what is shown, with how many rings were published before; `None` where that is older than was told.
-fn answer_by(shown: &Shown, told: u64, hash: u32) -> Option<(u64, Route)>
-    ensures { IfSome result (λ answer. IsAnswer shown.now told hash answer) }
+// The route by an edition, with the front that it shows; `None` where that is older than was told.
+fn answer_by(edition: &Edition, told: u64, hash: u32) -> Option<(Route, Front)>
+    ensures { IfSome result (λ answer. IsAnswer edition.now told hash answer) }
 {
-    let ring = shown.ring();
+    let ring = edition.ring();
     let version = ring.version();
     if version < told {
         return None;
     }
     let owner = ring.owner(hash);
-    Some((shown.before(), Route { version, owner }))
+    Some((Route { version, owner }, edition.front().again()))
 }

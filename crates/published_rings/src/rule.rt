@@ -3,7 +3,7 @@ ghost use Rattle.std.specs.Prelude.{[], None};
 ghost use Rattle.published_rings.specs.Rule.{Keeps, Looks, Opens, Adds};
 
 use crate::origin::Origin;
-use crate::shown::{Next, Shown};
+use crate::shown::{Edition, Shown};
 use atomic_table::{Join, Split};
 use crossbeam_utils::rule::{Outcome, Protocol};
 use hash_ring::Ring;
@@ -32,14 +32,14 @@ impl Outcome<Shown, Known> for Look {
     ghost then = { Looks };
 }
 
-/// The publisher shows the first ring.
+/// The publisher shows the first edition.
 pub(crate) struct Open;
 
 impl Outcome<Shown, Known> for Open {
     ghost then = { Opens };
 }
 
-/// The publisher shows one more ring.
+/// The publisher shows one more edition.
 pub(crate) struct Add;
 
 impl Outcome<Shown, Known> for Add {
@@ -64,6 +64,6 @@ impl Join<Known> for Hears {
     ghost spent = { record { of = None; seen = [] } };
 }
 
-pub(crate) type RingWriter = Writer<Shown, Next, Known, Rings>;
+pub(crate) type RingWriter = Writer<Shown, Edition, Known, Rings>;
 
 pub(crate) type RingReader = Reader<Shown, Known, Rings>;

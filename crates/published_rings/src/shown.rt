@@ -1,110 +1,143 @@
-ghost use Rattle.std.specs.Prelude.{◌≡◌, ◌+◌, ◌<◌, ◌≤◌, IfOk, IfSome, IsSome, ◌↔◌};
+ghost use Rattle.std.specs.Prelude.{◌≡◌, ◌<◌, ◌∷◌, [], All, IfOk, OnErr};
+ghost use Rattle.published_rings.specs.Shown.{IsOfView, edition_after, front_of};
 
-use crate::Route;
-use crate::origin::{Mark, Origin};
+use crate::log::{Front, Keeper};
+use crate::origin::Mark;
 use hash_ring::Ring;
 use left_right::Absorb;
 use std::alloc::{AllocError, Global};
 use std::marker::Model;
 use std::sync::Arc;
 
-/// What readers are shown: a ring, of which publication it is, and how many were published before it. There is one ring for all that
-/// have it.
+/// A ring, with the log before it and up to it. There is one ring for all that have it.
 #[derive(Drop)]
-pub(crate) struct Shown {
-    mark: Mark,
-    before: u64,
+pub(crate) struct Edition {
+    before: Front,
+    front: Front,
     ring: Arc<Ring>,
 }
 
-impl Model for Shown {
-    ghost use Rattle.std.specs.Prelude.{◌≤◌};
+impl Model for Edition {
+    ghost use Rattle.std.specs.Prelude.{◌≡◌, ◌<◌, [], ◌∷◌, ◌++◌, All};
     ghost use Rattle.std.specs.Arc.{arc_value};
-    ghost use Rattle.published_rings.specs.Shown.{ShownValue};
+    ghost use Rattle.published_rings.specs.Shown.{EditionValue, IsOfView};
 
-    ghost Value = { ShownValue };
+    ghost Value = { EditionValue };
 
-    ghost view = { λ s. record { of = s.mark; before = s.before; ring = arc_value s.ring } };
+    ghost view = { λ e. record { log = e.front.log; earlier = e.before.all; ring = arc_value e.ring } };
 
-    // Versions rise by one at least.
-    ghost invariant = { λ s. s.before ≤ (arc_value s.ring).version };
+    // The ring is that of a view, and newer than all before it.
+    ghost invariant = { λ e. (e.front.all ≡ e.before.all ++ arc_value e.ring ∷ []) × All (λ ring. ring.version < (arc_value e.ring).version) e.before.all × IsOfView (arc_value e.ring) };
 }
 
-/// The ring that is to be shown next, and how many were published before it.
-#[derive(Drop)]
-pub(crate) struct Next {
-    before: u64,
-    ring: Arc<Ring>,
-}
-
-impl Model for Next {
-    ghost use Rattle.std.specs.Prelude.{◌≤◌};
-    ghost use Rattle.std.specs.Arc.{arc_value};
-    ghost use Rattle.published_rings.specs.Shown.{NextValue};
-
-    ghost Value = { NextValue };
-
-    ghost view = { λ n. record { before = n.before; ring = arc_value n.ring } };
-
-    ghost invariant = { λ n. n.before ≤ (arc_value n.ring).version };
-}
-
-impl Shown {
-    // The first ring of a new publication, in both copies of what that shows.
-    pub(crate) fn pair(alloc: Global, ring: Ring) -> Result<(Shown, Shown), AllocError>
-        ensures same { IfOk result (λ shown. shown.0 ≡ shown.1) }
-        ensures first { IfOk result (λ shown. (shown.0.before ≡ 0) × (shown.0.ring ≡ ring)) }
+impl Edition {
+    // The first ring of a new log, with its keeper, and the front before it. Fails only when memory runs out.
+    pub(crate) fn first(alloc: Global, ring: Ring) -> Result<(Front, Edition, Keeper), AllocError>
+        requires { IsOfView ring }
+        ensures edition { IfOk result (λ made. made.1 ≡ record { log = made.0.log; earlier = []; ring = ring }) }
+        ensures keeper { IfOk result (λ made. made.2 ≡ front_of made.1) }
+        ensures before { IfOk result (λ made. made.0.all ≡ []) }
     {
+        let Some((before, keeper)) = Keeper::open(&ring) else {
+            return Err(AllocError);
+        };
         let ring = Arc::new(alloc, ring)?;
-        let same = Arc::try_clone(&ring)?;
-        let (mark, other) = Mark::pair();
-        let first = Shown {
-            mark,
-            before: 0,
+        let edition = Edition {
+            before: before.again(),
+            front: keeper.front(),
             ring,
         };
-        let second = Shown {
-            mark: other,
-            before: 0,
-            ring: same,
-        };
-        Ok((first, second))
+        Ok((before, edition, keeper))
     }
 
-    // A newer ring, after this one.
-    pub(crate) fn next(&self, alloc: Global, ring: Ring) -> Result<Next, AllocError>
-        requires { self.now.ring.version < ring.version }
-        ensures { IfOk result (λ next. next ≡ record { before = self.now.before + 1; ring = ring }) }
+    // A newer ring, after this one, which is the last of the log. Where memory runs out, the log is as it was.
+    pub(crate) fn next(
+        &self,
+        alloc: Global,
+        ring: Ring,
+        keeper: &mut Keeper,
+    ) -> Result<Edition, AllocError>
+        requires newer { self.now.ring.version < ring.version }
+        requires made { IsOfView ring }
+        requires keeper { keeper.old ≡ front_of self.now }
+        ensures next { IfOk result (λ next. (next ≡ edition_after self.now ring) × (keeper.new ≡ front_of next)) }
+        ensures unchanged { OnErr result (keeper.new ≡ keeper.old) }
     {
-        let _version = ring.version();
         let ring = Arc::new(alloc, ring)?;
-        Ok(Next {
-            before: self.before + 1,
+        keeper.add(&ring);
+        Ok(Edition {
+            before: self.front.again(),
+            front: keeper.front(),
             ring,
         })
     }
 
-    pub(crate) fn origin(&self) -> Origin
-        ensures { result ≡ self.now.of }
+    // The same edition. Fails only where the ring has as many owners as there may be.
+    pub(crate) fn again(&self) -> Result<Edition, AllocError>
+        ensures { IfOk result (λ same. same ≡ self.now) }
     {
-        Origin::of(&self.mark)
+        Ok(Edition {
+            before: self.before.again(),
+            front: self.front.again(),
+            ring: Arc::try_clone(&self.ring)?,
+        })
     }
 
-    pub(crate) fn before(&self) -> u64
-        ensures { result ≡ self.now.before }
+    pub(crate) fn front(&self) -> &Front
+        ensures { result.now ≡ front_of self.now }
     {
-        self.before
+        &self.front
     }
 
     pub(crate) fn ring(&self) -> &Ring
-        ensures { result.now ≡ self.now.ring }
+        ensures ring { result.now ≡ self.now.ring }
+        ensures newer { All (λ ring. ring.version < self.now.ring.version) self.now.earlier }
+        ensures made { IsOfView self.now.ring }
     {
         &self.ring
     }
 }
 
-// To absorb what is to be shown next is to show it.
-impl Absorb<Next> for Shown {
+/// What readers are shown: an edition, under a mark of its publication.
+#[derive(Drop)]
+pub(crate) struct Shown {
+    mark: Mark,
+    edition: Edition,
+}
+
+impl Model for Shown {
+    ghost use Rattle.published_rings.specs.Shown.{ShownValue};
+
+    ghost Value = { ShownValue };
+
+    ghost view = { λ s. record { marks = s.mark; edition = s.edition } };
+}
+
+impl Shown {
+    // The edition in both copies of what a new publication shows. Fails as `again`.
+    pub(crate) fn pair(edition: &Edition) -> Result<(Shown, Shown), AllocError>
+        ensures same { IfOk result (λ shown. shown.0 ≡ shown.1) }
+        ensures edition { IfOk result (λ shown. shown.0.edition ≡ edition.now) }
+    {
+        let (one, other) = (edition.again()?, edition.again()?);
+        let (mark, its_other) = Mark::pair();
+        let first = Shown { mark, edition: one };
+        let second = Shown {
+            mark: its_other,
+            edition: other,
+        };
+        Ok((first, second))
+    }
+
+    pub(crate) fn edition(&self) -> &Edition
+        ensures { result.now ≡ self.now.edition }
+    {
+        &self.edition
+    }
+}
+
+// To absorb an edition is to show it.
+impl Absorb<Edition> for Shown {
     type State = Shown;
 
     ghost use Rattle.published_rings.specs.Shown.{showing};
@@ -113,16 +146,13 @@ impl Absorb<Next> for Shown {
 
     ghost applied = { showing };
 
-    fn absorb_first(&mut self, operation: &Next, _other: &Shown) -> Result<(), AllocError> {
-        self.ring = Arc::try_clone(&operation.ring)?;
-        self.before = operation.before;
+    fn absorb_first(&mut self, operation: &Edition, _other: &Shown) -> Result<(), AllocError> {
+        self.edition = operation.again()?;
         Ok(())
     }
 
-    fn absorb_second(&mut self, operation: Next, _other: &Shown) -> Result<(), Next> {
-        let Next { before, ring } = operation;
-        self.before = before;
-        self.ring = ring;
+    fn absorb_second(&mut self, operation: Edition, _other: &Shown) -> Result<(), Edition> {
+        self.edition = operation;
         Ok(())
     }
 }

@@ -1,6 +1,7 @@
 ghost use Rattle.std.specs.Prelude.{◌≡◌, ◌+◌, ◌⊎◌, ◌↔◌, ◌<◌, ◌≤◌, [], IfErr, IfOk, IsErrOf, IsTrue, None, OnErr, OnOk, true};
 ghost use Rattle.directory_rules.specs.Happens.{least_deliverable};
-ghost use Rattle.published_rings.specs.Ends.{first_reader};
+ghost use Rattle.published_rings.specs.Ends.{first_reader, published_by};
+ghost use Rattle.published_rings.specs.Rule.{Begins};
 ghost use Rattle.silo_threads.specs.Cluster.{first_cluster};
 
 use crate::publication::newest;
@@ -90,6 +91,15 @@ impl<L: Charter, G: Gate + Drop> Cluster<L, G> {
         ensures unchanged { OnErr result (self.new ≡ self.old) }
     {
         self.publisher.reader()
+    }
+
+    /// A law: what a reader of these rings has seen begins what the cluster has published.
+    pub fn has_shown(&mut self, reader: &RouteReader)
+        requires { reader.now.of ≡ self.old.published.of }
+        ensures begins { Begins reader.now.seen (published_by self.old.published) }
+        ensures unchanged { self.new ≡ self.old }
+    {
+        self.publisher.has_shown(reader);
     }
 
     /// Waits until no live silo has a letter that was never delivered, a worker gave up, or all are to stop.
