@@ -124,13 +124,7 @@ fn publish<R: Wait + Abort>(
 }
 
 // The reader routes the hash by that version, to the first point of the silo of that number.
-fn check_route(
-    rt: &impl Abort,
-    alloc: Global,
-    reader: &mut RouteReader,
-    version: u64,
-    number: u64,
-)
+fn check_route(rt: &impl Abort, alloc: Global, reader: &mut RouteReader, version: u64, number: u64)
     ensures { reader.new.of ≡ reader.old.of }
 {
     let Route { version: by, owner } = reader.route(HASH).expect(rt, "a route");
