@@ -101,13 +101,13 @@ module _ (m : Setting) (g : Grain) (a : ActivationId) (u : ℕ) where
           let low : u ≤ (o.0).version = e.offered o.0 o.1 (o.2 ∙ same) o.3 in
           omega (arith, o.4)
 
-  pub early_close : (w : World) (s : Silo) (h : Grain) (c : ℕ) → MayClose m w s h c → EarlyOf w → EarlyOf (after m w (Close s h c))
-  early_close w s h c may e =
-      early_request w (asked w Deregister s h c None) (λ p same is. its_silo w s c may.alive is e) (λ same is. absurd cc)
-      (put_at s h (Some (Closing c (w.next_number s))) w.held)
-      (early_turn w s h (Some (Closing c (w.next_number s))) (λ d n same is. absurd cc) e)
+  pub early_close : (w : World) (s : Silo) (h : Grain) (x : Held) → MayClose m w s h x → EarlyOf w → EarlyOf (after m w (Close s h x))
+  early_close w s h x may e =
+      early_request w (asked w Deregister s h (count_of x) None) (λ p same is. its_silo w s (count_of x) may.alive is e) (λ same is. absurd cc)
+      (put_at s h (Some (Closing (count_of x) (w.next_number s))) w.held)
+      (early_turn w s h (Some (Closing (count_of x) (w.next_number s))) (λ d n same is. absurd cc) e)
 
-  pub early_offer : (w : World) (s : Silo) (h : Grain) (c : ℕ) → MayClose m w s h c → EarlyOf w → EarlyOf (after m w (Offer_away s h c))
+  pub early_offer : (w : World) (s : Silo) (h : Grain) (c : ℕ) → MayClose m w s h (Firm c) → EarlyOf w → EarlyOf (after m w (Offer_away s h c))
   early_offer w s h c may e =
       let t = early_turn w s h (Some (Closing c (w.next_number s))) (λ d n same is. absurd cc) e in
       record {

@@ -198,7 +198,7 @@ module _ (m : Setting) (g : Grain) (a : ActivationId) (u : ℕ) where
     early_after w New_view may k e = inl (early_view m g a u w e)
     early_after w (See x) may k e = early_sight w x may k e
     early_after w (Start s h previous) may k e = inl (early_start m g a u w s h previous may e)
-    early_after w (Close s h c) may k e = inl (early_close m g a u w s h c may e)
+    early_after w (Close s h x) may k e = inl (early_close m g a u w s h x may e)
     early_after w (Offer_away s h c) may k e = inl (early_offer m g a u w s h c may e)
     early_after w (Renew s h x purpose) may k e = inl (early_renew m g a u w s h x purpose may e)
     early_after w (Find s) may k e = inl e

@@ -111,7 +111,7 @@ module _ (m : Setting) (g : Grain) (u : ℕ) where
   late_after w (See x) may k l = late_sight w x may k l
   late_after w (Start s h previous) may k l =
       late_open w s h (Asking (w.next_count s) (w.next_number s) previous) k (λ c e. cc) (asking_number (w.next_count s) (w.next_number s) previous) l
-  late_after w (Close s h c) may k l = late_open w s h (Closing c (w.next_number s)) k (λ d e. cc) (closing_number c (w.next_number s)) l
+  late_after w (Close s h x) may k l = late_open w s h (Closing (count_of x) (w.next_number s)) k (λ d e. cc) (closing_number (count_of x) (w.next_number s)) l
   late_after w (Offer_away s h c) may k l = late_open w s h (Closing c (w.next_number s)) k (λ d e. cc) (closing_number c (w.next_number s)) l
   late_after w (Renew s h x purpose) may k l =
       late_open w s h (renumbered (w.next_number s) x) k (renumbered_open (w.next_number s) x purpose (may.outstanding).0 (may.outstanding).1) (renumbered_number (w.next_number s) x) l

@@ -11,7 +11,7 @@ use Rattle.directory_rules.specs.Members.{is_dead_in}
 use Rattle.directory_rules.specs.Node.{Node}
 use Rattle.directory_rules.specs.World.{World}
 use Rattle.directory_rules.specs.Happens.{node_of}
-use Rattle.directory_rules.specs.PlainMachine.{Life, Is_asking, Is_firm, Is_closing, life_on, Plain, PlainStep, Change_view, Begin, Make_firm, Yield, Begin_closing, End, Nothing_changes, IsPlainStep, plain_of}
+use Rattle.directory_rules.specs.PlainMachine.{Life, Is_asking, Is_firm, Is_closing, life_on, Plain, PlainStep, Change_view, Begin, Make_firm, Yield, Begin_closing, Give_up, End, Nothing_changes, IsPlainStep, plain_of}
 use Rattle.deployment_headline.specs.Tokens.{IsHeld, IsFirm, IsClosing, WasClosing, NeverFall, PassDeaths, Rise}
 
 -- ---- a step of the plain machine
@@ -66,6 +66,7 @@ module _ (p q : Plain) (s : Silo) (g : Grain) (c : ℕ) where
             inr (inl (moved q.lives s g step.0 step.1 same ∙ (step.3).changed.there ∙ ap (λ n. Some (Is_closing n)) count)))
         | inr apart ↦ inl ((step.3).changed.elsewhere s g apart ∙ firm)
       ]
+  goes_on Give_up step firm = inl (stays step.0 step.1 (Some (Is_asking step.2)) (step.3).was (λ is. cc is) (step.3).changed.elsewhere firm)
   goes_on End step firm = inl (stays step.0 step.1 (Some (Is_closing step.2)) (step.3).was (λ is. cc is) (step.3).changed.elsewhere firm)
   goes_on Nothing_changes step firm = inl (step.lives s g ∙ firm)
 
@@ -84,6 +85,7 @@ module _ (p q : Plain) (s : Silo) (g : Grain) (c : ℕ) where
       ]
   alone Yield step new firm t d = absurd (new (stayed step.0 step.1 None (step.3).changed.there (λ is. cc is) (step.3).changed.elsewhere firm))
   alone Begin_closing step new firm t d = absurd (new (stayed step.0 step.1 (Some (Is_closing step.2)) (step.3).changed.there (λ is. cc is) (step.3).changed.elsewhere firm))
+  alone Give_up step new firm t d = absurd (new (stayed step.0 step.1 (Some (Is_closing step.2)) (step.3).changed.there (λ is. cc is) (step.3).changed.elsewhere firm))
   alone End step new firm t d = absurd (new (stayed step.0 step.1 None (step.3).changed.there (λ is. cc is) (step.3).changed.elsewhere firm))
   alone Nothing_changes step new firm t d = absurd (new (sym (step.lives s g) ∙ firm))
 

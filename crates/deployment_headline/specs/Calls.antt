@@ -19,7 +19,7 @@ pub record TakesItsSteps (d : Deployment) (silo : Silo) (s : SiloValue) : Type 0
   pub tells : (index : ℕ) (change : Change) → slice_get d.changes index ≡ Some change → after d (Tell silo index) ≡ heard (told s.node.settings s.membership (index + 1) change) d silo s
   -- `see`
   pub sees_so : (version : ℕ) → after d (See silo version) ≡ took (sees s version) d silo s
-  -- `wake`, `close`, `find`, `forget`, `nudge` and `offer`
+  -- `wake`, `close`, `cancel`, `find`, `forget`, `nudge`, `nudge_grain`, `nudge_ranges` and `offer`
   pub asks : (step : OwnStep) → after d (Do silo step) ≡ took (does s (Does step)) d silo s
   -- `receive`: any letter that was written
   pub receives_so : (index : ℕ) (letter : Letter) → slice_get d.written index ≡ Some letter → after d (Receive silo index) ≡ took (receives s letter) d silo s

@@ -33,7 +33,7 @@ pub record BecomesFirm (H : Type 0) (after : List H → World) (before : List H)
   pub not_before : (seen : ℕ) → ¬ (IsFirm (after before) grain a seen)
   pub firm : IsFirm (after (before ++ last ∷ [])) grain a token
 
--- at some moment in between its own silo was closing it
+-- at some moment in between its own silo was closing it; where it was firm before, it was closed or offered, and not given up
 pub record WasClosing (H : Type 0) (after : List H → World) (before between : List H) (grain : Grain) (a : ActivationId) : Type 0 where
   pub first : List H
   pub rest : List H

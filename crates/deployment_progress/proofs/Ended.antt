@@ -12,23 +12,20 @@ use Rattle.directory_rules.specs.declared.act.Request.{Request}
 use Rattle.directory_rules.specs.declared.effect.Effect.TheVariants as effect
 use Rattle.directory_rules.specs.declared.piece_state.PieceState.TheVariants.{Settled}
 use Rattle.directory_rules.specs.Answer.{last_served, is_numbered, piece_with, answered}
-use Rattle.directory_rules.specs.Host.{Host, outstanding, renewed}
 use Rattle.directory_rules.specs.Input.{Input, Receives}
-use Rattle.directory_rules.specs.Laws.{AreNumbered, requests_of}
+use Rattle.directory_rules.specs.Laws.{requests_of}
 use Rattle.directory_rules.specs.Letter.{Letter, Reply_letter}
 use Rattle.directory_rules.specs.Node.{Node}
 use Rattle.directory_rules.specs.Piece.{Piece}
 use Rattle.directory_rules.specs.Receive.{received, replying}
 use Rattle.directory_rules.specs.Sent.{letter_to, hash_of, request_of}
-use Rattle.directory_rules.specs.declared.own_step.OwnStep.TheVariants.{Nudge}
+use Rattle.directory_rules.specs.declared.own_step.OwnStep.{OwnStep}
 use Rattle.directory_rules.specs.Step.{Stepped, silently}
 use Rattle.directory_rules.specs.Membership.{Membership}
 use Rattle.progress_rules.specs.Owed.{Owes}
 use Rattle.progress_rules.specs.Requests.{Ends}
 use Rattle.progress_rules.proofs.Answered.{ended}
 use Rattle.progress_rules.proofs.Answering.{node_facts}
-use Rattle.progress_rules.proofs.FindsSorted.{outstanding_has}
-use Rattle.progress_rules.proofs.NudgedAgain.{IsRenewed, renewed_from}
 use Rattle.progress_rules.proofs.Quiet.{replies_quiet}
 use Rattle.progress_rules.proofs.Requests.{requests_are_served}
 use Rattle.progress_rules.proofs.SecondRound.{served_below}
@@ -39,13 +36,13 @@ use Rattle.deployment_headline.specs.Steps.{Step, Do, Receive, IsStep, after, af
 use Rattle.deployment_headline.proofs.Worlds.{its_node}
 use Rattle.deployment_progress.specs.Quiet.{DecidesNone}
 use Rattle.deployment_progress.specs.Exchanges.{IsAnswered, IsNudged}
-use Rattle.deployment_progress.specs.Requests.{letter_of, IsServed, RequestsEnd, OldRequestsEnd}
+use Rattle.deployment_progress.specs.Requests.{letter_of, IsServed, Renews, RequestsEnd, OldRequestsEnd}
 use Rattle.deployment_progress.proofs.Rest.{node_at, IsAtRest}
 use Rattle.deployment_progress.proofs.Quiet.{IsBrought, quiet_moves, rests_on}
 use Rattle.deployment_progress.proofs.Later.{w, in_world, its_version, its_silo, IsLater, IsQuiet, stays_written, same_membership, starts_at_rest}
 use Rattle.deployment_progress.proofs.Answered.{came, wrote}
 use Rattle.deployment_progress.proofs.Back.{was_there, was_there_first}
-use Rattle.deployment_progress.proofs.Nudged.{quiet_after, nudged_rests, first_there, nudged_there, nudged_so, after_nudge}
+use Rattle.deployment_progress.proofs.Nudged.{quiet_after, nudged_rests, nudge_taken, first_there, nudged_there, renewed_free, after_nudge}
 use Rattle.deployment_progress.proofs.Letters.{quiet_before, quiet_between, b_rests, l_rests, at_ask, at_last, quiet_end, next_rests, end_is}
 use Rattle.deployment_progress.proofs.Numbers.{its_numbered, Numbers, numbers_on, step_numbers, step_serves, numbers_later, served_later}
 
@@ -179,9 +176,9 @@ module _ (d : Deployment) (r : IsAtRest d) (silo : Silo) (steps : List Step) (q 
       elim (end.owes e left) [ inl still ↦ not_told still | inr free ↦ omega (arith, free, below, rises) ]
 
 -- ---- after a nudge
-module _ (d : Deployment) (r : IsAtRest d) (silo : Silo) (steps : List Step) (q : IsQuiet steps) (n : IsNudged d silo steps) where
+module _ (d : Deployment) (r : IsAtRest d) (silo : Silo) (part : OwnStep) (steps : List Step) (q : IsQuiet steps) (n : IsNudged d silo part steps) where
   abbrev d1 : Deployment
-  d1 = after d (Do silo Nudge)
+  d1 = after d (Do silo part)
 
   abbrev first : Node
   first = n.process.node
@@ -190,57 +187,53 @@ module _ (d : Deployment) (r : IsAtRest d) (silo : Silo) (steps : List Step) (q 
   node1 = n.nudged.node
 
   abbrev r1 : IsAtRest d1
-  r1 = nudged_rests d r silo steps q n
+  r1 = nudged_rests d r silo part steps q n
 
   abbrev there1 : node_at d1 silo ≡ Some node1
-  there1 = nudged_there d r silo steps q n
+  there1 = nudged_there d r silo part steps q n
 
-  -- each request has a number that was free before
-  free : (e : ℕ × Act) → Owes node1.host e → first.host.next_number ≤ e.0
-  free e owes =
-      let did = nudged_so d r silo steps q n in
-      let renewed_so : Host = renewed first.host in
-      let numbered : AreNumbered renewed_so = subst (λ (t : Stepped). AreNumbered t.node.host) did (its_numbered d1 r1 silo node1 there1) in
-      (All-contains (IsRenewed first.host) (outstanding renewed_so) e (renewed_from first.host) (outstanding_has renewed_so numbered e (subst (λ (t : Stepped). Owes t.node.host e) did owes))).0
+  -- each request that it renews has a number that was free before
+  free : (e : ℕ × Act) → Renews part e → Owes node1.host e → first.host.next_number ≤ e.0
+  free e renews owes = renewed_free part e renews first n.nudged (nudge_taken d r silo part steps q n).3 (its_numbered d1 r1 silo node1 there1) owes
 
   -- and so one above the last that was served
-  low : (e : ℕ × Act) → Owes node1.host e → (owner : Silo) (own : Node) → node_at d1 owner ≡ Some own → last_served silo own.holding.served < e.0
-  low e owes owner own at =
-      let was = was_there d (Do silo Nudge) d1 (quiet_moves d r (Do silo Nudge) tt) owner own at in
+  low : (e : ℕ × Act) → Renews part e → Owes node1.host e → (owner : Silo) (own : Node) → node_at d1 owner ≡ Some own → last_served silo own.holding.served < e.0
+  low e renews owes owner own at =
+      let was = was_there d (Do silo part) d1 (quiet_moves d r (Do silo part) tt) owner own at in
       let its = w d r in
       let below : last_served silo was.0.holding.served < first.host.next_number =
-      served_below its.world its.rests owner silo (node_with_room its.events its.letters was.0) (node_with_room its.events its.letters first) (in_world d r owner was.0 was.1) (in_world d r silo first (first_there d r silo steps q n)) in
-      let enough = free e owes in
-      elim (step_serves d r (Do silo Nudge) d1 r1 owner was.0 own was.1 at (quiet_moves d r (Do silo Nudge) tt) silo) [
+      served_below its.world its.rests owner silo (node_with_room its.events its.letters was.0) (node_with_room its.events its.letters first) (in_world d r owner was.0 was.1) (in_world d r silo first (first_there d r silo part steps q n)) in
+      let enough = free e renews owes in
+      elim (step_serves d r (Do silo part) d1 r1 owner was.0 own was.1 at (quiet_moves d r (Do silo part) tt) silo) [
         | inl same ↦ omega (arith, same, below, enough)
         | inr of ↦ absurd (no_letter of.0 of.2.letter of.1 of.2.is)
       ]
     where
-      no_letter : (input : Input) (letter : Letter) → IsBrought d (Do silo Nudge) owner input → input ≡ Receives letter → ⊥
+      no_letter : (input : Input) (letter : Letter) → IsBrought d (Do silo part) owner input → input ≡ Receives letter → ⊥
       no_letter input letter brought is =
-          let its : IsBrought d (Do silo Nudge) owner (Receives letter) = subst (IsBrought d (Do silo Nudge) owner) is brought in
+          let its : IsBrought d (Do silo part) owner (Receives letter) = subst (IsBrought d (Do silo part) owner) is brought in
           let step_is = its.3 in
           cc (step_is)
 
-  pub ends_so : (last : Node) → node_at (after_all d steps) silo ≡ Some last → (e : ℕ × Act) → Owes node1.host e → IsServed d1 silo node1 n.rest e → Owes last.host e → ⊥
-  ends_so last at e owes s left =
-      not_owed d1 r1 silo n.rest (quiet_after d r silo steps q n) node1 there1 e owes s (λ own there numbered. low e owes s.turn.owner own there) last (ap (λ x. node_at x silo) (sym (after_nudge d r silo steps q n)) ∙ at) left
+  pub ends_so : (last : Node) → node_at (after_all d steps) silo ≡ Some last → (e : ℕ × Act) → Renews part e → Owes node1.host e → IsServed d1 silo node1 n.rest e → Owes last.host e → ⊥
+  ends_so last at e renews owes s left =
+      not_owed d1 r1 silo n.rest (quiet_after d r silo part steps q n) node1 there1 e owes s (λ own there numbered. low e renews owes s.turn.owner own there) last (ap (λ x. node_at x silo) (sym (after_nudge d r silo part steps q n)) ∙ at) left
 
   pub later_numbers : (last : Node) → node_at (after_all d steps) silo ≡ Some last → Numbers node1 last
-  later_numbers last at = numbers_later d1 r1 n.rest (quiet_after d r silo steps q n) silo node1 last there1 (ap (λ x. node_at x silo) (sym (after_nudge d r silo steps q n)) ∙ at)
+  later_numbers last at = numbers_later d1 r1 n.rest (quiet_after d r silo part steps q n) silo node1 last there1 (ap (λ x. node_at x silo) (sym (after_nudge d r silo part steps q n)) ∙ at)
 
 -- ---- the laws
 pub requests_end : RequestsEnd
-requests_end settings steps later are named seen named_later none silo n t e owes s at left =
-    ends_so (deployed settings steps) (starts_at_rest settings steps are named seen) silo later (record { named = named_later; none = none }) n t.node (ap (option_map its_node) at) e owes s left
+requests_end settings steps later are named seen named_later none silo part n t e renews owes s at left =
+    ends_so (deployed settings steps) (starts_at_rest settings steps are named seen) silo part later (record { named = named_later; none = none }) n t.node (ap (option_map its_node) at) e renews owes s left
 
 pub old_requests_end : OldRequestsEnd
-old_requests_end settings steps later are named seen named_later none silo n t all at e left =
+old_requests_end settings steps later are named seen named_later none silo part n t all at e renews left =
     let d = deployed settings steps in
     let r = starts_at_rest settings steps are named seen in
     let q : IsQuiet later = record { named = named_later; none = none } in
     let last = ap (option_map its_node) at in
-    elim ((later_numbers d r silo later q n t.node last).owes e left) [
-      | inl was ↦ absurd (ends_so d r silo later q n t.node last e was (all e was) left)
+    elim ((later_numbers d r silo part later q n t.node last).owes e left) [
+      | inl was ↦ absurd (ends_so d r silo part later q n t.node last e renews was (all e renews was) left)
       | inr free ↦ free
     ]

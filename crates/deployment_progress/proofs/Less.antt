@@ -125,11 +125,14 @@ module _ (hashing : Hashing) (node : Node) (has : HasPieces hashing node) where
     sees = λ before view places newer numbers seen never. let version = ap (λ v. v.version) seen in absurd (omega (arith, version, newer));
     wakes = λ grain may seen never. still _ refl (λ range. refl) (λ range. refl);
     closes = λ grain held may seen never. still _ refl (λ range. refl) (λ range. refl);
+    cancels = λ grain held may seen never. still _ refl (λ range. refl) (λ range. refl);
     offers = λ grain held to may active other seen never. still _ refl (λ range. refl) (λ range. refl);
     uses_hint = λ grain activation hint seen never. still _ refl (λ range. refl) (λ range. refl);
     finds = λ grain room numbers seen never. still _ refl (λ range. refl) (λ range. refl);
     forgets = λ grain activation hint seen never. still _ refl (λ range. refl) (λ range. refl);
     nudges = λ numbers seen never. still _ refl (λ range. refl) (λ range. refl);
+    nudges_grain = λ grain numbers seen never. still _ refl (λ range. refl) (λ range. refl);
+    nudges_ranges = λ seen never. still node refl (λ range. refl) (λ range. refl);
     answers = λ letter request body sender version seen never. answers request;
     confirms = λ letter number entry e is there seen never. still _ refl (λ range. refl) (λ range. refl);
     yields = λ letter number entry e is there seen never. still _ refl (λ range. refl) (λ range. refl);

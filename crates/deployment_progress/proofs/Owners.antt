@@ -17,8 +17,9 @@ use Rattle.directory_rules.specs.Answer.{piece_with}
 use Rattle.directory_rules.specs.Laws.{is_live}
 use Rattle.directory_rules.specs.Node.{Node}
 use Rattle.directory_rules.specs.Piece.{Piece}
-use Rattle.directory_rules.specs.Sent.{grain_of, hash_of, owner_by}
-use Rattle.directory_rules.specs.declared.own_step.OwnStep.TheVariants.{Nudge}
+use Rattle.directory_rules.specs.Sent.{hash_of, owner_by}
+use Rattle.directory_rules.specs.Host.{grain_of}
+use Rattle.directory_rules.specs.declared.own_step.OwnStep.{OwnStep}
 use Rattle.directory_rules.specs.World.{current_ring}
 use Rattle.directory_facts.proofs.Entries.{found_so}
 use Rattle.directory_facts.proofs.Hashes.{grains_have_hashes}
@@ -133,17 +134,17 @@ module _ (d : Deployment) (r : IsAtRest d) (silo : Silo) (steps : List Step) (q 
 all_at_first : (d : Deployment) → HaveAllSettled d → AreAllSettled d
 all_at_first d all silo node there = let its = process_with (process_of d silo) node there in subst (λ (n : Node). All IsSettledPiece n.holding.pieces) its.2 (all silo its.0 its.1)
 
-settled_then : (d : Deployment) (r : IsAtRest d) (silo : Silo) → IsQuiet (Do silo Nudge ∷ []) → AreAllSettled d → AreAllSettled (after d (Do silo Nudge))
+settled_then : (d : Deployment) (r : IsAtRest d) (silo : Silo) (part : OwnStep) → IsQuiet (Do silo part ∷ []) → AreAllSettled d → AreAllSettled (after d (Do silo part))
 unfolding after_all
-settled_then d r silo nudge all = still_settled d r (Do silo Nudge ∷ []) nudge all
+settled_then d r silo part nudge all = still_settled d r (Do silo part ∷ []) nudge all
 
 pub settled_requests_end : SettledRequestsEnd
-settled_requests_end settings steps later are named seen named_later none silo n t all turns =
+settled_requests_end settings steps later are named seen named_later none silo part n t all turns =
     let d = deployed settings steps in
     let r = starts_at_rest settings steps are named seen in
     let q : IsQuiet later = record { named = named_later; none = none } in
-    let nudge : IsQuiet (Do silo Nudge ∷ []) = quiet_first (Do silo Nudge ∷ []) n.rest (subst IsQuiet n.begins q) in
-    old_requests_end settings steps later are named seen named_later none silo n t
-    (λ e owes.
-    let turn = turns e owes in
-    is_served (after d (Do silo Nudge)) (nudged_rests d r silo later q n) silo n.rest (quiet_after d r silo later q n) n.nudged.node (nudged_there d r silo later q n) e turn.0 turn.1 (settled_then d r silo nudge (all_at_first d all)))
+    let nudge : IsQuiet (Do silo part ∷ []) = quiet_first (Do silo part ∷ []) n.rest (subst IsQuiet n.begins q) in
+    old_requests_end settings steps later are named seen named_later none silo part n t
+    (λ e renews owes.
+    let turn = turns e renews owes in
+    is_served (after d (Do silo part)) (nudged_rests d r silo part later q n) silo n.rest (quiet_after d r silo part later q n) n.nudged.node (nudged_there d r silo part later q n) e turn.0 turn.1 (settled_then d r silo part nudge (all_at_first d all)))

@@ -3,12 +3,14 @@ use Rattle.std.proofs.Common.{arith, ◌≡◌, refl, ap, subst, ◌∙◌, ℕ,
 use Rattle.std.specs.Prelude.{All, slice_get, Some}
 use Rattle.std.proofs.lemmas.List.Elements.{All-nil, All-cons}
 use Rattle.silo_address.specs.Silo.{Silo}
-use Rattle.directory_rules.specs.declared.own_step.OwnStep.TheVariants.{Nudge}
+use Rattle.directory_rules.specs.declared.own_step.OwnStep.{OwnStep}
+use Rattle.directory_rules.specs.declared.own_step.OwnStep.TheVariants.{Nudge, NudgeRanges}
+use Rattle.directory_rules.specs.OwnStep.{IsOwnStep}
 use Rattle.directory_rules.specs.Letter.{Letter}
 use Rattle.deployment_headline.specs.Deployment.{Deployment}
 use Rattle.deployment_headline.specs.Steps.{Step, Do, Receive, IsStep, after, after_all}
 use Rattle.deployment_progress.specs.Quiet.{DecidesNone}
-use Rattle.deployment_progress.specs.Exchanges.{IsAnswered, ExchangesCanBe}
+use Rattle.deployment_progress.specs.Exchanges.{SendsWants, IsAnswered, ExchangesCanBe}
 
 -- the letters, of which the first one was written after so many others, each with its answer
 answering : Deployment → (silo : Silo) → List Letter → (index : ℕ) → List Step
@@ -48,16 +50,24 @@ has_answer d silo (x ∷ xs) index (suc k) letter found =
       is = ap (λ l. Receive x.to index ∷ Receive silo (length d.written) ∷ l) a.is;
     })
 
+names_nothing : (part : OwnStep) → SendsWants part → IsOwnStep part
+names_nothing Nudge wants = tt
+names_nothing NudgeRanges wants = tt
+names_nothing other wants = absurd wants
+
 pub exchanges_can_be : ExchangesCanBe
-exchanges_can_be d silo s nudged named there is =
-    let d1 = after d (Do silo Nudge) in
+exchanges_can_be d silo part s nudged wants named there is =
+    let d1 = after d (Do silo part) in
     let rest = answering d1 silo d1.written 0 in (
-      Do silo Nudge ∷ rest,
-      All-cons IsStep (Do silo Nudge) rest (named, tt) (all_come IsStep (λ to k. tt) d1 silo d1.written 0),
-      All-cons DecidesNone (Do silo Nudge) rest tt (all_come DecidesNone (λ to k. tt) d1 silo d1.written 0),
+      Do silo part ∷ rest,
+      All-cons IsStep (Do silo part) rest (named, names_nothing part wants) (all_come IsStep (λ to k. tt) d1 silo d1.written 0),
+      All-cons DecidesNone (Do silo part) rest tt (all_come DecidesNone (λ to k. tt) d1 silo d1.written 0),
       record {
+        part = part;
+        wants = wants;
         nudge = record { process = s; there = there; nudged = nudged; is_nudged = is; rest = rest; begins = refl };
         answered = λ index letter low found want.
             (let here : 0 + index ≡ index = omega arith in subst (λ n. IsAnswered d1 silo rest n letter) here (has_answer d1 silo d1.written 0 index letter found));
       },
+      refl,
     )

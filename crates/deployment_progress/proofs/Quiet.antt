@@ -21,7 +21,7 @@ use Rattle.directory_rules.specs.Letter.{Letter}
 use Rattle.directory_rules.specs.Node.{Node}
 use Rattle.directory_rules.specs.Receive.{received}
 use Rattle.directory_rules.specs.Step.{Stepped, silently}
-use Rattle.directory_rules.specs.declared.own_step.OwnStep.TheVariants.{Nudge}
+use Rattle.directory_rules.specs.declared.own_step.OwnStep.{OwnStep}
 use Rattle.directory_rules.proofs.Cases.{on_bool}
 use Rattle.directory_facts.proofs.Lookups.{found_put, found_beside_put}
 use Rattle.directory_rules.specs.Membership.{Change, Membership, barred_by, is_seeable}
@@ -209,12 +209,12 @@ module _ (d : Deployment) where
         subst (λ next. (m : HasMoved d (Receive letter.to index) next letter.to) × (m.stepped ≡ received s.node letter) × (m.node ≡ s.node)) (sym so)
         (took_moves (Receive letter.to index) letter.to s there (Receives letter) (refl, index, found, refl) (received s.node letter) refl, refl, refl)
 
-    pub nudge_comes : (silo : Silo) (s : SiloValue) (nudged : Stepped) → process_of d silo ≡ Some s → does s (Does Nudge) ≡ Ok nudged → (m : HasMoved d (Do silo Nudge) (after d (Do silo Nudge)) silo) × (m.stepped ≡ nudged) × (m.node ≡ s.node) × (step s.node (Does Nudge) ≡ Ok nudged)
+    pub nudge_comes : (silo : Silo) (part : OwnStep) (s : SiloValue) (nudged : Stepped) → process_of d silo ≡ Some s → does s (Does part) ≡ Ok nudged → (m : HasMoved d (Do silo part) (after d (Do silo part)) silo) × (m.stepped ≡ nudged) × (m.node ≡ s.node) × (step s.node (Does part) ≡ Ok nudged)
     unfolding after
-    nudge_comes silo s nudged there is =
-        let so : does_at (process_of d silo) d silo (Does Nudge) ≡ took (Ok nudged) d silo s = ap (λ o. does_at o d silo (Does Nudge)) there ∙ ap (λ x. took x d silo s) is in
-        let did : step s.node (Does Nudge) ≡ Ok nudged = sym (does_is silo s there (Does Nudge)) ∙ is in
-        subst (λ next. (m : HasMoved d (Do silo Nudge) next silo) × (m.stepped ≡ nudged) × (m.node ≡ s.node) × (step s.node (Does Nudge) ≡ Ok nudged)) (sym so) (took_moves (Do silo Nudge) silo s there (Does Nudge) tt nudged did, refl, refl, did)
+    nudge_comes silo part s nudged there is =
+        let so : does_at (process_of d silo) d silo (Does part) ≡ took (Ok nudged) d silo s = ap (λ o. does_at o d silo (Does part)) there ∙ ap (λ x. took x d silo s) is in
+        let did : step s.node (Does part) ≡ Ok nudged = sym (does_is silo s there (Does part)) ∙ is in
+        subst (λ next. (m : HasMoved d (Do silo part) next silo) × (m.stepped ≡ nudged) × (m.node ≡ s.node) × (step s.node (Does part) ≡ Ok nudged)) (sym so) (took_moves (Do silo part) silo s there (Does part) tt nudged did, refl, refl, did)
 
     -- ---- and all have still seen the last change
     stays_seen : (silo : Silo) (node : Node) → node_at d silo ≡ Some node → node.view.version ≡ d.membership.views.version

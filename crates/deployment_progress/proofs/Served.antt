@@ -32,11 +32,14 @@ module _ (node : Node) where
     sees = λ before view places newer numbers seen. let version = ap (λ (v : ViewValue). v.version) seen in absurd (omega (arith, version, newer));
     wakes = λ grain may seen silo. inl refl;
     closes = λ grain held may seen silo. inl refl;
+    cancels = λ grain held may seen silo. inl refl;
     offers = λ grain held to may active other seen silo. inl refl;
     uses_hint = λ grain activation hint seen silo. inl refl;
     finds = λ grain room numbers seen silo. inl refl;
     forgets = λ grain activation hint seen silo. inl refl;
     nudges = λ numbers seen silo. inl refl;
+    nudges_grain = λ grain numbers seen silo. inl refl;
+    nudges_ranges = λ seen silo. inl refl;
     answers = λ letter request body sender version seen silo.
         elim (served_so node.holding request silo) [ inl same ↦ inl same | inr mine ↦ inr (record { letter = letter; request = request; is = refl; body = body; sender = sym mine.0; number_is = mine.2 }) ];
     confirms = λ letter number entry e is there seen silo. inl refl;

@@ -32,11 +32,14 @@ module _ (P : Snapshot → Type 0) (node : Node) where
     sees = λ before view places newer numbers seen all. let version = ap (λ (v : ViewValue). v.version) seen in absurd (omega (arith, version, newer));
     wakes = λ grain may seen all. all;
     closes = λ grain held may seen all. all;
+    cancels = λ grain held may seen all. all;
     offers = λ grain held to may active other seen all. all;
     uses_hint = λ grain activation hint seen all. all;
     finds = λ grain room numbers seen all. all;
     forgets = λ grain activation hint seen all. all;
     nudges = λ numbers seen all. all;
+    nudges_grain = λ grain numbers seen all. all;
+    nudges_ranges = λ seen all. all;
     answers = λ letter request body sender version seen all. all;
     confirms = λ letter number entry e is there seen all. all;
     yields = λ letter number entry e is there seen all. all;

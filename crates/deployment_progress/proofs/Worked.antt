@@ -89,6 +89,8 @@ its_answer (suc (suc (suc (suc (suc (suc k)))))) letter low found = absurd (cc (
 
 worked_is : IsExchange worked silo_b exchanging
 worked_is = record {
+  part = Nudge;
+  wants = tt;
   nudge = record {
     process = process;
     there = process_there;

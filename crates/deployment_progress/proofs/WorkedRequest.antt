@@ -67,7 +67,7 @@ node = (nudged_of process).node
 abbrev nudged : Deployment
 nudged = after asking (Do silo_a Nudge)
 
-nudge : IsNudged asking silo_a replying
+nudge : IsNudged asking silo_a Nudge replying
 nudge = record {
   process = process;
   there = process_there;

@@ -8,7 +8,7 @@ use Rattle.silo_address.specs.Silo.{Silo}
 use Rattle.membership_view.specs.Views.{ViewsValue}
 use Rattle.directory_rules.specs.Membership.{Change, Join, Leave, Die, Membership, changed, is_seeable, replaced_by}
 use Rattle.directory_rules.specs.declared.OwnStep.{OwnStep}
-use Rattle.directory_rules.specs.declared.OwnStep.TheVariants.{Wake, Close, Find, Forget, Nudge, Offer}
+use Rattle.directory_rules.specs.declared.OwnStep.TheVariants.{Wake, Close, Cancel, Find, Forget, Nudge, NudgeGrain, NudgeRanges, Offer}
 use Rattle.directory_rules.specs.Event.{Event}
 use Rattle.directory_rules.specs.declared.outcome.Happening.{Happening}
 use Rattle.directory_rules.specs.declared.outcome.Happening.TheVariants.{Delivered, Did, Saw}
@@ -102,9 +102,12 @@ memory_refused : (world : World) (silo : Silo) (node : Node) (step : OwnStep) (o
     → RefusesBy (own_excused step) (letters_number world (known_count step)) (done_by outcome world silo)
 memory_refused world silo node (Wake grain) outcome lacks = known_refused world silo 1 outcome lacks
 memory_refused world silo node (Close grain) outcome lacks = known_refused world silo 1 outcome lacks
+memory_refused world silo node (Cancel grain) outcome lacks = known_refused world silo 1 outcome lacks
 memory_refused world silo node (Find grain) outcome lacks = known_refused world silo 1 outcome lacks
 memory_refused world silo node (Forget grain) outcome lacks = known_refused world silo 1 outcome lacks
 memory_refused world silo node Nudge outcome lacks = unknown_refused world silo outcome lacks
+memory_refused world silo node (NudgeGrain grain) outcome lacks = unknown_refused world silo outcome lacks
+memory_refused world silo node NudgeRanges outcome lacks = unknown_refused world silo outcome lacks
 memory_refused world silo node (Offer grain to) outcome lacks = known_refused world silo 1 outcome lacks
 
 -- what an application asks is refused by the step's number, or by its letters'

@@ -265,9 +265,10 @@ fn known_count(step: &OwnStep) -> usize
     ensures { result ≡ known_count step.now }
 {
     match step {
-        OwnStep::Nudge => 0,
+        OwnStep::Nudge | OwnStep::NudgeGrain(_) | OwnStep::NudgeRanges => 0,
         OwnStep::Wake(_)
         | OwnStep::Close(_)
+        | OwnStep::Cancel(_)
         | OwnStep::Find(_)
         | OwnStep::Forget(_)
         | OwnStep::Offer { .. } => 1,

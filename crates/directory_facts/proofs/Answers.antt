@@ -16,7 +16,7 @@ use Rattle.directory_rules.specs.declared.reply.Why.{Why}
 use Rattle.directory_rules.specs.Table.{entry_at}
 use Rattle.directory_rules.specs.Piece.{Piece, Holding}
 use Rattle.directory_rules.specs.Answer.{with_piece, turned, serving_piece, served_by, answered_from}
-use Rattle.directory_rules.specs.Sent.{grain_of}
+use Rattle.directory_rules.specs.Host.{grain_of}
 use Rattle.directory_rules.proofs.Cases.{on_bool}
 use Rattle.directory_rules.proofs.Tables.{turned_leaves}
 use Rattle.directory_rules.proofs.Ranges.{ranges, Rising, stands_at}

@@ -9,8 +9,8 @@ use Rattle.silo_address.specs.Grain.{Grain, grain_cmp}
 use Rattle.silo_address.specs.declared.ActivationId.{ActivationId}
 use Rattle.silo_address.proofs.Order.{grain_cmp_exact}
 use Rattle.directory_rules.specs.declared.held.Held.{Held}
-use Rattle.directory_rules.specs.declared.held.Phase.TheVariants.{Firm, Closing}
-use Rattle.directory_rules.specs.Host.{Host, held_of, next_held, with_started, renewed_phase, asking_under}
+use Rattle.directory_rules.specs.declared.held.Phase.TheVariants.{Firm}
+use Rattle.directory_rules.specs.Host.{Host, held_of, next_held, next_closing, with_started, renewed_phase, held_renewed_about, asking_under}
 use Rattle.directory_rules.specs.Node.{Node}
 use Rattle.directory_facts.specs.Own.{HoldsOnce, CountsOnce}
 use Rattle.directory_facts.proofs.Entries.{same_key, all_set, all_removed, found_so}
@@ -68,9 +68,9 @@ set_of grain its held there = λ P all.
 
 -- each change of a host but a beginning
 module _ (host : Host) where
-  pub closed_are : (grain : Grain) (its : Held) → held_of host grain ≡ Some its → AreOf host.held (set_value (is_at (grain_cmp grain)) host.held (record its { phase = Closing host.next_number }))
+  pub closed_are : (grain : Grain) (its : Held) → held_of host grain ≡ Some its → AreOf host.held (set_value (is_at (grain_cmp grain)) host.held (next_closing host its))
   closed_are grain its found =
-      set_of grain (record its { phase = Closing host.next_number }) host.held (λ P all.
+      set_of grain (next_closing host its) host.held (λ P all.
       let there = found_so (λ (e : Grain × Held). P e.0 e.1.count) (is_at (grain_cmp grain)) its host.held all found in
       subst (λ g. P g its.count) (sym (same_key grain_cmp grain_cmp_exact grain there.0 there.1)) there.2)
 
@@ -82,6 +82,9 @@ module _ (host : Host) where
 
   pub renewed_are : AreOf host.held (map (λ e. (e.0, record e.1 { phase = renewed_phase host e.1.phase })) host.held)
   renewed_are = λ P all. All-map (λ (e : Grain × Held). P e.0 e.1.count) (λ (e : Grain × Held). (e.0, record e.1 { phase = renewed_phase host e.1.phase })) host.held all
+
+  pub renewed_about_are : (grain : Grain) → AreOf host.held (map (λ e. (e.0, held_renewed_about grain host e.0 e.1)) host.held)
+  renewed_about_are grain = λ P all. All-map (λ (e : Grain × Held). P e.0 e.1.count) (λ (e : Grain × Held). (e.0, held_renewed_about grain host e.0 e.1)) host.held all
 
 module _ (node : Node) (is : CountedNode node) where
   abbrev held : List (Grain × Held)
@@ -112,11 +115,14 @@ module _ (node : Node) (is : CountedNode node) where
     sees = λ before view places newer numbers. of_same _ (renewed_are node.host);
     wakes = λ grain may. begun grain None;
     closes = λ grain its may. of_same _ (closed_are node.host grain its may.found);
+    cancels = λ grain its may. of_same _ (closed_are node.host grain its may.found);
     offers = λ grain its to may active other. of_same _ (closed_are node.host grain its may.found);
     uses_hint = λ grain activation hint. is;
     finds = λ grain room numbers. is;
     forgets = λ grain activation hint. is;
     nudges = λ numbers. of_same _ (renewed_are node.host);
+    nudges_grain = λ grain numbers. of_same _ (renewed_about_are node.host grain);
+    nudges_ranges = is;
     answers = λ letter request body sender version. is;
     confirms = λ letter number entry e of_it there. of_same _ (confirmed_are node.host number e there);
     yields = λ letter number entry e of_it there. of_same _ (less_are node.host e.0);

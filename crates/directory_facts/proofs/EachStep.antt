@@ -28,7 +28,7 @@ use Rattle.directory_rules.specs.Table.{rise_by_grain, lie_in}
 use Rattle.directory_rules.specs.Snapshot.{Page, ShelfAnswer, Hands_page, Has_none, Is_behind, shelf_answer, has_snapshot, shelf_without}
 use Rattle.directory_rules.specs.Gatherings.{Gathered, Wants_page, Has_all, Refuses, gathered}
 use Rattle.directory_rules.specs.Recovery.{Report, Recovered, Awaits_more, Has_union, Rejects, recovered}
-use Rattle.directory_rules.specs.Host.{held_of, outstanding, has_numbers, has_count, is_full_of_activations, is_full_of_finds, is_firm, asking_under, closing_under, is_finding, is_outstanding, without_find}
+use Rattle.directory_rules.specs.Host.{held_of, is_asking, outstanding, requests_about, has_numbers, has_count, is_full_of_activations, is_full_of_finds, is_firm, asking_under, closing_under, is_finding, is_outstanding, without_find}
 use Rattle.directory_rules.specs.Cache.{hint_of, learnt}
 use Rattle.directory_rules.specs.Letter.{Body, Request_letter, Reply_letter, Ask_letter, Page_letter, Missing_letter, Done_letter, Query_letter, Report_letter, Behind_letter, Ahead_letter, Offer_letter, Letter}
 use Rattle.directory_rules.specs.Node.{Node}
@@ -37,7 +37,7 @@ use Rattle.directory_rules.specs.Step as at
 use Rattle.directory_rules.specs.Reply as re
 use Rattle.directory_rules.specs.Transfer as tr
 use Rattle.directory_rules.specs.Receive as rc
-use Rattle.directory_rules.specs.declared.own_step.OwnStep.TheVariants.{Wake, Close, Find, Forget, Nudge, Offer}
+use Rattle.directory_rules.specs.declared.own_step.OwnStep.TheVariants.{Wake, Close, Cancel, Find, Forget, Nudge, NudgeGrain, NudgeRanges, Offer}
 use Rattle.directory_rules.specs.Input.{Input, Sees, Does, Receives, step}
 use Rattle.directory_facts.proofs.Ways.{IsReply, HasPiece, IsPageTaken, IsReportTaken, Ways}
 
@@ -128,6 +128,13 @@ module _ (node : Node) (P : Input → at.Stepped → Type 0) (w : Ways node P) w
       unless (P (Does (Close grain))) (not (has_numbers node.settings node.host 1)) 805 _ (λ numbers.
       w.closes grain held (record { found = found; firm = firm_is held.phase (is_so _ firm); numbers = is_so _ numbers })))
 
+  cancel_held : (held : Option Held) (grain : Grain) → held_of node.host grain ≡ held → IfOk (at.cancel_held held node grain) (P (Does (Cancel grain)))
+  cancel_held None grain found = tt
+  cancel_held (Some held) grain found =
+      unless (P (Does (Cancel grain))) (not (is_asking held.phase)) 808 _ (λ asks.
+      unless (P (Does (Cancel grain))) (not (has_numbers node.settings node.host 1)) 805 _ (λ numbers.
+      w.cancels grain held (record { found = found; asks = is_so _ asks; numbers = is_so _ numbers })))
+
   offer_held : (held : Option Held) (grain : Grain) (to : Silo) → held_of node.host grain ≡ held → IfOk (at.offer_held held node grain to) (P (Does (Offer grain to)))
   offer_held None grain to found = tt
   offer_held (Some held) grain to found =
@@ -149,6 +156,9 @@ module _ (node : Node) (P : Input → at.Stepped → Type 0) (w : Ways node P) w
 
   nudge : IfOk (at.nudge node) (P (Does Nudge))
   nudge = unless (P (Does Nudge)) (not (has_numbers node.settings node.host (length (outstanding node.host)))) 805 _ (λ numbers. w.nudges (is_so _ numbers))
+
+  nudge_grain : (grain : Grain) → IfOk (at.nudge_grain node grain) (P (Does (NudgeGrain grain)))
+  nudge_grain grain = unless (P (Does (NudgeGrain grain))) (not (has_numbers node.settings node.host (length (requests_about grain node.host)))) 805 _ (λ numbers. w.nudges_grain grain (is_so _ numbers))
 
   -- ---- letters
   ignores : (letter : Letter) → P (Receives letter) (at.silently node effect.Ignored)
@@ -314,9 +324,12 @@ module _ (node : Node) (P : Input → at.Stepped → Type 0) (w : Ways node P) w
   stepped (Sees before view places) = see before view places
   stepped (Does (Wake grain)) = wake grain
   stepped (Does (Close grain)) = close_held (held_of node.host grain) grain refl
+  stepped (Does (Cancel grain)) = cancel_held (held_of node.host grain) grain refl
   stepped (Does (Find grain)) = find_by (hint_of node.cache grain) grain refl
   stepped (Does (Forget grain)) = forget_hint (hint_of node.cache grain) grain refl
   stepped (Does Nudge) = nudge
+  stepped (Does (NudgeGrain grain)) = nudge_grain grain
+  stepped (Does NudgeRanges) = w.nudges_ranges
   stepped (Does (Offer grain to)) = offer_held (held_of node.host grain) grain to refl
   stepped (Receives letter) = received letter.body letter refl
 

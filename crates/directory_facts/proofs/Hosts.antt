@@ -5,20 +5,20 @@ use Rattle.std.specs.List.{filter_map, cons_option}
 use Rattle.std.specs.Ordering.{nat_cmp, is_eq}
 use Rattle.std.specs.Map.{lookup, keys_of, set_value, remove_entry}
 use Rattle.std.specs.BTreeMap.{is_at, insert_entry}
-use Rattle.std.proofs.lemmas.List.Elements.{All-nil, All-cons, All-head, All-tail, All-append}
+use Rattle.std.proofs.lemmas.List.Elements.{All-nil, All-cons, All-head, All-tail, All-append, All-filter}
 use Rattle.std.proofs.lemmas.List.Kept.{AllPairs-cons}
 use Rattle.std.proofs.lemmas.Cmp.{tied_itself}
 use Rattle.std.proofs.lemmas.Map.{keys-set_value}
 use Rattle.std.proofs.lemmas.Map.Lookups.{exact_unsigned}
 use Rattle.silo_address.specs.Silo.{Silo}
-use Rattle.silo_address.specs.Grain.{Grain, grain_cmp}
+use Rattle.silo_address.specs.Grain.{Grain, grain_cmp, grain_eq}
 use Rattle.silo_address.proofs.Order.{grain_cmp_total}
 use Rattle.directory_rules.specs.declared.act.Act.{Act}
 use Rattle.directory_rules.specs.declared.act.Act.TheVariants.{Find}
 use Rattle.directory_rules.specs.declared.held.Held.{Held}
 use Rattle.directory_rules.specs.declared.held.Phase.{Phase}
 use Rattle.directory_rules.specs.declared.held.Phase.TheVariants.{Asking, Firm, Closing}
-use Rattle.directory_rules.specs.Host.{Host, outstanding, held_acts, find_acts, act_in, renewed, renewed_phase}
+use Rattle.directory_rules.specs.Host.{Host, outstanding, requests_about, grain_of, held_acts, find_acts, act_in, renewed, renewed_phase, renewed_about, held_renewed_about}
 use Rattle.directory_rules.proofs.Cases.{on_bool}
 use Rattle.directory_facts.specs.Own.{NamesOwn}
 use Rattle.directory_facts.proofs.Entries.{all_put}
@@ -82,6 +82,13 @@ keys_renewed host (e ∷ es) = ap (λ ks. e.0 ∷ ks) (keys_renewed host es)
 pub once_renewed : (host : Host) → Once (keys_of host.held) → Once (keys_of (renewed host).held)
 once_renewed host once = subst Once (sym (keys_renewed host host.held)) once
 
+keys_renewed_about : (grain : Grain) (host : Host) (held : List (Grain × Held)) → keys_of (map (λ e. (e.0, held_renewed_about grain host e.0 e.1)) held) ≡ keys_of held
+keys_renewed_about grain host [] = refl
+keys_renewed_about grain host (e ∷ es) = ap (λ ks. e.0 ∷ ks) (keys_renewed_about grain host es)
+
+pub once_renewed_about : (grain : Grain) (host : Host) → Once (keys_of host.held) → Once (keys_of (renewed_about grain host).held)
+once_renewed_about grain host once = subst Once (sym (keys_renewed_about grain host host.held)) once
+
 -- ---- what is outstanding is the host's own
 act_own : (phase : Phase) (host : Host) (grain : Grain) (held : Held) → (acts : List (ℕ × Act)) → All (λ e. NamesOwn host.silo e.1) acts → All (λ e. NamesOwn host.silo e.1) (cons_option (act_in phase host grain held) acts)
 act_own (Asking number) host grain held acts all = All-cons (λ e. NamesOwn host.silo e.1) _ acts refl all
@@ -104,3 +111,6 @@ put_own silo (e ∷ es) acts more all =
 
 pub outstanding_own : (host : Host) → All (λ e. NamesOwn host.silo e.1) (outstanding host)
 outstanding_own host = put_own host.silo (held_acts host) (find_acts host) (held_own host host.held) (finds_own host.silo host.finds)
+
+pub requests_about_own : (grain : Grain) (host : Host) → All (λ e. NamesOwn host.silo e.1) (requests_about grain host)
+requests_about_own grain host = All-filter (λ (e : ℕ × Act). grain_eq (grain_of e.1) grain) (λ (e : ℕ × Act). NamesOwn host.silo e.1) (outstanding host) (outstanding_own host)

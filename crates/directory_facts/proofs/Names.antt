@@ -5,10 +5,10 @@ use Rattle.std.specs.List.{filter_map, cons_option}
 use Rattle.std.specs.Option.{option_map}
 use Rattle.std.specs.Ordering.{nat_cmp}
 use Rattle.std.specs.BTreeMap.{is_at, insert_entry}
-use Rattle.std.proofs.lemmas.List.Elements.{All-nil, All-cons, All-head, All-tail, All-append, All-map, All-weaker, All-contains, All-contains_itself}
+use Rattle.std.proofs.lemmas.List.Elements.{All-nil, All-cons, All-head, All-tail, All-append, All-filter, All-map, All-weaker, All-contains, All-contains_itself}
 use Rattle.std.proofs.lemmas.Map.Lookups.{exact_unsigned}
 use Rattle.silo_address.specs.Silo.{Silo, IsSilo, silo_cmp}
-use Rattle.silo_address.specs.Grain.{Grain}
+use Rattle.silo_address.specs.Grain.{Grain, grain_eq}
 use Rattle.silo_address.proofs.Order.{silo_cmp_exact}
 use Rattle.membership_view.specs.View.{ViewValue}
 use Rattle.ring_range.specs.Range.{Range}
@@ -33,11 +33,11 @@ use Rattle.directory_rules.specs.Piece.{Piece}
 use Rattle.directory_rules.specs.Snapshot.{Snapshot}
 use Rattle.directory_rules.specs.Gatherings.{Gathering}
 use Rattle.directory_rules.specs.Recovery.{Recovery}
-use Rattle.directory_rules.specs.Host.{Host, entry_of, held_acts, find_acts, act_in, outstanding}
+use Rattle.directory_rules.specs.Host.{Host, entry_of, grain_of, held_acts, find_acts, act_in, outstanding, requests_about}
 use Rattle.directory_rules.specs.Letter.{Letter, Body, Request_letter, Reply_letter, Ask_letter, Page_letter, Missing_letter, Done_letter, Query_letter, Report_letter, Behind_letter, Ahead_letter, Offer_letter}
 use Rattle.directory_rules.specs.Node.{Node}
 use Rattle.directory_rules.specs.Event.{IsEvent}
-use Rattle.directory_rules.specs.Sent.{letter_to, letter_if_owned, owner_by, hash_of, request_of, request_letters, all_requests, recovery_of, wants_by}
+use Rattle.directory_rules.specs.Sent.{letter_to, letter_if_owned, owner_by, hash_of, request_of, request_letters, all_requests, requests_of_grain, recovery_of, wants_by}
 use Rattle.directory_facts.specs.Named.{IsNamed, AreNamed, AwaitsSilo, HasNames}
 use Rattle.directory_facts.proofs.Entries.{same_key, all_put, found_so}
 use Rattle.directory_facts.proofs.Carried.{Facts}
@@ -131,6 +131,11 @@ acts_say node (e ∷ es) all =
 
 pub requests_say : (node : Node) → All (λ e. IsNamed (entry_of node.host e.0 e.1)) node.host.held → All Says (all_requests node)
 requests_say node held = acts_say node (outstanding node.host) (outstanding_named node.host held)
+
+pub requests_of_grain_say : (node : Node) (grain : Grain) → All (λ e. IsNamed (entry_of node.host e.0 e.1)) node.host.held → All Says (requests_of_grain node grain)
+requests_of_grain_say node grain held =
+    acts_say node (requests_about grain node.host)
+    (All-filter (λ (e : ℕ × Act). grain_eq (grain_of e.1) grain) (λ (e : ℕ × Act). NamesAct e.1) (outstanding node.host) (outstanding_named node.host held))
 
 wants_say : (its : PieceState) (node : Node) (range : Range) → All Says (wants_by its node range)
 wants_say state.Settled node range = All-nil Says

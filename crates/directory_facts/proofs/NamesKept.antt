@@ -32,7 +32,7 @@ use Rattle.directory_rules.specs.Sight.{is_next}
 use Rattle.directory_rules.specs.Snapshot.{Snapshot, Page}
 use Rattle.directory_rules.specs.Gatherings.{Gathering, new_gathering, gathered}
 use Rattle.directory_rules.specs.Recovery.{Report, Recovery, new_recovery, recovered}
-use Rattle.directory_rules.specs.Host.{Host, entry_of, held_of, next_held, with_started, with_closing, with_find, without_find, without_held, confirmed, renewed, is_firm}
+use Rattle.directory_rules.specs.Host.{Host, entry_of, held_of, next_held, with_started, with_closing, with_find, without_find, without_held, confirmed, renewed, renewed_about, is_firm}
 use Rattle.directory_rules.specs.Answer.{piece_with, with_piece, turned, serving_piece, served_by, answered_from, answered}
 use Rattle.directory_rules.specs.Letter.{Letter, Request_letter, Page_letter, Report_letter}
 use Rattle.directory_rules.specs.Node.{Node, new_node}
@@ -48,14 +48,14 @@ use Rattle.directory_facts.proofs.Carried.{Facts, Brings, Keeps, Both, KeepsBesi
 use Rattle.directory_facts.proofs.Ways.{MayBegin, Ways}
 use Rattle.directory_facts.proofs.EachStep.{by_way}
 use Rattle.directory_facts.proofs.Owners.{OwnNode, own_facts, own_keep}
-use Rattle.directory_facts.proofs.Counts.{AreOf, closed_are, confirmed_are, less_are, renewed_are}
+use Rattle.directory_facts.proofs.Counts.{AreOf, closed_are, confirmed_are, less_are, renewed_are, renewed_about_are}
 use Rattle.directory_facts.proofs.SeenRings.{seen_facts, seen_keep}
 use Rattle.directory_facts.proofs.Places.{added_is}
 use Rattle.directory_facts.proofs.Served.{serves}
 use Rattle.directory_facts.proofs.Collected.{found_or}
 use Rattle.directory_facts.proofs.PiecesKept.{base_facts}
 use Rattle.directory_facts.proofs.NamedTables.{AllNamed, entries_named, table_named, folded_named, handed_named, GatheredNamed, gathered_named, RecoveredNamed, recovered_named, NamesAct, turned_named}
-use Rattle.directory_facts.proofs.Names.{Names, NamesOf, NamesBody, Says, SharedNames, named_facts, one_says, request_says, requests_say, pieces_say, OfSilos, ring_silos}
+use Rattle.directory_facts.proofs.Names.{Names, NamesOf, NamesBody, Says, SharedNames, named_facts, one_says, request_says, requests_say, requests_of_grain_say, pieces_say, OfSilos, ring_silos}
 use Rattle.directory_facts.proofs.NamedSights.{TablesNamed, AwaitSilos, arcs_from, pieces_named, pieces_await, shelf_named, gatherings_anew, recoveries_anew}
 
 -- ---- requests that are served
@@ -165,6 +165,12 @@ module _ (settings : Settings) (views : ViewsValue) (places : PlacesValue) (silo
       let held = still made.host.held (renewed_are node.host) in
       (host_so (renewed node.host) names.silo held, All-append Says (all_requests made) (all_wants made) (requests_say made held) (pieces_say made made.holding.pieces))
 
+  nudged_about : (grain : Grain) → NamesOf (record node { host = renewed_about grain node.host }) × All Says (at.having_nudged_grain (record node { host = renewed_about grain node.host }) grain).letters
+  nudged_about grain =
+      let made = record node { host = renewed_about grain node.host } in
+      let held = still made.host.held (renewed_about_are node.host grain) in
+      (host_so (renewed_about grain node.host) names.silo held, requests_of_grain_say made grain held)
+
   -- ---- letters that come
   answered_so : (letter : Letter) (request : Request) → letter.body ≡ Request_letter request → Says letter → NamesOf (record node { holding = (answered node.holding request).holding })
   answered_so letter request body says =
@@ -258,6 +264,10 @@ module _ (settings : Settings) (views : ViewsValue) (places : PlacesValue) (silo
       host_so (with_closing node.host grain held) names.silo (still _ (closed_are node.host grain held may.found)),
       request_says node node.host.next_number (act.Deregister (entry_of node.host grain held)) tt,
     );
+    cancels = λ grain held may brings. (
+      host_so (with_closing node.host grain held) names.silo (still _ (closed_are node.host grain held may.found)),
+      request_says node node.host.next_number (act.Deregister (entry_of node.host grain held)) tt,
+    );
     offers = λ grain held to may active other brings. (
       host_so (with_closing node.host grain held) names.silo (still _ (closed_are node.host grain held may.found)),
       one_says _ (held_named grain held may.found),
@@ -266,6 +276,8 @@ module _ (settings : Settings) (views : ViewsValue) (places : PlacesValue) (silo
     finds = λ grain room numbers brings. (host_so (with_find node.host grain) names.silo names.held, request_says node node.host.next_number (act.Find grain) tt);
     forgets = λ grain activation hint brings. (names, none);
     nudges = λ numbers brings. nudged;
+    nudges_grain = λ grain numbers brings. nudged_about grain;
+    nudges_ranges = λ brings. (names, pieces_say node node.holding.pieces);
     answers = λ letter request body sender version brings. (answered_so letter request body brings.1, one_says _ tt);
     confirms = λ letter number entry e is there brings. (host_so (confirmed node.host e.0 e.1) names.silo (still _ (confirmed_are node.host number e there)), none);
     yields = λ letter number entry e is there brings. (host_so (without_held node.host e.0) names.silo (still _ (less_are node.host e.0)), none);

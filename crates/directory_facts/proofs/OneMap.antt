@@ -27,7 +27,7 @@ use Rattle.directory_rules.specs.Table.{Table, entry_at, entries_of, with_entry,
 use Rattle.directory_rules.specs.Piece.{Piece, Holding}
 use Rattle.directory_rules.specs.Answer.{Answered, Turned, turned, registered_over, deregistered_from, found_reply, is_previous, piece_with, serving_piece, served_by, answered_from, answered}
 use Rattle.directory_rules.specs.Sight.{is_owner}
-use Rattle.directory_rules.specs.Sent.{grain_of}
+use Rattle.directory_rules.specs.Host.{grain_of}
 use Rattle.directory_rules.proofs.Cases.{on_bool}
 use Rattle.directory_rules.proofs.Removed.{lookup_removed}
 use Rattle.directory_rules.proofs.Ranges.{ranges, Rising, stands_at}

@@ -13,7 +13,7 @@ use Rattle.ring_range.specs.Range.{Range, range_eq}
 use Rattle.directory_rules.specs.declared.act.Act.{Act}
 use Rattle.directory_rules.specs.declared.act.Act.TheVariants as act
 use Rattle.directory_rules.specs.declared.held.Held.{Held}
-use Rattle.directory_rules.specs.declared.held.Phase.TheVariants.{Firm, Closing}
+use Rattle.directory_rules.specs.declared.held.Phase.TheVariants.{Firm}
 use Rattle.directory_rules.specs.declared.piece_state.PieceState.{PieceState}
 use Rattle.directory_rules.specs.declared.piece_state.PieceState.TheVariants as state
 use Rattle.directory_rules.specs.Settings.{Settings}
@@ -21,17 +21,17 @@ use Rattle.directory_rules.specs.Piece.{Piece}
 use Rattle.directory_rules.specs.Sight.{is_next}
 use Rattle.directory_rules.specs.Snapshot.{Snapshot, Page, Hands_page, Has_none, Is_behind, page_count, page_of, page_from, is_snapshot, shelf_answer}
 use Rattle.directory_rules.proofs.Cases.{on_bool}
-use Rattle.directory_rules.specs.Host.{Host, outstanding, entry_of, next_held, with_started, with_closing, with_find, without_find, without_held, confirmed, renewed}
+use Rattle.directory_rules.specs.Host.{Host, outstanding, requests_about, entry_of, next_held, next_closing, with_started, with_closing, with_find, without_find, without_held, confirmed, renewed, renewed_about}
 use Rattle.directory_rules.specs.Letter.{Letter, Body, Request_letter, Offer_letter, Query_letter}
 use Rattle.directory_rules.specs.Node.{Node}
-use Rattle.directory_rules.specs.Sent.{letter_to, letter_if_owned, owner_by, hash_of, request_of, request_letters, all_requests, recovery_of, wants_by, all_wants}
+use Rattle.directory_rules.specs.Sent.{letter_to, letter_if_owned, owner_by, hash_of, request_of, request_letters, all_requests, requests_of_grain, recovery_of, wants_by, all_wants}
 use Rattle.directory_rules.specs.Step as at
 use Rattle.directory_rules.specs.Transfer as tr
 use Rattle.directory_facts.specs.Own.{IsOwnNode, NamesOwn, IsOwnLetter}
 use Rattle.directory_facts.proofs.Carried.{Facts, Keeps}
 use Rattle.directory_facts.proofs.Ways.{MayBegin, Ways}
 use Rattle.directory_facts.proofs.EachStep.{by_way}
-use Rattle.directory_facts.proofs.Hosts.{Once, once_held, once_started, once_set, once_less, once_renewed, outstanding_own}
+use Rattle.directory_facts.proofs.Hosts.{Once, once_held, once_started, once_set, once_less, once_renewed, once_renewed_about, outstanding_own, requests_about_own}
 
 -- the node is its silo's, by the settings, and holds one activation a grain
 pub record Own (settings : Settings) (silo : Silo) (its : Settings) (host : Host) : Type 0 where
@@ -75,6 +75,9 @@ acts_own settings node (e ∷ es) by all =
 
 all_requests_own : (settings : Settings) (node : Node) → node.settings ≡ settings → AllOwn settings (all_requests node)
 all_requests_own settings node by = acts_own settings node (outstanding node.host) by (outstanding_own node.host)
+
+requests_of_grain_own : (settings : Settings) (node : Node) (grain : Grain) → node.settings ≡ settings → AllOwn settings (requests_of_grain node grain)
+requests_of_grain_own settings node grain by = acts_own settings node (requests_about grain node.host) by (requests_about_own grain node.host)
 
 queries_own : (settings : Settings) (node : Node) (range : Range) (silos : List Silo) → AllOwn settings (map (λ silo. letter_to silo node (Query_letter range)) silos)
 queries_own settings node range silos = All-map (IsOwnLetter settings) (λ silo. letter_to silo node (Query_letter range)) silos (λ k d below. tt)
@@ -135,7 +138,7 @@ module _ (settings : Settings) (silo : Silo) (node : Node) (own : OwnNode settin
   )
 
   closed : (grain : Grain) (held : Held) → Own settings silo node.settings (with_closing node.host grain held)
-  closed grain held = host_so (with_closing node.host grain held) refl (once_set node.host.held (is_at (grain_cmp grain)) (record held { phase = Closing node.host.next_number }) own.once)
+  closed grain held = host_so (with_closing node.host grain held) refl (once_set node.host.held (is_at (grain_cmp grain)) (next_closing node.host held) own.once)
 
   renewed_so : Own settings silo node.settings (renewed node.host)
   renewed_so = host_so (renewed node.host) refl (once_renewed node.host own.once)
@@ -157,6 +160,7 @@ module _ (settings : Settings) (silo : Silo) (node : Node) (own : OwnNode settin
         (renewed_so, All-append (IsOwnLetter settings) (all_wants made.node) (all_requests made.node) (pieces_own settings made.node made.node.holding.pieces) (all_requests_own settings made.node own.by_settings));
     wakes = λ grain may. begun grain None may;
     closes = λ grain held may. (closed grain held, requests_own settings node node.host.next_number (act.Deregister (entry_of node.host grain held)) own.by_settings refl);
+    cancels = λ grain held may. (closed grain held, requests_own settings node node.host.next_number (act.Deregister (entry_of node.host grain held)) own.by_settings refl);
     offers = λ grain held to may active other. (closed grain held, sends (letter_to to (at.with_one_closing node grain held) (Offer_letter (entry_of node.host grain held))) refl);
     uses_hint = λ grain activation hint. (own, none);
     finds = λ grain room numbers. (same (with_find node.host grain) refl refl, requests_own settings node node.host.next_number (act.Find grain) own.by_settings tt);
@@ -164,6 +168,11 @@ module _ (settings : Settings) (silo : Silo) (node : Node) (own : OwnNode settin
     nudges = λ numbers.
         let made = record node { host = renewed node.host } in
         (renewed_so, All-append (IsOwnLetter settings) (all_requests made) (all_wants made) (all_requests_own settings made own.by_settings) (pieces_own settings made made.holding.pieces));
+    nudges_grain = λ grain numbers. (
+      host_so (renewed_about grain node.host) refl (once_renewed_about grain node.host own.once),
+      requests_of_grain_own settings (record node { host = renewed_about grain node.host }) grain own.by_settings,
+    );
+    nudges_ranges = (own, pieces_own settings node node.holding.pieces);
     answers = λ letter request body sender version. (own, sends _ tt);
     confirms = λ letter number entry e is there. (host_so (confirmed node.host e.0 e.1) refl (once_set node.host.held (is_at (grain_cmp e.0)) (record e.1 { phase = Firm; previous = None }) own.once), none);
     yields = λ letter number entry e is there. (less e.0, none);

@@ -173,11 +173,14 @@ module _ (settings : Settings) (views : ViewsValue) (places : PlacesValue) (silo
     sees = λ before view brought newer numbers brings. sighted (is_next node.view before view node.host.silo) before view brought brings.is_brought;
     wakes = λ grain may brings. keeps;
     closes = λ grain held may brings. keeps;
+    cancels = λ grain held may brings. keeps;
     offers = λ grain held to may active other brings. keeps;
     uses_hint = λ grain activation hint brings. keeps;
     finds = λ grain room numbers brings. keeps;
     forgets = λ grain activation hint brings. keeps;
     nudges = λ numbers brings. keeps;
+    nudges_grain = λ grain numbers brings. keeps;
+    nudges_ranges = λ brings. keeps;
     answers = λ letter request body sender version brings. record { pieces_are = answered_so letter request body brings.1.0; gathered_in = keeps.gathered_in; recovered_in = keeps.recovered_in };
     confirms = λ letter number entry e is there brings. keeps;
     yields = λ letter number entry e is there brings. keeps;

@@ -143,11 +143,14 @@ module _ (settings : Settings) (views : ViewsValue) (places : PlacesValue) (silo
     sees = λ before view brought newer numbers brings. sighted before view brought _ brings refl refl;
     wakes = λ grain may brings. stay _ refl refl;
     closes = λ grain held may brings. stay _ refl refl;
+    cancels = λ grain held may brings. stay _ refl refl;
     offers = λ grain held to may active other brings. stay _ refl refl;
     uses_hint = λ grain activation hint brings. stay _ refl refl;
     finds = λ grain room numbers brings. stay _ refl refl;
     forgets = λ grain activation hint brings. stay _ refl refl;
     nudges = λ numbers brings. stay _ refl refl;
+    nudges_grain = λ grain numbers brings. stay _ refl refl;
+    nudges_ranges = λ brings. sees;
     answers = λ letter request body sender version brings. stay _ refl refl;
     confirms = λ letter number entry e is there brings. stay _ refl refl;
     yields = λ letter number entry e is there brings. stay _ refl refl;

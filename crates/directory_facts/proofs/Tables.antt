@@ -24,7 +24,7 @@ use Rattle.directory_rules.specs.declared.reply.Reply.TheVariants.{Registered, T
 use Rattle.directory_rules.specs.Table.{Table, entry_at, with_entry, without_grain, table_of, rise_by_grain}
 use Rattle.directory_rules.specs.Answer.{Turned, turned, registered_over, deregistered_from, is_previous}
 use Rattle.directory_rules.specs.Recovery.{with_reported}
-use Rattle.directory_rules.specs.Sent.{grain_of}
+use Rattle.directory_rules.specs.Host.{grain_of}
 use Rattle.directory_rules.proofs.Cases.{on_bool}
 use Rattle.directory_rules.proofs.RisingTables.{rising_sorted}
 use Rattle.directory_facts.specs.Pieces.{IsHashedInto, IsTableOf}

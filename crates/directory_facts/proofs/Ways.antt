@@ -24,18 +24,18 @@ use Rattle.directory_rules.specs.Sight.{is_next}
 use Rattle.directory_rules.specs.Snapshot.{Page, Hands_page, Has_none, shelf_answer, has_snapshot, shelf_without}
 use Rattle.directory_rules.specs.Gatherings.{Gathering, Wants_page, Has_all, Refuses, gathered}
 use Rattle.directory_rules.specs.Recovery.{Report, Recovery, Awaits_more, Has_union, recovered}
-use Rattle.directory_rules.specs.Host.{held_of, outstanding, has_numbers, has_count, is_full_of_activations, is_full_of_finds, asking_under, closing_under, is_finding, confirmed, without_held, without_find}
+use Rattle.directory_rules.specs.Host.{held_of, is_asking, outstanding, requests_about, has_numbers, has_count, is_full_of_activations, is_full_of_finds, asking_under, closing_under, is_finding, confirmed, without_held, without_find, renewed_about}
 use Rattle.directory_rules.specs.Cache.{hint_of, in_front, without_pair, learnt}
 use Rattle.directory_rules.specs.Letter.{Letter, Request_letter, Reply_letter, Ask_letter, Page_letter, Missing_letter, Done_letter, Query_letter, Report_letter, Behind_letter, Ahead_letter, Offer_letter}
 use Rattle.directory_rules.specs.Node.{Node}
 use Rattle.directory_rules.specs.Sent.{gathering_of, recovery_of}
 use Rattle.directory_rules.specs.Answer.{answered}
-use Rattle.directory_rules.specs.Step.{Stepped, silently, sight, started, closing, offered, finding, having_nudged}
+use Rattle.directory_rules.specs.Step.{Stepped, silently, sight, started, closing, cancelled, offered, finding, having_nudged, having_nudged_grain, nudge_ranges}
 use Rattle.directory_rules.specs.Host as host
 use Rattle.directory_rules.specs.Transfer.{answering, piece_at, with_settled, with_gathering, with_recovery, asking_on, turned_to_recovery, querying, report_of}
 use Rattle.directory_rules.specs.Receive.{replying}
 use Rattle.directory_rules.specs.PlainMachine.{Nothing_changes, step_of_effect}
-use Rattle.directory_rules.specs.declared.own_step.OwnStep.TheVariants.{Wake, Close, Find, Forget, Nudge, Offer}
+use Rattle.directory_rules.specs.declared.own_step.OwnStep.TheVariants.{Wake, Close, Cancel, Find, Forget, Nudge, NudgeGrain, NudgeRanges, Offer}
 use Rattle.directory_rules.specs.Input.{Input, Sees, Does, Receives}
 
 -- an activation of the grain may begin: the silo is Active in the view that it has seen, holds none of the grain, and has a
@@ -51,6 +51,12 @@ pub record MayBegin (node : Node) (grain : Grain) : Type 0 where
 pub record MayClose (node : Node) (grain : Grain) (held : Held) : Type 0 where
   pub found : held_of node.host grain ≡ Some held
   pub firm : held.phase ≡ Firm
+  pub numbers : has_numbers node.settings node.host 1 ≡ true
+
+-- an activation asks, and there is a number left
+pub record MayCancel (node : Node) (grain : Grain) (held : Held) : Type 0 where
+  pub found : held_of node.host grain ≡ Some held
+  pub asks : is_asking held.phase ≡ true
   pub numbers : has_numbers node.settings node.host 1 ≡ true
 
 -- a reply counts: it is of the version that the node has seen
@@ -95,12 +101,16 @@ pub record Ways (node : Node) (P : Input → Stepped → Type 0) : Type 0 where
       → P (Sees before view places) (sight (is_next node.view before view node.host.silo) node before view places)
   pub wakes : (grain : Grain) → MayBegin node grain → P (Does (Wake grain)) (started node grain None)
   pub closes : (grain : Grain) (held : Held) → MayClose node grain held → P (Does (Close grain)) (closing node grain held)
+  pub cancels : (grain : Grain) (held : Held) → MayCancel node grain held → P (Does (Cancel grain)) (cancelled node grain held)
   pub offers : (grain : Grain) (held : Held) (to : Silo) → MayClose node grain held → is_active_in node.view to ≡ true → to ≢ node.host.silo → P (Does (Offer grain to)) (offered node grain held to)
   pub uses_hint : (grain : Grain) (activation : ActivationId) → hint_of node.cache grain ≡ Some activation
       → P (Does (Find grain)) (silently (record node { cache = in_front node.cache grain activation }) (effect.Cached (record { grain = grain; activation = activation })))
   pub finds : (grain : Grain) → is_full_of_finds node.settings node.host ≡ false → has_numbers node.settings node.host 1 ≡ true → P (Does (Find grain)) (finding node grain)
   pub forgets : (grain : Grain) (activation : ActivationId) → hint_of node.cache grain ≡ Some activation → P (Does (Forget grain)) (silently (record node { cache = without_pair node.cache grain activation }) (effect.Forgot grain))
   pub nudges : has_numbers node.settings node.host (length (outstanding node.host)) ≡ true → P (Does Nudge) (having_nudged (record node { host = host.renewed node.host }))
+  pub nudges_grain : (grain : Grain) → has_numbers node.settings node.host (length (requests_about grain node.host)) ≡ true
+      → P (Does (NudgeGrain grain)) (having_nudged_grain (record node { host = renewed_about grain node.host }) grain)
+  pub nudges_ranges : P (Does NudgeRanges) (nudge_ranges node)
   -- a request is answered
   pub answers : (letter : Letter) (request : Request) → letter.body ≡ Request_letter request → request.sender ≡ letter.from → request.version ≡ letter.version
       → P (Receives letter) (replying node request (answered node.holding request))

@@ -12,7 +12,7 @@ use Rattle.directory_rules.specs.Table.{Table, entry_at}
 use Rattle.directory_rules.specs.Piece.{Piece, Holding}
 use Rattle.directory_rules.specs.Answer.{turned, serving_piece, answered}
 use Rattle.directory_rules.specs.Sight.{all_entries}
-use Rattle.directory_rules.specs.Sent.{grain_of}
+use Rattle.directory_rules.specs.Host.{grain_of}
 use Rattle.directory_rules.specs.Node.{Node}
 use Rattle.directory_rules.specs.Event.{Event}
 use Rattle.directory_rules.specs.Laws.{IsReached}

@@ -9,7 +9,7 @@ use Rattle.directory_rules.specs.Table.{entry_at}
 use Rattle.directory_rules.specs.Piece.{Piece, Holding}
 use Rattle.directory_rules.specs.Sight.{was_settled}
 use Rattle.directory_rules.specs.Answer.{piece_with, answered}
-use Rattle.directory_rules.specs.Sent.{grain_of}
+use Rattle.directory_rules.specs.Host.{grain_of}
 use Rattle.directory_rules.specs.Laws.{lies_settled}
 
 -- each piece stands under the start of its range

@@ -19,7 +19,7 @@ abbrev pub IsBy : Silo → Action → Type 0
 IsBy silo New_view = ⊥
 IsBy silo (See x) = x.silo ≡ silo
 IsBy silo (Start s g previous) = s ≡ silo
-IsBy silo (Close s g count) = s ≡ silo
+IsBy silo (Close s g x) = s ≡ silo
 IsBy silo (Offer_away s g count) = s ≡ silo
 IsBy silo (Renew s g x purpose) = s ≡ silo
 IsBy silo (Find s) = s ≡ silo
@@ -105,7 +105,7 @@ leaves_after m w (Start s g previous) silo is = record {
       same_state _ (state_of w q) refl refl refl (put_at_elsewhere s g _ w.held q away) (put_other s _ w.next_number q away) (put_other s _ w.next_count q away) refl;
   grows = record { requests = λ y s. inr s; replies = λ y s. s; snapshots = λ y s. s; reports = λ y s. s; offers = λ y s. s };
 }
-leaves_after m w (Close s g count) silo is = record {
+leaves_after m w (Close s g x) silo is = record {
   now = refl;
   others = λ q apart.
       let away : q ≢ s = λ e. apart (e ∙ is) in

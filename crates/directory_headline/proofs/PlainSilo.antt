@@ -17,7 +17,7 @@ use Rattle.directory_rules.specs.Happens.{node_of}
 use Rattle.directory_rules.specs.Laws.{ArePeopled, is_live}
 use Rattle.directory_rules.specs.Settled.{IsFirmOn}
 use Rattle.directory_rules.specs.Headline.{NoTwoFirm}
-use Rattle.directory_rules.specs.PlainMachine.{Life, Is_asking, Is_firm, Is_closing, life_by, life_of, life_on, plain_of, PlainStep, Change_view, Begin, Make_firm, Yield, Begin_closing, End, Nothing_changes, IsChanged, IsSame, Begins, Goes, BecomesFirm, IsPlainStep}
+use Rattle.directory_rules.specs.PlainMachine.{Life, Is_asking, Is_firm, Is_closing, life_by, life_of, life_on, plain_of, PlainStep, Change_view, Begin, Make_firm, Yield, Begin_closing, Give_up, End, Nothing_changes, IsChanged, IsSame, Begins, Goes, BecomesFirm, IsPlainStep}
 use Rattle.directory_headline.proofs.Statuses.{live_there, live_not_dead}
 use Rattle.directory_headline.proofs.PlainWays.{NodeSame, NodeGoes, NodeBegins, IsNodeStep}
 
@@ -133,5 +133,6 @@ module _ (f later : World) (silo : Silo) (node next : Node) (peopled : ArePeople
   node_step Make_firm one is = firm is.0 one is.1
   node_step Yield one is = (silo, is.1.grain, is.0, goes (Is_asking is.0) None is.1)
   node_step Begin_closing one is = (silo, is.1.grain, is.0, goes (Is_firm is.0) (Some (Is_closing is.0)) is.1)
+  node_step Give_up one is = (silo, is.1.grain, is.0, goes (Is_asking is.0) (Some (Is_closing is.0)) is.1)
   node_step End one is = (silo, is.1.grain, is.0, goes (Is_closing is.0) None is.1)
   node_step Nothing_changes one is = same is

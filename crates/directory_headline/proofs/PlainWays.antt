@@ -4,7 +4,7 @@ use Rattle.std.specs.Prelude.{Bool, true, false, cond, is_some, map, if◌then�
 use Rattle.std.specs.Option.{option_map}
 use Rattle.std.specs.Map.{lookup}
 use Rattle.std.specs.BTreeMap.{is_at}
-use Rattle.silo_address.specs.Grain.{Grain, grain_cmp}
+use Rattle.silo_address.specs.Grain.{Grain, grain_cmp, grain_eq}
 use Rattle.silo_address.specs.declared.ActivationId.{ActivationId}
 use Rattle.silo_address.proofs.Order.{grain_cmp_total, grain_cmp_exact}
 use Rattle.membership_view.specs.View.{ViewValue}
@@ -15,14 +15,14 @@ use Rattle.directory_rules.specs.declared.held.Phase.TheVariants as phase
 use Rattle.directory_rules.specs.declared.reply.Reply.{Reply}
 use Rattle.directory_rules.specs.declared.reply.Reply.TheVariants as reply
 use Rattle.directory_rules.specs.declared.effect.Effect.TheVariants as effect
-use Rattle.directory_rules.specs.Host.{Host, has_numbers, outstanding, held_of, renewed, renewed_phase, with_started, with_closing, without_held, confirmed, next_held, asking_under, closing_under, is_asking_under, is_closing_under}
+use Rattle.directory_rules.specs.Host.{Host, has_numbers, outstanding, held_of, is_asking, renewed, renewed_phase, renewed_about, phase_renewed_about, next_closing, with_started, with_closing, without_held, confirmed, next_held, asking_under, closing_under, is_asking_under, is_closing_under}
 use Rattle.directory_rules.specs.Sight.{is_next}
 use Rattle.directory_rules.specs.Node.{Node}
 use Rattle.directory_rules.specs.Step.{Stepped, sight}
 use Rattle.directory_rules.specs.Receive.{reply_effect, replying}
 use Rattle.directory_rules.specs.Answer.{answered}
 use Rattle.directory_rules.specs.Input.{Input, Sees, step}
-use Rattle.directory_rules.specs.PlainMachine.{Life, Is_asking, Is_firm, Is_closing, life_by, life_of, life_on, PlainStep, Change_view, Begin, Make_firm, Yield, Begin_closing, End, Nothing_changes, step_of_effect}
+use Rattle.directory_rules.specs.PlainMachine.{Life, Is_asking, Is_firm, Is_closing, life_by, life_of, life_on, PlainStep, Change_view, Begin, Make_firm, Yield, Begin_closing, Give_up, End, Nothing_changes, step_of_effect}
 use Rattle.directory_rules.proofs.Cases.{on_bool}
 use Rattle.directory_facts.specs.Own.{HoldsOnce}
 use Rattle.directory_facts.proofs.Ways.{Ways, MayClose}
@@ -57,6 +57,7 @@ IsNodeStep node Begin next = NodeBegins node next
 IsNodeStep node Make_firm next = (count : ℕ) × NodeGoes node (Is_asking count) (Some (Is_firm count)) next
 IsNodeStep node Yield next = (count : ℕ) × NodeGoes node (Is_asking count) None next
 IsNodeStep node Begin_closing next = (count : ℕ) × NodeGoes node (Is_firm count) (Some (Is_closing count)) next
+IsNodeStep node Give_up next = (count : ℕ) × NodeGoes node (Is_asking count) (Some (Is_closing count)) next
 IsNodeStep node End next = (count : ℕ) × NodeGoes node (Is_closing count) None next
 IsNodeStep node Nothing_changes next = NodeSame node next
 
@@ -76,18 +77,30 @@ life_renewed host (phase.Asking number) count = refl
 life_renewed host phase.Firm count = refl
 life_renewed host (phase.Closing number) count = refl
 
-renewed_lives : (host : Host) (test : Grain → Bool) (held : List (Grain × Held))
-    → option_map life_of (lookup test (map (λ e. (e.0, record e.1 { phase = renewed_phase host e.1.phase })) held)) ≡ option_map life_of (lookup test held)
-renewed_lives host test [] = refl
-renewed_lives host test (e ∷ es) =
-    on_bool (λ b. option_map life_of (cond b (Some (record e.1 { phase = renewed_phase host e.1.phase })) (lookup test (map (λ x. (x.0, record x.1 { phase = renewed_phase host x.1.phase })) es))) ≡ option_map life_of (cond b (Some e.1) (lookup test es)))
+life_renewed_about : (grain : Grain) (host : Host) (about : Bool) (its : Phase) (count : ℕ) → life_by (if about then phase_renewed_about grain host its else its) count ≡ life_by its count
+life_renewed_about grain host true (phase.Asking number) count = refl
+life_renewed_about grain host true phase.Firm count = refl
+life_renewed_about grain host true (phase.Closing number) count = refl
+life_renewed_about grain host false its count = refl
+
+-- other phases, of the same lives
+other_lives : (phase_of : Grain → Phase → Phase) → ((grain : Grain) (its : Phase) (count : ℕ) → life_by (phase_of grain its) count ≡ life_by its count) → (test : Grain → Bool) (held : List (Grain × Held))
+    → option_map life_of (lookup test (map (λ e. (e.0, record e.1 { phase = phase_of e.0 e.1.phase })) held)) ≡ option_map life_of (lookup test held)
+other_lives phase_of same test [] = refl
+other_lives phase_of same test (e ∷ es) =
+    on_bool (λ b. option_map life_of (cond b (Some (record e.1 { phase = phase_of e.0 e.1.phase })) (lookup test (map (λ x. (x.0, record x.1 { phase = phase_of x.0 x.1.phase })) es))) ≡ option_map life_of (cond b (Some e.1) (lookup test es)))
     (test e.0)
-    (λ t. ap Some (life_renewed host e.1.phase e.1.count)) (λ f. renewed_lives host test es)
+    (λ t. ap Some (same e.0 e.1.phase e.1.count)) (λ f. other_lives phase_of same test es)
 
 asking_life : (number count : ℕ) (its : Phase) → is_asking_under number its ≡ true → life_by its count ≡ Is_asking count
 asking_life number count (phase.Asking n) is = refl
 asking_life number count phase.Firm is = absurd (cc (is))
 asking_life number count (phase.Closing n) is = absurd (cc (is))
+
+asks_life : (count : ℕ) (its : Phase) → is_asking its ≡ true → life_by its count ≡ Is_asking count
+asks_life count (phase.Asking n) is = refl
+asks_life count phase.Firm is = absurd (cc (is))
+asks_life count (phase.Closing n) is = absurd (cc (is))
 
 closing_life : (number count : ℕ) (its : Phase) → is_closing_under number its ≡ true → life_by its count ≡ Is_closing count
 closing_life number count (phase.Asking n) is = absurd (cc (is))
@@ -104,8 +117,15 @@ module _ (node : Node) (once : HoldsOnce node.host) where
 
   renews : (next : Node) → next.host ≡ renewed node.host → NodeSame node next
   renews next host = record {
-    lives = λ grain. ap (λ h. option_map life_of (held_of h grain)) host ∙ renewed_lives node.host (is_at (grain_cmp grain)) node.host.held;
+    lives = λ grain. ap (λ h. option_map life_of (held_of h grain)) host ∙ other_lives (λ r its. renewed_phase node.host its) (λ r its count. life_renewed node.host its count) (is_at (grain_cmp grain)) node.host.held;
     count = ap (λ h. h.next_count) host;
+  }
+
+  renews_about : (grain : Grain) → NodeSame node (record node { host = renewed_about grain node.host })
+  renews_about grain = record {
+    lives = λ r.
+        other_lives (λ q its. if grain_eq q grain then phase_renewed_about grain node.host its else its) (λ q its count. life_renewed_about grain node.host (grain_eq q grain) its count) (is_at (grain_cmp r)) node.host.held;
+    count = refl;
   }
 
   sighted : (next : Bool) (made : Node) → NodeSame node made → IsNodeStep node (step_of_effect (if next then effect.Next else effect.Skip)) made
@@ -121,16 +141,19 @@ module _ (node : Node) (once : HoldsOnce node.host) where
     count = refl;
   }
 
-  closes : (grain : Grain) (held : Held) → MayClose node grain held → NodeGoes node (Is_firm held.count) (Some (Is_closing held.count)) (record node { host = with_closing node.host grain held })
-  closes grain held may =
-      let closing : Held = record held { phase = phase.Closing node.host.next_number } in
+  closes : (grain : Grain) (held : Held) (life : Life) → held_of node.host grain ≡ Some held → life_of held ≡ life → NodeGoes node life (Some (Is_closing held.count)) (record node { host = with_closing node.host grain held })
+  closes grain held life found its =
+      let closing : Held = next_closing node.host held in
       record {
         grain = grain;
-        was = ap (option_map life_of) may.found ∙ ap (λ p. Some (life_by p held.count)) may.firm;
-        there = ap (option_map life_of) (found_set grain_cmp grain_cmp_total grain_cmp_exact grain closing node.host.held (ap is_some may.found));
+        was = ap (option_map life_of) found ∙ ap Some its;
+        there = ap (option_map life_of) (found_set grain_cmp grain_cmp_total grain_cmp_exact grain closing node.host.held (ap is_some found));
         elsewhere = λ other apart. ap (option_map life_of) (found_beside_set grain_cmp grain_cmp_total grain_cmp_exact grain closing node.host.held other apart);
         count = refl;
       }
+
+  closes_firm : (grain : Grain) (held : Held) → MayClose node grain held → NodeGoes node (Is_firm held.count) (Some (Is_closing held.count)) (record node { host = with_closing node.host grain held })
+  closes_firm grain held may = closes grain held (Is_firm held.count) may.found (ap (λ p. life_by p held.count) may.firm)
 
   makes_firm : (number : ℕ) (e : Grain × Held) (next : Node) → asking_under node.host number ≡ Some e → next.host ≡ confirmed node.host e.0 e.1 → NodeGoes node (Is_asking e.1.count) (Some (Is_firm e.1.count)) next
   makes_firm number e next under host =
@@ -170,12 +193,15 @@ module _ (node : Node) (once : HoldsOnce node.host) where
     nothing = λ input effect plain. subst (λ its. IsNodeStep node its node) (sym plain) same;
     sees = λ before view places newer numbers. sighted (is_next node.view before view node.host.silo) _ (renews _ refl);
     wakes = λ grain may. begins grain None may.free;
-    closes = λ grain held may. (held.count, closes grain held may);
-    offers = λ grain held to may active other. (held.count, closes grain held may);
+    closes = λ grain held may. (held.count, closes_firm grain held may);
+    cancels = λ grain held may. (held.count, closes grain held (Is_asking held.count) may.found (asks_life held.count held.phase may.asks));
+    offers = λ grain held to may active other. (held.count, closes_firm grain held may);
     uses_hint = λ grain activation hint. host_same _ refl refl;
     finds = λ grain room numbers. host_same _ refl refl;
     forgets = λ grain activation hint. host_same _ refl refl;
     nudges = λ numbers. renews _ refl;
+    nudges_grain = λ grain numbers. renews_about grain;
+    nudges_ranges = same;
     answers = λ letter request body sender version.
         let made = replying node request (answered node.holding request) in
         subst (λ its. IsNodeStep node its made.node) (sym (reply_plain (answered node.holding request).reply)) (host_same made.node refl refl);

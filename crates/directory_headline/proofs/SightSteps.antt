@@ -1,7 +1,7 @@
 -- A silo sees a version: what it keeps settled and what it seals is shown, what it awaits begins anew, and its outstanding
 -- requests are sent again.
 use Rattle.std.proofs.Common.{◌≡◌, ℕ, ◌<◌, List, [], ◌∷◌, inl, refl, sym, ap, subst, ◌∙◌}
-use Rattle.std.specs.Prelude.{◌&&◌, ◌||◌, Bool, true, false, not, nat_lt, filter, All}
+use Rattle.std.specs.Prelude.{◌&&◌, ◌||◌, Bool, true, false, not, nat_lt, filter, length, All}
 use Rattle.std.specs.List.{list_any, cons_option}
 use Rattle.std.proofs.lemmas.Bool.{lt-ltb}
 use Rattle.std.proofs.lemmas.List.Elements.{All-nil, All-cons, All-append, All-filter, All-weaker}
@@ -28,6 +28,7 @@ use Rattle.directory_rules.specs.Snapshot.{Snapshot}
 use Rattle.directory_rules.specs.Gatherings.{Gathering, new_gathering}
 use Rattle.directory_rules.specs.Recovery.{Recovery, new_recovery}
 use Rattle.directory_rules.specs.Sight.{was_settled, kept_entries, shelf_after}
+use Rattle.directory_rules.specs.Host.{outstanding, new_number, renewed}
 use Rattle.directory_rules.specs.Node.{Node}
 use Rattle.directory_rules.specs.Sent.{all_requests, all_wants}
 use Rattle.directory_rules.specs.Step.{gathering_in, recovery_in, new_gatherings, new_recoveries, node_after, sight}
@@ -48,7 +49,8 @@ use Rattle.directory_headline.proofs.NewRecoveries.{new_recovery_shown}
 use Rattle.directory_headline.proofs.KeptEntries.{kept_at, kept_rises, kept_again, kept_inside}
 use Rattle.directory_headline.proofs.SettledPiece.{grain_below}
 use Rattle.directory_headline.proofs.SightPieces.{IsSealed}
-use Rattle.directory_headline.proofs.Renewals.{IsSentAnew, sends_anew}
+use Rattle.directory_headline.proofs.Renewals.{sends_anew}
+use Rattle.directory_headline.proofs.Distinct.{all_renewed}
 use Rattle.directory_headline.proofs.Nudges.{requests_shown, all_wants_shown}
 use Rattle.directory_headline.proofs.Sights as sights
 
@@ -181,7 +183,8 @@ module _ (m : Setting) (f : World) (w : protocol.World) (silo : Silo) (node : No
       let was = (node_shown m f w silo node here).host in
       let its = host_is m f w silo node here in
       let host : IsShownHost node.host (state_of seen silo) = record { held = was.held; next_number = was.next_number; next_count = was.next_count } in
-      let sends = sends_anew m node.host silo seen (alive m f w silo node here) facts.numbered facts.own.once host in
+      let sends =
+      sends_anew m node.host (renewed node.host) (λ grain. true) (new_number node.host) (length (outstanding node.host)) (all_renewed node.host facts.numbered) facts.own.once silo seen (alive m f w silo node here) host in
       let later = effects.run m sends.actions seen in
       let grows = (leaves_run m sends.actions seen silo sends.by).grows in
       let version = put_same silo view.version w.seen in
@@ -206,6 +209,5 @@ module _ (m : Setting) (f : World) (w : protocol.World) (silo : Silo) (node : No
         };
         letters =
             All-append (IsShownLetter m.hash later) (all_wants made) (all_requests made) (all_wants_shown m later made)
-            (requests_shown m node.host silo made later its refl facts.own.once (λ grain held there.
-            subst (λ v. IsSentAnew held.phase node.host v silo grain held later.requests) version (sends.sent grain held there)));
+            (requests_shown m made later (seen.seen silo) silo version (sym its) sends.sent);
       }

@@ -31,6 +31,7 @@ pub node_numbered : (Unnumbered : Type 0) (refusal : StepRefusal) â†’ refusal â‰
 node_numbered Unnumbered node.AlreadyHere other = tt
 node_numbered Unnumbered node.NotHere other = tt
 node_numbered Unnumbered node.NotFirm other = tt
+node_numbered Unnumbered node.NotAsking other = tt
 node_numbered Unnumbered node.NotActiveSilo other = tt
 node_numbered Unnumbered node.NumbersSpent other = tt
 node_numbered Unnumbered node.HostFull other = tt

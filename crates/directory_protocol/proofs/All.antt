@@ -85,7 +85,7 @@ pub only_settled_answer : (m : Setting) (w : World) (a : Action) → SettledServ
 only_settled_answer m w New_view may y q = inl q
 only_settled_answer m w (See x) may y q = inl q
 only_settled_answer m w (Start s g previous) may y q = inl q
-only_settled_answer m w (Close s g c) may y q = inl q
+only_settled_answer m w (Close s g x) may y q = inl q
 only_settled_answer m w (Offer_away s g c) may y q = inl q
 only_settled_answer m w (Renew s g x purpose) may y q = inl q
 only_settled_answer m w (Find s) may y q = inl q

@@ -211,12 +211,12 @@ backed_told m w s a p b =
         (λ y t d l i e. b.reported.shrinking x y g c q t d l i e))
 
 backed_closing :
-    (m : Setting) (w : World) → Asked m w → Backed m w → (s : Silo) (g : Grain) (c : ℕ) → w.held s g ≡ Some (Firm c)
-    → Backed m (record w { held = put_at s g (Some (Closing c (w.next_number s))) w.held })
-backed_closing m w k b s g c firm =
-    backed_turn m w k b s g (Some (Closing c (w.next_number s)))
-    (turned_open m w s g (Closing c (w.next_number s)) (λ y e. let same : Firm c ≡ y = cc in
-    ap count_of same) (λ d f. cc) (closing_number c (w.next_number s)))
+    (m : Setting) (w : World) → Asked m w → Backed m w → (s : Silo) (g : Grain) (x : Held) → w.held s g ≡ Some x
+    → Backed m (record w { held = put_at s g (Some (Closing (count_of x) (w.next_number s))) w.held })
+backed_closing m w k b s g x held =
+    backed_turn m w k b s g (Some (Closing (count_of x) (w.next_number s)))
+    (turned_open m w s g (Closing (count_of x) (w.next_number s)) (λ y e. let same : x ≡ y = cc in
+    ap count_of same) (λ d f. cc) (closing_number (count_of x) (w.next_number s)))
 
 pub backed_after : (m : Setting) (w : World) (a : Action) → Allowed m w a → Placed m w → Asked m w → Backed m w → Backed m (after m w a)
 backed_after m w New_view may p k b = backed_view m w b
@@ -227,10 +227,10 @@ backed_after m w (Start s g previous) may p k b =
     (turned_open m w s g (Asking (w.next_count s) (w.next_number s) previous) (λ y e.
     let free : w.held s g ≡ None = may.free in
     absurd cc) (λ c f. cc) (asking_number (w.next_count s) (w.next_number s) previous)))
-backed_after m w (Close s g c) may p k b =
-    backed_alike m (record w { held = put_at s g (Some (Closing c (w.next_number s))) w.held }) (after m w (Close s g c)) (λ e. e) (λ c. c) (λ r. r) (backed_closing m w k b s g c may.firm)
+backed_after m w (Close s g x) may p k b =
+    backed_alike m (record w { held = put_at s g (Some (Closing (count_of x) (w.next_number s))) w.held }) (after m w (Close s g x)) (λ e. e) (λ c. c) (λ r. r) (backed_closing m w k b s g x may.held)
 backed_after m w (Offer_away s g c) may p k b =
-    backed_alike m (record w { held = put_at s g (Some (Closing c (w.next_number s))) w.held }) (after m w (Offer_away s g c)) (λ e. e) (λ c. c) (λ r. r) (backed_closing m w k b s g c may.firm)
+    backed_alike m (record w { held = put_at s g (Some (Closing c (w.next_number s))) w.held }) (after m w (Offer_away s g c)) (λ e. e) (λ c. c) (λ r. r) (backed_closing m w k b s g (Firm c) may.held)
 backed_after m w (Renew s g x purpose) may p k b =
     backed_alike m (record w { held = put_at s g (Some (renumbered (w.next_number s) x)) w.held }) (after m w (Renew s g x purpose)) (λ e. e) (λ c. c) (λ r. r)
     (backed_turn m w k b s g (Some (renumbered (w.next_number s) x))

@@ -22,8 +22,8 @@ histories_unread m w (See x) level authority = (
   refl,
 )
 histories_unread m w (Start s g previous) level authority = (λ may. record { alive = may.alive; member = may.member; free = may.free; offered = may.offered }, refl)
-histories_unread m w (Close s g count) level authority = (λ may. record { alive = may.alive; firm = may.firm }, refl)
-histories_unread m w (Offer_away s g count) level authority = (λ may. record { alive = may.alive; firm = may.firm }, refl)
+histories_unread m w (Close s g x) level authority = (λ may. record { alive = may.alive; held = may.held; not_yet = may.not_yet }, refl)
+histories_unread m w (Offer_away s g count) level authority = (λ may. record { alive = may.alive; held = may.held; not_yet = may.not_yet }, refl)
 histories_unread m w (Renew s g x purpose) level authority = (λ may. record { alive = may.alive; held = may.held; outstanding = may.outstanding }, refl)
 histories_unread m w (Find s) level authority = (λ may. may, refl)
 histories_unread m w (Serve x) level authority = (

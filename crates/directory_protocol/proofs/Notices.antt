@@ -147,27 +147,27 @@ module _ (m : Setting) (w : World) (p : Placed m w) (k : NoticesOf w) where
 
   -- the activation is held closing from now on
   notices_of_closing :
-      (s : Silo) (g : Grain) (c n : ℕ) → MayClose m w s g c
-      → Notices w.seen (put_at s g (Some (Closing c n)) w.held) w.next_count w.requests w.offers w.reports
-  notices_of_closing s g c n may =
-      notices_turn w.seen w.held w.next_count w.next_count w.reports (λ q. omega arith) s g (Some (Closing c n))
-      (λ d l old x e i. let same : Closing c n ≡ x = cc in sym (ap is_closing same))
+      (s : Silo) (g : Grain) (x : Held) (n : ℕ) → MayClose m w s g x
+      → Notices w.seen (put_at s g (Some (Closing (count_of x) n)) w.held) w.next_count w.requests w.offers w.reports
+  notices_of_closing s g x n may =
+      notices_turn w.seen w.held w.next_count w.next_count w.reports (λ q. omega arith) s g (Some (Closing (count_of x) n))
+      (λ d l old y e i. let same : Closing (count_of x) n ≡ y = cc in sym (ap is_closing same))
       w.requests w.offers
-      (λ x e. let same : Closing c n ≡ x = cc in
-      let i : c ≡ count_of x = ap count_of same in
-      let l : c < w.next_count s = k.counted s g (Firm c) may.firm in
+      (λ y e. let same : Closing (count_of x) n ≡ y = cc in
+      let i : count_of x ≡ count_of y = ap count_of same in
+      let l : count_of x < w.next_count s = k.counted s g x may.held in
       omega arith)
       (λ d i a e. absurd cc)
       k
 
   closing_notice :
-      (s : Silo) (g : Grain) (c n : ℕ) → MayClose m w s g c
-      → IsGivenUp (put_at s g (Some (Closing c n)) w.held) w.next_count w.reports (activation_on s c) g (w.seen s)
-  closing_notice s g c n may =
-      own_notice m w p (put_at s g (Some (Closing c n)) w.held) s g c (k.counted s g (Firm c) may.firm)
-      (λ x e.
-      let a : put_at s g (Some (Closing c n)) w.held s g ≡ Some (Closing c n) = put_at_same s g (Some (Closing c n)) w.held in
-      let same : Closing c n ≡ x = cc in
+      (s : Silo) (g : Grain) (x : Held) (n : ℕ) → MayClose m w s g x
+      → IsGivenUp (put_at s g (Some (Closing (count_of x) n)) w.held) w.next_count w.reports (activation_on s (count_of x)) g (w.seen s)
+  closing_notice s g x n may =
+      own_notice m w p (put_at s g (Some (Closing (count_of x) n)) w.held) s g (count_of x) (k.counted s g x may.held)
+      (λ y e.
+      let a : put_at s g (Some (Closing (count_of x) n)) w.held s g ≡ Some (Closing (count_of x) n) = put_at_same s g (Some (Closing (count_of x) n)) w.held in
+      let same : Closing (count_of x) n ≡ y = cc in
       sym (ap is_closing same))
 
   notices_of_renewal :
@@ -285,18 +285,18 @@ pub notices_after : (m : Setting) (w : World) (a : Action) → Allowed m w a →
 notices_after m w New_view may p k = k
 notices_after m w (See x) may p k = notices_seen m w p k (put x.silo x.version w.seen) (later_sight m w x may)
 notices_after m w (Start s g previous) may p k = notices_of_start m w p k s g previous may
-notices_after m w (Close s g c) may p k =
-    notices_request w.seen (put_at s g (Some (Closing c (w.next_number s))) w.held) w.next_count w.requests w.offers w.reports (asked w Deregister s g c None)
-    (λ e. closing_notice m w p k s g c (w.next_number s) may)
+notices_after m w (Close s g x) may p k =
+    notices_request w.seen (put_at s g (Some (Closing (count_of x) (w.next_number s))) w.held) w.next_count w.requests w.offers w.reports (asked w Deregister s g (count_of x) None)
+    (λ e. closing_notice m w p k s g x (w.next_number s) may)
     (λ a e. absurd cc)
-    (notices_of_closing m w p k s g c (w.next_number s) may)
+    (notices_of_closing m w p k s g x (w.next_number s) may)
 notices_after m w (Offer_away s g c) may p k =
-    let closing : Notices w.seen (put_at s g (Some (Closing c (w.next_number s))) w.held) w.next_count w.requests w.offers w.reports = notices_of_closing m w p k s g c (w.next_number s) may in
+    let closing : Notices w.seen (put_at s g (Some (Closing c (w.next_number s))) w.held) w.next_count w.requests w.offers w.reports = notices_of_closing m w p k s g (Firm c) (w.next_number s) may in
     record {
       counted = closing.counted;
       deregistered = closing.deregistered;
       replaced = closing.replaced;
-      offered = sent_all (λ o. IsGivenUp (put_at s g (Some (Closing c (w.next_number s))) w.held) w.next_count w.reports o.activation o.grain o.version) (record { version = w.seen s; grain = g; activation = activation_on s c }) w.offers (closing_notice m w p k s g c (w.next_number s) may) closing.offered;
+      offered = sent_all (λ o. IsGivenUp (put_at s g (Some (Closing c (w.next_number s))) w.held) w.next_count w.reports o.activation o.grain o.version) (record { version = w.seen s; grain = g; activation = activation_on s c }) w.offers (closing_notice m w p k s g (Firm c) (w.next_number s) may) closing.offered;
       replacing = closing.replacing;
     }
 notices_after m w (Renew s g x purpose) may p k = notices_of_renewal m w p k s g x purpose may.held (may.outstanding).0 (may.outstanding).1

@@ -252,8 +252,8 @@ numbers_after m w New_view may p k = k
 numbers_after m w (See x) may p k = numbers_seen m w k (put x.silo x.version w.seen) (later_sight m w x may)
 numbers_after m w (Start s g previous) may p k =
     numbers_asked m w k p.structure.member s g (Asking (w.next_count s) (w.next_number s) previous) Register (w.next_count s) previous refl (asking_number (w.next_count s) (w.next_number s) previous)
-numbers_after m w (Close s g c) may p k =
-    numbers_asked m w k p.structure.member s g (Closing c (w.next_number s)) Deregister c None refl (closing_number c (w.next_number s))
+numbers_after m w (Close s g x) may p k =
+    numbers_asked m w k p.structure.member s g (Closing (count_of x) (w.next_number s)) Deregister (count_of x) None refl (closing_number (count_of x) (w.next_number s))
 numbers_after m w (Offer_away s g c) may p k = numbers_taken m w k p.structure.member s g (Closing c (w.next_number s)) (closing_number c (w.next_number s))
 numbers_after m w (Renew s g x purpose) may p k =
     numbers_asked m w k p.structure.member s g (renumbered (w.next_number s) x) purpose (count_of x) (previous_of x) (renumbered_count (w.next_number s) x) (renumbered_number (w.next_number s) x)

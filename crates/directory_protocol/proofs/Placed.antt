@@ -101,7 +101,7 @@ pub placed_after : (m : Setting) (w : World) (a : Action) → Allowed m w a → 
 placed_after m w New_view may p = placed_view m w p
 placed_after m w (See x) may p = placed_sight m w x may p
 placed_after m w (Start s g previous) may p = record { structure = p.structure; levels = p.levels }
-placed_after m w (Close s g count) may p = record { structure = p.structure; levels = p.levels }
+placed_after m w (Close s g x) may p = record { structure = p.structure; levels = p.levels }
 placed_after m w (Offer_away s g count) may p = record { structure = p.structure; levels = p.levels }
 placed_after m w (Renew s g x purpose) may p = record { structure = p.structure; levels = p.levels }
 placed_after m w (Find s) may p = record { structure = p.structure; levels = p.levels }

@@ -7,10 +7,10 @@ use Rattle.directory_protocol.specs.Change.{put_at}
 use Rattle.directory_protocol.specs.Setting.{Setting}
 use Rattle.directory_protocol.specs.Letters.{activation_on, Register, purpose_of, Reply}
 use Rattle.directory_protocol.specs.World.{World, start, Held, Asking, Firm, Closing, count_of, outstanding, renumbered}
-use Rattle.directory_protocol.specs.Actions.{New_view, See, Start, Close, Offer_away, Renew, Find, Serve, Confirm, Leave, Tell, Install, Recover, MayConfirm, MayLeave}
+use Rattle.directory_protocol.specs.Actions.{New_view, See, Start, Close, Offer_away, Renew, Find, Serve, Confirm, Leave, Tell, Install, Recover, MayClose, MayConfirm, MayLeave}
 use Rattle.directory_protocol.specs.Effects.{after, run}
 use Rattle.directory_protocol.specs.Safety.{AfterAnyRun}
-use Rattle.directory_protocol.specs.PlainMachine.{Is_asking, Is_firm, IsPlainStep, life_of, plain_of, plain_step_of, StepsPlainly}
+use Rattle.directory_protocol.specs.PlainMachine.{Is_asking, Is_firm, Is_closing, IsChanged, IsPlainStep, life_of, plain_of, plain_step_of, StepsPlainly}
 use Rattle.directory_protocol.proofs.Changes.{on_bool, put_at_all, put_at_same, put_at_other}
 use Rattle.directory_protocol.proofs.Numbers.{firm_number}
 use Rattle.directory_protocol.proofs.All.{Kept, kept_reached}
@@ -91,6 +91,22 @@ left_plainly m w y g (Closing c n) may = (
   record { version = refl; unused = λ t. refl; lives = lives_changed m w y.receiver g None may.accepted.alive },
 )
 
+-- the activation is seen in its phase, and then closing
+closing_plainly :
+    (m : Setting) (w : World) (s : Silo) (g : Grain) (x : Held) → MayClose m w s g x
+    → ((plain_of m w).lives s g ≡ Some (life_of x)) × IsChanged (plain_of m w) s g (Some (Is_closing (count_of x))) (plain_of m (after m w (Close s g x)))
+closing_plainly m w s g x may = (
+  seen_live (m.alive w.now s) (w.held s g) may.alive ∙ ap (option_map life_of) may.held,
+  record { version = refl; unused = λ t. refl; lives = lives_changed m w s g (Some (Closing (count_of x) (w.next_number s))) may.alive },
+)
+
+closes_plainly :
+    (m : Setting) (w : World) (s : Silo) (g : Grain) (x : Held) → MayClose m w s g x
+    → IsPlainStep m (plain_of m w) (plain_step_of (Close s g x)) (plain_of m (after m w (Close s g x)))
+closes_plainly m w s g (Asking c n previous) may = closing_plainly m w s g (Asking c n previous) may
+closes_plainly m w s g (Firm c) may = closing_plainly m w s g (Firm c) may
+closes_plainly m w s g (Closing c n) may = absurd (cc (may.not_yet))
+
 steps_plainly : (m : Setting) (w : World) → Kept m w → StepsPlainly m w
 steps_plainly m w k New_view may = record { version = refl; unused = λ t. refl; lives = lives_viewed m w }
 steps_plainly m w k (See x) may = record { version = refl; unused = λ t. refl; lives = λ t r. refl }
@@ -102,14 +118,8 @@ steps_plainly m w k (Start s g previous) may =
       unused = λ t. refl;
       lives = lives_changed m w s g (Some (Asking (w.next_count s) (w.next_number s) previous)) may.alive;
     }
-steps_plainly m w k (Close s g c) may = (
-  seen_live (m.alive w.now s) (w.held s g) may.alive ∙ ap (option_map life_of) may.firm,
-  record { version = refl; unused = λ t. refl; lives = lives_changed m w s g (Some (Closing c (w.next_number s))) may.alive },
-)
-steps_plainly m w k (Offer_away s g c) may = (
-  seen_live (m.alive w.now s) (w.held s g) may.alive ∙ ap (option_map life_of) may.firm,
-  record { version = refl; unused = λ t. refl; lives = lives_changed m w s g (Some (Closing c (w.next_number s))) may.alive },
-)
+steps_plainly m w k (Close s g x) may = closes_plainly m w s g x may
+steps_plainly m w k (Offer_away s g c) may = closing_plainly m w s g (Firm c) may
 steps_plainly m w k (Renew s g x purpose) may =
     record {
       version = refl;

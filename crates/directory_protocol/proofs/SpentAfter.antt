@@ -7,7 +7,7 @@ use Rattle.directory_protocol.specs.Change.{put, put_at, where_true}
 use Rattle.directory_protocol.specs.Setting.{Setting}
 use Rattle.directory_protocol.specs.Letters.{Purpose, Register, Deregister, Answer, purpose_of, Request, named, Reply, Sent}
 use Rattle.directory_protocol.specs.World.{World, start, Held, Asking, Firm, Closing, count_of, outstanding, renumbered, previous_of}
-use Rattle.directory_protocol.specs.Actions.{Action, New_view, See, Start, Close, Offer_away, Renew, Find, Serve, Confirm, Leave, Tell, Install, Recover, Allowed, Sight, MaySee, Service, MayServe, IsAnswered, Counts, Settling, MayLeave}
+use Rattle.directory_protocol.specs.Actions.{Action, New_view, See, Start, Close, Offer_away, Renew, Find, Serve, Confirm, Leave, Tell, Install, Recover, Allowed, Sight, MaySee, MayClose, Service, MayServe, IsAnswered, Counts, Settling, MayLeave}
 use Rattle.directory_protocol.specs.Effects.{after, after_settling, asked, replied}
 use Rattle.directory_protocol.specs.Requests.{NumbersOf, IsSpent, Spent, SpentOf}
 use Rattle.directory_protocol.specs.Invariant.{Placed}
@@ -123,6 +123,18 @@ module _ (m : Setting) (w : World) (p : Placed m w) (k : SpentOf m w) where
         replied = sp.replied;
       }
 
+  -- an activation is held closing from now on
+  spent_closing :
+      NumbersOf m w → (s : Silo) (g : Grain) (x : Held) → MayClose m w s g x
+      → Spent m w.now w.seen (put_at s g (Some (Closing (count_of x) (w.next_number s))) w.held) w.served w.level w.requests w.replies
+  spent_closing n s g x may =
+      spent_turn n s g (Some (Closing (count_of x) (w.next_number s))) (λ y e.
+      let held : w.held s g ≡ Some x = may.held in
+      let same : x ≡ y = cc in
+      (Closing (count_of x) (w.next_number s), refl, ap count_of same))
+      (λ y purpose i e u. let same : Closing (count_of x) (w.next_number s) ≡ y = cc in
+      closing_number (count_of x) (w.next_number s) purpose i (ap (outstanding purpose) same ∙ u))
+
   spent_left : NumbersOf m w → (y : Reply) (g : Grain) (x : Held) → MayLeave m w y g x → SpentOf m (after m w (Leave y g x))
   spent_left n y g x may =
       record {
@@ -214,21 +226,9 @@ spent_after m w (Start s g previous) may p n k =
     absurd cc)
     (λ x purpose i e u. let same : Asking (w.next_count s) (w.next_number s) previous ≡ x = cc in
     asking_number (w.next_count s) (w.next_number s) previous purpose i (ap (outstanding purpose) same ∙ u)))
-spent_after m w (Close s g c) may p n k =
-    spent_asked m w p k n s g (Closing c (w.next_number s)) (asked w Deregister s g c None) refl refl refl
-    (spent_turn m w p k n s g (Some (Closing c (w.next_number s))) (λ x e.
-    let firm : w.held s g ≡ Some (Firm c) = may.firm in
-    let same : Firm c ≡ x = cc in
-    (Closing c (w.next_number s), refl, ap count_of same))
-    (λ x purpose i e u. let same : Closing c (w.next_number s) ≡ x = cc in
-    closing_number c (w.next_number s) purpose i (ap (outstanding purpose) same ∙ u)))
-spent_after m w (Offer_away s g c) may p n k =
-    spent_turn m w p k n s g (Some (Closing c (w.next_number s))) (λ x e.
-    let firm : w.held s g ≡ Some (Firm c) = may.firm in
-    let same : Firm c ≡ x = cc in
-    (Closing c (w.next_number s), refl, ap count_of same))
-    (λ x purpose i e u. let same : Closing c (w.next_number s) ≡ x = cc in
-    closing_number c (w.next_number s) purpose i (ap (outstanding purpose) same ∙ u))
+spent_after m w (Close s g x) may p n k =
+    spent_asked m w p k n s g (Closing (count_of x) (w.next_number s)) (asked w Deregister s g (count_of x) None) refl refl refl (spent_closing m w p k n s g x may)
+spent_after m w (Offer_away s g c) may p n k = spent_closing m w p k n s g (Firm c) may
 spent_after m w (Renew s g x purpose) may p n k =
     spent_asked m w p k n s g (renumbered (w.next_number s) x) (asked w purpose s g (count_of x) (previous_of x)) refl refl (renumbered_count (w.next_number s) x)
     (spent_turn m w p k n s g (Some (renumbered (w.next_number s) x)) (λ y e.

@@ -236,7 +236,7 @@ offered_allowed = (
     (
       refl,
       (
-        record { alive = refl; firm = refl },
+        record { alive = refl; held = refl; not_yet = refl },
         tt,
       ),
     ),

@@ -3,7 +3,7 @@ use Rattle.std.proofs.Common.{◌≡◌, ◌≢◌, Bool, true, false, cond, Som
 use Rattle.silo_address.specs.Grain.{grain_eq}
 use Rattle.silo_address.specs.declared.activation.ActivationId.{ActivationId}
 use Rattle.directory_protocol.specs.Change.{put, put_grain, put_at}
-use Rattle.directory_protocol.specs.Letters.{activation_on, Register, Deregister, Registered, Removed, Request}
+use Rattle.directory_protocol.specs.Letters.{activation_on, Register, Registered, Removed}
 use Rattle.directory_protocol.specs.World.{start, Held, Asking, Firm, Closing, outstanding}
 use Rattle.directory_protocol.specs.Actions.{Action, New_view, See, Start, Close, Confirm, Leave}
 use Rattle.directory_protocol.specs.Effects.{after, run, AllAllowed}
@@ -11,22 +11,10 @@ use Rattle.directory_protocol.specs.Safety.{SettledIsRight}
 use Rattle.directory_protocol.specs.Reached.{CanBe, CanHappen, KeepsOverSkip, RefusesOldNumber, IgnoresStaleReply}
 use Rattle.directory_protocol.specs.Loosened.{Breaks, RequestNumbersNotCompared, StaleReplyAccepted}
 use Rattle.directory_protocol.proofs.Runs.{allowed_append}
-use Rattle.directory_protocol.proofs.Story.{first, ann, cluster, all, no_hash, opening, opening_allowed, registration, reply, answers}
+use Rattle.directory_protocol.proofs.Story.{first, ann, cluster, all, no_hash, opening, opening_allowed, registration, removal, reply, answers}
 
 abbrev pub one : ActivationId
 one = activation_on first 1
-
-abbrev removal : Request
-removal =
-    record {
-      purpose = Deregister;
-      version = 1;
-      number = 2;
-      sender = first;
-      grain = ann;
-      count = 1;
-      previous = None;
-    }
 
 -- ann is registered and firm
 abbrev pub registering : List Action
@@ -62,12 +50,12 @@ registered = allowed_append cluster opening registering start opening_allowed re
 -- then it closes, and is gone
 abbrev closing : List Action
 closing =
-    Close first ann 1 ∷ answers removal Removed None ∷ Leave (reply Removed 1 2 first) ann (Closing 1 2) ∷ []
+    Close first ann (Firm 1) ∷ answers (removal 1 2) Removed None ∷ Leave (reply Removed 1 2 first) ann (Closing 1 2) ∷ []
 
 closing_allowed : AllAllowed cluster closing (run cluster (opening ++ registering) start)
 unfolding put put_at put_grain
 closing_allowed = (
-  record { alive = refl; firm = refl },
+  record { alive = refl; held = refl; not_yet = refl },
   (
     record {
       sent = inl refl;
@@ -93,7 +81,7 @@ closed = allowed_append cluster (opening ++ registering) closing start registere
 pub refuses_old_number : CanBe RefusesOldNumber
 unfolding put put_at put_grain
 refuses_old_number =
-    (cluster, (opening ++ registering) ++ closing, closed, (first, registration 1 1 first 1 None, inr (inl refl), refl, λ x held. absurd cc, refl, refl, refl, omega arith))
+    (cluster, (opening ++ registering) ++ closing, closed, (first, registration 1 1 first 1 None, inr (inl refl), refl, λ x held. absurd cc, (refl, refl, refl, omega arith)))
 
 -- then another one starts
 starting_allowed : AllAllowed cluster (Start first ann None ∷ []) (run cluster ((opening ++ registering) ++ closing) start)

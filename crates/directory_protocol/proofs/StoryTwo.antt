@@ -181,7 +181,7 @@ migrating = Offer_away second ann 1 ∷ Start first ann (Some two) ∷ answers (
 migrating_allowed : AllAllowed cluster migrating (run cluster early start)
 unfolding put put_at put_grain
 migrating_allowed = (
-  record { alive = refl; firm = refl },
+  record { alive = refl; held = refl; not_yet = refl },
   (
     record {
       alive = refl;

@@ -1,5 +1,5 @@
 -- Every step keeps the numbers of a host's requests distinct, and below the host's next number.
-use Rattle.std.proofs.Common.{arith, ◌≡◌, ◌≢◌, sym, ap, subst, ◌∙◌, ℕ, List, [], ◌∷◌, ◌++◌, ◌+◌, ◌≤◌, ◌<◌, length, map, length-append}
+use Rattle.std.proofs.Common.{arith, ◌≡◌, ◌≢◌, sym, ap, subst, ◌∙◌, ℕ, List, [], ◌∷◌, ◌+◌, ◌≤◌, ◌<◌, length, map, length-append}
 use Rattle.std.specs.Prelude.{All, AllPairs, nat_lt, ◌||◌, Bool, true, false, cond, not, ◌==◌, ◌&&◌, is_some, Option, Some, None, Result, Ok, Err, IfOk}
 use Rattle.std.specs.Ordering.{nat_cmp}
 use Rattle.std.specs.Map.{keys_of}
@@ -16,7 +16,7 @@ use Rattle.hash_ring.specs.Ring.{is_active_in}
 use Rattle.directory_rules.specs.declared.act.Act.{Act}
 use Rattle.directory_rules.specs.declared.act.Act.TheVariants.{Find}
 use Rattle.directory_rules.specs.declared.held.Held.{Held}
-use Rattle.directory_rules.specs.declared.held.Phase.TheVariants.{Firm, Closing}
+use Rattle.directory_rules.specs.declared.held.Phase.TheVariants.{Firm}
 use Rattle.directory_rules.specs.declared.reply.Reply.{Reply}
 use Rattle.directory_rules.specs.declared.reply.Reply.TheVariants as reply
 use Rattle.directory_rules.specs.declared.effect.Effect.TheVariants.{Ignored}
@@ -33,15 +33,16 @@ use Rattle.directory_rules.specs.Reply as re
 use Rattle.directory_rules.specs.Transfer as tr
 use Rattle.directory_rules.specs.Receive as rc
 use Rattle.directory_rules.specs.Sent.{gathering_of, recovery_of}
-use Rattle.directory_rules.specs.Host.{Host, held_acts, find_acts, next_held, without_held, with_started, with_closing, with_find, without_find, confirmed, renewed, new_number, outstanding, is_firm, has_numbers, has_count, is_full_of_activations, is_full_of_finds, held_of, asking_under, closing_under, is_finding, is_outstanding}
+use Rattle.directory_rules.specs.Host.{Host, held_acts, find_acts, next_held, next_closing, without_held, with_started, with_closing, with_find, without_find, confirmed, renewed, new_number, renewed_about, outstanding, requests_about, is_firm, is_asking, has_numbers, has_count, is_full_of_activations, is_full_of_finds, held_of, asking_under, closing_under, is_finding, is_outstanding}
 use Rattle.directory_rules.specs.Cache.{hint_of}
 use Rattle.directory_rules.specs.Input.{Input, Sees, Does, Receives, step}
 use Rattle.directory_rules.specs.Run.{run_from_start}
 use Rattle.directory_rules.specs.Laws.{requests_of, AreNumbered, NumbersAreDistinct}
 use Rattle.directory_rules.proofs.Cases.{on_bool}
 use Rattle.directory_rules.proofs.Nodes.{StepsKeep, each_after, of_found}
-use Rattle.directory_rules.proofs.RequestNumbers.{one, one_same, one_cases, times, times_append, times_removed, times_set, times_pushed, times_unfound, times_put_most, numbers}
-use Rattle.directory_rules.specs.declared.own_step.OwnStep.TheVariants.{Wake, Close, Find, Forget, Nudge, Offer}
+use Rattle.directory_rules.proofs.RequestNumbers.{one, one_same, one_cases, times, times_append, times_mapped, times_keys, times_removed, times_set, times_pushed, times_unfound, times_put_most, numbers}
+use Rattle.directory_rules.specs.declared.own_step.OwnStep.TheVariants.{Wake, Close, Cancel, Find, Forget, Nudge, NudgeGrain, NudgeRanges, Offer}
+use Rattle.directory_rules.proofs.GrainRenewal.{renewed_about_times, times_apart, new_once, new_above, new_below}
 use Rattle.directory_rules.proofs.Renewal.{held_numbers, same_keys, mapped_keys, length_put_all, renewed_numbers, request_numbers, renewed_once, renewed_below}
 
 -- a number occurs once at most, and none from the next one on
@@ -81,7 +82,7 @@ started host grain previous is =
 closing : (host : Host) (grain : Grain) (held : Held) → Numbered host → Numbered (with_closing host grain held)
 closing host grain held is =
     one_more host.next_number host.held (with_closing host grain held).held host.finds host.finds
-    (λ n. let set = times_set n (is_at (grain_cmp grain)) host.held (record held { phase = Closing host.next_number }) in omega (set, arith)) is
+    (λ n. let set = times_set n (is_at (grain_cmp grain)) host.held (next_closing host held) in omega (set, arith)) is
 
 finding : (host : Host) (grain : Grain) → Numbered host → Numbered (with_find host grain)
 finding host grain is =
@@ -103,10 +104,6 @@ firm host grain held is =
     no_more host.next_number host.held (confirmed host grain held).held host.finds host.finds
     (λ n. let set = times_set n (is_at (grain_cmp grain)) host.held (record held { phase = Firm; previous = None }) in omega (set, arith)) is
 
-times_mapped : (n : ℕ) (f : ℕ → ℕ) (xs ys : List ℕ) → times n (map f (xs ++ ys)) ≡ times n (map f xs) + times n (map f ys)
-times_mapped n f [] ys = omega arith
-times_mapped n f (x ∷ xs) ys = let later = times_mapped n f xs ys in omega (later, arith)
-
 renewed_times : (host : Host) (n : ℕ) → times n (map (new_number host) (request_numbers host)) ≡ times n (numbers (renewed host).held) + times n (keys_of (renewed host).finds)
 renewed_times host n =
     let both = times_mapped n (new_number host) (numbers host.held) (keys_of host.finds) in
@@ -121,6 +118,18 @@ renews host is = record {
 } where
   old : (n : ℕ) → times n (request_numbers host) ≤ 1
   old n = let both = times_append n (numbers host.held) (keys_of host.finds) in let few = is.once n in omega (both, few, arith)
+
+renews_about : (host : Host) (grain : Grain) → Numbered host → Numbered (renewed_about grain host)
+renews_about host grain is = record {
+  once = λ n.
+      let all = renewed_about_times grain host n in let apart = times_apart grain host n in let few = is.once n in
+      on_bool (λ b. times n (numbers (renewed_about grain host).held) + times n (keys_of (renewed_about grain host).finds) ≤ 1) (nat_lt n host.next_number)
+      (λ t. let none = new_above grain host n (ltb-true n host.next_number t) in omega (all, apart, few, none, arith))
+      (λ f. let gone = is.below n (ltb-false n host.next_number f) in let new = new_once grain host is.once n in omega (all, apart, gone, new, arith));
+  below = λ n le.
+      let all = renewed_about_times grain host n in let apart = times_apart grain host n in
+      let gone = is.below n (omega (le, arith)) in let none = new_below grain host is.once n le in omega (all, apart, gone, none, arith);
+}
 
 -- ---- What each step keeps.
 abbrev Kept : at.Stepped → Type 0
@@ -150,6 +159,11 @@ close_held : (held : Option Held) (node : Node) (grain : Grain) → Numbered nod
 close_held None node grain is = tt
 close_held (Some held) node grain is =
     refused_or false false (not (is_firm held.phase)) (not (has_numbers node.settings node.host 1)) 0 0 803 805 (at.closing node grain held) (closing node.host grain held is)
+
+cancel_held : (held : Option Held) (node : Node) (grain : Grain) → Numbered node.host → After (at.cancel_held held node grain)
+cancel_held None node grain is = tt
+cancel_held (Some held) node grain is =
+    refused_or false false (not (is_asking held.phase)) (not (has_numbers node.settings node.host 1)) 0 0 808 805 (at.cancelled node grain held) (closing node.host grain held is)
 
 offer_held : (held : Option Held) (node : Node) (grain : Grain) (to : Silo) → Numbered node.host → After (at.offer_held held node grain to)
 offer_held None node grain to is = tt
@@ -229,15 +243,20 @@ stepped node (Sees before view places) is =
     (at.sight (is_next node.view before view node.host.silo) node before view places) (renews node.host is)
 stepped node (Does (Wake grain)) is = wake node grain is
 stepped node (Does (Close grain)) is = close_held (held_of node.host grain) node grain is
+stepped node (Does (Cancel grain)) is = cancel_held (held_of node.host grain) node grain is
 stepped node (Does (Find grain)) is = find_by (hint_of node.cache grain) node grain is
 stepped node (Does (Forget grain)) is = forget_hint (hint_of node.cache grain) node grain is
 stepped node (Does Nudge) is =
     refused_or false false false (not (has_numbers node.settings node.host (length (outstanding node.host)))) 0 0 0 805
     (at.having_nudged (record node { host = renewed node.host })) (renews node.host is)
+stepped node (Does (NudgeGrain grain)) is =
+    refused_or false false false (not (has_numbers node.settings node.host (length (requests_about grain node.host)))) 0 0 0 805
+    (at.having_nudged_grain (record node { host = renewed_about grain node.host }) grain) (renews_about node.host grain is)
+stepped node (Does NudgeRanges) is = is
 stepped node (Does (Offer grain to)) is = offer_held (held_of node.host grain) node grain to is
 stepped node (Receives letter) is = received letter.body node letter is
 
-numbered_keeps : StepsKeep (λ node. Numbered node.host)
+pub numbered_keeps : StepsKeep (λ node. Numbered node.host)
 numbered_keeps = record {
   new = λ settings silo. record { once = λ n. omega arith; below = λ n le. omega arith };
   stepping = λ node input result is ok. subst After ok (stepped node input is);
@@ -250,13 +269,9 @@ held_times host n = ap (times n) (held_numbers host host.held)
 find_times : (host : Host) (n : ℕ) → times n (keys_of (find_acts host)) ≡ times n (keys_of host.finds)
 find_times host n = ap (times n) (same_keys (λ grain. Find grain) host.finds)
 
-keys_append : (n : ℕ) (xs ys : List (ℕ × Act)) → times n (keys_of (xs ++ ys)) ≡ times n (keys_of xs) + times n (keys_of ys)
-keys_append n [] ys = omega arith
-keys_append n (x ∷ xs) ys = let later = keys_append n xs ys in omega (later, arith)
-
 requests_times : (host : Host) (n : ℕ) → times n (keys_of (requests_of host)) ≡ times n (numbers host.held) + times n (keys_of host.finds)
 requests_times host n =
-    let both = keys_append n (held_acts host) (find_acts host) in let first = held_times host n in let second = find_times host n in omega (both, first, second, arith)
+    let both = times_keys n (held_acts host) (find_acts host) in let first = held_times host n in let second = find_times host n in omega (both, first, second, arith)
 
 all_outstanding : (host : Host) → Numbered host → length (outstanding host) ≡ length (requests_of host)
 all_outstanding host is =

@@ -47,12 +47,12 @@ use Rattle.directory_rules.specs.Reply as re
 use Rattle.directory_rules.specs.Transfer as tr
 use Rattle.directory_rules.specs.Receive as rc
 use Rattle.directory_rules.specs.Sent.{gathering_of, recovery_of}
-use Rattle.directory_rules.specs.Host.{renewed, outstanding, is_firm, has_numbers, has_count, is_full_of_activations, is_full_of_finds, held_of, asking_under, closing_under, is_finding, is_outstanding}
+use Rattle.directory_rules.specs.Host.{renewed, renewed_about, outstanding, requests_about, is_firm, is_asking, has_numbers, has_count, is_full_of_activations, is_full_of_finds, held_of, asking_under, closing_under, is_finding, is_outstanding}
 use Rattle.directory_rules.specs.Cache.{hint_of}
 use Rattle.directory_rules.specs.Input.{Input, Sees, Does, Receives, step}
 use Rattle.directory_rules.proofs.Sights.{on_circle, compared, sight_owned}
 use Rattle.directory_rules.proofs.Ranges.{ranges, Rising, holding_in, held_by_ranges, changed_ranges, stands_at, rising_arcs}
-use Rattle.directory_rules.specs.declared.own_step.OwnStep.TheVariants.{Wake, Close, Find, Forget, Nudge, Offer}
+use Rattle.directory_rules.specs.declared.own_step.OwnStep.TheVariants.{Wake, Close, Cancel, Find, Forget, Nudge, NudgeGrain, NudgeRanges, Offer}
 use Rattle.directory_rules.proofs.Nodes.{Brings}
 
 -- the ranges are what the silo owns by the ring's points, in order
@@ -93,6 +93,11 @@ close_held : (held : Option Held) (node : Node) (grain : Grain) → Owned node �
 close_held None node grain is = tt
 close_held (Some held) node grain is =
     refused_or false false (not (is_firm held.phase)) (not (has_numbers node.settings node.host 1)) 0 0 803 805 (at.closing node grain held) is
+
+cancel_held : (held : Option Held) (node : Node) (grain : Grain) → Owned node → After (at.cancel_held held node grain)
+cancel_held None node grain is = tt
+cancel_held (Some held) node grain is =
+    refused_or false false (not (is_asking held.phase)) (not (has_numbers node.settings node.host 1)) 0 0 808 805 (at.cancelled node grain held) is
 
 offer_held : (held : Option Held) (node : Node) (grain : Grain) (to : Silo) → Owned node → After (at.offer_held held node grain to)
 offer_held None node grain to is = tt
@@ -280,9 +285,14 @@ stepped node (Does (Wake grain)) brings is =
     refused_or (not (is_active_in node.view node.host.silo)) (is_some (held_of node.host grain)) (is_full_of_activations node.settings node.host) (not (has_numbers node.settings node.host 1 && has_count node.settings node.host)) 804 801 806 805
     (at.started node grain None) is
 stepped node (Does (Close grain)) brings is = close_held (held_of node.host grain) node grain is
+stepped node (Does (Cancel grain)) brings is = cancel_held (held_of node.host grain) node grain is
 stepped node (Does (Find grain)) brings is = find_by (hint_of node.cache grain) node grain is
 stepped node (Does (Forget grain)) brings is = forget_hint (hint_of node.cache grain) node grain is
 stepped node (Does Nudge) brings is =
     refused_or false false false (not (has_numbers node.settings node.host (length (outstanding node.host)))) 0 0 0 805 (at.having_nudged (record node { host = renewed node.host })) is
+stepped node (Does (NudgeGrain grain)) brings is =
+    refused_or false false false (not (has_numbers node.settings node.host (length (requests_about grain node.host)))) 0 0 0 805
+    (at.having_nudged_grain (record node { host = renewed_about grain node.host }) grain) is
+stepped node (Does NudgeRanges) brings is = is
 stepped node (Does (Offer grain to)) brings is = offer_held (held_of node.host grain) node grain to is
 stepped node (Receives letter) brings is = received letter.body node letter is

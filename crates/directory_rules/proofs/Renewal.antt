@@ -17,11 +17,11 @@ use Rattle.directory_rules.proofs.Cases.{on_bool}
 use Rattle.directory_rules.proofs.RequestNumbers.{one, one_same, one_cases, times, times_append, times_put, times_put_least, times_put_most, length_put, with_number, numbers}
 
 -- ---- Numbers under a function that keeps them apart.
-each : (P : ℕ → Type 0) (ks : List ℕ) → ((k : ℕ) → 1 ≤ times k ks → P k) → AllByRecursion P ks
+pub each : (P : ℕ → Type 0) (ks : List ℕ) → ((k : ℕ) → 1 ≤ times k ks → P k) → AllByRecursion P ks
 each P [] h = tt
 each P (k ∷ ks) h = let same = one_same k in (h k (omega (same, arith)), each P ks (λ j there. h j (omega (there, arith))))
 
-never : (n : ℕ) (f : ℕ → ℕ) (ks : List ℕ) → AllByRecursion (λ k. f k ≢ n) ks → times n (map f ks) ≡ 0
+pub never : (n : ℕ) (f : ℕ → ℕ) (ks : List ℕ) → AllByRecursion (λ k. f k ≢ n) ks → times n (map f ks) ≡ 0
 never n f [] apart = refl
 never n f (k ∷ ks) apart =
     let later = never n f ks apart.1 in
@@ -81,7 +81,7 @@ module _ {X : Type 0} where
       let low = rank_cons j e es in let high = rank_cons k e es in let step = rise_step e.0 j k lt in let later = rank_rises j k es lt in omega (low, high, step, later, arith)
 
   -- ---- Each number that is put in is there.
-  abbrev put_all : List (ℕ × X) → List (ℕ × X) → List (ℕ × X)
+  abbrev pub put_all : List (ℕ × X) → List (ℕ × X) → List (ℕ × X)
   put_all es xs = fold (λ acts e. insert_entry nat_cmp acts e.0 e.1) es xs
 
   put_all_least : (n : ℕ) (es xs : List (ℕ × X)) → times n (keys_of es) ≤ times n (keys_of (put_all es xs))

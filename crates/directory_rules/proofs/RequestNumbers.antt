@@ -1,5 +1,5 @@
 -- The numbers of a host's requests, counted: how often a number occurs, before a change and after it.
-use Rattle.std.proofs.Common.{arith, ◌≡◌, refl, sym, ap, ◌∙◌, ℕ, List, [], ◌∷◌, ◌++◌, ◌+◌, ◌≤◌, length}
+use Rattle.std.proofs.Common.{arith, ◌≡◌, refl, sym, ap, ◌∙◌, ℕ, List, [], ◌∷◌, ◌++◌, ◌+◌, ◌≤◌, length, map}
 use Rattle.std.specs.Prelude.{Bool, cond, ◌==◌}
 use Rattle.std.specs.Ordering.{nat_cmp, match_ordering}
 use Rattle.std.specs.declared.cmp.Ordering.{Ordering}
@@ -50,6 +50,15 @@ pub times_phase : (n : ℕ) (phase : Phase) (ks : List ℕ) → times n (with_nu
 times_phase n (Asking k) ks = omega arith
 times_phase n Firm ks = omega arith
 times_phase n (Closing k) ks = omega arith
+
+-- lists one behind the other, also with each number mapped, or each under its number
+pub times_mapped : (n : ℕ) (f : ℕ → ℕ) (xs ys : List ℕ) → times n (map f (xs ++ ys)) ≡ times n (map f xs) + times n (map f ys)
+times_mapped n f [] ys = omega arith
+times_mapped n f (x ∷ xs) ys = let later = times_mapped n f xs ys in omega (later, arith)
+
+pub times_keys : {X : Type 0} (n : ℕ) (xs ys : List (ℕ × X)) → times n (keys_of (xs ++ ys)) ≡ times n (keys_of xs) + times n (keys_of ys)
+times_keys n [] ys = omega arith
+times_keys n (x ∷ xs) ys = let later = times_keys n xs ys in omega (later, arith)
 
 -- an entry goes
 pub times_removed : (n : ℕ) (test : Grain → Bool) (es : List (Grain × Held)) → times n (numbers (remove_entry test es)) ≤ times n (numbers es)

@@ -29,11 +29,11 @@ use Rattle.directory_rules.specs.Reply as re
 use Rattle.directory_rules.specs.Transfer as tr
 use Rattle.directory_rules.specs.Receive as rc
 use Rattle.directory_rules.specs.Sent.{gathering_of, recovery_of}
-use Rattle.directory_rules.specs.Host.{renewed, outstanding, is_firm, has_numbers, has_count, is_full_of_activations, is_full_of_finds, held_of, asking_under, closing_under, is_finding, is_outstanding}
+use Rattle.directory_rules.specs.Host.{renewed, renewed_about, outstanding, requests_about, is_firm, is_asking, has_numbers, has_count, is_full_of_activations, is_full_of_finds, held_of, asking_under, closing_under, is_finding, is_outstanding}
 use Rattle.directory_rules.specs.Cache.{hint_of}
 use Rattle.directory_rules.specs.Input.{Input, Sees, Does, Receives, step}
 use Rattle.directory_rules.specs.Laws.{IsOfOneVersion, NodesAreOfOneVersion}
-use Rattle.directory_rules.specs.declared.own_step.OwnStep.TheVariants.{Wake, Close, Find, Forget, Nudge, Offer}
+use Rattle.directory_rules.specs.declared.own_step.OwnStep.TheVariants.{Wake, Close, Cancel, Find, Forget, Nudge, NudgeGrain, NudgeRanges, Offer}
 use Rattle.directory_rules.proofs.Nodes.{StepsKeep, each_after}
 
 abbrev Kept : at.Stepped → Type 0
@@ -63,6 +63,11 @@ close_held : (held : Option Held) (node : Node) (grain : Grain) → IsOfOneVersi
 close_held None node grain is = tt
 close_held (Some held) node grain is =
     refused_or false false (not (is_firm held.phase)) (not (has_numbers node.settings node.host 1)) 0 0 803 805 (at.closing node grain held) (record { ring = is.ring; holding = is.holding })
+
+cancel_held : (held : Option Held) (node : Node) (grain : Grain) → IsOfOneVersion node → After (at.cancel_held held node grain)
+cancel_held None node grain is = tt
+cancel_held (Some held) node grain is =
+    refused_or false false (not (is_asking held.phase)) (not (has_numbers node.settings node.host 1)) 0 0 808 805 (at.cancelled node grain held) (record { ring = is.ring; holding = is.holding })
 
 offer_held : (held : Option Held) (node : Node) (grain : Grain) (to : Silo) → IsOfOneVersion node → After (at.offer_held held node grain to)
 offer_held None node grain to is = tt
@@ -155,11 +160,16 @@ stepped node (Sees before view places) is =
     (at.sight (is_next node.view before view node.host.silo) node before view places) (record { ring = refl; holding = refl })
 stepped node (Does (Wake grain)) is = wake node grain is
 stepped node (Does (Close grain)) is = close_held (held_of node.host grain) node grain is
+stepped node (Does (Cancel grain)) is = cancel_held (held_of node.host grain) node grain is
 stepped node (Does (Find grain)) is = find_by (hint_of node.cache grain) node grain is
 stepped node (Does (Forget grain)) is = forget_hint (hint_of node.cache grain) node grain is
 stepped node (Does Nudge) is =
     refused_or false false false (not (has_numbers node.settings node.host (length (outstanding node.host)))) 0 0 0 805
     (at.having_nudged (record node { host = renewed node.host })) (record { ring = is.ring; holding = is.holding })
+stepped node (Does (NudgeGrain grain)) is =
+    refused_or false false false (not (has_numbers node.settings node.host (length (requests_about grain node.host)))) 0 0 0 805
+    (at.having_nudged_grain (record node { host = renewed_about grain node.host }) grain) (record { ring = is.ring; holding = is.holding })
+stepped node (Does NudgeRanges) is = record { ring = is.ring; holding = is.holding }
 stepped node (Does (Offer grain to)) is = offer_held (held_of node.host grain) node grain to is
 stepped node (Receives letter) is = received letter.body node letter is
 

@@ -15,7 +15,7 @@ use Rattle.ring_range.specs.Range.{circle}
 use Rattle.hash_ring.specs.declared.Hashing.{Hashing}
 use Rattle.hash_ring.specs.Hash.{hash_grain}
 use Rattle.directory_rules.specs.declared.act.Request.{Request}
-use Rattle.directory_rules.specs.Sent.{grain_of}
+use Rattle.directory_rules.specs.Host.{grain_of}
 use Rattle.directory_rules.specs.Table.{Table, with_entry}
 use Rattle.grain_table.specs.declared.hashed_grain.HashedGrain.{HashedGrain}
 

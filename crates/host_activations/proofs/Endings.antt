@@ -20,7 +20,7 @@ use Rattle.host_activations.proofs.Numbers.{GivesNumber, changed, gone}
 use Rattle.host_activations.proofs.Found.{each_found, found_by_search}
 use Rattle.host_activations.proofs.HostKept.{asking_less, resting, finding_less}
 use Rattle.host_activations.proofs.Entries.{remove_absent}
-use Rattle.host_activations.proofs.Finds.{find_under, finds_taken, finds_kept, find_less}
+use Rattle.host_activations.proofs.Finds.{find_under, finds_taken, finds_kept}
 use Rattle.host_activations.proofs.Fields.{made, meant, asking_has}
 
 -- without what is outstanding under the number, if there is one
@@ -41,24 +41,22 @@ module _ (h : Inside) (is : IsWhole h) where
   left grain = without_number (number_of grain h.held.entries) h.outstanding.entries
 
   -- the activation of a grain has nothing outstanding any more, or is no more
-  rested : (new : List (Grain × Held)) (grain : Grain) (number : Option ℕ) → number_of grain h.held.entries ≡ number → GivesNumber grain None h.held.entries new
+  pub rested : (new : List (Grain × Held)) (grain : Grain) (number : Option ℕ) → number_of grain h.held.entries ≡ number → GivesNumber grain None h.held.entries new
       → IsDistinct grain_eq (keys_of new) → AreHeld h.next_number new (without_number number h.outstanding.entries)
   rested new grain None had gives apart = resting h.next_number h.held.entries new h.outstanding.entries is.are_held grain had gives apart
   rested new grain (Some number) had gives apart = asking_less h.next_number h.held.entries new h.outstanding.entries is.are_held grain number had gives apart
 
-  same_finds : (grain : Grain) (number : Option ℕ) → number_of grain h.held.entries ≡ number → finds_in (without_number number h.outstanding.entries) ≡ finds_in h.outstanding.entries
+  pub same_finds : (grain : Grain) (number : Option ℕ) → number_of grain h.held.entries ≡ number → finds_in (without_number number h.outstanding.entries) ≡ finds_in h.outstanding.entries
   same_finds grain None had = refl
   same_finds grain (Some number) had =
       finds_kept h.outstanding.entries is.are_held.in_order number (no_find_in _ grain (is.are_held.asked.there grain number had))
 
   -- what every host keeps, where the activation of a grain has nothing outstanding any more, or is no more
   pub rested_is : (new : List (Grain × Held)) (now : List (ℕ × OutstandingRequest)) (grain : Grain) → GivesNumber grain None h.held.entries new → IsDistinct grain_eq (keys_of new)
-      → now ≡ left grain → IsHost h.next_number new now h.find_count
+      → now ≡ left grain → IsHost h.next_number new now
   rested_is new now grain gives apart now_is = record {
     number = is.number;
     are_held = subst (λ o. AreHeld h.next_number new o) (sym now_is) (rested new grain (number_of grain h.held.entries) refl gives apart);
-    counted = is.counted ∙ ap (λ (l : List (ℕ × Grain)). length l) (sym (ap finds_in now_is ∙ same_finds grain (number_of grain h.held.entries) refl));
-    few = is.few;
   }
 
   rested_means : (new old : List (Grain × Held)) (now : List (ℕ × OutstandingRequest)) (grain : Grain) → new ≡ old → now ≡ left grain
@@ -68,7 +66,7 @@ module _ (h : Inside) (is : IsWhole h) where
 
   -- an activation ends
   pub ended_is : (new : List (Grain × Held)) (now : List (ℕ × OutstandingRequest)) (grain : Grain) → new ≡ remove_entry (is_at (grain_cmp grain)) h.held.entries → IsDistinct grain_eq (keys_of new)
-      → now ≡ left grain → IsHost h.next_number new now h.find_count
+      → now ≡ left grain → IsHost h.next_number new now
   ended_is new now grain held_is apart now_is =
       rested_is new now grain (λ q. ap (λ (l : List (Grain × Held)). number_of q l) held_is ∙ gone grain h.held.entries is.are_held.apart q) apart now_is
 
@@ -96,7 +94,7 @@ module _ (h : Inside) (is : IsWhole h) where
     taken : now ≡ left grain
     taken = now_is ∙ ap (λ o. without_number o h.outstanding.entries) (sym was.1)
 
-    pub confirmed_is : IsDistinct grain_eq (keys_of new) → IsHost h.next_number new now h.find_count
+    pub confirmed_is : IsDistinct grain_eq (keys_of new) → IsHost h.next_number new now
     confirmed_is apart =
         rested_is new now grain
         (λ q. ap (λ (l : List (Grain × Held)). number_of q l) held_is
@@ -108,19 +106,11 @@ module _ (h : Inside) (is : IsWhole h) where
   -- a find ends
   module _ (now : List (ℕ × OutstandingRequest)) (number : ℕ) (grain : Grain) (there : asked_under number h.outstanding.entries ≡ Some (Find grain))
       (now_is : now ≡ remove_entry (is_at (nat_cmp number)) h.outstanding.entries) where
-    pub found_is : IsHost h.next_number h.held.entries now (h.find_count - 1)
+    pub found_is : IsHost h.next_number h.held.entries now
     found_is = record {
       number = is.number;
       are_held = subst (λ o. AreHeld h.next_number h.held.entries o) (sym now_is) (finding_less h.next_number h.held.entries h.outstanding.entries is.are_held grain number there);
-      counted = let less = find_less h.outstanding.entries is.are_held.in_order number grain there in let counted = is.counted in
-          let same : length (finds_in now) ≡ length (finds_in (remove_entry (is_at (nat_cmp number)) h.outstanding.entries)) = ap (λ (l : List (ℕ × OutstandingRequest)). length (finds_in l)) now_is in
-          omega (counted, less, same, arith);
-      few = let few = is.few in omega (few, arith);
     }
-
-    -- so there was one
-    pub some_find : 1 ≤ h.find_count
-    some_find = let less = find_less h.outstanding.entries is.are_held.in_order number grain there in let counted = is.counted in omega (counted, less, arith)
 
     pub found_means : (host : Host) → host_of h ≡ host → meant h.silo h.next_number h.held.next_count h.held.entries now ≡ without_find host number
     found_means host means =

@@ -19,26 +19,10 @@ use Rattle.directory_rules.specs.declared.Phase.TheVariants.{Asking, Firm, Closi
 use Rattle.host_activations.specs.declared.asked.OutstandingRequest.{OutstandingRequest}
 use Rattle.host_activations.specs.declared.asked.OutstandingRequest.TheVariants.{Activation, Find}
 use Rattle.host_activations.specs.Numbers.{number_in, phase_under}
+use Rattle.host_activations.specs.Renewal.{held_as, is_request_of, with_number, with_numbers}
 use Rattle.host_activations.proofs.Grains.{grain_at_itself, on_grain, same_test}
 use Rattle.host_activations.proofs.Numbers.{on_number}
 use Rattle.host_activations.proofs.Ranks.{Ranks}
-
--- the activation, its request under this number, if it has one
-abbrev pub held_as : ℕ → Held → Held
-held_as number held = record held { phase = phase_under number held.phase }
-
--- whether it is the request of the grain's activation
-abbrev pub is_request_of : Grain → OutstandingRequest → Bool
-is_request_of grain (Activation asking) = is_at (grain_cmp asking) grain
-is_request_of grain (Find wanted) = false
-
--- the activations, that of the request under its number
-abbrev pub with_number : List (Grain × Held) → ℕ × OutstandingRequest → List (Grain × Held)
-with_number held e = map (λ x. (x.0, cond (is_request_of x.0 e.1) (held_as e.0 x.1) x.1)) held
-
--- the activations, those of all these requests under their numbers
-abbrev pub with_numbers : List (ℕ × OutstandingRequest) → List (Grain × Held) → List (Grain × Held)
-with_numbers outstanding held = fold with_number held outstanding
 
 module _ (f : Held → Held) (g : Grain) where
   abbrev changed : List (Grain × Held) → List (Grain × Held)
@@ -126,7 +110,7 @@ after_resting (r ∷ rs) q h none = ap (λ x. after rs q x) (by (is_request_of q
     by true = ap (λ (p : Phase). record h { phase = p }) (resting r.0 h.phase none)
     by false = refl
 
-untouched : (q : Grain) (h : Held) (m : ℕ) (es : List (ℕ × OutstandingRequest)) → AllByRecursion (λ e. is_request_of q e.1 ≡ false) es → after (enumerate_from m (values_of es)) q h ≡ h
+pub untouched : (q : Grain) (h : Held) (m : ℕ) (es : List (ℕ × OutstandingRequest)) → AllByRecursion (λ e. is_request_of q e.1 ≡ false) es → after (enumerate_from m (values_of es)) q h ≡ h
 untouched q h m [] none = refl
 untouched q h m (e ∷ es) none = ap (λ b. after (enumerate_from (m + 1) (values_of es)) q (cond b (held_as m h) h)) none.0 ∙ untouched q h (m + 1) es none.1
 

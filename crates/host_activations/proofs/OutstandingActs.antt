@@ -144,7 +144,7 @@ module _ (silo : Silo) (next count : ℕ) (held : List (Grain × Held)) (out : L
       (λ n. lookup-picked nat_cmp_total (λ asked. act_for silo held asked) n out are.in_order ∙ sym (act_under n))
 
   -- each has an act
-  some_act : (n : ℕ) (asked : OutstandingRequest) → asked_under n out ≡ Some asked → is_some (act_for silo held asked) ≡ true
+  pub some_act : (n : ℕ) (asked : OutstandingRequest) → asked_under n out ≡ Some asked → is_some (act_for silo held asked) ≡ true
   some_act n (Find g) is = refl
   some_act n (Activation g) is = by (lookup (is_at (grain_cmp g)) held) (are.asked.only g n is)
     where

@@ -62,7 +62,7 @@ module _ {X : Type 0} where
       on_number (λ b. cond b (Some e.1) (lookup (is_at (nat_cmp k)) es) ≡ Some x) k e.0
       (λ same. let h : Equal ≡ Less = sym (tied_itself nat_cmp_total e.0) ∙ ap (λ (n : ℕ). nat_cmp e.0 n) (sym same) ∙ above in cc) (λ other. found)
 
-  all_from : (j m : ℕ) (xs : List X) → j < m → AllByRecursion (λ k. nat_cmp j k ≡ Less) (keys_of (enumerate_from m xs))
+  pub all_from : (j m : ℕ) (xs : List X) → j < m → AllByRecursion (λ k. nat_cmp j k ≡ Less) (keys_of (enumerate_from m xs))
   all_from j m [] lt = tt
   all_from j m (x ∷ xs) lt = (less_is j m lt, all_from j (m + 1) xs (omega (lt, arith)))
 

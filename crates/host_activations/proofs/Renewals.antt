@@ -7,7 +7,6 @@ use Rattle.std.specs.Map.{lookup, keys_of, values_of}
 use Rattle.std.specs.BTreeMap.{is_at}
 use Rattle.std.proofs.lemmas.Option.{same_Some}
 use Rattle.std.proofs.lemmas.List.Sums.{sum_by-cons}
-use Rattle.std.proofs.lemmas.List.{length-map}
 use Rattle.texts.proofs.Orderings.{Equal-from}
 use Rattle.silo_address.specs.Grain.{Grain, grain_cmp, grain_eq}
 use Rattle.silo_address.proofs.Order.{grain_cmp_exact}
@@ -23,7 +22,7 @@ use Rattle.host_activations.specs.Asked.{asked_under, finds_in, AreAsked}
 use Rattle.host_activations.specs.IsHost.{AreHeld, IsHost}
 use Rattle.host_activations.specs.HostModel.{IsWhole, host_of}
 use Rattle.host_activations.specs.Acts.{acts_in}
-use Rattle.host_activations.specs.Renewal.{asked_by, renewal_of}
+use Rattle.host_activations.specs.Renewal.{asked_by, is_request_of, renewal_of, with_numbers}
 use Rattle.host_activations.proofs.Agreement.{nothing}
 use Rattle.host_activations.proofs.Entries.{keys-map, lookup-map}
 use Rattle.host_activations.proofs.Found.{IsFoundIn, all_map, each_found}
@@ -31,20 +30,20 @@ use Rattle.host_activations.proofs.OutstandingActs.{acts_are, keys_are, as_many}
 use Rattle.host_activations.proofs.AskedAgain.{asked_again, each_asked, same_act}
 use Rattle.host_activations.proofs.Fields.{made, meant}
 use Rattle.host_activations.proofs.Ranks.{Ranks, below, ranks_from, rank_found, rank_back, sorted-enumerate_from, finds-enumerate_from}
-use Rattle.host_activations.proofs.NewNumbers.{after, after_asking, after_resting, each_after, is_request_of, with_numbers}
+use Rattle.host_activations.proofs.NewNumbers.{after, after_asking, after_resting, each_after}
 
-below_keys : {X : Type 0} (k : ℕ) (es : List (ℕ × X)) → below k es ≡ count_by (λ j. nat_lt j k) (keys_of es)
+pub below_keys : {X : Type 0} (k : ℕ) (es : List (ℕ × X)) → below k es ≡ count_by (λ j. nat_lt j k) (keys_of es)
 below_keys k [] = refl
 below_keys k (e ∷ es) =
     let here = sum_by-cons (λ x. cond (nat_lt x.0 k) 1 0) e es in
     let there = sum_by-cons (λ (j : ℕ). cond (nat_lt j k) 1 0) e.0 (keys_of es) in
     let later = below_keys k es in omega (here, there, later, arith)
 
-all_high : (ks : List ℕ) → AllByRecursion (λ k. 0 ≤ k) ks
+pub all_high : (ks : List ℕ) → AllByRecursion (λ k. 0 ≤ k) ks
 all_high [] = tt
 all_high (k ∷ ks) = (omega arith, all_high ks)
 
-map_same : {A B : Type 0} (f g : A → B) (xs : List A) → AllByRecursion (λ x. f x ≡ g x) xs → map f xs ≡ map g xs
+pub map_same : {A B : Type 0} (f g : A → B) (xs : List A) → AllByRecursion (λ x. f x ≡ g x) xs → map f xs ≡ map g xs
 map_same f g [] same = refl
 map_same f g (x ∷ xs) same = λ i. same.0 i ∷ map_same f g xs same.1 i
 
@@ -63,7 +62,7 @@ asks host (Asking j) k is = ap (λ (n : ℕ). Asking (new_number host n)) (sym (
 asks host Firm k is = refl
 asks host (Closing j) k is = ap (λ (n : ℕ). Closing (new_number host n)) (sym (same_Some j k is))
 
-of_grain : (q : Grain) (asked : OutstandingRequest) → is_request_of q asked ≡ true → asked ≡ Activation q
+pub of_grain : (q : Grain) (asked : OutstandingRequest) → is_request_of q asked ≡ true → asked ≡ Activation q
 of_grain q (Activation g) is = ap (λ (x : Grain). Activation x) (grain_cmp_exact g q (Equal-from (grain_cmp g q) is))
 of_grain q (Find g) is = cc
 
@@ -189,11 +188,9 @@ module _ (h : Inside) (is : IsWhole h) where
           let left_here : h.next_number + length (outstanding (host_of h)) ≤ 2 ^ 60 + 1 = subst (λ (x : Host). x.next_number + length (outstanding x) ≤ 2 ^ 60 + 1) (sym means) left in
           let all = many in omega (left_here, all, arith)
 
-      pub renewed_is : (held_new : List (Grain × Held)) (out_new : List (ℕ × OutstandingRequest)) (count : ℕ) → held_new ≡ held_now → out_new ≡ now → count ≡ length out → IsHost (h.next_number + count) held_new out_new h.find_count
+      pub renewed_is : (held_new : List (Grain × Held)) (out_new : List (ℕ × OutstandingRequest)) (count : ℕ) → held_new ≡ held_now → out_new ≡ now → count ≡ length out → IsHost (h.next_number + count) held_new out_new
       renewed_is held_new out_new count held_made out_made counted = record {
         number = let above = is.number.above in record { above = omega (above, arith); within = omega (enough, counted, arith) };
         are_held = subst (λ (n : ℕ). AreHeld (h.next_number + n) held_new out_new) (sym counted)
             (subst (λ l. AreHeld (h.next_number + length out) l out_new) (sym held_made) (subst (λ l. AreHeld (h.next_number + length out) held_now l) (sym out_made) are_now));
-        counted = is.counted ∙ sym (length-map (finds_in out) (λ e. (new e.0, e.1))) ∙ ap (λ (l : List (ℕ × Grain)). length l) (sym (ap finds_in out_made ∙ finds_now));
-        few = let few = is.few in omega (few, arith);
       }

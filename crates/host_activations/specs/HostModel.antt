@@ -16,4 +16,4 @@ host_of h = record {
 
 -- what the fields keep
 abbrev pub IsWhole : Inside → Type 0
-IsWhole h = IsHost h.next_number h.held.entries h.outstanding.entries h.find_count
+IsWhole h = IsHost h.next_number h.held.entries h.outstanding.entries

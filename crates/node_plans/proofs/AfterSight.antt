@@ -7,7 +7,7 @@ use Rattle.hash_ring.specs.Places.{PlacesValue}
 use Rattle.hash_ring.specs.Ring.{ring_of}
 use Rattle.range_moves.specs.declared.RingArc.{RingArc}
 use Rattle.directory_rules.specs.Cache.{cache_seeing}
-use Rattle.directory_rules.specs.Host.{outstanding, renewed}
+use Rattle.directory_rules.specs.Host.{outstanding, renewed, renewed_about, requests_about}
 use Rattle.directory_rules.specs.Laws.{IsHandedOver}
 use Rattle.directory_rules.specs.Members.{is_dead_in}
 use Rattle.directory_rules.specs.Node.{Node}
@@ -18,7 +18,8 @@ use Rattle.directory_rules.specs.Snapshot.{Snapshot}
 use Rattle.directory_rules.specs.Letter.{Letter}
 use Rattle.directory_rules.specs.declared.Effect.{Effect}
 use Rattle.directory_rules.specs.declared.Effect.TheVariants.{Nudged}
-use Rattle.directory_rules.specs.Step.{Stepped, having_nudged, new_gatherings, new_recoveries, node_after}
+use Rattle.silo_address.specs.Grain.{Grain}
+use Rattle.directory_rules.specs.Step.{Stepped, having_nudged, having_nudged_grain, new_gatherings, new_recoveries, node_after}
 use Rattle.directory_rules.specs.Table.{rise_by_grain}
 use Rattle.directory_rules.proofs.Seals.{all_handed}
 use Rattle.grain_partition.specs.Holdings.{ArePieces}
@@ -30,7 +31,7 @@ use Rattle.node_plans.specs.Node.{HaveRecoveries, IsNode}
 use Rattle.node_plans.specs.Plans.{FitsSight, MayRenew, pieces_by, seen_by}
 use Rattle.node_plans.specs.Sender.{ahead, wants_of}
 use Rattle.node_plans.specs.declared.plan.Sight.{Sight}
-use Rattle.node_plans.proofs.Alike.{emptied_want, same_requests, same_wanted}
+use Rattle.node_plans.proofs.Alike.{emptied_want, same_about, same_requests, same_wanted}
 use Rattle.node_plans.proofs.Begun.{emptied_gather, emptied_recover, new_have, new_rise}
 
 abbrev stepped : Node → List Letter → Effect → Stepped
@@ -135,3 +136,9 @@ pub nudge_is : (node : Node) (letters : List Letter) → letters ≡ flat_map (�
 nudge_is node letters sent =
     (λ i. stepped (record node { host = renewed node.host }) (sent i) Nudged)
     ∙ (λ i. stepped (record node { host = renewed node.host }) (same_requests node node.holding node.shelf node.cache i ++ same_wanted node node.holding node.shelf node.cache node.holding.pieces i) Nudged)
+
+-- and its nudge of one grain
+pub nudge_grain_is : (node : Node) (grain : Grain) (letters : List Letter) → letters ≡ flat_map (λ e. request_letters node e.0 e.1) (requests_about grain (renewed_about grain node.host))
+    → stepped (record node { host = renewed_about grain node.host }) letters Nudged ≡ having_nudged_grain (record node { host = renewed_about grain node.host }) grain
+nudge_grain_is node grain letters sent =
+    λ i. stepped (record node { host = renewed_about grain node.host }) ((sent ∙ same_about node grain (requests_about grain (renewed_about grain node.host))) i) Nudged

@@ -2,12 +2,13 @@
 use Rattle.std.proofs.Common.{◌≡◌, refl, sym, ap, ◌∙◌, ℕ, List, [], ◌∷◌, ◌++◌}
 use Rattle.std.specs.Prelude.{Option, Some, None, flat_map}
 use Rattle.silo_address.specs.Silo.{Silo}
+use Rattle.silo_address.specs.Grain.{Grain}
 use Rattle.ring_range.specs.Range.{Range}
 use Rattle.directory_rules.specs.declared.Act.{Act}
 use Rattle.directory_rules.specs.declared.PieceState.{PieceState}
 use Rattle.directory_rules.specs.declared.PieceState.TheVariants.{Settled, Awaiting, Recovering}
 use Rattle.directory_rules.specs.Cache.{Cache}
-use Rattle.directory_rules.specs.Host.{outstanding, renewed}
+use Rattle.directory_rules.specs.Host.{outstanding, renewed, renewed_about}
 use Rattle.directory_rules.specs.Letter.{Request_letter}
 use Rattle.directory_rules.specs.Node.{Node}
 use Rattle.directory_rules.specs.Piece.{Piece, Holding}
@@ -41,6 +42,19 @@ module _ (node : Node) (holding : Holding) (shelf : List Snapshot) (cache : Cach
   -- what pieces want
   pub same_wanted : (pieces : List (ℕ × Piece)) → wants_of node pieces ≡ wants_of other pieces
   same_wanted pieces = λ i. flat_map (λ e. same_wants e.1.state e.1.range i) pieces
+
+-- with the requests about a grain renewed it sends the same
+module _ (node : Node) (grain : Grain) where
+  abbrev renewed_node : Node
+  renewed_node = record node { host = renewed_about grain node.host }
+
+  owned_about : (owner : Option Silo) (number : ℕ) (act : Act)
+      → letter_if_owned owner node (Request_letter (request_of node number act)) ≡ letter_if_owned owner renewed_node (Request_letter (request_of renewed_node number act))
+  owned_about None number act = refl
+  owned_about (Some owner) number act = refl
+
+  pub same_about : (requests : List (ℕ × Act)) → flat_map (λ e. request_letters node e.0 e.1) requests ≡ flat_map (λ e. request_letters renewed_node e.0 e.1) requests
+  same_about requests = λ i. flat_map (λ e. owned_about (owner_by node (hash_of node e.1)) e.0 e.1 i) requests
 
 -- entries are nothing to it
 pub emptied_want : (node : Node) (pieces : List (ℕ × Piece)) → wants_of node (emptied pieces) ≡ wants_of node pieces

@@ -36,12 +36,14 @@ pub enum Change {
     Sees(Box<Sight>),
     /// Every outstanding request has a new number.
     Renews(Renewal),
+    /// Every outstanding request about the grain has a new number.
+    RenewsAbout(GrainId),
     /// An activation of the grain begins, in the place of a previous one if one is named, and asks to be entered.
     Starts {
         grain: GrainId,
         previous: Option<ActivationId>,
     },
-    /// The grain's firm activation asks to be taken out.
+    /// The grain's activation asks to be taken out.
     Closes(GrainId),
     /// The host asks where the grain is.
     Asks(GrainId),

@@ -90,6 +90,31 @@ impl Sender<'_> {
     }
 }
 
+// Parts of a nudge.
+impl Sender<'_> {
+    /// The letters of requests, each under its number. Fails only when memory runs out.
+    pub fn letters_of(
+        &self,
+        alloc: Global,
+        requests: &[(u64, Act)],
+    ) -> Result<Vec<Letter>, AllocError>
+        ensures { IfOk result (λ letters. letters.items ≡ flat_map (λ e. request_letters (sending self.now) e.0 e.1) requests.now) }
+    {
+        let mut letters = Vec::new(alloc);
+        self.send_requests(&mut letters, requests)?;
+        Ok(letters)
+    }
+
+    /// The letters by which the pieces held get what they want, piece by piece. Fails only when memory runs out.
+    pub fn want_letters(&self, alloc: Global, holding: &Holding) -> Result<Vec<Letter>, AllocError>
+        ensures { IfOk result (λ letters. letters.items ≡ wants_of (sending self.now) holding.now.pieces) }
+    {
+        let mut letters = Vec::new(alloc);
+        self.send_wants(alloc, &mut letters, holding.pieces())?;
+        Ok(letters)
+    }
+}
+
 // Queries.
 impl Sender<'_> {
     /// A query for the recovery's range to each silo whose report is missing, by address. Fails only when memory runs out.

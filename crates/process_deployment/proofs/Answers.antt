@@ -30,13 +30,14 @@ use Rattle.silo_rules.specs.declared.news.News.{News}
 use Rattle.silo_rules.specs.declared.news.News.TheVariants.{Known, Made, Replaced}
 use Rattle.directory_rules.specs.Membership.{Change, Join, Leave, Die}
 use Rattle.silo_rules.specs.SiloValue.{SiloValue, own_status}
+use Rattle.silo_rules.specs.Figures.{figures}
 use Rattle.script_rules.specs.Script.{grain_word, ◌>>=◌}
 use Rattle.script_rules.specs.Lines.{happening_words, effect_words, refusal_line}
 use Rattle.script_rules.specs.Show.{held_line, phase_word, seen_words, owner_words, place_words}
 use Rattle.process_rules.specs.LetterText.{letter_line}
 use Rattle.process_rules.specs.ReadLine.{Receive, Owner, Place, own_policy_word, read_silo_line}
 use Rattle.process_rules.specs.Happened.{news_words, counted_words, body_words, delivered_words, is_ignored, received_words}
-use Rattle.process_rules.specs.Show.{own_word, state_words, piece_line, show_lines, dump_line, grain_owner_line, grain_place_line}
+use Rattle.process_rules.specs.Show.{own_word, state_words, piece_line, show_lines, dump_line, figures_words, figures_line, grain_owner_line, grain_place_line}
 use Rattle.process_rules.specs.Answer.{printing, unless_dead}
 use Rattle.process_rules.specs.Output.{fault_line}
 use Rattle.process_deployment.proofs.Silent.{IsSilent, AreSilentWords, first_unknown, by_first, by_word, other_byte, silo_first}
@@ -138,6 +139,15 @@ module _ (hashing : Hashing) where
   unfolding grain_place_line
   place_silent s grain policy = by_word hashing (codes "place") (place_tail s grain policy) refl refl place_asked
 
+  -- ---- figures: a line that begins with the question, too
+  figures_asked : (words : List (List ℕ)) → AreSilentWords hashing (codes "status" ∷ words)
+  figures_asked [] letter is = cc is
+  figures_asked (word ∷ words) letter is = cc is
+
+  pub figures_silent : (s : SiloValue) → IsSilent hashing (figures_line s)
+  unfolding figures_line
+  figures_silent s = by_word hashing (codes "status") (figures_words (figures s)) refl refl figures_asked
+
   -- ---- steps
   pub saw_silent : (silo : Silo) (version : ℕ) (made : Effect) → IsSilo silo → IsSilent hashing (sentence (happening_words (Saw silo version made)))
   saw_silent silo version made is = silo_first hashing silo (codes "sees" ∷ decimal version ∷ effect_words made) is
@@ -147,6 +157,7 @@ module _ (hashing : Hashing) where
   did_unknown silo effect.Skip = refl
   did_unknown silo (effect.Started entry) = refl
   did_unknown silo (effect.Closing entry) = refl
+  did_unknown silo (effect.Cancelled entry) = refl
   did_unknown silo (effect.Offered entry to) = refl
   did_unknown silo (effect.Cached entry) = refl
   did_unknown silo (effect.Finding grain) = refl

@@ -12,13 +12,13 @@ use Rattle.silo_rules.specs.SiloValue.{SiloValue, own_status}
 use Rattle.silo_rules.specs.Steps.{receives}
 use Rattle.silo_rules.specs.Told.{Heard, told}
 use Rattle.script_rules.specs.Lines.{refusal_line}
-use Rattle.process_rules.specs.ReadLine.{Asked, Joined, Leaving, Dead, See, Do, Receive, Ping, Owner, Place, Show, Dump}
+use Rattle.process_rules.specs.ReadLine.{Asked, Joined, Leaving, Dead, See, Do, Receive, Ping, Owner, Place, Figures, Show, Dump}
 use Rattle.process_rules.specs.Happened.{news_words, received_words}
 use Rattle.process_rules.specs.Answer.{printing, heard, told_so, stepped, received_so, is_anothers_join, answered, answered_as}
-use Rattle.process_rules.specs.Show.{dump_line, grain_owner_line, grain_place_line}
+use Rattle.process_rules.specs.Show.{dump_line, figures_line, grain_owner_line, grain_place_line}
 use Rattle.process_rules.specs.Output.{answered_to, fault_line}
 use Rattle.process_deployment.specs.Allowed.{MayAskDead, IfAsks}
-use Rattle.process_deployment.proofs.Answers.{AreSilent, silent_alone, news_silent, told_silent, refusal_silent, fault_silent, pong_silent, owner_silent, place_silent, show_silent, dump_silent}
+use Rattle.process_deployment.proofs.Answers.{AreSilent, silent_alone, news_silent, told_silent, refusal_silent, fault_silent, pong_silent, owner_silent, place_silent, figures_silent, show_silent, dump_silent}
 use Rattle.process_deployment.proofs.Silent.{IsSilent}
 
 module _ (hashing : Hashing) where
@@ -49,6 +49,7 @@ module _ (hashing : Hashing) where
   dead_answers (Ping word) s may = silent_alone hashing (sentence (codes "pong" ∷ word ∷ [])) (pong_silent hashing word)
   dead_answers (Owner grain) s may = silent_alone hashing (grain_owner_line s grain) (owner_silent hashing s grain)
   dead_answers (Place grain policy) s may = silent_alone hashing (grain_place_line s grain policy) (place_silent hashing s grain policy)
+  dead_answers Figures s may = silent_alone hashing (figures_line s) (figures_silent hashing s)
   dead_answers Show s may = show_silent hashing s
   dead_answers Dump s may = silent_alone hashing (dump_line s) (dump_silent hashing s)
 

@@ -34,7 +34,7 @@ use Rattle.deployment_headline.specs.Steps as deployment
 use Rattle.deployment_headline.proofs.Lists.{over, lookup-over}
 use Rattle.deployment_headline.proofs.Runs.{made_so, processes_are_behind, processes_are_own}
 use Rattle.deployment_headline.proofs.Worlds.{its_node}
-use Rattle.process_rules.specs.ReadLine.{Asked, Joined, Leaving, Dead, See, Do, Receive, Ping, Owner, Place, Show, Dump}
+use Rattle.process_rules.specs.ReadLine.{Asked, Joined, Leaving, Dead, See, Do, Receive, Ping, Owner, Place, Figures, Show, Dump}
 use Rattle.process_rules.specs.Happened.{news_words, received_words}
 use Rattle.process_rules.specs.Answer.{Answered, printing, unless_dead, heard, told_so, stepped, seen_so, done_so, received_so, is_anothers_join, answered, answered_as}
 use Rattle.process_rules.specs.Output.{answered_to, said}
@@ -90,6 +90,7 @@ answers_end (Receive letter) s = goes_on (received_so letter s).ends (received_s
 answers_end (Ping word) s = goes_on false s refl
 answers_end (Owner grain) s = goes_on false s refl
 answers_end (Place grain policy) s = goes_on false s refl
+answers_end Figures s = goes_on false s refl
 answers_end Show s = goes_on false s refl
 answers_end Dump s = goes_on false s refl
 

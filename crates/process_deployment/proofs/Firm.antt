@@ -42,15 +42,15 @@ use Rattle.deployment_headline.proofs.Runs.{made_so, processes_are_own}
 use Rattle.deployment_headline.proofs.Worlds.{its_node}
 use Rattle.process_rules.proofs.StaysWhole.{silo_kept}
 use Rattle.process_rules.specs.LetterText.{letter_line}
-use Rattle.process_rules.specs.ReadLine.{Asked, Joined, Leaving, Dead, See, Do, Receive, Ping, Owner, Place, Show, Dump}
+use Rattle.process_rules.specs.ReadLine.{Asked, Joined, Leaving, Dead, See, Do, Receive, Ping, Owner, Place, Figures, Show, Dump}
 use Rattle.process_rules.specs.Answer.{Answered, printing, unless_dead, heard, told_so, stepped, seen_so, done_so, received_so, is_anothers_join, answered, answered_as}
 use Rattle.process_rules.specs.Happened.{received_words, own_words, body_words, delivered_words, is_ignored, news_words}
 use Rattle.process_rules.specs.Output.{answered_to, said, fault_line}
-use Rattle.process_rules.specs.Show.{show_lines, dump_line, grain_owner_line, grain_place_line}
+use Rattle.process_rules.specs.Show.{show_lines, dump_line, figures_line, grain_owner_line, grain_place_line}
 use Rattle.process_deployment.specs.Cluster.{first_cluster}
 use Rattle.process_deployment.specs.Firm.{IsToEnd, HasFirm, BecomesFirm, its_firm_line, AsksToEnd, TellsFirm, LinesTellFirm}
 use Rattle.process_deployment.specs.Steps.{after_all}
-use Rattle.process_deployment.proofs.FirmLines.{IsOther, AreOther, by_words, is_other, alone, letters_other, refusal_other, fault_other, pong_other, news_other, saw_other, did_other, delivered_other, owner_other, place_other, show_other, dump_other}
+use Rattle.process_deployment.proofs.FirmLines.{IsOther, AreOther, by_words, is_other, alone, letters_other, refusal_other, fault_other, pong_other, news_other, saw_other, did_other, delivered_other, owner_other, place_other, figures_other, show_other, dump_other}
 use Rattle.process_deployment.proofs.FirmSteps.{EndsIt, ConfirmsOne, Confirmed, shown, asked_before, firm_after, becomes, keeps}
 use Rattle.process_deployment.proofs.Following.{WrittenReadAsThemselves, its_silo, follows_all, follows_first}
 
@@ -289,6 +289,7 @@ module _ (s : SiloValue) (once : HoldsOnce s.node.host) (own : IsSilo s.node.hos
   tells_asked (Owner grain) = quiet s once own (Ok (Some (Owner grain))) (printing (grain_owner_line s grain ∷ []) s) refl (alone (grain_owner_line s grain) (owner_other s grain))
   tells_asked (Place grain policy) =
       quiet s once own (Ok (Some (Place grain policy))) (printing (grain_place_line s grain policy ∷ []) s) refl (alone (grain_place_line s grain policy) (place_other s grain policy))
+  tells_asked Figures = quiet s once own (Ok (Some Figures)) (printing (figures_line s ∷ []) s) refl (alone (figures_line s) (figures_other s))
   tells_asked Show = quiet s once own (Ok (Some Show)) (printing (show_lines s) s) refl (show_other s)
   tells_asked Dump = quiet s once own (Ok (Some Dump)) (printing (dump_line s ∷ []) s) refl (alone (dump_line s) (dump_other s))
 

@@ -25,13 +25,14 @@ use Rattle.silo_rules.specs.declared.news.News.{News}
 use Rattle.silo_rules.specs.declared.news.News.TheVariants.{Known, Made, Replaced}
 use Rattle.directory_rules.specs.Membership.{Change, Join, Leave, Die}
 use Rattle.silo_rules.specs.SiloValue.{SiloValue, own_status}
+use Rattle.silo_rules.specs.Figures.{figures}
 use Rattle.script_rules.specs.Lines.{effect_words, happening_words, refusal_line}
 use Rattle.script_rules.specs.Show.{held_line, phase_word, seen_words}
 use Rattle.process_rules.specs.LetterText.{letter_words, letter_line}
 use Rattle.process_rules.specs.Answer.{printing, unless_dead}
 use Rattle.process_rules.specs.Happened.{news_words, delivered_words}
 use Rattle.process_rules.specs.Output.{fault_line}
-use Rattle.process_rules.specs.Show.{own_word, state_words, piece_line, show_lines, dump_line, grain_owner_line, grain_place_line}
+use Rattle.process_rules.specs.Show.{own_word, state_words, piece_line, show_lines, dump_line, figures_words, figures_line, grain_owner_line, grain_place_line}
 use Rattle.process_deployment.specs.Firm.{SaysFirm}
 use Rattle.process_deployment.proofs.Answers.{owner_tail, place_tail}
 
@@ -129,6 +130,7 @@ did_is_other silo effect.Next never = refl
 did_is_other silo effect.Skip never = refl
 did_is_other silo (effect.Started entry) never = refl
 did_is_other silo (effect.Closing entry) never = refl
+did_is_other silo (effect.Cancelled entry) never = refl
 did_is_other silo (effect.Offered entry to) never = refl
 did_is_other silo (effect.Cached entry) never = refl
 did_is_other silo (effect.Finding grain) never = refl
@@ -174,6 +176,10 @@ owner_other s grain = by_words (codes "owner" ∷ owner_tail s grain) refl
 pub place_other : (s : SiloValue) (grain : Grain) (policy : Policy) → IsOther (grain_place_line s grain policy)
 unfolding grain_place_line
 place_other s grain policy = by_words (codes "place" ∷ place_tail s grain policy) refl
+
+pub figures_other : (s : SiloValue) → IsOther (figures_line s)
+unfolding figures_line
+figures_other s = by_words (codes "status" ∷ figures_words (figures s)) refl
 
 -- ---- what it has
 held_other : (silo : Silo) (held : List (Grain × Held)) → AreOther (map (λ e. held_line silo e.0 e.1) held)

@@ -13,7 +13,7 @@ use Rattle.directory_rules.specs.declared.held.Phase.TheVariants as phase
 use Rattle.directory_rules.specs.declared.effect.Effect.TheVariants as effect
 use Rattle.directory_rules.specs.declared.reply.Reply.{Reply}
 use Rattle.directory_rules.specs.declared.reply.Reply.TheVariants as reply
-use Rattle.directory_rules.specs.Host.{held_of, asking_under, is_asking_under, confirmed, with_closing}
+use Rattle.directory_rules.specs.Host.{held_of, asking_under, is_asking_under, confirmed, next_closing, with_closing}
 use Rattle.directory_rules.specs.Letter.{Letter, Reply_letter}
 use Rattle.directory_rules.specs.Node.{Node}
 use Rattle.directory_rules.specs.Answer.{answered}
@@ -21,7 +21,7 @@ use Rattle.directory_rules.specs.Receive.{reply_effect}
 use Rattle.directory_rules.specs.Sight.{is_next}
 use Rattle.directory_rules.specs.Step.{Stepped, silently}
 use Rattle.directory_rules.specs.Input.{Input, Does, Receives, step}
-use Rattle.directory_rules.specs.PlainMachine.{Life, Is_asking, Is_firm, Is_closing, life_by, life_of, life_on, PlainStep, Change_view, Begin, Make_firm, Yield, Begin_closing, End, Nothing_changes, step_of_effect}
+use Rattle.directory_rules.specs.PlainMachine.{Life, Is_asking, Is_firm, Is_closing, life_by, life_of, life_on, PlainStep, Change_view, Begin, Make_firm, Yield, Begin_closing, Give_up, End, Nothing_changes, step_of_effect}
 use Rattle.directory_facts.specs.Own.{HoldsOnce}
 use Rattle.directory_facts.proofs.Ways.{Ways}
 use Rattle.directory_facts.proofs.EachStep.{by_way}
@@ -87,11 +87,14 @@ module _ (node : Node) where
     sees = λ before view places newer numbers. other _ _ (quiet_sight (is_next node.view before view node.host.silo));
     wakes = λ grain may. other _ _ refl;
     closes = λ grain held may. closing _ _ (record { grain = grain; held = held; host = refl; asked = refl }) refl;
+    cancels = λ grain held may. other _ _ refl;
     offers = λ grain held to may active other. closing _ _ (record { grain = grain; held = held; host = refl; asked = refl }) refl;
     uses_hint = λ grain activation hint. other _ _ refl;
     finds = λ grain room numbers. other _ _ refl;
     forgets = λ grain activation hint. other _ _ refl;
     nudges = λ numbers. other _ _ refl;
+    nudges_grain = λ grain numbers. other _ _ refl;
+    nudges_ranges = other _ _ refl;
     answers = λ letter request body sender version. other _ _ (quiet_reply (answered node.holding request).reply);
     confirms = λ letter number entry e is there. (λ kind. absurd (cc kind), λ kind. record { letter = letter; number = number; entry = entry; e = e; comes = refl; body = is.body; under = there; is = refl });
     yields = λ letter number entry e is there. other _ _ refl;
@@ -194,6 +197,7 @@ module _ (node : Node) (once : HoldsOnce node.host) (input : Input) (it : Steppe
       by Make_firm kind step = let c = (shown node input it is).1 kind in confirm c (same_or_other grain c.e.0)
       by Yield kind step = inl (back grain step.1.grain count None step.1.there (λ same. cc same) step.1.elsewhere firm)
       by Begin_closing kind step = inl (back grain step.1.grain count (Some (Is_closing step.0)) step.1.there (λ same. cc same) step.1.elsewhere firm)
+      by Give_up kind step = inl (back grain step.1.grain count (Some (Is_closing step.0)) step.1.there (λ same. cc same) step.1.elsewhere firm)
       by End kind step = inl (back grain step.1.grain count None step.1.there (λ same. cc same) step.1.elsewhere firm)
       by Nothing_changes kind step = inl (sym (step.lives grain) ∙ firm)
 
@@ -203,7 +207,7 @@ module _ (node : Node) (once : HoldsOnce node.host) (input : Input) (it : Steppe
       close : (c : ClosesOne node input it) → (grain ≡ c.grain) ⊎ (grain ≢ c.grain) → IsFirm grain count ⊎ EndsIt input grain
       close c (inl same) = inr (subst (EndsIt input) (sym same) c.asked)
       close c (inr apart) =
-          let its : Held = record c.held { phase = phase.Closing node.host.next_number } in
+          let its : Held = next_closing node.host c.held in
           inl (ap (λ h. option_map life_of (held_of h grain)) c.host
           ∙ (ap (option_map life_of) (found_beside_set grain_cmp grain_cmp_total grain_cmp_exact c.grain its node.host.held grain apart) ∙ firm))
 
@@ -213,5 +217,6 @@ module _ (node : Node) (once : HoldsOnce node.host) (input : Input) (it : Steppe
       by Make_firm kind step = inl (forth grain step.1.grain count (Some (Is_asking step.0)) step.1.was (λ same. cc same) step.1.elsewhere firm)
       by Yield kind step = inl (forth grain step.1.grain count (Some (Is_asking step.0)) step.1.was (λ same. cc same) step.1.elsewhere firm)
       by Begin_closing kind step = let c = (shown node input it is).0 kind in close c (same_or_other grain c.grain)
+      by Give_up kind step = inl (forth grain step.1.grain count (Some (Is_asking step.0)) step.1.was (λ same. cc same) step.1.elsewhere firm)
       by End kind step = inl (forth grain step.1.grain count (Some (Is_closing step.0)) step.1.was (λ same. cc same) step.1.elsewhere firm)
       by Nothing_changes kind step = inl (step.lives grain ∙ firm)

@@ -22,7 +22,7 @@ use Rattle.silo_rules.specs.Told.{Heard, told}
 use Rattle.silo_rules.specs.Whole.{IsWhole}
 use Rattle.silo_rules.proofs.Own.{StaysOwn, stays_own}
 use Rattle.silo_rules.proofs.Whole.{first_whole}
-use Rattle.process_rules.specs.ReadLine.{Asked, Joined, Leaving, Dead, See, Do, Receive, Ping, Owner, Place, Show, Dump, read_silo_line}
+use Rattle.process_rules.specs.ReadLine.{Asked, Joined, Leaving, Dead, See, Do, Receive, Ping, Owner, Place, Figures, Show, Dump, read_silo_line}
 use Rattle.process_rules.specs.Happened.{news_words, received_words}
 use Rattle.process_rules.specs.Answer.{Answered, printing, heard, told_so, stepped, seen_so, done_so, received_so, is_anothers_join, answered, answered_as}
 use Rattle.process_rules.specs.Output.{answered_to, said}
@@ -95,6 +95,7 @@ module _ (s : SiloValue) where
   asked_own (Ping word) = still (answered (Ping word) s) refl
   asked_own (Owner grain) = still (answered (Owner grain) s) refl
   asked_own (Place grain policy) = still (answered (Place grain policy) s) refl
+  asked_own Figures = still (answered Figures s) refl
   asked_own Show = still (answered Show s) refl
   asked_own Dump = still (answered Dump s) refl
 

@@ -32,18 +32,18 @@ use Rattle.deployment_headline.specs.Steps as deployment
 use Rattle.deployment_headline.specs.Calls.{TakesItsSteps}
 use Rattle.deployment_headline.proofs.Called.{calls_are_steps}
 use Rattle.deployment_headline.proofs.Sound.{Sound, its_process}
-use Rattle.process_rules.specs.ReadLine.{Asked, Joined, Leaving, Dead, See, Do, Receive, Ping, Owner, Place, Show, Dump, read_silo_line}
+use Rattle.process_rules.specs.ReadLine.{Asked, Joined, Leaving, Dead, See, Do, Receive, Ping, Owner, Place, Figures, Show, Dump, read_silo_line}
 use Rattle.process_rules.specs.InRange.{IsInRange}
 use Rattle.process_rules.proofs.LinesInRange.{line_in_range}
 use Rattle.process_rules.proofs.StaysWhole.{silo_kept}
 use Rattle.process_rules.specs.Happened.{news_words, received_words}
 use Rattle.process_rules.specs.Answer.{Answered, printing, unless_dead, after_news, heard, told_so, stepped, seen_so, done_so, received_so, is_anothers_join, answered, answered_as}
-use Rattle.process_rules.specs.Show.{show_lines, dump_line, grain_owner_line, grain_place_line}
+use Rattle.process_rules.specs.Show.{show_lines, dump_line, figures_line, grain_owner_line, grain_place_line}
 use Rattle.process_rules.specs.Output.{answered_to, fault_line, said}
 use Rattle.process_deployment.specs.Allowed.{IsWritten, TakesJoin, MayAsk, IfAsks}
 use Rattle.process_deployment.specs.Cluster.{Process, Cluster}
 use Rattle.process_deployment.specs.Theorems.{deployment_of}
-use Rattle.process_deployment.proofs.Answers.{SaysOnly, ReadsAsItself, AreSilent, silent_alone, silent_says, step_says, news_silent, told_silent, refusal_silent, fault_silent, pong_silent, saw_silent, did_silent, received_silent, owner_silent, place_silent, show_silent, dump_silent}
+use Rattle.process_deployment.proofs.Answers.{SaysOnly, ReadsAsItself, AreSilent, silent_alone, silent_says, step_says, news_silent, told_silent, refusal_silent, fault_silent, pong_silent, saw_silent, did_silent, received_silent, owner_silent, place_silent, figures_silent, show_silent, dump_silent}
 use Rattle.process_deployment.proofs.Silent.{IsSilent}
 use Rattle.process_deployment.proofs.Lists.{put_again, found_at}
 
@@ -191,6 +191,7 @@ module _ (c : Cluster) (letters : List Letter) (told_there : (letter : Letter) �
     asked_moves (Owner grain) named may taken = stays d silo s there sound is_silo (grain_owner_line s grain ∷ []) false (λ hashing. silent_alone hashing (grain_owner_line s grain) (owner_silent hashing s grain))
     asked_moves (Place grain policy) named may taken =
         stays d silo s there sound is_silo (grain_place_line s grain policy ∷ []) false (λ hashing. silent_alone hashing (grain_place_line s grain policy) (place_silent hashing s grain policy))
+    asked_moves Figures named may taken = stays d silo s there sound is_silo (figures_line s ∷ []) false (λ hashing. silent_alone hashing (figures_line s) (figures_silent hashing s))
     asked_moves Show named may taken = stays d silo s there sound is_silo (show_lines s) false (λ hashing. show_silent hashing s)
     asked_moves Dump named may taken = stays d silo s there sound is_silo (dump_line s ∷ []) false (λ hashing. silent_alone hashing (dump_line s) (dump_silent hashing s))
 

@@ -6,10 +6,10 @@ use Rattle.std.specs.Map.{keys_of}
 use Rattle.std.specs.Option.{option_map}
 use Rattle.std.specs.Ordering.{nat_cmp}
 use Rattle.std.specs.BTreeMap.{is_at, insert_entry}
-use Rattle.std.proofs.lemmas.List.Elements.{All-nil, All-cons, All-head, All-tail, All-append, All-map, All-weaker}
+use Rattle.std.proofs.lemmas.List.Elements.{All-nil, All-cons, All-head, All-tail, All-append, All-map, All-filter, All-weaker}
 use Rattle.std.proofs.lemmas.Map.Lookups.{exact_unsigned}
 use Rattle.silo_address.specs.Silo.{Silo, IsSilo}
-use Rattle.silo_address.specs.Grain.{Grain}
+use Rattle.silo_address.specs.Grain.{Grain, grain_eq}
 use Rattle.membership_view.specs.declared.row.Row.{Row}
 use Rattle.membership_view.specs.declared.status.Status.{Status}
 use Rattle.membership_view.specs.Row.{status_in}
@@ -27,10 +27,10 @@ use Rattle.directory_rules.specs.declared.piece_state.PieceState.TheVariants as 
 use Rattle.directory_rules.specs.Members.{is_dead_status, members_of}
 use Rattle.directory_rules.specs.Piece.{Piece}
 use Rattle.directory_rules.specs.Recovery.{Recovery, new_recovery}
-use Rattle.directory_rules.specs.Host.{Host, entry_of, act_in, held_acts, find_acts, outstanding}
+use Rattle.directory_rules.specs.Host.{Host, grain_of, entry_of, act_in, held_acts, find_acts, outstanding, requests_about}
 use Rattle.directory_rules.specs.Letter.{Letter, Body, Request_letter, Query_letter}
 use Rattle.directory_rules.specs.Node.{Node}
-use Rattle.directory_rules.specs.Sent.{letter_to, letter_if_owned, owner_by, hash_of, request_of, request_letters, all_requests, recovery_of, query_letters, wants_by, all_wants}
+use Rattle.directory_rules.specs.Sent.{letter_to, letter_if_owned, owner_by, hash_of, request_of, request_letters, all_requests, requests_of_grain, recovery_of, query_letters, wants_by, all_wants}
 use Rattle.directory_rules.specs.Settings.{Settings}
 use Rattle.directory_rules.proofs.Cases.{on_bool}
 use Rattle.directory_facts.specs.Named.{IsNamed, AwaitsSilo}
@@ -136,6 +136,11 @@ outstanding_ask host named replaces looks =
 module _ (node : Node) (its : Knows node) (sends : Sends node.host node.recoveries) where
   pub requests_go : All Goes (all_requests node)
   requests_go = acts_go node its (outstanding node.host) (outstanding_ask node.host its.held sends.replaced sends.looked_for)
+
+  pub requests_of_grain_go : (grain : Grain) → All Goes (requests_of_grain node grain)
+  requests_of_grain_go grain =
+      acts_go node its (requests_about grain node.host)
+      (All-filter (λ (e : ℕ × Act). grain_eq (grain_of e.1) grain) (λ (e : ℕ × Act). Asks e.1) (outstanding node.host) (outstanding_ask node.host its.held sends.replaced sends.looked_for))
 
   pub queries_go : (range : Range) → All Goes (query_letters node range)
   queries_go range =

@@ -1,14 +1,14 @@
 -- Every step leaves a node that sends such letters, and sends such letters.
 use Rattle.std.proofs.Common.{◌≡◌, ℕ, List, [], ◌∷◌, refl, sym, subst}
-use Rattle.std.specs.Prelude.{Bool, All, IfSome, Option, Some, None}
+use Rattle.std.specs.Prelude.{Bool, not, map, filter, All, IfSome, Option, Some, None}
 use Rattle.std.specs.List.{cons_option}
 use Rattle.std.specs.Map.{remove_entry}
 use Rattle.std.specs.Ordering.{nat_cmp}
 use Rattle.std.specs.BTreeMap.{is_at, insert_entry}
-use Rattle.std.proofs.lemmas.List.Elements.{All-nil, All-cons, All-append, All-map, All-push}
+use Rattle.std.proofs.lemmas.List.Elements.{All-nil, All-cons, All-append, All-map, All-filter, All-push}
 use Rattle.std.proofs.lemmas.Map.Lookups.{exact_unsigned}
 use Rattle.silo_address.specs.Silo.{Silo, IsSilo}
-use Rattle.silo_address.specs.Grain.{Grain, IsGrain, grain_cmp}
+use Rattle.silo_address.specs.Grain.{Grain, IsGrain, grain_cmp, grain_eq}
 use Rattle.silo_address.specs.declared.ActivationId.{ActivationId}
 use Rattle.silo_address.proofs.Order.{grain_cmp_exact}
 use Rattle.membership_view.specs.View.{ViewValue}
@@ -18,7 +18,7 @@ use Rattle.hash_ring.specs.Places.{PlacesValue}
 use Rattle.directory_rules.specs.declared.act.Act.TheVariants as act
 use Rattle.directory_rules.specs.declared.act.Request.{Request}
 use Rattle.directory_rules.specs.declared.held.Held.{Held}
-use Rattle.directory_rules.specs.declared.held.Phase.TheVariants.{Firm, Closing}
+use Rattle.directory_rules.specs.declared.held.Phase.TheVariants.{Firm}
 use Rattle.directory_rules.specs.declared.piece_state.PieceState.{PieceState}
 use Rattle.directory_rules.specs.declared.piece_state.PieceState.TheVariants as state
 use Rattle.directory_rules.specs.Answer.{answered}
@@ -29,7 +29,7 @@ use Rattle.directory_rules.specs.Table.{table_of}
 use Rattle.directory_rules.specs.Piece.{Piece}
 use Rattle.directory_rules.specs.Receive.{replying}
 use Rattle.directory_rules.specs.Recovery.{Report, Recovery, Awaits_more, new_recovery, recovered}
-use Rattle.directory_rules.specs.Host.{Host, entry_of, held_of, next_held, with_started, with_closing, with_find, without_find, without_held, confirmed, renewed, renewed_phase, new_number}
+use Rattle.directory_rules.specs.Host.{Host, entry_of, held_of, next_held, with_started, next_closing, with_closing, with_find, without_find, without_held, confirmed, renewed, renewed_phase, new_number, renewed_about, held_renewed_about, new_number_about}
 use Rattle.directory_rules.specs.Letter.{Letter, Body, Request_letter, Reply_letter, Page_letter, Missing_letter, Done_letter, Report_letter, Behind_letter, Ahead_letter, Offer_letter}
 use Rattle.directory_rules.specs.Node.{Node, new_node}
 use Rattle.directory_rules.specs.Sent.{recovery_of, all_requests, all_wants}
@@ -47,7 +47,7 @@ use Rattle.directory_facts.proofs.EachStep.{by_way}
 use Rattle.directory_facts.proofs.Ways.{Ways}
 use Rattle.process_deployment.proofs.SayableAnswers.{answers, handed_digest, StillAwaits, recovered_awaits}
 use Rattle.process_deployment.proofs.SayableFacts.{Tells, IsOnSilo, Goes, Replaces, Looks, Waits, Sends, sent_facts}
-use Rattle.process_deployment.proofs.SayableSending.{Knows, knows, view_silos, one_goes, none_goes, sent, request_goes, requests_go, queries_go, wants_go}
+use Rattle.process_deployment.proofs.SayableSending.{Knows, knows, view_silos, one_goes, none_goes, sent, request_goes, requests_go, requests_of_grain_go, queries_go, wants_go}
 
 -- ---- recoveries that begin anew
 anew : (view : ViewValue) → All IsSilo (members_of view) → (pieces : List (ℕ × Piece)) → All Waits (at.new_recoveries view pieces)
@@ -78,11 +78,10 @@ module _ (settings : Settings) (views : ViewsValue) (places : PlacesValue) (silo
   hosts : (host : Host) → All Replaces host.held → All Looks host.finds → Sends host node.recoveries
   hosts host replaces looks = record { replaced = replaces; looked_for = looks; awaited = sends.awaited }
 
-  closed : (grain : Grain) (held : Held) → held_of node.host grain ≡ Some held → Sends (with_closing node.host grain held) node.recoveries
-  closed grain held found =
-      let replaces = (found_so Replaces (is_at (grain_cmp grain)) held node.host.held sends.replaced found).2 in
+  closed : (grain : Grain) (held : Held) → Sends (with_closing node.host grain held) node.recoveries
+  closed grain held =
       hosts (with_closing node.host grain held)
-      (all_set Replaces (is_at (grain_cmp grain)) (record held { phase = Closing node.host.next_number }) node.host.held (λ key old there so. replaces) sends.replaced) sends.looked_for
+      (all_set Replaces (is_at (grain_cmp grain)) (next_closing node.host held) node.host.held (λ key old there so. tt) sends.replaced) sends.looked_for
 
   named : (grain : Grain) (held : Held) → held_of node.host grain ≡ Some held → IsNamed (entry_of node.host grain held)
   named grain held found =
@@ -116,6 +115,14 @@ module _ (settings : Settings) (views : ViewsValue) (places : PlacesValue) (silo
     looked_for = All-map Looks (λ (e : ℕ × Grain). (new_number node.host e.0, e.1)) node.host.finds sends.looked_for;
     awaited = waits;
   }
+
+  -- those about one grain
+  anew_about : (grain : Grain) → Sends (renewed_about grain node.host) node.recoveries
+  anew_about grain =
+      hosts (renewed_about grain node.host) (All-map Replaces (λ (e : Grain × Held). (e.0, held_renewed_about grain node.host e.0 e.1)) node.host.held sends.replaced)
+      (All-append Looks (filter (λ e. not (grain_eq e.1 grain)) node.host.finds) (map (λ (e : ℕ × Grain). (new_number_about grain node.host e.0, e.1)) (filter (λ e. grain_eq e.1 grain) node.host.finds))
+      (All-filter (λ (e : ℕ × Grain). not (grain_eq e.1 grain)) Looks node.host.finds sends.looked_for)
+      (All-map Looks (λ (e : ℕ × Grain). (new_number_about grain node.host e.0, e.1)) (filter (λ e. grain_eq e.1 grain) node.host.finds) (All-filter (λ (e : ℕ × Grain). grain_eq e.1 grain) Looks node.host.finds sends.looked_for)))
 
   -- recoveries
   with_waits : (recoveries : List (ℕ × Recovery)) → All Waits recoveries → Sends node.host recoveries
@@ -158,6 +165,12 @@ module _ (settings : Settings) (views : ViewsValue) (places : PlacesValue) (silo
       let makes : Sends made.host made.recoveries = anew_with node.recoveries sends.awaited in
       (makes, All-append Goes (all_requests made) (all_wants made) (requests_go made (after made so) makes) (wants_go made (after made so) makes))
 
+  nudged_of : (grain : Grain) → all_names.node settings views places silo (record node { host = renewed_about grain node.host }) → Kept (at.having_nudged_grain (record node { host = renewed_about grain node.host }) grain)
+  nudged_of grain so =
+      let made = record node { host = renewed_about grain node.host } in
+      let makes : Sends made.host made.recoveries = anew_about grain in
+      (makes, requests_of_grain_go made (after made so) makes grain)
+
   turned : (range : Range) → all_names.node settings views places silo (tr.turned_to_recovery node range) → Kept (tr.querying range (tr.turned_to_recovery node range))
   turned range so =
       let made = tr.turned_to_recovery node range in
@@ -170,14 +183,20 @@ module _ (settings : Settings) (views : ViewsValue) (places : PlacesValue) (silo
     sees = λ before view brought newer numbers brings goes so. sighted (is_next node.view before view node.host.silo) before view brought goes so;
     wakes = λ grain may brings goes so. begun grain None tt;
     closes = λ grain held may brings goes so. (
-      closed grain held may.found,
+      closed grain held,
       request_goes node its node.host.next_number (act.Deregister (entry_of node.host grain held)) (named grain held may.found),
     );
-    offers = λ grain held to may active other brings goes so. (closed grain held may.found, one_goes _ (sent node its to (Offer_letter (entry_of node.host grain held)) goes.1.1 tt));
+    cancels = λ grain held may brings goes so. (
+      closed grain held,
+      request_goes node its node.host.next_number (act.Deregister (entry_of node.host grain held)) (named grain held may.found),
+    );
+    offers = λ grain held to may active other brings goes so. (closed grain held, one_goes _ (sent node its to (Offer_letter (entry_of node.host grain held)) goes.1.1 tt));
     uses_hint = λ grain activation hint brings goes so. (sends, none_goes);
     finds = λ grain room numbers brings goes so. (looking grain goes.1, request_goes node its node.host.next_number (act.Find grain) goes.1);
     forgets = λ grain activation hint brings goes so. (sends, none_goes);
     nudges = λ numbers brings goes so. nudged so;
+    nudges_grain = λ grain numbers brings goes so. nudged_of grain so;
+    nudges_ranges = λ brings goes so. (sends, wants_go node its sends);
     answers = λ letter request body sender version brings goes so. (sends, replies letter request body sender brings.1.1 goes.1);
     confirms = λ letter number entry e is there brings goes so. (sure e.0 e.1, none_goes);
     yields = λ letter number entry e is there brings goes so. (ended e.0, none_goes);

@@ -15,7 +15,7 @@ use Rattle.directory_rules.proofs.Cases.{on_bool}
 use Rattle.directory_rules.specs.Settings.{Settings}
 use Rattle.directory_facts.proofs.Lookups.{found_put, found_beside_put, found_beside_removed}
 use Rattle.directory_rules.specs.Membership.{Change, Join, Leave, Die, Membership, changed}
-use Rattle.process_rules.specs.ReadLine.{Asked, Joined, Leaving, Dead, See, Do, Receive, Ping, Owner, Place, Show, Dump}
+use Rattle.process_rules.specs.ReadLine.{Asked, Joined, Leaving, Dead, See, Do, Receive, Ping, Owner, Place, Figures, Show, Dump}
 use Rattle.process_rules.specs.Output.{said}
 use Rattle.process_deployment.specs.Allowed.{IsLine, MayAsk, MayAskDead, IfAsks, May, MayAll}
 use Rattle.process_deployment.specs.Cluster.{JoinTokens, Process, started, answer_to, having_read, reads, Cluster, first_cluster, process_at}
@@ -99,6 +99,7 @@ early_asked c p (Receive letter) early = λ own joined. absurd (cc (early, joine
 early_asked c p (Ping word) early = tt
 early_asked c p (Owner grain) early = tt
 early_asked c p (Place grain policy) early = tt
+early_asked c p Figures early = tt
 early_asked c p Show early = tt
 early_asked c p Dump early = tt
 
@@ -117,6 +118,7 @@ more_asked changes more p (Receive letter) early = early
 more_asked changes more p (Ping word) early = tt
 more_asked changes more p (Owner grain) early = tt
 more_asked changes more p (Place grain policy) early = tt
+more_asked changes more p Figures early = tt
 more_asked changes more p Show early = tt
 more_asked changes more p Dump early = tt
 

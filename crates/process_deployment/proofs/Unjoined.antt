@@ -22,17 +22,17 @@ use Rattle.silo_rules.specs.Steps.{barred, unless_barred, seen, does}
 use Rattle.silo_rules.specs.Told.{Heard, told}
 use Rattle.silo_rules.specs.Whole.{IsWhole}
 use Rattle.silo_rules.proofs.Whole.{first_whole}
-use Rattle.process_rules.specs.ReadLine.{Asked, Joined, Leaving, Dead, See, Do, Receive, Ping, Owner, Place, Show, Dump, read_silo_line}
+use Rattle.process_rules.specs.ReadLine.{Asked, Joined, Leaving, Dead, See, Do, Receive, Ping, Owner, Place, Figures, Show, Dump, read_silo_line}
 use Rattle.process_rules.specs.Happened.{news_words, received_words}
 use Rattle.process_rules.specs.Answer.{Answered, printing, heard, told_so, stepped, received_so, is_anothers_join, answered, answered_as}
-use Rattle.process_rules.specs.Show.{dump_line, grain_owner_line, grain_place_line}
+use Rattle.process_rules.specs.Show.{dump_line, figures_line, grain_owner_line, grain_place_line}
 use Rattle.process_rules.specs.Output.{answered_to, fault_line, said}
 use Rattle.process_rules.specs.OutputLaws.{CarriesItsJoin}
 use Rattle.process_rules.proofs.StaysWhole.{silo_kept, line_whole}
 use Rattle.process_deployment.specs.Cluster.{Process, started, answer_to, having_read, reads}
 use Rattle.process_deployment.specs.Unjoined.{reads_all, TellsNoJoin, UnjoinedDoNothing}
 use Rattle.process_deployment.proofs.Silent.{IsSilent}
-use Rattle.process_deployment.proofs.Answers.{AreSilent, silent_alone, news_silent, told_silent, refusal_silent, fault_silent, pong_silent, owner_silent, place_silent, show_silent, dump_silent}
+use Rattle.process_deployment.proofs.Answers.{AreSilent, silent_alone, news_silent, told_silent, refusal_silent, fault_silent, pong_silent, owner_silent, place_silent, figures_silent, show_silent, dump_silent}
 use Rattle.process_deployment.proofs.JoinedBy.{by_line}
 
 -- ---- each line is answered by lines that say no letter, and leaves the node
@@ -84,6 +84,7 @@ module _ (hashing : Hashing) (s : SiloValue) (untold : own_status s ≡ None) wh
   asked_idle (Ping word) = one_line (sentence (codes "pong" ∷ word ∷ [])) (pong_silent hashing word)
   asked_idle (Owner grain) = one_line (grain_owner_line s grain) (owner_silent hashing s grain)
   asked_idle (Place grain policy) = one_line (grain_place_line s grain policy) (place_silent hashing s grain policy)
+  asked_idle Figures = one_line (figures_line s) (figures_silent hashing s)
   asked_idle Show = (refl, show_silent hashing s)
   asked_idle Dump = one_line (dump_line s) (dump_silent hashing s)
 

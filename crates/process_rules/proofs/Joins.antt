@@ -31,7 +31,7 @@ use Rattle.silo_rules.specs.SiloValue.{SiloValue, own_status, told_of_its_join}
 use Rattle.silo_rules.specs.Steps.{unless_barred, does, receives, seen, sees}
 use Rattle.silo_rules.specs.Told.{Heard, heard_by, told}
 use Rattle.silo_rules.specs.Whole.{IsWhole}
-use Rattle.process_rules.specs.ReadLine.{Asked, Joined, Leaving, See, Do, Receive, Ping, Owner, Place, Show, Dump}
+use Rattle.process_rules.specs.ReadLine.{Asked, Joined, Leaving, See, Do, Receive, Ping, Owner, Place, Figures, Show, Dump}
 use Rattle.process_rules.specs.ReadLine as line
 use Rattle.process_rules.specs.Happened.{news_words, received_words}
 use Rattle.process_rules.specs.Answer.{printing, heard, told_so, stepped, received_so, carries, answered, answered_as}
@@ -157,6 +157,7 @@ module _ (s : SiloValue) (whole : IsWhole s) (untold : IsUntold s) where
   answered_untold (Ping word) other = untold
   answered_untold (Owner grain) other = untold
   answered_untold (Place grain policy) other = untold
+  answered_untold Figures other = untold
   answered_untold Show other = untold
   answered_untold Dump other = untold
 
@@ -204,5 +205,6 @@ joins_by_its_token token asked s whole before after = by asked after
     by (Ping word) after = by_other (Ping word) tt after
     by (Owner grain) after = by_other (Owner grain) tt after
     by (Place grain policy) after = by_other (Place grain policy) tt after
+    by Figures after = by_other Figures tt after
     by Show after = by_other Show tt after
     by Dump after = by_other Dump tt after

@@ -15,9 +15,9 @@ use Rattle.hash_ring.specs.declared.hashing.Hashing.{Hashing}
 use Rattle.directory_rules.specs.declared.own_step.OwnStep.{OwnStep}
 use Rattle.directory_rules.specs.declared.own_step.OwnStep.TheVariants as own
 use Rattle.directory_rules.specs.OwnStep.{IsOwnStep}
-use Rattle.script_rules.specs.Script.{silo_word, grain_word, number_word, number_or_fault, hash_word, places_in, Grammar, no_word, a_grain, a_grain_and_a_silo, is_text, is_remark, ◌>>=◌}
+use Rattle.script_rules.specs.Script.{silo_word, grain_word, number_word, number_or_fault, hash_word, places_in, Grammar, no_word, a_grain, a_part, ranges_word, a_grain_and_a_silo, is_text, is_remark, ◌>>=◌}
 use Rattle.process_rules.specs.ReadLetter.{read_letter}
-use Rattle.process_rules.specs.ReadLine.{Asked, Joined, Leaving, Dead, See, Do, Receive, Owner, Place, Show, Dump, a_word, token_in, behind_token, a_join, a_version_and_a_silo, a_version, own_policy_word, a_grain_and_a_policy, a_letter, a_step, step_commands, commands, longest_line, asked_if_known, asked_of_words, read_silo_line}
+use Rattle.process_rules.specs.ReadLine.{Asked, Joined, Leaving, Dead, See, Do, Receive, Owner, Place, Figures, Show, Dump, a_word, token_in, behind_token, a_join, a_version_and_a_silo, a_version, own_policy_word, a_grain_and_a_policy, a_letter, a_step, step_commands, commands, longest_line, asked_if_known, asked_of_words, read_silo_line}
 use Rattle.process_rules.specs.Told.{IsNumber, IsTold}
 use Rattle.process_rules.specs.InRange.{IsInRange}
 use Rattle.process_rules.proofs.LettersAgain.{was_told}
@@ -95,6 +95,15 @@ module _ {A : Type 0} (Is : A → Type 0) where
   offer_makes of makes (grain ∷ silo ∷ []) = two_in IsGrain IsSilo Is of (grain_word grain) (silo_word silo) makes (grain_in grain) (silo_in silo)
   offer_makes of makes (one ∷ two ∷ three ∷ words) = tt
 
+part_makes : Makes IsOwnStep a_part
+part_makes [] = tt
+part_makes (part ∷ []) = by (bytes_eq part ranges_word)
+  where
+    by : (b : Bool) → IfOk (cond b (Ok own.NudgeRanges) (a_grain own.NudgeGrain (part ∷ []))) IsOwnStep
+    by true = tt
+    by false = grain_makes IsOwnStep own.NudgeGrain (λ g is. is) (part ∷ [])
+part_makes (one ∷ two ∷ words) = tt
+
 -- ---- commands
 module _ (hashing : Hashing) where
   abbrev Asks : Grammar Asked → Type 0
@@ -152,12 +161,15 @@ module _ (hashing : Hashing) where
     (
       grain_step_asks own.Close (λ g is. is),
       (
-        grain_step_asks own.Find (λ g is. is),
+        grain_step_asks own.Cancel (λ g is. is),
         (
-          grain_step_asks own.Forget (λ g is. is),
+          grain_step_asks own.Find (λ g is. is),
           (
-            step_asks (no_word own.Nudge) (none_makes IsOwnStep own.Nudge tt),
-            (step_asks (a_grain_and_a_silo own.Offer) (offer_makes IsOwnStep own.Offer (λ g s first second. (first, second))), tt),
+            grain_step_asks own.Forget (λ g is. is),
+            (
+              step_asks a_part part_makes,
+              (step_asks (a_grain_and_a_silo own.Offer) (offer_makes IsOwnStep own.Offer (λ g s first second. (first, second))), tt),
+            ),
           ),
         ),
       ),
@@ -175,7 +187,7 @@ module _ (hashing : Hashing) where
           version_asks,
           (
             letter_asks,
-            (word_asks, (grain_makes (IsInRange hashing) Owner (λ g is. is), (policy_asks, (none_asks Show tt, (none_asks Dump tt, steps_ask))))),
+            (word_asks, (grain_makes (IsInRange hashing) Owner (λ g is. is), (policy_asks, (none_asks Figures tt, (none_asks Show tt, (none_asks Dump tt, steps_ask)))))),
           ),
         ),
       ),

@@ -18,7 +18,7 @@ use Rattle.silo_rules.specs.Steps.{does, sees, receives}
 use Rattle.silo_rules.specs.Told.{Heard, told}
 use Rattle.silo_rules.specs.Whole.{IsWhole}
 use Rattle.silo_rules.proofs.Lawful.{stays_whole}
-use Rattle.process_rules.specs.ReadLine.{Asked, Joined, Leaving, Dead, See, Do, Receive, Ping, Owner, Place, Show, Dump}
+use Rattle.process_rules.specs.ReadLine.{Asked, Joined, Leaving, Dead, See, Do, Receive, Ping, Owner, Place, Figures, Show, Dump}
 use Rattle.process_rules.specs.Happened.{news_words, received_words}
 use Rattle.process_rules.specs.Answer.{Answered, printing, unless_dead, heard, told_so, stepped, seen_so, done_so, is_anothers_join, answered, answered_as}
 use Rattle.process_rules.specs.Output.{answered_to}
@@ -63,6 +63,7 @@ answered_whole (Receive letter) s whole = received_by letter s (silo_eq letter.t
 answered_whole (Ping word) s whole = whole
 answered_whole (Owner grain) s whole = whole
 answered_whole (Place grain policy) s whole = whole
+answered_whole Figures s whole = whole
 answered_whole Show s whole = whole
 answered_whole Dump s whole = whole
 

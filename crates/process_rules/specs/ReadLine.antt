@@ -30,6 +30,7 @@ pub data Asked : Type 0 where
   Ping : (word : List ℕ) → Asked
   Owner : Grain → Asked
   Place : Grain → Policy → Asked
+  Figures : Asked
   Show : Asked
   Dump : Asked
 
@@ -125,6 +126,7 @@ commands hashing =
     ∷ (codes "ping", a_word)
     ∷ (codes "owner", a_grain Owner)
     ∷ (codes "place", a_grain_and_a_policy)
+    ∷ (codes "status", no_word Figures)
     ∷ (codes "show", no_word Show)
     ∷ (codes "dump", no_word Dump)
     ∷ step_commands

@@ -20,12 +20,12 @@ use Rattle.directory_rules.specs.Host as host
 use Rattle.directory_rules.specs.Host.{next_held, entry_of}
 use Rattle.directory_rules.specs.Letter.{Letter, Body, Page_letter, Done_letter}
 use Rattle.directory_rules.specs.Node.{Node}
-use Rattle.directory_rules.specs.Sent.{request_letters, all_requests, all_wants}
+use Rattle.directory_rules.specs.Sent.{request_letters, all_requests, requests_of_grain, all_wants}
 use Rattle.directory_rules.specs.Step.{Stepped, silently, sight, started}
 use Rattle.directory_rules.specs.Sight.{is_next}
 use Rattle.directory_rules.specs.Input.{Input, Does, Receives, step}
 use Rattle.directory_rules.specs.Transfer.{answer_to, with_settled, with_gathering, turned_to_recovery}
-use Rattle.directory_rules.specs.declared.own_step.OwnStep.TheVariants.{Wake, Close, Find, Forget, Nudge, Offer}
+use Rattle.directory_rules.specs.declared.own_step.OwnStep.TheVariants.{Wake, Close, Cancel, Find, Forget, Nudge, NudgeGrain, NudgeRanges, Offer}
 use Rattle.directory_rules.proofs.Cases.{on_bool}
 use Rattle.directory_facts.proofs.Ways.{Ways}
 use Rattle.directory_facts.proofs.EachStep.{by_way}
@@ -33,7 +33,7 @@ use Rattle.progress_rules.specs.Gathers.{AwaitsFrom}
 use Rattle.progress_rules.specs.Room.{is_question}
 use Rattle.progress_rules.proofs.Gathers.{set_awaits}
 use Rattle.progress_rules.proofs.TakesPage.{found_test}
-use Rattle.progress_rules.proofs.Questions.{IsQuestion, sent_question, query_questions, request_questions, want_questions}
+use Rattle.progress_rules.proofs.Questions.{IsQuestion, sent_question, query_questions, request_questions, grain_questions, want_questions}
 use Rattle.progress_rules.proofs.ShelfFalls.{is_for, handed}
 
 -- ---- what is said
@@ -189,6 +189,7 @@ module _ (node : Node) where
         };
     wakes = λ grain may. begins (Does (Wake grain)) grain None;
     closes = λ grain its may. requests (Does (Close grain)) _ (act.Deregister (entry_of node.host grain its)) _ refl refl;
+    cancels = λ grain its may. requests (Does (Cancel grain)) _ (act.Deregister (entry_of node.host grain its)) _ refl refl;
     offers = λ grain its to may active other. sends (Does (Offer grain to)) _ _ _ refl refl (one_tells _ _ tt);
     uses_hint = λ grain activation hint. silent (Does (Find grain)) _ _ refl refl;
     finds = λ grain room numbers. requests (Does (Find grain)) _ (act.Find grain) _ refl refl;
@@ -198,6 +199,10 @@ module _ (node : Node) where
         sends (Does Nudge) after (all_requests after ++ all_wants after) effect.Nudged refl refl
         (ask_tell after (all_requests after ++ all_wants after) (All-append IsQuestion (all_requests after) (all_wants after) (request_questions after)
         (want_questions after)));
+    nudges_grain = λ grain numbers.
+        let after = record node { host = host.renewed_about grain node.host } in
+        sends (Does (NudgeGrain grain)) after (requests_of_grain after grain) effect.Nudged refl refl (ask_tell after (requests_of_grain after grain) (grain_questions after grain));
+    nudges_ranges = sends (Does NudgeRanges) node (all_wants node) effect.Nudged refl refl (ask_tell node (all_wants node) (want_questions node));
     answers = λ letter request body sender version. sends (Receives letter) _ _ _ refl refl (one_tells _ _ tt);
     confirms = λ letter number entry e is there. silent (Receives letter) _ _ refl refl;
     yields = λ letter number entry e is there. silent (Receives letter) _ _ refl refl;

@@ -12,12 +12,12 @@ use Rattle.range_moves.specs.Arcs.{owner_silo}
 use Rattle.directory_rules.specs.declared.act.Act.{Act}
 use Rattle.directory_rules.specs.declared.act.Request.{Request}
 use Rattle.directory_rules.specs.Host as host
-use Rattle.directory_rules.specs.Host.{Host, outstanding}
+use Rattle.directory_rules.specs.Host.{Host, outstanding, grain_of}
 use Rattle.directory_rules.specs.Answer.{last_served, is_numbered}
 use Rattle.directory_rules.specs.Letter.{Letter, Request_letter}
 use Rattle.directory_rules.specs.Node.{Node}
 use Rattle.directory_rules.specs.Event.{Do}
-use Rattle.directory_rules.specs.Sent.{letter_to, grain_of, hash_of, request_of, owner_by, all_requests}
+use Rattle.directory_rules.specs.Sent.{letter_to, hash_of, request_of, owner_by, all_requests}
 use Rattle.directory_rules.specs.Step.{Stepped, having_nudged}
 use Rattle.directory_rules.specs.Input.{Does}
 use Rattle.directory_rules.specs.World.{World, Accepted, current_ring}
@@ -245,6 +245,6 @@ nudge_on world e es accepted is_silo n ok =
     let all : Everywhere sorted_facts accepted.world = subst (Everywhere sorted_facts) (sym rests.is)
     (everywhere sorted_facts sorted_keep rests.settings rests.events tt (λ k d below. tt)) in
     let there : node_of accepted.world e.0 ≡ Some s.stepped.node = ap (λ w. node_of w e.0) s.is ∙ its_node world e.0 s.stepped in
-    let sorted : InNumbers s.stepped.node.host = found_node sorted_facts accepted.world e.0 s.stepped.node all there in
+    let sorted : InNumbers s.stepped.node.host = (found_node sorted_facts accepted.world e.0 s.stepped.node all there).1 in
     subst (IsNudgingOn es) (sym s.is)
     (nudges_on world e.0 e.1 es accepted n.answering n.apart rests s (subst (λ (t : Stepped). InNumbers t.node.host) (nudge_is s.node s.stepped s.made) sorted))

@@ -4,15 +4,16 @@ use Rattle.std.specs.Prelude.{true, false, cond, flat_map, All, Option, Some, No
 use Rattle.std.proofs.lemmas.List.Elements.{All-nil, All-cons, All-head, All-tail, All-append, All-map}
 use Rattle.std.proofs.lemmas.List.Sums.{sum_by-cons}
 use Rattle.silo_address.specs.Silo.{Silo}
+use Rattle.silo_address.specs.Grain.{Grain}
 use Rattle.ring_range.specs.Range.{Range}
 use Rattle.directory_rules.specs.declared.act.Act.{Act}
 use Rattle.directory_rules.specs.declared.piece_state.PieceState.{PieceState}
 use Rattle.directory_rules.specs.declared.piece_state.PieceState.TheVariants as state
 use Rattle.directory_rules.specs.Piece.{Piece}
-use Rattle.directory_rules.specs.Host.{outstanding}
+use Rattle.directory_rules.specs.Host.{outstanding, requests_about}
 use Rattle.directory_rules.specs.Letter.{Letter, Body, Request_letter, Ask_letter, Query_letter, Offer_letter}
 use Rattle.directory_rules.specs.Node.{Node}
-use Rattle.directory_rules.specs.Sent.{letter_to, letter_if_owned, owner_by, hash_of, request_of, request_letters, gathering_of, recovery_of, query_letters, wants_by, all_requests, all_wants}
+use Rattle.directory_rules.specs.Sent.{letter_to, letter_if_owned, owner_by, hash_of, request_of, request_letters, gathering_of, recovery_of, query_letters, wants_by, all_requests, requests_of_grain, all_wants}
 use Rattle.progress_rules.specs.Room.{is_question, is_offer}
 use Rattle.progress_rules.proofs.FreshWith.{sent_with}
 
@@ -45,6 +46,9 @@ sent_question node number act = owned_question (owner_by node (hash_of node act)
 
 pub request_questions : (node : Node) → All IsQuestion (all_requests node)
 request_questions node = all_flat IsQuestion (λ (e : ℕ × Act). request_letters node e.0 e.1) (λ e. sent_question node e.0 e.1) (outstanding node.host)
+
+pub grain_questions : (node : Node) (grain : Grain) → All IsQuestion (requests_of_grain node grain)
+grain_questions node grain = all_flat IsQuestion (λ (e : ℕ × Act). request_letters node e.0 e.1) (λ e. sent_question node e.0 e.1) (requests_about grain node.host)
 
 pub query_questions : (node : Node) (range : Range) → All IsQuestion (query_letters node range)
 query_questions node range = All-map IsQuestion (λ silo. letter_to silo node (Query_letter range)) (recovery_of node range).awaiting (λ k d below. refl)

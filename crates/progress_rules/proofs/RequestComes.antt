@@ -12,7 +12,8 @@ use Rattle.directory_rules.specs.declared.act.Act.{Act}
 use Rattle.directory_rules.specs.declared.act.Request.{Request}
 use Rattle.directory_rules.specs.declared.effect.Effect.TheVariants as effect
 use Rattle.directory_rules.specs.Piece.{Piece}
-use Rattle.directory_rules.specs.Sent.{letter_to, grain_of}
+use Rattle.directory_rules.specs.Sent.{letter_to}
+use Rattle.directory_rules.specs.Host.{grain_of}
 use Rattle.directory_rules.specs.Answer.{last_served, is_numbered, answered}
 use Rattle.directory_rules.specs.Letter.{Letter, Body, Request_letter, Reply_letter}
 use Rattle.directory_rules.specs.Node.{Node}

@@ -2,7 +2,7 @@
 use denote.RattleType.{RattleType}
 use denote.Builtin.{RawPtr, u8, u32}
 use denote.Param.Send.{sendable}
-use Rattle.silo_workers.proofs.Parts.{Crosses, fields, structure, modelled, inverted, variants, choice, array, byte, number32, number64}
+use Rattle.silo_workers.proofs.Parts.{Crosses, fields, structure, modelled, inverted, variants, choice, array, byte, number32, number64, nothing}
 use Rattle.silo_workers.proofs.Holders.{heap_crosses, heap_field_crosses, listed, mapped, hashed}
 use Rattle.silo_workers.proofs.Names.{silo_crosses, grain_crosses, activation_crosses}
 use Rattle.silo_workers.proofs.Members.{hashing_crosses}
@@ -49,7 +49,11 @@ use Rattle.host_activations.specs.contracts.kept.State as state
 use Rattle.host_activations.specs.contracts.by_hash.HashedCount as hashed_count
 use Rattle.host_activations.specs.contracts.activations.Activations as activations
 use Rattle.host_activations.specs.contracts.activations.Activations.TheInside as activations_inside
+use Rattle.host_activations.specs.contracts.under_way.UnderWay as under_way
 use Rattle.host_activations.specs.contracts.asked.OutstandingRequest as asked
+use Rattle.host_activations.specs.contracts.outstanding.OutstandingRequests as outstanding
+use Rattle.host_activations.specs.contracts.outstanding.OutstandingRequests.TheInside as outstanding_inside
+use Rattle.host_activations.specs.contracts.outstanding.by_grain.FindKey as find_key
 use Rattle.host_activations.specs.contracts.host.Host as host
 use Rattle.host_activations.specs.contracts.host.Host.TheInside as host_inside
 use Rattle.host_activations.specs.contracts.host.renewal.Renewal as renewal
@@ -109,18 +113,27 @@ kept_crosses = inverted kept_inside.the_type _ _ kept.the_inverse kept.the_view 
 hashed_count_crosses : Crosses hashed_count.the_row
 hashed_count_crosses = structure hashed_count.the_type (fields hashed_count.the_type (number32, (number64, tt)))
 
+under_way_crosses : Crosses under_way.the_row
+under_way_crosses = structure under_way.the_type (fields under_way.the_type (number64, (number64, tt)))
+
 activations_cross : Crosses activations.the_row
 activations_cross =
-    modelled activations_inside.the_type _ _ _ _ (number64, (grain_map_crosses kept.the_row kept_crosses, (hashing_crosses, (listed u32 number32, (search (mapped, hashed_count_crosses, number64), tt)))))
+    modelled activations_inside.the_type _ _ _ _ (number64, (grain_map_crosses kept.the_row kept_crosses, (under_way_crosses, (hashing_crosses, (listed u32 number32, (search (mapped, hashed_count_crosses, number64), tt))))))
 
 asked_crosses : Crosses asked.the_row
 asked_crosses = choice asked.the_type (variants asked.the_type ((grain_crosses, tt), ((grain_crosses, tt), tt)))
 
+find_key_crosses : Crosses find_key.the_row
+find_key_crosses = structure find_key.the_type (fields find_key.the_type (grain_crosses, (number64, tt)))
+
+outstanding_crosses : Crosses outstanding.the_row
+outstanding_crosses = modelled outstanding_inside.the_type _ _ _ _ (search (mapped, number64, asked_crosses), (search (mapped, find_key_crosses, nothing), tt))
+
 pub host_crosses : Crosses host.the_row
-host_crosses = modelled host_inside.the_type _ _ _ _ (silo_crosses, (number64, (activations_cross, (search (mapped, number64, asked_crosses), (number64, tt)))))
+host_crosses = modelled host_inside.the_type _ _ _ _ (silo_crosses, (number64, (activations_cross, (outstanding_crosses, tt))))
 
 pub renewal_crosses : Crosses renewal.the_row
-renewal_crosses = modelled renewal_inside.the_type _ _ _ _ (search (mapped, number64, asked_crosses), tt)
+renewal_crosses = modelled renewal_inside.the_type _ _ _ _ (outstanding_crosses, tt)
 
 -- ---- caches
 pointer : Crosses RawPtr

@@ -61,30 +61,33 @@ change_crosses =
         (
           (renewal_crosses, tt),
           (
-            (grain_crosses, (optional activation.the_row activation_crosses, tt)),
+            grain,
             (
-              grain,
+              (grain_crosses, (optional activation.the_row activation_crosses, tt)),
               (
                 grain,
                 (
-                  (hashed_crosses, tt),
+                  grain,
                   (
-                    number,
+                    (hashed_crosses, tt),
                     (
-                      numbered,
+                      number,
                       (
-                        number,
+                        numbered,
                         (
                           number,
                           (
-                            numbered,
+                            number,
                             (
-                              grain,
+                              numbered,
                               (
-                                (grain_crosses, (activation_field_crosses, tt)),
+                                grain,
                                 (
-                                  (number64, (range_crosses, (silo_crosses, tt))),
-                                  ((page_crosses, tt), ((range_crosses, tt), ((range_crosses, (table_crosses, tt)), ((recovery_crosses, tt), ((report_crosses, tt), tt))))),
+                                  (grain_crosses, (activation_field_crosses, tt)),
+                                  (
+                                    (number64, (range_crosses, (silo_crosses, tt))),
+                                    ((page_crosses, tt), ((range_crosses, tt), ((range_crosses, (table_crosses, tt)), ((recovery_crosses, tt), ((report_crosses, tt), tt))))),
+                                  ),
                                 ),
                               ),
                             ),

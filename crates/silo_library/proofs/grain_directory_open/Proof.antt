@@ -1,5 +1,5 @@
 -- `grain_directory_open` meets its contract: a walk of its MIR, by hand.
-use Rattle.std.proofs.Common.{◌≡◌, ℕ, List, [], ◌∷◌, ◌++◌, refl, ap, ◌∙◌, subst}
+use Rattle.std.proofs.Common.{◌≡◌, ℕ, List, [], ◌∷◌, ◌++◌, None, refl, ap, ◌∙◌, subst}
 use mir.Syntax.{impl, tcons, tnil, dnil}
 use mir.Val.{Val, vunit, vptr, vstruct, vcons, vnil}
 use base.Fraction.{full_share}
@@ -42,6 +42,7 @@ use Rattle.std.proofs.boxed.Box.into_raw.Met as h_met
 use Rattle.silo_library.specs.contracts.open_silo.OpenSilo.{the_row as R}
 use Rattle.silo_library.proofs.open_silo.OpenSilo.TheLaws.{the_row_laws, the_within}
 use Rattle.silo_library.specs.Handle.{lent_for}
+use Rattle.silo_library.proofs.Opening.{by_case, heap_val}
 use Rattle.silo_library.specs.contracts.open_silo.OpenSilo.open as g
 use Rattle.silo_library.proofs.open_silo.OpenSilo.open.Met as g_met
 use Rattle.silo_library.specs.contracts.grain_directory_open as f
@@ -96,22 +97,6 @@ use Rattle.std.proofs.alloc.Shapes.{arm_body}
 abbrev stayed : Stays f.ended.signature.params f.ended.kept
 stayed = (stay_dropped (plain (λ _. heap.the_row)) yes, (stay_dropped (SliceRefOf (0 ∷ []) tt (plain (λ _. u8)) (λ _. tt)) yes, (stay_dropped (plain (λ _. u32)) yes, (stay_dropped (plain (λ _. usize)) yes, (stay_dropped (plain (λ _. usize)) yes, (stay_ref (1 ∷ []) tt (plain (λ _. RawPtr)), tt))))))
 
-abbrev heap_val : Val
-heap_val = vstruct (vcons (vstruct (vcons vunit vnil)) vnil)
-
--- what is owned of a result, by its case
-by_case : {M : Type 1} {𝓤 : Ura M} {𝓛 : Logic 𝓤} {K : Type 0} {Γ : List (Item 𝓤)} {G : Goal 𝓤 𝓛.H} → K → (X : RattleType) (r : Result X.Denot ℕ) (u : Val)
-    → ((x : X.Denot) (vs : List Val) → r ≡ Ok x → u ≡ live 0 (of_list (vs ++ [])) → Seq K 𝓛 (‵ (X.own_val x vs) ∷ Γ) G)
-    → ((n : ℕ) → n < 2 ^ 32 → r ≡ Err n → u ≡ live 1 (vcons (vint w32 n) vnil) → Seq K 𝓛 Γ G)
-    → Seq K 𝓛 (‵ ((result.the_row X u32).own_val r (u ∷ [])) ∷ Γ) G
-by_case t X (Ok x) u ok err =
-    fpick t (λ us. fsplit t $ feq_l t (λ eu. fpick t (λ vss. fsplit t $ feq_l t (λ ev. fsplit t $ move t (1 ∷ []) $ drop t $
-    ok x vss.0 refl (ap only eu ∙ ap (λ (zs : List Val). live 0 (of_list zs)) ev)))))
-by_case {𝓛 = 𝓛} t X (Err n) u ok err =
-    fpick t (λ us. fsplit t $ feq_l t (λ eu. fpick t (λ vss. fsplit t $ feq_l t (λ ev. fsplit t $ move t (1 ∷ []) $ drop t $
-    peeks t u32 (Is u32) (shows 𝓛 u32) n vss.0 (λ is. drop t $
-    err n is.1 refl (ap only eu ∙ (ap (λ (zs : List Val). live 1 (of_list zs)) ev ∙ ap (λ (zs : List Val). live 1 (of_list (zs ++ []))) is.0)))))))
-
 IsZero : ℕ → Type 0
 IsZero zero = Unit {0}
 IsZero (suc n) = ⊥
@@ -126,6 +111,7 @@ never_0 address hashing points cache (status.OutOfMemory, t, e) = subst IsZero e
 never_0 address hashing points cache (status.GoesOn, t, e) = absurd t
 never_0 address hashing points cache (status.Dead, t, e) = absurd t
 never_0 address hashing points cache (status.Ended, t, e) = absurd t
+never_0 address hashing points cache (status.NotAToken, t, e) = absurd t
 
 -- a refusal that is told leaves the handle
 refused : {M : Type 1} {𝓤 : Ura M} (𝓛 : Logic 𝓤) (address : List ℕ) (hashing points cache number : ℕ) (old : Ptr) → TellsRefusal address hashing points cache number
@@ -189,7 +175,7 @@ grain_directory_open_spec {M} 𝓤 𝓛 𝓜 𝓡 wired =
     calls_at ! (framed 𝓤 𝓛.H 𝓜 𝓣) N (g_met.met 𝓤 𝓛 𝓜 𝓡 (code.calls-silo_library::open_silo::OpenSilo::open 𝓡.env wired)) z
     (and_then ! (get ! refl) (and_then ! (get ! refl) (and_then ! (get ! refl) (and_then ! (get ! refl) (and_then ! (get ! refl) (no_more !)))))) (λ u.
     use1 𝓛 (later (some (λ (r : Result Bx.Denot ℕ). ((‵ (flft κ₀ q₀) ⊛ ‵ ftrue) ⊛ ‵ ((result.the_row Bx u32).own_val r (u ∷ []))) ⊛
-    some (λ (ws : Lasts g.ended z.0.0 z.0.3). ‵ (lasts g.ended z.0.0 z.0.3 ws) ⊛ (raw (fact 𝓤 (IfOk r (λ it. Opens address.now number points cache it.value))) ⊛ raw (fact 𝓤 (IfErr r (TellsRefusal address.now number points cache)))))))) (id⊢ 𝓤 _) $
+    some (λ (ws : Lasts g.ended z.0.0 z.0.3). ‵ (lasts g.ended z.0.0 z.0.3 ws) ⊛ (raw (fact 𝓤 (IfOk r (λ it. Opens address.now None number points cache it.value))) ⊛ raw (fact 𝓤 (IfErr r (TellsRefusal address.now number points cache)))))))) (id⊢ 𝓤 _) $
     await ! tt $ pick ! (λ r. split ! $ split ! $ split ! $ move ! (3 ∷ []) $ pick ! (λ ws. split ! $ drop ! $ split ! $ heard ! _ (λ opened. heard ! _ (λ told. move ! (1 ∷ []) $ drop ! $ move ! (1 ∷ []) $
     let Then = any_q (after_seq 𝓤 H (Wp 𝓤 H 𝓣.C 𝓣.Λ Ev code.Mir.t-3 (at_return 𝓤 H Ev (W.post y))) (at_return 𝓤 H Ev (W.post y))) in
     by_case ! Bx r u
@@ -217,8 +203,8 @@ grain_directory_open_spec {M} 𝓤 𝓛 𝓜 𝓡 wired =
     -- [what is lent; the right to free; the token of δ; true; the pointer; the address's token; the handle; its token]
     move ! (3 ∷ []) $ fpack ! (InBlock (block_ptr b o)) (λ _. ftrue) tt $ move ! (2 ∷ 0 ∷ []) $ fjoin ! $ move ! (1 ∷ 0 ∷ []) $ fjoin ! $ move ! (1 ∷ 0 ∷ []) $ fjoin ! $
     fpack ! ℕ (λ while. lent_for while (block_ptr b o) it) δ $
-    fpack ! (Opens address.now number points cache it) (λ _. is_handle (block_ptr b o) it) (subst (λ (r' : Result Bx.Denot ℕ). IfOk r' (λ it'. Opens address.now number points cache it'.value)) is_ok opened) $
-    fpack ! OpenSiloValue (λ it'. fex (Opens address.now number points cache it') (λ _. is_handle (block_ptr b o) it')) it $
+    fpack ! (Opens address.now None number points cache it) (λ _. is_handle (block_ptr b o) it) (subst (λ (r' : Result Bx.Denot ℕ). IfOk r' (λ it'. Opens address.now None number points cache it'.value)) is_ok opened) $
+    fpack ! OpenSiloValue (λ it'. fex (Opens address.now None number points cache it') (λ _. is_handle (block_ptr b o) it')) it $
     move ! (1 ∷ []) $ feq_l ! (λ em. lands_as ! (ap only em ∙ ap ptr_val at) refl (tt, tt) $ sets ! (of_opd ! (get ! refl)) refl (tt, tt) $
     -- *handle = .. as *mut u8
     move ! (2 ∷ 3 ∷ []) $ fsplit3 ! $ move ! (1 ∷ 2 ∷ 3 ∷ []) $ opens ! tt RawPtr out.ref_ptr.0 out.ref_ptr.1 (λ us. move ! (1 ∷ []) $ feq_l ! (λ eo.

@@ -1,4 +1,4 @@
-use Rattle.std.proofs.Common.{◌≡◌, refl, sym, ap, subst, ◌∙◌, ◌+◌, ◌^◌, ◌≤◌, ◌++◌, ◌∷◌, [], None, cond, Some, length}
+use Rattle.std.proofs.Common.{◌≡◌, refl, sym, ap, subst, ◌∙◌, ◌+◌, ◌^◌, ◌≤◌, ◌++◌, ◌∷◌, [], None, cond, Some, length, arith, rules}
 use Rattle.std.specs.Map.{lookup}
 use Rattle.std.specs.BTreeMap.{is_at}
 use Rattle.directory_rules.specs.declared.Held.{Held}
@@ -10,11 +10,19 @@ use Rattle.host_activations.proofs.Changes.{at, begun_are, begun_told}
 use Rattle.host_activations.proofs.Hashes.{begun_hashes}
 use Rattle.host_activations.proofs.Indexed.{begun_by_hash}
 use Rattle.host_activations.proofs.Ordered.{lookup_in_order}
+use Rattle.host_activations.proofs.PhaseCounts.{begun_counts, begun_fits}
 use Rattle.host_activations.proofs.activations.Activations.begin.Goals as goal
 
 pub put_in-requires : goal.put_in-requires
 put_in-requires c =
     sym (lookup_in_order c.args.grain c.self.inside.map c.self.invariant.begun.apart) ∙ ap (λ (v : ActivationsValue). at c.args.grain v.entries) c.self.view_is ∙ c.requires.new
+
+pub with-requires : goal.with-requires
+with-requires c =
+    let held : Held = record { count = c.self.inside.next_count; phase = Asking c.args.number; previous = c.args.previous } in
+    let both = begun_fits c.self.inside.under_way c.self.inside.map c.put_in.new.map c.self.invariant.under_way (c.args.grain, held) c.in_ok-put_in.ensures.map c.len-_len.result
+    (omega (arith, c.len-_len.ensures)) (search rules) in
+    record { asking = both.0; closing = both.1 }
 
 pub invariant_of-self-2 : goal.invariant_of-self-2
 invariant_of-self-2 c =
@@ -23,6 +31,7 @@ invariant_of-self-2 c =
     record {
       begun = begun_are c.self.inside.next_count c.self.inside.map c.self.invariant.begun c.args.grain held none refl
           (subst (λ (v : ActivationsValue). v.next_count ≤ 2 ^ 60) (sym c.self.view_is) c.requires.count) c.put_in.new.map c.in_ok-put_in.ensures.map c.apart.ensures;
+      under_way = c.with.ensures ∙ begun_counts c.self.inside.under_way c.self.inside.map c.put_in.new.map c.self.invariant.under_way (c.args.grain, held) c.in_ok-put_in.ensures.map;
       are_hashes = begun_hashes c.self.inside.hashing c.self.inside.map c.self.inside.hashes.items c.self.invariant.are_hashes c.args.grain held c.put_in.new.map c.in_ok-put_in.ensures.map _ c.hash_grain.ensures _ (c.push_reserved.ensures.items ∙ ap (λ l. l ++ c.hash_grain.result ∷ []) c.in_ok-reserve.ensures.items);
       by_hash = begun_by_hash c.self.inside.hashing c.self.inside.next_count c.self.inside.map c.self.inside.by_hash.entries c.self.invariant.begun c.self.invariant.by_hash c.args.grain held refl
           c.put_in.new.map c.in_ok-put_in.ensures.map c.put_in.new.by_hash.entries

@@ -1,5 +1,9 @@
 use Rattle.host_activations.proofs.Beginnings.{finding_is, finding_means}
+use Rattle.host_activations.proofs.HostKept.{free}
 use Rattle.host_activations.proofs.host.Host.ask.Goals as goal
+
+pub insert-requires : goal.insert-requires
+insert-requires c = record { free = free c.self.inside.next_number c.self.inside.held.entries c.self.inside.outstanding.entries c.self.invariant.are_held }
 
 pub invariant_of-self-2 : goal.invariant_of-self-2
 invariant_of-self-2 c =

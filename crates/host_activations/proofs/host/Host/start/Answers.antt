@@ -10,6 +10,9 @@ use Rattle.host_activations.proofs.HostKept.{free}
 use Rattle.host_activations.proofs.Setting.{put_back}
 use Rattle.host_activations.proofs.host.Host.start.Goals as goal
 
+pub insert-requires : goal.insert-requires
+insert-requires c = record { free = free c.self.inside.next_number c.self.inside.held.entries c.self.inside.outstanding.entries c.self.invariant.are_held }
+
 pub invariant_of-self-in-Err : goal.invariant_of-self-in-Err
 invariant_of-self-in-Err c =
     not_started_is c.self.inside c.self.invariant c.begin.new.self c.remove.new.self.entries c.in-Err.ensures.unchanged

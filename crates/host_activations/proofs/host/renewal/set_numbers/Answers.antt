@@ -1,7 +1,7 @@
 use Rattle.std.proofs.Common.{◌≡◌, sym, ap, ◌∙◌, ◌∷◌}
 use Rattle.host_activations.specs.declared.asked.OutstandingRequest.{OutstandingRequest}
-use Rattle.host_activations.proofs.Renewals.{held_is}
-use Rattle.host_activations.proofs.NewNumbers.{set_is, with_find, with_number, with_numbers}
+use Rattle.host_activations.specs.Renewal.{with_number, with_numbers}
+use Rattle.host_activations.proofs.NewNumbers.{set_is, with_find}
 use Rattle.host_activations.proofs.host.renewal.set_numbers.Goals as goal
 
 pub loop-number-preserved : goal.loop-number-preserved
@@ -24,9 +24,5 @@ loop-number-preserved-in-Activation c =
       count = c.set_number.ensures.count ∙ c.loop-number.invariant.count;
     }
 
-pub returns-clause-renewed : goal.returns-clause-renewed
-returns-clause-renewed c = λ host is old_is new_is.
-    ap (λ l. with_numbers l c.loop-number.held.entries) (sym c.in-None.ensures.steps.0)
-    ∙ c.loop-number.invariant.all
-    ∙ (λ i. with_numbers (new_is i) (old_is i))
-    ∙ held_is host is
+pub returns-clause-set : goal.returns-clause-set
+returns-clause-set c = ap (λ l. with_numbers l c.loop-number.held.entries) (sym c.in-None.ensures.steps.0) ∙ c.loop-number.invariant.all

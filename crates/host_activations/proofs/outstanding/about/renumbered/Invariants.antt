@@ -1,7 +1,7 @@
 use Rattle.std.proofs.Common.{◌≡◌, ◌+◌, ◌++◌, ◌<◌, length}
 use Rattle.std.specs.List.{AllByRecursion, enumerate_from}
 use Rattle.std.specs.Map.{keys_of, values_of}
-use Rattle.host_activations.proofs.host.renewal.renumbered.Given as goal
+use Rattle.host_activations.proofs.outstanding.about.renumbered.Given as goal
 
 -- with what is left, under the numbers from the next one on, it is all
 abbrev pub invariant-loop-asked : goal.invariant-loop-asked

@@ -1,8 +1,12 @@
 use Rattle.std.proofs.Common.{◌≡◌, sym, ap, subst, ◌∙◌, ◌∷◌, [], ◌++◌, ◌+◌, ◌<◌, length, append_assoc, arith}
 use Rattle.std.specs.List.{AllByRecursion, enumerate_from}
 use Rattle.std.specs.Map.{keys_of}
+use Rattle.host_activations.proofs.Moved.{none_above}
 use Rattle.host_activations.proofs.Ranks.{put_last, below_last}
-use Rattle.host_activations.proofs.host.renewal.renumbered.Goals as goal
+use Rattle.host_activations.proofs.outstanding.about.renumbered.Goals as goal
+
+pub insert-requires : goal.insert-requires
+insert-requires c = record { free = none_above c.loop-asked.number c.loop-asked.renewed.entries c.loop-asked.invariant.below }
 
 pub loop-asked-preserved : goal.loop-asked-preserved
 loop-asked-preserved c =
